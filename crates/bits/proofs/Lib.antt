@@ -1,0 +1,12 @@
+-- The laws of bits, sets and the machine's operations on them.
+pub mod Bools
+pub mod Below
+pub mod Least
+pub mod Numbers
+pub mod Sizes
+pub mod Spreading
+pub mod Sums
+pub mod Next
+pub mod Machine
+pub mod Inputs
+pub mod Clear

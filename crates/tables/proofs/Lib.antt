@@ -1,0 +1,3 @@
+-- The laws of tables as bytes.
+pub mod Bytes
+pub mod Spare
