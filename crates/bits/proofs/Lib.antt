@@ -6,7 +6,10 @@ pub mod Numbers
 pub mod Sizes
 pub mod Spreading
 pub mod Sums
+pub mod Masks
 pub mod Next
 pub mod Machine
+pub mod Building
 pub mod Inputs
 pub mod Clear
+pub mod Disjoint

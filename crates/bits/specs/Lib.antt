@@ -1,5 +1,5 @@
--- Numbers as bits, masks as sets of positions, and tests at every number below another.
+-- Numbers as bits, tests at every number below another, masks as sets of positions.
 pub mod Numbers
-pub mod Sets
 pub mod Below
+pub mod Sets
 pub mod Patterns
