@@ -6,6 +6,7 @@ pub mod Numbers
 pub mod Sizes
 pub mod Spreading
 pub mod Sums
+pub mod Single
 pub mod Masks
 pub mod Next
 pub mod Machine
