@@ -4,6 +4,7 @@ pub mod Below
 pub mod Least
 pub mod Numbers
 pub mod Sizes
+pub mod Counting
 pub mod Spreading
 pub mod Sums
 pub mod Single
