@@ -1,7 +1,7 @@
 // A gate's table as the caller lends it: its length, its bits and its spare bits.
 ghost use mathlib.Core.Path.{_≡_};
 ghost use Prim.Native.Nat.{ℕ, _/_, _<_, _≤_};
-ghost use lib.ListN.{length};
+ghost use lib.ListN.{length, replicate};
 ghost use Rattle.tables.specs.Table.{mostInputs, tableLength, tableBit, spareClear};
 
 // How many bytes the table of n inputs has.
@@ -33,4 +33,15 @@ pub fn spare_clear(n: u32, t: &[u8]) -> bool
         return t[0] >> bits == 0;
     }
     true
+}
+
+// Every byte of a lent area, however long, to zero.
+pub fn clear(area: &mut [u8])
+    ensures { λ r. ⌜ now (area .exit) ≡ replicate (length (now (area .entry))) 0 ⌝ }
+{
+    let mut i: usize = 0;
+    while i < area.len() {
+        area[i] = 0;
+        i += 1;
+    }
 }

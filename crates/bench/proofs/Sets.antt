@@ -1,0 +1,53 @@
+-- Line 5 as the code asks it, and what it lets through. Assumes nothing.
+use mathlib.Core.Path.{_≡_, refl, sym, ap, _∙_, subst}
+use mathlib.Core.Bool.{Bool, true, false, not, _||_}
+use Prim.Native.Nat.{ℕ, _+_, _^_, _<_, _≤_}
+use native.Mathlib.Nat.{le-trans}
+use native.Mathlib.Omega.{arith}
+use lib.Dec.{leb, ltb, eqb}
+use borrow.Author.Tests.{lt-ltb, le-ltb, le-leb, lt-leb, leb-false, ltb-false, eq-eqb, ne-eqb, not-false}
+use Rattle.bits.specs.Numbers.{bit}
+use Rattle.bits.specs.Sets.{disjoint, size}
+use Rattle.bits.proofs.Disjoint.{disjoint-apart}
+use Rattle.bench.specs.Refusals.{badSets}
+use Rattle.bench.specs.Sets.{GoodSets}
+
+or-false : (s t : Bool) → (s || t) ≡ false → (s ≡ false) × (t ≡ false)
+or-false true t h = let z : _≡_ {A = ℕ} 0 1 = cc in absurd (omega arith)
+or-false false t h = (refl, h)
+
+module _ (n K A B : ℕ) where
+  pub high-own : 2 ^ n ≤ A → badSets n K A B .holds ≡ true
+  high-own h = rw (le-leb (2 ^ n) A h)
+
+  module _ (a : A < 2 ^ n) where
+    pub high-shared : 2 ^ n ≤ B → badSets n K A B .holds ≡ true
+    high-shared h = rw (lt-leb (2 ^ n) A a, le-leb (2 ^ n) B h)
+
+    module _ (b : B < 2 ^ n) where
+      pub overlap : disjoint n (bit A) (bit B) ≡ false → badSets n K A B .holds ≡ true
+      overlap h = rw (lt-leb (2 ^ n) A a, lt-leb (2 ^ n) B b, h)
+
+      pub few-own : disjoint n (bit A) (bit B) ≡ true → size n (bit A) < 2 → badSets n K A B .holds ≡ true
+      few-own d h = rw (lt-leb (2 ^ n) A a, lt-leb (2 ^ n) B b, d, lt-ltb (size n (bit A)) 2 h)
+
+      pub by-sizes : disjoint n (bit A) (bit B) ≡ true → 2 ≤ size n (bit A) → badSets n K A B .holds ≡ ltb K (size n (bit A) + size n (bit B))
+      by-sizes d h = rw (lt-leb (2 ^ n) A a, lt-leb (2 ^ n) B b, d, le-ltb (size n (bit A)) 2 h)
+
+  pub good-sets : badSets n K A B .holds ≡ false → (L : ℕ) → K ≤ L → GoodSets n L A B
+  good-sets h L k =
+      let p = or-false (leb (2 ^ n) A) _ h in
+      let q = or-false (leb (2 ^ n) B) _ (p .1) in
+      let r = or-false (not (disjoint n (bit A) (bit B))) _ (q .1) in
+      let s = or-false (ltb (size n (bit A)) 2) _ (r .1) in
+      record {
+        belowA = leb-false (2 ^ n) A (p .0);
+        belowB = leb-false (2 ^ n) B (q .0);
+        apart = disjoint-apart n (bit A) (bit B) .0 (not-false (disjoint n (bit A) (bit B)) (r .0));
+        two = ltb-false (size n (bit A)) 2 (s .0);
+        few = le-trans (ltb-false K (size n (bit A) + size n (bit B)) (s .1)) k;
+      }
+
+-- what is said of a split's numbers is said of those it was made of
+pub carried : {n n′ a a′ b b′ : ℕ} (P : ℕ → ℕ → ℕ → Type 0) → n ≡ n′ → a ≡ a′ → b ≡ b′ → P n a b → P n′ a′ b′
+carried {n} {n′} {a} {a′} {b} {b′} P p q r h = subst (λ (i : ℕ). P i a′ b′) p (subst (λ (i : ℕ). P n i b′) q (subst (λ (i : ℕ). P n a i) r h))

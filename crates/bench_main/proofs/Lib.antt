@@ -1,0 +1,2 @@
+-- Why the bench program's bytes are the answer.
+pub mod Answer

@@ -1,0 +1,2 @@
+-- What the bench program writes.
+pub mod Written

@@ -1,0 +1,2 @@
+-- A law of the proofs.
+pub mod All

@@ -1,0 +1,65 @@
+/* The five calls of the Pelzurivan bench, for C. Link libbench.a (rt staticlib bench), on x86-64.
+ *
+ * Anyone may make any call with anything; each ends with an answer or one refusal. A slice is a pointer and then a
+ * length. The pointer is not null, not even for an empty slice, and what is lent for writing overlaps nothing else
+ * that the call is given; so much C must see to, and everything else the calls do.
+ *
+ * A gate has n inputs, 1 to 16. Its table has bit x mod 8 of byte x div 8 for each assignment x: 1 byte up to n = 3,
+ * else 2^(n-3) bytes. A cell has at most k inputs, 2 to 6. A sheet is records of 16 bytes, the last is the output.
+ *
+ * number is 0 where the call is done, else the first of these that holds:
+ *    1  n outside 1 to 16
+ *    2  k outside 2 to 6
+ *    3  table, read or to be rebuilt, has a wrong length
+ *    4  n below 3 and a spare bit set
+ *    5  own or shared names a position from n up; they overlap; own below 2; both together above k
+ *    6  room for H shorter than its table, room for the sheet under 240 bytes, or a work area under 16,384 bytes
+ *    7  n at most k, so nothing to split
+ *    8  the split isn't possible; none is; a table in the chain has none
+ *    9  sheet empty, not a multiple of 16, or over 240 bytes
+ *   10  a record breaks the record rules; index is the first that does
+ *   11  assignment 2^n or more
+ * After a refusal every other value is 0 (but for the index of 10) and no result byte is touched.
+ */
+#ifndef PELZURIVAN_H
+#define PELZURIVAN_H
+
+#include <stddef.h>
+#include <stdint.h>
+
+#ifdef __cplusplus
+extern "C" {
+#endif
+
+enum { PELZURIVAN_RECORD = 16, PELZURIVAN_SHEET = 240, PELZURIVAN_WORK = 16384 };
+
+typedef struct { uint64_t number, d; } pelzurivan_tried;
+typedef struct { uint64_t number, own, shared; } pelzurivan_sought;
+typedef struct { uint64_t number, count; } pelzurivan_made;
+typedef struct { uint64_t number, bit, index; } pelzurivan_ran;
+typedef struct { uint64_t number, index; } pelzurivan_rebuilt;
+
+/* Tries a named split: D in d, H in the first bytes of room, the bytes after its table stay. 1 to 6, 8. */
+pelzurivan_tried pelzurivan_try(uint64_t n, uint64_t k, uint16_t own, uint16_t shared, const uint8_t *table,
+                                size_t table_length, uint8_t *room, size_t room_length);
+
+/* Finds the best split: its masks. After 0 and 8 the work area is zeros, else as it was. 1 to 4, 6, 7, 8. */
+pelzurivan_sought pelzurivan_find(uint64_t n, uint64_t k, const uint8_t *table, size_t table_length, uint8_t *work,
+                                  size_t work_length);
+
+/* Makes a sheet: count records, the bytes after them stay; the work area as in find. 1 to 4, 6, 8. */
+pelzurivan_made pelzurivan_make(uint64_t n, uint64_t k, const uint8_t *table, size_t table_length, uint8_t *sheet,
+                                size_t sheet_length, uint8_t *work, size_t work_length);
+
+/* Runs a sheet at the assignment x: the bit. 1, 9, 10, 11. */
+pelzurivan_ran pelzurivan_run(uint64_t n, const uint8_t *sheet, size_t sheet_length, uint64_t x);
+
+/* Rebuilds a gate's table from a sheet, written whole, spare bits zero. 1, 3, 9, 10. */
+pelzurivan_rebuilt pelzurivan_rebuild(uint64_t n, const uint8_t *sheet, size_t sheet_length, uint8_t *table,
+                                      size_t table_length);
+
+#ifdef __cplusplus
+}
+#endif
+
+#endif

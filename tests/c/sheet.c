@@ -1,0 +1,89 @@
+/* Makes, runs and rebuilds the sheet of the AND of three inputs (document 01, example 2) through the C interface,
+ * and makes each of the five calls. It prints a line and returns 0 if every byte is as the document says. */
+#include "pelzurivan.h"
+
+#include <stdio.h>
+#include <string.h>
+
+#define PRESET 0xAA
+
+static const uint8_t AND_OF_3[] = {0x80};
+static const uint8_t EXAMPLE_2[] = {
+    2, 0, 1, 255, 255, 255, 255, 0, 8, 0, 0, 0, 0, 0, 0, 0,
+    2, 2, 3, 255, 255, 255, 255, 0, 8, 0, 0, 0, 0, 0, 0, 0,
+};
+
+static int faults = 0;
+static int checks = 0;
+
+static void expect(int holds, const char *what) {
+    checks += 1;
+    if (!holds) {
+        faults += 1;
+        fprintf(stderr, "tests/c: not so: %s\n", what);
+    }
+}
+
+static int all_are(uint8_t value, const uint8_t *bytes, size_t length) {
+    for (size_t i = 0; i < length; i++)
+        if (bytes[i] != value) return 0;
+    return 1;
+}
+
+static void make_and_run(void) {
+    uint8_t sheet[PELZURIVAN_SHEET + 1], work[PELZURIVAN_WORK + 1];
+    memset(sheet, PRESET, sizeof sheet);
+    memset(work, PRESET, sizeof work);
+    pelzurivan_made made = pelzurivan_make(3, 2, AND_OF_3, 1, sheet, PELZURIVAN_SHEET, work, PELZURIVAN_WORK);
+    expect(made.number == 0 && made.count == 2, "make: done, two cells");
+    expect(memcmp(sheet, EXAMPLE_2, sizeof EXAMPLE_2) == 0, "make: the records of example 2");
+    expect(all_are(PRESET, sheet + sizeof EXAMPLE_2, sizeof sheet - sizeof EXAMPLE_2), "make: the other bytes stay");
+    expect(all_are(0, work, PELZURIVAN_WORK) && work[PELZURIVAN_WORK] == PRESET, "make: the work area is zeros");
+
+    for (uint64_t x = 0; x < 8; x++) {
+        pelzurivan_ran ran = pelzurivan_run(3, sheet, sizeof EXAMPLE_2, x);
+        expect(ran.number == 0 && ran.bit == (x == 7) && ran.index == 0, "run: the AND of three");
+    }
+    uint8_t table[] = {PRESET, PRESET};
+    pelzurivan_rebuilt rebuilt = pelzurivan_rebuild(3, sheet, sizeof EXAMPLE_2, table, 1);
+    expect(rebuilt.number == 0 && rebuilt.index == 0, "rebuild: done");
+    expect(table[0] == 0x80 && table[1] == PRESET, "rebuild: the table");
+}
+
+static void find_and_try(void) {
+    uint8_t work[PELZURIVAN_WORK], room[] = {PRESET, PRESET, PRESET};
+    const uint8_t select[] = {0xCA};
+    memset(work, PRESET, sizeof work);
+    pelzurivan_sought sought = pelzurivan_find(3, 2, AND_OF_3, 1, work, sizeof work);
+    expect(sought.number == 0 && sought.own == 3 && sought.shared == 0, "find: own 3, shared 0");
+    pelzurivan_tried tried = pelzurivan_try(3, 3, 3, 4, select, 1, room, sizeof room);
+    expect(tried.number == 0 && tried.d == 0xCA, "try: D of example 5");
+    expect(room[0] == 0x0C && room[1] == PRESET && room[2] == PRESET, "try: H of example 5");
+}
+
+static void refusals(void) {
+    uint8_t sheet[PELZURIVAN_SHEET], work[PELZURIVAN_WORK], bad[sizeof EXAMPLE_2];
+    memset(sheet, PRESET, sizeof sheet);
+    memset(work, PRESET, sizeof work);
+    const uint8_t majority[] = {0xE8};
+    pelzurivan_made made = pelzurivan_make(3, 2, majority, 1, sheet, sizeof sheet, work, sizeof work);
+    expect(made.number == 8 && made.count == 0, "make: 8 for the majority of three");
+    expect(all_are(PRESET, sheet, sizeof sheet) && all_are(0, work, sizeof work), "make: 8 leaves the sheet");
+    expect(pelzurivan_find(3, 3, majority, 1, work, sizeof work).number == 7, "find: 7");
+    expect(pelzurivan_try(3, 2, 7, 0, majority, 1, sheet, 1).number == 5, "try: 5");
+    expect(pelzurivan_run(3, EXAMPLE_2, sizeof EXAMPLE_2, 8).number == 11, "run: 11");
+    memcpy(bad, EXAMPLE_2, sizeof bad);
+    bad[PELZURIVAN_RECORD + 7] = 1;
+    pelzurivan_ran ran = pelzurivan_run(3, bad, sizeof bad, 0);
+    expect(ran.number == 10 && ran.bit == 0 && ran.index == 1, "run: 10, record 1");
+    pelzurivan_rebuilt rebuilt = pelzurivan_rebuild(3, bad, sizeof bad, work, 1);
+    expect(rebuilt.number == 10 && rebuilt.index == 1 && work[0] == 0, "rebuild: 10, record 1");
+}
+
+int main(void) {
+    make_and_run();
+    find_and_try();
+    refusals();
+    printf("tests/c: %d of %d checks hold\n", checks - faults, checks);
+    return faults != 0;
+}
