@@ -1,11 +1,11 @@
 -- Line 5 as the code asks it, and what it lets through. Assumes nothing.
-use mathlib.Core.Path.{_≡_, refl, sym, ap, _∙_, subst}
+use mathlib.Core.Path.{_≡_, refl, subst}
 use mathlib.Core.Bool.{Bool, true, false, not, _||_}
 use Prim.Native.Nat.{ℕ, _+_, _^_, _<_, _≤_}
 use native.Mathlib.Nat.{le-trans}
 use native.Mathlib.Omega.{arith}
-use lib.Dec.{leb, ltb, eqb}
-use borrow.Author.Tests.{lt-ltb, le-ltb, le-leb, lt-leb, leb-false, ltb-false, eq-eqb, ne-eqb, not-false}
+use lib.Dec.{leb, ltb}
+use borrow.Author.Tests.{lt-ltb, le-ltb, le-leb, lt-leb, leb-false, ltb-false, not-false}
 use Rattle.bits.specs.Numbers.{bit}
 use Rattle.bits.specs.Sets.{disjoint, size}
 use Rattle.bits.proofs.Disjoint.{disjoint-apart}

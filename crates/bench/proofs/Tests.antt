@@ -1,5 +1,5 @@
 -- The tests of the table of refusals, as the code asks them. Assumes nothing.
-use mathlib.Core.Path.{_≡_, refl, sym, ap, ap₂, _∙_, subst}
+use mathlib.Core.Path.{_≡_, sym, ap, ap₂, _∙_, subst}
 use mathlib.Core.Bool.{Bool, true, false, not, _&&_}
 use mathlib.Core.List.{List}
 use Prim.Native.Nat.{ℕ, _*_, _<_, _≤_}
@@ -18,7 +18,8 @@ use Rattle.sheets.specs.Sheet.{firstBad, records, Saw, Good, AllReadable}
 use Rattle.sheets.specs.declared.rules.Looked.the-variants.{Fine, BadAt}
 use Rattle.sheets.proofs.Keeping.{first-edition}
 use Rattle.sheets.proofs.Networks.{good, all-readable}
-use Rattle.bench.specs.Refusals.{workLength, shortSheet, badRecord}
+use Rattle.chains.specs.Area.{workLength}
+use Rattle.bench.specs.Refusals.{shortSheet, badRecord}
 
 -- ---- lines 1 and 2: a number outside its limits
 

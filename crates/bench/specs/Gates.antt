@@ -1,7 +1,7 @@
 -- Lines 1 to 4, on n, K and the table, which try, find and make share.
 use mathlib.Core.Path.{_≡_}
 use mathlib.Core.List.{List, _∷_}
-use Prim.Native.Nat.{ℕ, _<_, _≤_}
+use Prim.Native.Nat.{ℕ, _≤_}
 use lib.ListN.{length}
 use Rattle.tables.specs.Table.{mostInputs, tableLength}
 use Rattle.sheets.specs.Edition.{largestCell}

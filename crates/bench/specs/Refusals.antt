@@ -12,12 +12,9 @@ use Rattle.splits.specs.Pair.{inputsH}
 use Rattle.best.specs.Search.{Answer, none, split, best}
 use Rattle.sheets.specs.Edition.{largestCell, recordSize, mostRecords, firstEdition}
 use Rattle.sheets.specs.Sheet.{badLength, records, firstBad}
+use Rattle.chains.specs.Area.{workLength}
 use Rattle.chains.specs.Chain.{Made, stuck, made, sheetOf}
 use Rattle.bench.specs.Lines.{Line, line}
-
--- a lent work area has 16,384 bytes or more
-abbrev pub workLength : ℕ
-workLength = 16384
 
 -- 1: n outside 1 to 16
 abbrev pub badInputs : ℕ → Line

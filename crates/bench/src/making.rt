@@ -12,7 +12,8 @@ ghost use Prim.Native.Nat.{_*_, _≤_};
 ghost use lib.ListN.{length};
 ghost use Rattle.sheets.specs.Edition.{recordSize, mostRecords};
 ghost use Rattle.bench.specs.Lines.{firstLine};
-ghost use Rattle.bench.specs.Refusals.{workLength, sheetFor, chainStuck};
+ghost use Rattle.chains.specs.Area.{workLength};
+ghost use Rattle.bench.specs.Refusals.{sheetFor, chainStuck};
 ghost use Rattle.bench.specs.Outcomes.{cellsIn, madeBy, makeWith, makeOutcome};
 ghost use Rattle.bench.specs.Gates.{Sound};
 

@@ -1,5 +1,5 @@
 -- `make_in` meets its contract: the held chain is the sheet of the table, and is written as records. Assumes nothing.
-use mathlib.Core.Path.{_≡_, sym, ap, ap₂, _∙_}
+use mathlib.Core.Path.{sym, ap, ap₂, _∙_}
 use mathlib.Core.Bool.{Bool, cond}
 use mathlib.Core.List.{[], _∷_}
 use borrow.Author.Needs.{needs}

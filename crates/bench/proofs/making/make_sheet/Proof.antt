@@ -10,7 +10,8 @@ use borrow.Author.Tests.{lt-ltb}
 use Rattle.bits.proofs.Bools.{or-left, or-right}
 use Rattle.sheets.specs.Edition.{recordSize, mostRecords}
 use Rattle.bench.specs.Lines.{here, later}
-use Rattle.bench.specs.Refusals.{workLength, chainStuck}
+use Rattle.chains.specs.Area.{workLength}
+use Rattle.bench.specs.Refusals.{chainStuck}
 use Rattle.bench.proofs.Lines.{the-first}
 use Rattle.bench.proofs.Tests.{both-long}
 use Rattle.bench.proofs.Replies.{told, make-gives, make-refused}

@@ -1,5 +1,5 @@
 -- `run_sheet` meets its contract: each return is the first line that holds, or what a good sheet gives. Assumes nothing.
-use mathlib.Core.Path.{_≡_, sym, ap, _∙_, subst}
+use mathlib.Core.Path.{sym, ap, _∙_, subst}
 use mathlib.Core.Bool.{Bool}
 use Prim.Native.Nat.{ℕ, _^_, _<_, _≤_}
 use native.Mathlib.Omega.{arith}
@@ -9,7 +9,6 @@ use borrow.Author.Tests.{le-leb, lt-leb}
 use Rattle.bits.proofs.Machine.{shl-one}
 use Rattle.tables.specs.Table.{mostInputs}
 use Rattle.sheets.specs.declared.rules.Looked.{Looked}
-use Rattle.sheets.specs.declared.rules.Looked.the-variants.{Fine, Length, BadAt}
 use Rattle.sheets.specs.Edition.{firstEdition}
 use Rattle.sheets.specs.Sheet.{Saw, sheetBit}
 use Rattle.bench.specs.declared.answers.Refusal.the-variants.{Record}

@@ -6,7 +6,8 @@ use lib.ListN.{length}
 use borrow.Author.Needs.{needs}
 use borrow.Author.Tests.{lt-ltb, le-ltb, le-leb, lt-leb}
 use Rattle.bench.specs.Lines.{here, later}
-use Rattle.bench.specs.Refusals.{workLength, noneBest}
+use Rattle.chains.specs.Area.{workLength}
+use Rattle.bench.specs.Refusals.{noneBest}
 use Rattle.bench.proofs.Lines.{the-first}
 use Rattle.bench.proofs.Replies.{told, find-gives, find-refused}
 use Rattle.bench.proofs.splitting.find_best.Statement.{statement}

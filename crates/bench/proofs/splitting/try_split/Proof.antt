@@ -1,6 +1,6 @@
 -- `try_split` meets its contract: each return is the first line that holds, or the fixed pair. Assumes nothing.
 use mathlib.Core.Path.{_≡_, sym, ap, _∙_, subst}
-use mathlib.Core.List.{List, [], _∷_}
+use mathlib.Core.List.{[], _∷_}
 use Prim.Native.Nat.{ℕ, _+_, _<_, _≤_}
 use native.Mathlib.Omega.{arith}
 use lib.ListN.{length}
@@ -8,8 +8,7 @@ use borrow.Author.Needs.{needs}
 use borrow.Author.Tests.{lt-ltb, le-ltb}
 use Rattle.bits.specs.Numbers.{bit}
 use Rattle.bits.specs.Sets.{size}
-use Rattle.tables.specs.Table.{tableLength, tableBit}
-use Rattle.splits.specs.declared.split.Split.{Split}
+use Rattle.tables.specs.Table.{tableLength}
 use Rattle.splits.specs.Split.{readsH}
 use Rattle.sheets.specs.Edition.{largestCell}
 use Rattle.bench.specs.Lines.{firstLine, here, later}

@@ -1,0 +1,3 @@
+-- A few words for the claims, and the listing of examples.
+pub mod Words
+pub mod Questions

@@ -1,0 +1,1 @@
+// The claims: theorems alone, for an inspector. Nothing here runs.
