@@ -1,0 +1,46 @@
+//! The best split: list every candidate, sort by the document's order, take
+//! the first that is possible.
+
+use std::cmp::Reverse;
+use std::sync::OnceLock;
+
+use crate::cell::MOST_READS;
+use crate::sets::{all, size};
+use crate::split::{possible, Split};
+use crate::table::{Table, MOST_INPUTS};
+
+/// The document's order: largest own set, then smallest shared set, then the
+/// least mask of the own set, then the least mask of the shared set.
+pub fn order(split: &Split) -> (Reverse<usize>, usize, u16, u16) {
+    (Reverse(size(split.own)), size(split.shared), split.own, split.shared)
+}
+
+/// Every pair that may be named for n inputs and cell size K, best first.
+fn list(n: usize, k: usize) -> Vec<Split> {
+    let sets: Vec<u16> = (0..=all(n)).filter(|&mask| size(mask) <= k).collect();
+    let mut pairs = Vec::new();
+    for &own in sets.iter().filter(|&&mask| size(mask) >= 2) {
+        for &shared in &sets {
+            if own & shared == 0 && size(own) + size(shared) <= k {
+                pairs.push(Split { own, shared });
+            }
+        }
+    }
+    pairs.sort_by_key(order);
+    pairs
+}
+
+const SHELF: usize = (MOST_INPUTS + 1) * (MOST_READS + 1);
+
+/// The same list, made once for each n and K and then kept: making it for
+/// n = 16, K = 6 takes longer than many a search.
+pub fn candidates(n: usize, k: usize) -> &'static [Split] {
+    static KEPT: [OnceLock<Vec<Split>>; SHELF] = [const { OnceLock::new() }; SHELF];
+    KEPT[n * (MOST_READS + 1) + k].get_or_init(|| list(n, k))
+}
+
+/// The best split of the table, if any is possible.
+pub fn best(table: &Table, k: usize) -> Option<Split> {
+    let pairs = candidates(table.inputs, k).iter();
+    pairs.copied().find(|&split| possible(table, split))
+}

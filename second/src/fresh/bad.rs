@@ -1,0 +1,46 @@
+//! Numbers that no call may take, and lengths around those it may.
+
+use crate::random::Random;
+
+/// An n outside 1 to 16. Sums with a power of two look right to a program
+/// that keeps only the low bits.
+pub fn inputs(random: &mut Random, sound: u64) -> u64 {
+    let wrapped = sound + (1 << random.pick(&[8, 16, 31, 32, 63]));
+    random.pick(&[0, 17, 18, 20, 64, 255, wrapped, wrapped, 1 << 63, u64::MAX])
+}
+
+/// A K outside 2 to 6.
+pub fn cell_size(random: &mut Random, sound: u64) -> u64 {
+    let wrapped = sound + (1 << random.pick(&[8, 16, 31, 32, 63]));
+    random.pick(&[0, 1, 1, 7, 7, 8, 16, 255, wrapped, wrapped, u64::MAX])
+}
+
+/// A length that is enough: exact, a little more, or as much as can be named.
+pub fn enough(random: &mut Random, needed: usize, most: usize) -> (usize, &'static str) {
+    match random.below(20) {
+        0..=9 => (needed, "exact"),
+        10..=12 => ((needed + 1).min(most), "one more"),
+        13..=18 => ((needed + random.between(2, 40)).min(most), "longer"),
+        _ => (most, "as long as can be"),
+    }
+}
+
+/// A length that is too short (needed is at least 1).
+pub fn too_short(random: &mut Random, needed: usize) -> (usize, &'static str) {
+    match random.below(4) {
+        0 | 1 => (needed - 1, "one short"),
+        2 => (0, "none"),
+        _ => (random.below(needed), "shorter"),
+    }
+}
+
+/// Any length but the one that is needed.
+pub fn wrong(random: &mut Random, needed: usize, most: usize) -> usize {
+    let any = random.below(most + 1);
+    let choice = random.pick(&[0, needed - 1, needed + 1, needed * 2, needed / 2, any]);
+    if choice == needed || choice > most {
+        needed + 1
+    } else {
+        choice
+    }
+}

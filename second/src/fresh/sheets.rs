@@ -1,0 +1,117 @@
+//! Sound sheets: those the chain makes, and handmade ones that no chain makes.
+
+use super::tables::chain_for;
+use crate::cell::{write_sheet, Cell, MOST_READS, MOST_RECORDS};
+use crate::chain::chain;
+use crate::random::Random;
+
+#[derive(Clone, Copy, Debug, PartialEq, Eq)]
+pub enum Kind {
+    /// Made by the chain of best splits.
+    Made,
+    /// Cells of any size that read any earlier signals.
+    Handmade,
+    /// The last cell reads none of the others.
+    Dead,
+    OneInput,
+    Constants,
+    /// Every cell reads as many signals as it can.
+    Wide,
+    /// As many records as a sheet may have.
+    Longest,
+}
+
+pub const KINDS: [Kind; 7] = [
+    Kind::Made,
+    Kind::Handmade,
+    Kind::Dead,
+    Kind::OneInput,
+    Kind::Constants,
+    Kind::Wide,
+    Kind::Longest,
+];
+
+impl Kind {
+    pub fn name(self) -> &'static str {
+        match self {
+            Kind::Made => "made by a chain",
+            Kind::Handmade => "handmade",
+            Kind::Dead => "dead cells",
+            Kind::OneInput => "one-input cells",
+            Kind::Constants => "constant cells",
+            Kind::Wide => "wide cells",
+            Kind::Longest => "15 records",
+        }
+    }
+
+    /// A sound sheet of this kind for a gate of n inputs.
+    pub fn draw(self, random: &mut Random, n: usize) -> Vec<u8> {
+        let records = random.between(1, MOST_RECORDS);
+        let cells = match self {
+            Kind::Made => made(random, n),
+            Kind::Handmade => handmade(random, n, records),
+            Kind::Dead => dead(random, n, records),
+            Kind::OneInput => (0..records).map(|i| cell(random, n + i, 1)).collect(),
+            Kind::Constants => constants(random, n, records),
+            Kind::Wide => (0..records).map(|i| cell(random, n + i, MOST_READS)).collect(),
+            Kind::Longest => handmade(random, n, MOST_RECORDS),
+        };
+        write_sheet(&cells)
+    }
+}
+
+/// A random cell with at most so many places that reads signals below the limit.
+fn cell(random: &mut Random, limit: usize, places: usize) -> Cell {
+    let mut left: Vec<usize> = (0..limit).collect();
+    let count = places.min(limit);
+    let mut reads: Vec<usize> =
+        (0..count).map(|_| left.swap_remove(random.below(left.len()))).collect();
+    reads.sort();
+    Cell { table: random.bits() & full(count), reads }
+}
+
+/// The table of a cell with k inputs whose every bit is one.
+fn full(k: usize) -> u64 {
+    u64::MAX >> (64 - (1 << k))
+}
+
+fn handmade(random: &mut Random, n: usize, records: usize) -> Vec<Cell> {
+    (0..records)
+        .map(|i| {
+            let places = random.between(1, MOST_READS);
+            cell(random, n + i, places)
+        })
+        .collect()
+}
+
+fn dead(random: &mut Random, n: usize, records: usize) -> Vec<Cell> {
+    let mut cells = handmade(random, n, records);
+    let places = random.between(1, MOST_READS);
+    cells[records - 1] = cell(random, n, places);
+    cells
+}
+
+fn constants(random: &mut Random, n: usize, records: usize) -> Vec<Cell> {
+    let mut cells = handmade(random, n, records);
+    for cell in &mut cells {
+        if random.coin() {
+            cell.table = if random.coin() { 0 } else { full(cell.reads.len()) };
+        }
+    }
+    cells
+}
+
+/// The sheet of a table that is known to be a chain. The chain of best splits
+/// may still get stuck on it; then another table is drawn, a smaller one in the end.
+fn made(random: &mut Random, n: usize) -> Vec<Cell> {
+    // Searching is slow for large n and K; a small K makes longer sheets anyway.
+    let most = if n > 10 { 3 } else { MOST_READS };
+    for _ in 0..20 {
+        let k = random.between(2, most);
+        let table = chain_for(random, n, k).table;
+        if let Some(cells) = chain(&table, k) {
+            return cells;
+        }
+    }
+    handmade(random, n, 1)
+}

@@ -1,0 +1,23 @@
+//! The second program: document 01 once more, in ordinary Rust, by brute force.
+//!
+//! The first group of modules is the bench itself, the second the two formats
+//! it speaks, the third what is needed to question another program.
+
+pub mod best;
+pub mod calls;
+pub mod cell;
+pub mod chain;
+pub mod network;
+pub mod sets;
+pub mod split;
+pub mod table;
+
+pub mod batch;
+pub mod bench;
+pub mod describe;
+
+pub mod carry;
+pub mod examples;
+pub mod fresh;
+pub mod outside;
+pub mod random;

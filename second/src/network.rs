@@ -1,0 +1,24 @@
+//! Running the cells of a sheet.
+
+use crate::cell::Cell;
+use crate::table::Table;
+
+/// The gate's bit at assignment x: each cell in turn, the last is the output.
+pub fn run(n: usize, cells: &[Cell], x: usize) -> bool {
+    let mut signals: Vec<bool> = (0..n).map(|input| (x >> input) & 1 == 1).collect();
+    for cell in cells {
+        let mut entry = 0;
+        for (place, &signal) in cell.reads.iter().enumerate() {
+            if signals[signal] {
+                entry |= 1 << place;
+            }
+        }
+        signals.push((cell.table >> entry) & 1 == 1);
+    }
+    signals.last().copied().unwrap_or(false)
+}
+
+/// The whole table, one assignment after the other.
+pub fn rebuild(n: usize, cells: &[Cell]) -> Table {
+    Table::from_rule(n, |x| run(n, cells, x))
+}

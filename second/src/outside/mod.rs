@@ -1,0 +1,10 @@
+//! Questioning another program from outside.
+
+pub mod arguments;
+mod broken;
+pub mod command;
+pub mod compare;
+pub mod compare_bench;
+pub mod fewest;
+pub mod measure;
+pub mod tally;
