@@ -1,4 +1,4 @@
-/* The five calls of the Pelzurivan bench, for C. Link libbench.a (rt staticlib bench), on x86-64.
+/* The five calls of the Pelzurivan bench, for C. Link libpelzurivan.a (rt staticlib pelzurivan), on x86-64.
  *
  * Anyone may make any call with anything; each ends with an answer or one refusal. A slice is a pointer and then a
  * length. The pointer is not null, not even for an empty slice, and what is lent for writing overlaps nothing else

@@ -14,7 +14,7 @@ use Rattle.sheets.specs.Edition.{recordSize, firstEdition}
 use Rattle.sheets.specs.Sheet.{records, firstBad, sheetBit, rebuilt}
 use Rattle.sheets.specs.Writing.{sheetBytes}
 use Rattle.sheets.specs.Held.{cellsOf}
-use Rattle.sheets.proofs.Lists.{length-list}
+use Rattle.bits.proofs.Lists.{length-list}
 use Rattle.sheets.proofs.Wholes.{length-sheet}
 use Rattle.bench.specs.declared.answers.Refusal.{Refusal}
 use Rattle.bench.specs.declared.answers.Tried.the-variants.{NotTried}

@@ -1,6 +1,5 @@
 // The bench: five calls that anyone may make with anything. None asks for anything; each ends with an answer or one refusal.
 pub mod answers;
-pub mod exports;
 mod filling;
 mod looking;
 pub mod making;

@@ -6,7 +6,7 @@ ghost use lib.ListN.{length, getD, take, drop};
 ghost use Rattle.sheets.specs.Edition.{recordSize, mostRecords};
 ghost use Rattle.bench_main.specs.Written.{written, asked};
 use bench::answers::MadeSheet;
-use bench::exports::number_of;
+use bench::answers::number_of;
 use bench::making::make_sheet;
 use libc::STDIN_FILENO;
 use libc::STDOUT_FILENO;

@@ -54,15 +54,7 @@ fn answer_try(n: u64, k: u64, own: u16, shared: u16, t: &[u8], room: &mut [u8]) 
     io::write_all(STDOUT_FILENO, room)
 }
 
-fn case_try() -> bool {
-    let n_field = read_number();
-    let Number::Is(n) = n_field else {
-        return false;
-    };
-    let k_field = read_number();
-    let Number::Is(k) = k_field else {
-        return false;
-    };
+fn case_try(n: u64, k: u64) -> bool {
     let own_field = read_mask();
     let Mask::Set(own) = own_field else {
         return false;
@@ -94,15 +86,7 @@ fn answer_find(n: u64, k: u64, t: &[u8], work: &mut [u8]) -> bool {
     io::write_all(STDOUT_FILENO, &mark)
 }
 
-fn case_find() -> bool {
-    let n_field = read_number();
-    let Number::Is(n) = n_field else {
-        return false;
-    };
-    let k_field = read_number();
-    let Number::Is(k) = k_field else {
-        return false;
-    };
+fn case_find(n: u64, k: u64) -> bool {
     let mut table = table_room();
     let table_part = read_bytes(&mut table);
     if !table_part.whole {
@@ -127,15 +111,7 @@ fn answer_make(n: u64, k: u64, t: &[u8], sheet: &mut [u8], work: &mut [u8]) -> b
     io::write_all(STDOUT_FILENO, &mark)
 }
 
-fn case_make() -> bool {
-    let n_field = read_number();
-    let Number::Is(n) = n_field else {
-        return false;
-    };
-    let k_field = read_number();
-    let Number::Is(k) = k_field else {
-        return false;
-    };
+fn case_make(n: u64, k: u64) -> bool {
     let mut table = table_room();
     let table_part = read_bytes(&mut table);
     if !table_part.whole {
@@ -157,15 +133,7 @@ fn case_make() -> bool {
     answer_make(n, k, &table[..t], &mut sheet[..s], &mut work[..w])
 }
 
-fn case_run() -> bool {
-    let n_field = read_number();
-    let Number::Is(n) = n_field else {
-        return false;
-    };
-    let x_field = read_number();
-    let Number::Is(x) = x_field else {
-        return false;
-    };
+fn case_run(n: u64, x: u64) -> bool {
     let mut sheet = sheet_room();
     let sheet_part = read_bytes(&mut sheet);
     if !sheet_part.whole {
@@ -184,11 +152,7 @@ fn answer_rebuild(n: u64, s: &[u8], table: &mut [u8]) -> bool {
     io::write_all(STDOUT_FILENO, table)
 }
 
-fn case_rebuild() -> bool {
-    let n_field = read_number();
-    let Number::Is(n) = n_field else {
-        return false;
-    };
+fn case_rebuild(n: u64) -> bool {
     let mut sheet = sheet_room();
     let sheet_part = read_bytes(&mut sheet);
     if !sheet_part.whole {
@@ -204,23 +168,36 @@ fn case_rebuild() -> bool {
     answer_rebuild(n, &sheet[..s], &mut table[..t])
 }
 
-// Reads a case and answers it; false where that cannot be done.
-pub fn next_case() -> bool {
-    let call = read_call();
+// A case of a call that has a second number: K, or the assignment.
+fn case_of_two(call: u8, n: u64) -> bool {
+    let field = read_number();
+    let Number::Is(second) = field else {
+        return false;
+    };
     if call == 1 {
-        return case_try();
+        return case_try(n, second);
     }
     if call == 2 {
-        return case_find();
+        return case_find(n, second);
     }
     if call == 3 {
-        return case_make();
+        return case_make(n, second);
     }
     if call == 4 {
-        return case_run();
-    }
-    if call == 5 {
-        return case_rebuild();
+        return case_run(n, second);
     }
     false
+}
+
+// Reads a case and answers it; false where that cannot be done. Each case starts with its call and n.
+pub fn next_case() -> bool {
+    let call = read_call();
+    let field = read_number();
+    let Number::Is(n) = field else {
+        return false;
+    };
+    if call == 5 {
+        return case_rebuild(n);
+    }
+    case_of_two(call, n)
 }

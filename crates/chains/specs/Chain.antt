@@ -9,7 +9,7 @@ use Rattle.splits.specs.Split.{readsD, readsH}
 use Rattle.splits.specs.Pair.{tableD, tableH}
 use Rattle.best.specs.Search.{none, split, best}
 use Rattle.sheets.specs.Network.{Cell}
-use Rattle.sheets.specs.Record.{listOf}
+use Rattle.bits.specs.Lists.{listOf}
 
 -- the signals at the positions below n of a set, in increasing position
 unfoldable pub pick : ℕ → (ℕ → Bool) → List ℕ → List ℕ

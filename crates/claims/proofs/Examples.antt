@@ -8,12 +8,13 @@ use lib.ListN.{replicate}
 use Rattle.bits.specs.Numbers.{number}
 use Rattle.bits.specs.Below.{least}
 use Rattle.bits.specs.Sets.{size, disjoint, gather, spread}
-use Rattle.tables.specs.Table.{spareClear, bytesOf, tableOf}
+use Rattle.tables.specs.Table.{spareClear, tableOf}
 use Rattle.splits.specs.Columns.{firsts, assign, column, columns, fewColumns}
 use Rattle.splits.specs.Pair.{code, codeAt, tableD, bitH, tableH, bytesH}
 use Rattle.best.specs.Search.{first, tryB, tryA, best}
 use Rattle.sheets.specs.Network.{output, run}
-use Rattle.sheets.specs.Record.{listOf, cellOf, spareOk, byteOk, keeps}
+use Rattle.bits.specs.Lists.{listOf}
+use Rattle.sheets.specs.Record.{cellOf, spareOk, byteOk, keeps}
 use Rattle.sheets.specs.Sheet.{cellsFrom, sheetBit, rebuilt}
 use Rattle.sheets.specs.Writing.{recordByte, encode}
 use Rattle.chains.specs.Chain.{pick, chain, sheetOf}
@@ -109,5 +110,5 @@ listing =
     ∷ []
 
 pub examples : answers listing ≡ expected listing
-unfolding listing tryOutcome findOutcome makeOutcome runOutcome rebuildOutcome sheetOf chain pick listOf best first tryA tryB disjoint fewColumns tableD tableH bytesH codeAt code bitH columns column assign firsts number size gather spread least spareClear bytesOf tableOf output run cellOf spareOk byteOk keeps cellsFrom sheetBit rebuilt recordByte encode
+unfolding listing tryOutcome findOutcome makeOutcome runOutcome rebuildOutcome sheetOf chain pick listOf best first tryA tryB disjoint fewColumns tableD tableH bytesH codeAt code bitH columns column assign firsts number size gather spread least spareClear tableOf output run cellOf spareOk byteOk keeps cellsFrom sheetBit rebuilt recordByte encode
 examples = refl

@@ -8,6 +8,7 @@ use lib.Dec.{ltb}
 use lib.ListN.{length, drop, length-set}
 use borrow.Author.Needs.{needs}
 use Rattle.bits.specs.Numbers.{bit}
+use Rattle.bits.specs.Lists.{listOf}
 use Rattle.tables.specs.Table.{tableLength, tableBit, bytesOf, tableOf}
 use Rattle.tables.proofs.Bytes.{written-more, length-bytes}
 use Rattle.splits.specs.declared.split.Split.{Split}
@@ -27,7 +28,7 @@ abbrev μ-loop : tie.MeasureT-loop
 μ-loop t s seen end room₀ i₀ room i = end - i
 
 loop-holds : tie.Need-loop-holds Inv-loop μ-loop
-unfolding bytesOf
+unfolding listOf
 loop-holds c = (omega arith, refl, refl)
 
 h-byte-requires : tie.Need-h-byte-requires Inv-loop μ-loop

@@ -1,7 +1,7 @@
 -- `pelzurivan_rebuild` meets its contract: the answer's number and values, case by case, are those of the call. Assumes nothing.
 use borrow.Author.Needs.{needs}
-use Rattle.bench.proofs.exports.pelzurivan_rebuild.Statement.{statement}
-use Rattle.bench.proofs.exports.pelzurivan_rebuild.Tie as tie
+use Rattle.pelzurivan.proofs.pelzurivan_rebuild.Statement.{statement}
+use Rattle.pelzurivan.proofs.pelzurivan_rebuild.Tie as tie
 
 returns : tie.Need-returns
 returns c = rw (c .enum-told .given .1) at (c .before .before .before .before .rebuild-table .ensures)

@@ -1,7 +1,7 @@
 -- `pelzurivan_run` meets its contract: the answer's number and values, case by case, are those of the call. Assumes nothing.
 use borrow.Author.Needs.{needs}
-use Rattle.bench.proofs.exports.pelzurivan_run.Statement.{statement}
-use Rattle.bench.proofs.exports.pelzurivan_run.Tie as tie
+use Rattle.pelzurivan.proofs.pelzurivan_run.Statement.{statement}
+use Rattle.pelzurivan.proofs.pelzurivan_run.Tie as tie
 
 returns : tie.Need-returns
 returns c = rw (c .before .answer .given .1) at (c .before .before .before .run-sheet .ensures)

@@ -1,56 +1,18 @@
-// The five calls for C: each answer is a struct of the paper's number and the values.
+// The five calls for C: each answer is a struct of the paper's number and the values. The header is include/pelzurivan.h.
 ghost use mathlib.Core.Path.{_≡_};
-ghost use Rattle.bench.specs.Answers.{numberOf, placeOf};
 ghost use Rattle.bench.specs.Outcomes.{tryOutcome, findOutcome, makeOutcome, runOutcome, rebuildOutcome};
-use crate::answers::MadeSheet;
-use crate::answers::Ran;
-use crate::answers::Rebuilt;
-use crate::answers::Refusal;
-use crate::answers::Sought;
-use crate::answers::Tried;
-use crate::making::make_sheet;
-use crate::running::rebuild_table;
-use crate::running::run_sheet;
-use crate::splitting::find_best;
-use crate::splitting::try_split;
-
-// The paper's number of a refusal.
-pub fn number_of(r: Refusal) -> u8
-    ensures { λ a. ⌜ a ≡ numberOf r ⌝ }
-{
-    match r {
-        Refusal::Inputs => 1,
-        Refusal::CellSize => 2,
-        Refusal::TableLength => 3,
-        Refusal::SpareBits => 4,
-        Refusal::Sets => 5,
-        Refusal::Room => 6,
-        Refusal::NothingToSplit => 7,
-        Refusal::NoSplit => 8,
-        Refusal::SheetLength => 9,
-        Refusal::Record(_) => 10,
-        Refusal::Assignment => 11,
-    }
-}
-
-// The first bad record, and 0 where none is named.
-pub fn place_of(r: Refusal) -> usize
-    ensures { λ a. ⌜ a ≡ placeOf r ⌝ }
-{
-    match r {
-        Refusal::Inputs => 0,
-        Refusal::CellSize => 0,
-        Refusal::TableLength => 0,
-        Refusal::SpareBits => 0,
-        Refusal::Sets => 0,
-        Refusal::Room => 0,
-        Refusal::NothingToSplit => 0,
-        Refusal::NoSplit => 0,
-        Refusal::SheetLength => 0,
-        Refusal::Record(i) => i,
-        Refusal::Assignment => 0,
-    }
-}
+use bench::answers::MadeSheet;
+use bench::answers::Ran;
+use bench::answers::Rebuilt;
+use bench::answers::Sought;
+use bench::answers::Tried;
+use bench::answers::number_of;
+use bench::answers::place_of;
+use bench::making::make_sheet;
+use bench::running::rebuild_table;
+use bench::running::run_sheet;
+use bench::splitting::find_best;
+use bench::splitting::try_split;
 
 // A named split tried: the number, D.
 #[repr(C)]
