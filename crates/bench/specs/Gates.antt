@@ -12,6 +12,7 @@ use Rattle.bench.specs.Lines.{Line, First}
 use Rattle.bench.specs.Refusals.{badInputs, badCell, badTable, badSpare}
 use Rattle.bench.specs.Answers.{numberOf}
 
+-- lines 1 to 4, and those that follow them
 abbrev pub gateLines : ℕ → ℕ → List ℕ → List Line → List Line
 gateLines n K t ls = badInputs n ∷ badCell K ∷ badTable n t ∷ badSpare n t ∷ ls
 

@@ -10,6 +10,7 @@ pub record Line : Type 0 where
   pub no : ℕ
   pub holds : Bool
 
+-- the line with number k, which holds as the test t says
 abbrev pub line : ℕ → Bool → Line
 line k t = record { no = k; holds = t }
 

@@ -57,15 +57,16 @@ nothingToSplit n K = line 7 (leb n K)
 abbrev pub notPossible : ℕ → ℕ → ℕ → List ℕ → Line
 notPossible n A B t = line 8 (not (fewColumns n (tableBit t) (bit A) (bit B) 2))
 
--- 8: no split is
+-- whether there is no split
 abbrev pub isNone : Answer → Bool
 isNone none = true
 isNone (split A B) = false
 
+-- 8: none is possible (find)
 abbrev pub noneBest : ℕ → ℕ → List ℕ → Line
 noneBest n K t = line 8 (isNone (best n 1 (tableBit t) K))
 
--- 8: a table in the chain with more than K inputs has none
+-- whether the chain is stuck
 abbrev pub isStuck : Made → Bool
 isStuck stuck = true
 isStuck (made cs) = false
@@ -74,6 +75,7 @@ isStuck (made cs) = false
 abbrev pub sheetFor : ℕ → ℕ → List ℕ → Made
 sheetFor n K t = sheetOf n K (number (2 ^ n) (tableBit t))
 
+-- 8: a table in the chain with more than K inputs has none (make)
 abbrev pub chainStuck : ℕ → ℕ → List ℕ → Line
 chainStuck n K t = line 8 (isStuck (sheetFor n K t))
 
@@ -91,17 +93,22 @@ badAssignment n x = line 11 (leb (2 ^ n) x)
 
 -- ---- each call's list
 
+-- try: 1 to 6, and 8
 abbrev pub tryLines : ℕ → ℕ → ℕ → ℕ → List ℕ → List ℕ → List Line
 tryLines n K A B t room = badInputs n ∷ badCell K ∷ badTable n t ∷ badSpare n t ∷ badSets n K A B ∷ shortRoom n A B t room ∷ notPossible n A B t ∷ []
 
+-- find: 1 to 4, 6 of the work area, 7 and 8
 abbrev pub findLines : ℕ → ℕ → List ℕ → List ℕ → List Line
 findLines n K t work = badInputs n ∷ badCell K ∷ badTable n t ∷ badSpare n t ∷ shortWork work ∷ nothingToSplit n K ∷ noneBest n K t ∷ []
 
+-- make: 1 to 4, 6 of the sheet and the work area, and 8
 abbrev pub makeLines : ℕ → ℕ → List ℕ → List ℕ → List ℕ → List Line
 makeLines n K t sheet work = badInputs n ∷ badCell K ∷ badTable n t ∷ badSpare n t ∷ shortSheet sheet work ∷ chainStuck n K t ∷ []
 
+-- run: 1, 9, 10 and 11
 abbrev pub runLines : ℕ → List ℕ → ℕ → List Line
 runLines n s x = badInputs n ∷ badSheet s ∷ badRecord n s ∷ badAssignment n x ∷ []
 
+-- rebuild: 1, 3, 9 and 10
 abbrev pub rebuildLines : ℕ → List ℕ → List ℕ → List Line
 rebuildLines n s table = badInputs n ∷ badTable n table ∷ badSheet s ∷ badRecord n s ∷ []

@@ -3,6 +3,7 @@ use Prim.Native.Nat.{ℕ, _+_, _^_, _<_, _≤_}
 use Rattle.bits.specs.Numbers.{bit}
 use Rattle.bits.specs.Sets.{Apart, size}
 
+-- positions below n, disjoint, A with at least 2 members, A and B together with at most K
 pub record GoodSets (n K A B : ℕ) : Type 0 where
   pub belowA : A < 2 ^ n
   pub belowB : B < 2 ^ n
