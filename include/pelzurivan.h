@@ -1,8 +1,9 @@
 /* The five calls of the Pelzurivan bench, for C. Link libpelzurivan.a (rt staticlib pelzurivan), on x86-64.
  *
- * Anyone may make any call with anything; each ends with an answer or one refusal. A slice is a pointer and then a
- * length. The pointer is not null, not even for an empty slice, and what is lent for writing overlaps nothing else
- * that the call is given; so much C must see to, and everything else the calls do.
+ * Anyone may make any call with any numbers and any bytes; each ends with an answer or one refusal. A slice is a
+ * pointer and then a length. C must see to two things: every pointer is valid for its length and not null, not even
+ * for an empty slice; and an area that is lent for writing overlaps no other area of the call. The calls see to
+ * everything else.
  *
  * A gate has n inputs, 1 to 16. Its table has bit x mod 8 of byte x div 8 for each assignment x: 1 byte up to n = 3,
  * else 2^(n-3) bytes. A cell has at most k inputs, 2 to 6. A sheet is records of 16 bytes, the last is the output.
@@ -40,7 +41,7 @@ typedef struct { uint64_t number, bit, index; } pelzurivan_ran;
 typedef struct { uint64_t number, index; } pelzurivan_rebuilt;
 
 /* Tries a named split: D in d, H in the first bytes of room, the bytes after its table stay. 1 to 6, 8. */
-pelzurivan_tried pelzurivan_try(uint64_t n, uint64_t k, uint16_t own, uint16_t shared, const uint8_t *table,
+pelzurivan_tried pelzurivan_try(uint64_t n, uint64_t k, uint64_t own, uint64_t shared, const uint8_t *table,
                                 size_t table_length, uint8_t *room, size_t room_length);
 
 /* Finds the best split: its masks. After 0 and 8 the work area is zeros, else as it was. 1 to 4, 6, 7, 8. */

@@ -2,12 +2,11 @@
 //! the first that is possible.
 
 use std::cmp::Reverse;
-use std::sync::OnceLock;
+use std::sync::Mutex;
 
-use crate::cell::MOST_READS;
 use crate::sets::{all, size};
 use crate::split::{possible, Split};
-use crate::table::{Table, MOST_INPUTS};
+use crate::table::Table;
 
 /// The document's order: largest own set, then smallest shared set, then the
 /// least mask of the own set, then the least mask of the shared set.
@@ -30,13 +29,18 @@ fn list(n: usize, k: usize) -> Vec<Split> {
     pairs
 }
 
-const SHELF: usize = (MOST_INPUTS + 1) * (MOST_READS + 1);
-
 /// The same list, made once for each n and K and then kept: making it for
 /// n = 16, K = 6 takes longer than many a search.
 pub fn candidates(n: usize, k: usize) -> &'static [Split] {
-    static KEPT: [OnceLock<Vec<Split>>; SHELF] = [const { OnceLock::new() }; SHELF];
-    KEPT[n * (MOST_READS + 1) + k].get_or_init(|| list(n, k))
+    type Kept = ((usize, usize), &'static [Split]);
+    static KEPT: Mutex<Vec<Kept>> = Mutex::new(Vec::new());
+    let mut kept = KEPT.lock().expect("nobody failed with it");
+    if let Some((_, pairs)) = kept.iter().find(|(sizes, _)| *sizes == (n, k)) {
+        return pairs;
+    }
+    let pairs: &'static [Split] = Box::leak(list(n, k).into_boxed_slice());
+    kept.push(((n, k), pairs));
+    pairs
 }
 
 /// The best split of the table, if any is possible.

@@ -1,53 +1,78 @@
-//! Whether one or two cells carry a table, by brute force over networks.
+//! Whether one or two cells carry a table, by networks alone.
 //!
 //! Nothing here knows of splits, columns or chains: a cell reads any earlier
 //! signals and has any table. A cell may ignore what it reads, so it is enough
-//! to look at cells that read as many signals as they may.
+//! to look at cells that read as many signals as they may, each once.
 
 use crate::sets::{all, gather, size};
 use crate::table::Table;
 
-/// The largest cell size for which every table of a cell can be tried.
-pub const MOST_TRIED: usize = 4;
+/// Up to this cell size every table of the first cell is tried in turn.
+pub const MOST_TRIED: usize = 3;
 
-/// A cell's table while it is being found out: entries not yet asked for are open.
-type Open = [Option<bool>; 1 << MOST_TRIED];
-
-/// Notes that an entry must hold a bit; false if it must already hold the other.
-fn must_hold(open: &mut Open, entry: usize, bit: bool) -> bool {
-    let held = *open[entry].get_or_insert(bit);
-    held == bit
+/// What a cell reads: a set of inputs, and for each assignment the entry of the
+/// cell's table at which those inputs stand.
+pub struct Reads {
+    set: u16,
+    entries: Vec<usize>,
 }
 
-/// The sets of inputs a cell with this many places may read.
-fn read_sets(n: usize, places: usize) -> Vec<u16> {
-    (0..=all(n)).filter(|&set| size(set) == places.min(n)).collect()
-}
-
-/// Whether one cell of size K carries the table.
-pub fn one_cell(table: &Table, k: usize) -> bool {
-    read_sets(table.inputs, k).into_iter().any(|reads| {
-        let mut cell: Vec<Option<bool>> = vec![None; 1 << size(reads)];
-        let mut bits = table.bits.iter().enumerate();
-        bits.all(|(x, &bit)| *cell[gather(x, reads)].get_or_insert(bit) == bit)
-    })
-}
-
-/// Whether two cells of size K (2 to 4) carry the table: the first reads
-/// inputs, the second reads inputs and the first cell's output.
-pub fn two_cells(table: &Table, k: usize) -> bool {
-    let needed = needed_inputs(table);
-    for first in read_sets(table.inputs, k) {
-        for second in read_sets(table.inputs, k - 1) {
-            // What no cell reads cannot change the output.
-            let all_read = needed & !(first | second) == 0;
-            let wiring = Wiring::new(table, first, second);
-            if all_read && (if k < MOST_TRIED { wiring.plain() } else { wiring.bit_by_bit() }) {
-                return true;
-            }
-        }
+impl Reads {
+    pub fn new(n: usize, set: u16) -> Reads {
+        Reads { set, entries: (0..1 << n).map(|x| gather(x, set)).collect() }
     }
-    false
+
+    /// All that a cell with this many places may read.
+    fn all(n: usize, places: usize) -> Vec<Reads> {
+        let sets = (0..=all(n)).filter(|&set| size(set) == places.min(n));
+        sets.map(|set| Reads::new(n, set)).collect()
+    }
+}
+
+/// The networks of one and of two cells of size K over n inputs.
+pub struct Networks {
+    k: usize,
+    /// What a cell may read: K inputs, or one less beside the first cell's output.
+    full: Vec<Reads>,
+    beside: Vec<Reads>,
+}
+
+impl Networks {
+    pub fn new(n: usize, k: usize) -> Networks {
+        Networks { k, full: Reads::all(n, k), beside: Reads::all(n, k - 1) }
+    }
+
+    /// Whether one cell carries the table.
+    pub fn one(&self, table: &Table) -> bool {
+        self.full.iter().any(|reads| {
+            let mut cell: Vec<Option<bool>> = vec![None; 1 << size(reads.set)];
+            let mut demands = reads.entries.iter().zip(&table.bits);
+            demands.all(|(&entry, &bit)| *cell[entry].get_or_insert(bit) == bit)
+        })
+    }
+
+    /// Whether two cells carry the table: the first reads inputs, the second
+    /// reads inputs and the first cell's output.
+    pub fn two(&self, table: &Table) -> bool {
+        let needed = needed_inputs(table);
+        self.full.iter().any(|first| {
+            // What no cell reads cannot change the output.
+            let all_read = |second: &&Reads| needed & !(first.set | second.set) == 0;
+            let wirings = self.beside.iter().filter(all_read);
+            wirings.map(|second| Wiring { table, first, second }).any(|wiring| match self.k {
+                0..=MOST_TRIED => wiring.tried(),
+                _ => wiring.decided(),
+            })
+        })
+    }
+
+    /// One or two, where so many cells can carry the table.
+    pub fn fewest(&self, table: &Table) -> Option<usize> {
+        if self.one(table) {
+            return Some(1);
+        }
+        self.two(table).then_some(2)
+    }
 }
 
 fn needed_inputs(table: &Table) -> u16 {
@@ -55,51 +80,81 @@ fn needed_inputs(table: &Table) -> u16 {
 }
 
 /// Two cells with their reads fixed and their tables open.
-pub struct Wiring {
-    /// How many entries the first cell's table has.
-    first_entries: usize,
-    /// The place of the first cell's output among the second cell's reads.
-    output_place: usize,
-    /// For each assignment: entry of the first cell, what the inputs add to the
-    /// entry of the second, and the bit that must come out.
-    demands: Vec<(usize, usize, bool)>,
+pub struct Wiring<'a> {
+    pub table: &'a Table,
+    pub first: &'a Reads,
+    pub second: &'a Reads,
 }
 
-impl Wiring {
-    pub fn new(table: &Table, first: u16, second: u16) -> Wiring {
-        let bits = table.bits.iter().enumerate();
-        let demands = bits.map(|(x, &bit)| (gather(x, first), gather(x, second), bit)).collect();
-        Wiring { first_entries: 1 << size(first), output_place: size(second), demands }
+impl Wiring<'_> {
+    /// For each assignment: the entry of the first cell, what the inputs make
+    /// of the entry of the second, and the bit that must come out.
+    fn demands(&self) -> impl Iterator<Item = (usize, usize, bool)> + '_ {
+        let entries = self.first.entries.iter().zip(&self.second.entries);
+        entries.zip(&self.table.bits).map(|((&first, &second), &bit)| (first, second, bit))
     }
 
-    /// Tries every table of the first cell in turn.
-    pub fn plain(&self) -> bool {
-        (0..1u64 << self.first_entries).any(|first| {
-            let mut second: Open = [None; 1 << MOST_TRIED];
-            self.demands.iter().all(|&(entry, inputs, bit)| {
+    /// Tries every table of the first cell in turn; the second cell's table is
+    /// then what it must be, unless an entry must be two things at once.
+    pub fn tried(&self) -> bool {
+        let output_place = size(self.second.set);
+        (0..1u64 << (1 << size(self.first.set))).any(|first| {
+            let mut second: Vec<Option<bool>> = vec![None; 2 << output_place];
+            self.demands().all(|(entry, inputs, bit)| {
                 let output = (first >> entry) as usize & 1;
-                must_hold(&mut second, inputs | output << self.output_place, bit)
+                *second[inputs | output << output_place].get_or_insert(bit) == bit
             })
         })
     }
 
-    /// The same, but the first cell's table is written bit by bit and given up
-    /// as soon as the second cell's table would have to be two things at once.
-    pub fn bit_by_bit(&self) -> bool {
-        self.fill_from(0, &[None; 1 << MOST_TRIED])
+    /// The same for cells whose tables are too many to be tried. Two
+    /// assignments that look alike to the second cell's inputs and must come
+    /// out differently need different outputs of the first cell, and nothing
+    /// else is asked of it: it is enough that the entries of the first cell can
+    /// be put on two sides so that each such pair is parted.
+    pub fn decided(&self) -> bool {
+        // For each assignment of the second cell's inputs: an entry that must
+        // give 0 there and one that must give 1.
+        let mut met: Vec<[Option<usize>; 2]> = vec![[None; 2]; 1 << size(self.second.set)];
+        for (entry, inputs, bit) in self.demands() {
+            met[inputs][usize::from(bit)] = Some(entry);
+        }
+        let mut sides = Sides::new(1 << size(self.first.set));
+        self.demands().all(|(entry, inputs, bit)| match met[inputs] {
+            [Some(zero), Some(one)] => {
+                let like = if bit { one } else { zero };
+                sides.put(zero, one, true) && sides.put(like, entry, false)
+            }
+            _ => true,
+        })
+    }
+}
+
+/// Things on two sides, some of them bound to each other.
+struct Sides {
+    /// The one that each is bound to, and whether it stands across from it.
+    bound: Vec<(usize, bool)>,
+}
+
+impl Sides {
+    /// So many things, none bound to another.
+    fn new(count: usize) -> Sides {
+        Sides { bound: (0..count).map(|thing| (thing, false)).collect() }
     }
 
-    fn fill_from(&self, entry: usize, second: &Open) -> bool {
-        if entry == self.first_entries {
-            return true;
+    /// Puts two across from each other, or on the same side; false if they are
+    /// bound otherwise already.
+    fn put(&mut self, one: usize, two: usize, across: bool) -> bool {
+        let (to, turned) = self.bound[one];
+        let (from, turned_too) = self.bound[two];
+        let turn = turned ^ turned_too ^ across;
+        if from == to {
+            return !turn;
         }
-        [0, 1].into_iter().any(|output: usize| {
-            let mut next = *second;
-            let asked = self.demands.iter().filter(|demand| demand.0 == entry);
-            let fits = asked.fold(true, |fits, &(_, inputs, bit)| {
-                fits && must_hold(&mut next, inputs | output << self.output_place, bit)
-            });
-            fits && self.fill_from(entry + 1, &next)
-        })
+        for (leader, side) in self.bound.iter_mut().filter(|(leader, _)| *leader == from) {
+            *leader = to;
+            *side ^= turn;
+        }
+        true
     }
 }

@@ -1,6 +1,7 @@
 //! Cases and answers in words, for someone who must find out why two programs differ.
 
-use crate::calls::Case;
+use crate::batch::number_of;
+use crate::case::{Case, Field, Part};
 
 /// Longer byte strings are cut here; the seed brings the whole case back.
 const SHOWN_BYTES: usize = 64;
@@ -17,61 +18,42 @@ pub fn hex(bytes: &[u8]) -> String {
     text.join(" ")
 }
 
-pub fn call_name(case: &Case) -> &'static str {
-    match case {
-        Case::Try { .. } => "try",
-        Case::Find { .. } => "find",
-        Case::Make { .. } => "make",
-        Case::Run { .. } => "run",
-        Case::Rebuild { .. } => "rebuild",
-    }
+pub fn case_text(case: &Case) -> String {
+    let mut numbers = case.numbers.iter();
+    let mut bytes = case.bytes.iter();
+    let mut lent = case.lent.iter();
+    let fields = case.call.asks.iter().map(|field| match field {
+        Field::Number(name, _) => format!(" {name} {}", shown(numbers.next())),
+        Field::Bytes(name, _) => {
+            format!(" {name} {}", bytes.next().map_or_else(missing, |b| hex(b)))
+        }
+        Field::Lent(name, _) => format!(" {name} {}", shown(lent.next())),
+    });
+    format!("{}{}", case.call.name, fields.collect::<Vec<_>>().join(","))
 }
 
-pub fn case_text(case: &Case) -> String {
-    match case {
-        Case::Try { n, k, split, table, room } => {
-            let (own, shared) = (split.own, split.shared);
-            let table = hex(table);
-            format!("try n={n} K={k} A={own} B={shared} table {table}; room for H {room}")
-        }
-        Case::Find { n, k, table, work } => {
-            format!("find n={n} K={k} table {}; work area {work}", hex(table))
-        }
-        Case::Make { n, k, table, room, work } => {
-            let table = hex(table);
-            format!("make n={n} K={k} table {table}; room for the sheet {room}, work area {work}")
-        }
-        Case::Run { n, x, sheet } => format!("run n={n} x={x} sheet {}", hex(sheet)),
-        Case::Rebuild { n, sheet, room } => {
-            format!("rebuild n={n} sheet {}; room for the table {room}", hex(sheet))
-        }
-    }
+fn shown<T: ToString>(value: Option<&T>) -> String {
+    value.map_or_else(missing, T::to_string)
+}
+
+fn missing() -> String {
+    "missing".to_string()
 }
 
 /// An answer in words. The bytes come from outside and may stop anywhere.
-pub fn answer_text(case: &Case, bytes: &[u8]) -> String {
-    let number = |from: usize, width: usize| match bytes.get(from..from + width) {
-        Some(field) => {
-            field.iter().rev().fold(0u64, |sum, &byte| sum << 8 | byte as u64).to_string()
-        }
-        None => "missing".to_string(),
+pub fn answer_text(case: &Case, answer: &[u8]) -> String {
+    let mut at = 0;
+    let mut field = |width: usize| {
+        let bytes = answer.get(at..at + width);
+        at += width;
+        bytes
     };
-    let rest = |from: usize| hex(bytes.get(from..).unwrap_or(&[]));
-    let first = number(0, 1);
-    match case {
-        Case::Try { .. } => format!("number {first}, D {}, room {}", number(1, 8), rest(9)),
-        Case::Find { .. } => {
-            format!("number {first}, A {}, B {}, W {}", number(1, 2), number(3, 2), number(5, 1))
+    let parts = case.call.answers.iter().map(|part| match part {
+        Part::Number(name, width) => {
+            format!("{name} {}", shown(field(*width).map(number_of).as_ref()))
         }
-        Case::Make { room, .. } => {
-            let sheet = hex(&bytes[bytes.len().min(2)..bytes.len().min(2 + room)]);
-            format!(
-                "number {first}, count {}, room {sheet}, W {}",
-                number(1, 1),
-                number(2 + room, 1)
-            )
-        }
-        Case::Run { .. } => format!("number {first}, bit {}, index {}", number(1, 1), number(2, 1)),
-        Case::Rebuild { .. } => format!("number {first}, index {}, room {}", number(1, 1), rest(2)),
-    }
+        Part::Lent(area) => format!("room {}", field(case.lent[*area]).map_or_else(missing, hex)),
+        Part::Mark(_) => format!("W {}", shown(field(1).map(number_of).as_ref())),
+    });
+    parts.collect::<Vec<_>>().join(", ")
 }

@@ -1,8 +1,10 @@
 //! The bench examples 1 to 11 of document 01, with its answers as literals.
 
 use crate::batch::answer_length;
-use crate::calls::{Case, PRESET, WORK_BYTES};
+use crate::calls;
+use crate::case::{Case, Part, PRESET};
 use crate::cell::SHEET_BYTES;
+use crate::refusals::{NO_SPLIT, WORK_BYTES};
 use crate::split::Split;
 
 pub struct Example {
@@ -20,20 +22,23 @@ pub fn unhex(text: &str) -> Vec<u8> {
 }
 
 fn find(n: u64, k: u64, table: &str) -> Case {
-    Case::Find { n, k, table: unhex(table), work: WORK_BYTES }
+    calls::find::case(n, k, unhex(table), WORK_BYTES)
 }
 
 fn make(n: u64, k: u64, table: &str) -> Case {
-    Case::Make { n, k, table: unhex(table), room: SHEET_BYTES, work: WORK_BYTES }
+    calls::make::case(n, k, unhex(table), SHEET_BYTES, WORK_BYTES)
 }
 
 fn name_sets(n: u64, k: u64, own: u16, shared: u16, table: &str) -> Case {
-    let split = Split { own, shared };
-    Case::Try { n, k, split, table: unhex(table), room: 3 }
+    calls::try_split::case(n, k, Split { own, shared }, unhex(table), 3)
 }
 
 fn run(n: u64, x: u64, sheet: &[u8]) -> Case {
-    Case::Run { n, x, sheet: sheet.to_vec() }
+    calls::run::case(n, x, sheet.to_vec())
+}
+
+fn rebuild(n: u64, sheet: &[u8]) -> Case {
+    calls::rebuild::case(n, sheet.to_vec(), 1)
 }
 
 fn example(name: &'static str, case: Case, expected: Vec<u8>) -> Example {
@@ -59,20 +64,15 @@ fn sheet(name: &'static str, case: Case, records: &str) -> Example {
 /// A refusal: zeros for every value, lent bytes as they were. After 8 the work
 /// area is zeros, after 1 to 7 it is as it was.
 fn refusal(name: &'static str, case: Case, number: u8) -> Example {
-    let length = answer_length(&case);
-    let mut expected = vec![0; length];
-    let mark = if number == 8 { 0 } else { 1 };
-    match &case {
-        Case::Try { .. } => expected[9..].fill(PRESET),
-        Case::Find { .. } => expected[5] = mark,
-        Case::Make { room, .. } => {
-            expected[2..2 + room].fill(PRESET);
-            expected[2 + room] = mark;
+    let mut expected = Vec::new();
+    for part in case.call.answers {
+        match part {
+            Part::Number(_, width) => expected.extend(vec![0; *width]),
+            Part::Lent(area) => expected.extend(vec![PRESET; case.lent[*area]]),
+            Part::Mark(_) => expected.push(u8::from(number != NO_SPLIT)),
         }
-        Case::Run { .. } => {}
-        Case::Rebuild { .. } => expected[2..].fill(PRESET),
     }
-    expected[0] = number;
+    expected[case.call.number_at()] = number;
     example(name, case, expected)
 }
 
@@ -139,7 +139,7 @@ fn example_10() -> Vec<Example> {
         list.push(refusal("10", find(n, 2, "80"), 1));
         list.push(refusal("10", make(n, 2, "80"), 1));
         list.push(refusal("10", run(n, 0, &sheet), 1));
-        list.push(refusal("10", Case::Rebuild { n, sheet, room: 1 }, 1));
+        list.push(refusal("10", rebuild(n, &sheet), 1));
     }
     for k in [1, 7] {
         list.push(refusal("10", name_sets(3, k, 3, 0, "80"), 2));
@@ -168,7 +168,7 @@ fn example_11() -> Vec<Example> {
     for length in [0, 17, 256] {
         let sheet: Vec<u8> = and.iter().copied().cycle().take(length).collect();
         list.push(refusal("11", run(3, 7, &sheet), 9));
-        list.push(refusal("11", Case::Rebuild { n: 3, sheet, room: 1 }, 9));
+        list.push(refusal("11", rebuild(3, &sheet), 9));
     }
     list
 }

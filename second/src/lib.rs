@@ -8,12 +8,14 @@ pub mod calls;
 pub mod cell;
 pub mod chain;
 pub mod network;
+pub mod refusals;
 pub mod sets;
 pub mod split;
 pub mod table;
 
 pub mod batch;
 pub mod bench;
+pub mod case;
 pub mod describe;
 
 pub mod carry;

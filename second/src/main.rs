@@ -5,16 +5,17 @@ use std::process::ExitCode;
 
 use second::batch::answer_batch;
 use second::bench::bench;
+use second::case::PRESET;
 use second::outside::arguments::Arguments;
 use second::outside::{compare, compare_bench, fewest, measure};
 
 const USAGE: &str =
-    "second answer           a batch on standard input, its answers on standard output
-second bench            n, K and a table on standard input, number and sheet on standard output
+    "second answer [--preset XX]   a batch on standard input, its answers on standard output
+second bench   n, K and a table on standard input, number and sheet on standard output
 second compare [--seed S] [--cases N] [--fault] -- COMMAND ARGS..
 second compare-bench [--seed S] [--cases N] -- COMMAND ARGS..
 second fewest [--seed S] [--cases N] [--all-of-4] -- COMMAND ARGS..
-second measure [--seed S] -- COMMAND ARGS..
+second measure [--seed S] [--only WORDS] -- COMMAND ARGS..
 second tables --kind random|near|split|sparse --n N --count C [--seed S]";
 
 fn main() -> ExitCode {
@@ -32,19 +33,22 @@ fn obey(words: &[String]) -> Result<(), String> {
     let (command, rest) = words.split_first().ok_or(USAGE)?;
     let options = |values: &[&str], flags: &[&str]| Arguments::read(rest, values, flags);
     match command.as_str() {
-        "answer" => filter(answer_batch),
+        "answer" => {
+            let preset = options(&["--preset"], &[])?.byte("--preset", PRESET)?;
+            filter(|batch| answer_batch(batch, preset))
+        }
         "bench" => filter(bench),
         "compare" => compare::compare(&options(&["--seed", "--cases"], &["--fault"])?),
         "compare-bench" => compare_bench::compare_bench(&options(&["--seed", "--cases"], &[])?),
         "fewest" => fewest::fewest(&options(&["--seed", "--cases"], &["--all-of-4"])?),
-        "measure" => measure::measure(&options(&["--seed"], &[])?),
+        "measure" => measure::measure(&options(&["--seed", "--only"], &[])?),
         "tables" => measure::tables(&options(&["--kind", "--n", "--count", "--seed"], &[])?),
         _ => Err(format!("{command} is not a command\n{USAGE}")),
     }
 }
 
 /// Standard input through a function to standard output.
-fn filter(work: fn(&[u8]) -> Vec<u8>) -> Result<(), String> {
+fn filter(work: impl Fn(&[u8]) -> Vec<u8>) -> Result<(), String> {
     let mut input = Vec::new();
     std::io::stdin().read_to_end(&mut input).map_err(|error| error.to_string())?;
     std::io::stdout().write_all(&work(&input)).map_err(|error| error.to_string())

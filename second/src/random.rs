@@ -49,6 +49,12 @@ impl Random {
         (0..length).map(|_| self.bits() as u8).collect()
     }
 
+    pub fn shuffle<T>(&mut self, list: &mut [T]) {
+        for last in (1..list.len()).rev() {
+            list.swap(last, self.below(last + 1));
+        }
+    }
+
     /// A random part of a set, of the given size (or the whole set, if smaller).
     pub fn part_of(&mut self, mask: u16, size: usize) -> u16 {
         let mut left = crate::sets::members(mask);

@@ -1,6 +1,7 @@
-//! A split: own set, shared set, and the colouring of columns that decides it.
+//! A split: own set, shared set, the columns that decide it, and the one pair
+//! of tables that answers it.
 
-use crate::sets::{all, assignments, gather, size, spread};
+use crate::sets::{all, assignments, size};
 use crate::table::Table;
 
 #[derive(Clone, Copy, Debug, PartialEq, Eq)]
@@ -21,83 +22,76 @@ impl Split {
     }
 }
 
-/// The columns that belong to one assignment b of the shared set.
-pub struct Coloured {
-    /// The column for own assignment 0.
-    pub first: Vec<bool>,
-    /// The other column, where there is one.
-    pub other: Option<Vec<bool>>,
-    /// For each own assignment a: false for the first column, true for the other.
-    pub colours: Vec<bool>,
+/// What is left of the table when the own and the shared inputs are those of
+/// x: one bit for each assignment of the free ones.
+fn column(table: &Table, x: usize, free: &[usize]) -> Vec<bool> {
+    free.iter().map(|c| table.bits[x | c]).collect()
 }
 
-/// What is left of the table when a and b are fixed: one bit for each c.
-fn column(table: &Table, a: usize, b: usize, free: &[usize]) -> Vec<bool> {
-    free.iter().map(|c| table.bits[a | b | c]).collect()
-}
-
-/// Gives each column of one b one of two colours; nothing if a third is needed.
-fn colour_one(table: &Table, own: &[usize], b: usize, free: &[usize]) -> Option<Coloured> {
-    let first = column(table, own[0], b, free);
+/// Gives each column of one b one of two colours; false if a third is needed.
+fn two_colours(table: &Table, own: &[usize], b: usize, free: &[usize]) -> bool {
+    let first = column(table, b, free);
     let mut other: Option<Vec<bool>> = None;
-    let mut colours = Vec::with_capacity(own.len());
     for &a in own {
-        let this = column(table, a, b, free);
+        let this = column(table, a | b, free);
         if this == first {
-            colours.push(false);
             continue;
         }
         match &other {
             None => other = Some(this),
             Some(known) if *known == this => {}
-            Some(_) => return None,
+            Some(_) => return false,
         }
-        colours.push(true);
     }
-    Some(Coloured { first, other, colours })
+    true
 }
 
-/// The colouring for each b in counting order, if two colours do everywhere.
-pub fn colour(table: &Table, split: Split) -> Option<Vec<Coloured>> {
+/// Only within one b does the number of columns matter, so each b starts afresh.
+pub fn possible(table: &Table, split: Split) -> bool {
     let own = assignments(split.own);
     let free = assignments(split.free(table.inputs));
-    let shared = assignments(split.shared);
-    // Only within one b does the number of columns matter, so each b starts afresh.
-    shared.iter().map(|&b| colour_one(table, &own, b, &free)).collect()
-}
-
-pub fn possible(table: &Table, split: Split) -> bool {
-    colour(table, split).is_some()
+    assignments(split.shared).iter().all(|&b| two_colours(table, &own, b, &free))
 }
 
 /// The one fixed pair (D, H) that document 01 names, if the split is possible.
 pub fn pair(table: &Table, split: Split) -> Option<(Table, Table)> {
-    let coloured = colour(table, split)?;
-    Some((table_d(&coloured, split), table_h(&coloured, table.inputs, split)))
+    possible(table, split).then(|| (table_d(table, split), table_h(table, split)))
 }
 
-/// D reads own and shared members in increasing position.
-fn table_d(coloured: &[Coloured], split: Split) -> Table {
-    let reads = split.own | split.shared;
-    Table::from_rule(size(reads), |entry| {
-        let x = spread(entry, reads);
-        coloured[gather(x, split.shared)].colours[gather(x, split.own)]
-    })
+/// Walks all assignments in increasing order and stops at those that are 0
+/// outside a set: they come in the order in which a table that reads the set's
+/// members in increasing position counts its entries.
+fn walk(inputs: usize, set: u16) -> impl Iterator<Item = usize> {
+    (0..1usize << inputs).filter(move |x| x & !usize::from(set) == 0)
+}
+
+/// D reads own and shared members in increasing position. It is 0 where the
+/// column equals the one for own assignment 0.
+fn table_d(table: &Table, split: Split) -> Table {
+    let free = assignments(split.free(table.inputs));
+    let differs = |x: usize| {
+        let b = x & usize::from(split.shared);
+        column(table, x, &free) != column(table, b, &free)
+    };
+    let bits = walk(table.inputs, split.own | split.shared).map(differs).collect();
+    Table { inputs: size(split.own | split.shared), bits }
 }
 
 /// H reads shared and free members in increasing position and D's output last.
-fn table_h(coloured: &[Coloured], inputs: usize, split: Split) -> Table {
-    let free = split.free(inputs);
-    let reads = split.shared | free;
-    Table::from_rule(size(reads) + 1, |entry| {
-        let x = spread(entry, reads);
-        let of_b = &coloured[gather(x, split.shared)];
-        let d_is_one = (entry >> size(reads)) & 1 == 1;
-        // A b with a single column gives that column whatever D says.
-        let column = match &of_b.other {
-            Some(other) if d_is_one => other,
-            _ => &of_b.first,
-        };
-        column[gather(x, free)]
-    })
+/// With D at 0 it is the table at own assignment 0. With D at 1 it is the table
+/// at the first own assignment whose column is another; where there is none,
+/// at own assignment 0 again.
+fn table_h(table: &Table, split: Split) -> Table {
+    let free = assignments(split.free(table.inputs));
+    let mut other = vec![0; 1 << table.inputs];
+    for b in walk(table.inputs, split.shared) {
+        let first = column(table, b, &free);
+        let mut own = walk(table.inputs, split.own);
+        other[b] = own.find(|a| column(table, a | b, &free) != first).unwrap_or(0);
+    }
+    let rest = !split.own & all(table.inputs);
+    let at_zero = walk(table.inputs, rest).map(|x| table.bits[x]);
+    let at_one =
+        walk(table.inputs, rest).map(|x| table.bits[x | other[x & usize::from(split.shared)]]);
+    Table { inputs: size(rest) + 1, bits: at_zero.chain(at_one).collect() }
 }

@@ -3,7 +3,7 @@
 use second::batch::{answer_bytes, answer_length};
 use second::bench::bench;
 use second::best::best;
-use second::calls::answer;
+use second::case::PRESET;
 use second::examples::{all, unhex, SHEET_OF_1, SHEET_OF_2};
 use second::split::{possible, Split};
 use second::table::Table;
@@ -11,7 +11,7 @@ use second::table::Table;
 #[test]
 fn every_example_is_answered_as_the_document_says() {
     for example in all() {
-        let ours = answer_bytes(&answer(&example.case));
+        let ours = answer_bytes(&example.case, PRESET);
         assert_eq!(ours, example.expected, "example {}", example.name);
         assert_eq!(ours.len(), answer_length(&example.case));
     }

@@ -1,14 +1,15 @@
 //! Laws that hold for every table, checked on small and on random ones.
 
 use second::best::{best, candidates, order};
-use second::calls::{answer, Answer, Case};
-use second::carry::Wiring;
+use second::calls::try_split;
+use second::carry::{Networks, Reads, Wiring};
+use second::case::{answer, PRESET};
 use second::cell::{read_sheet, write_sheet};
 use second::chain::chain;
-use second::fresh::{sheets, tables};
+use second::fresh::{every_rule, networks, sheets, tables};
 use second::network::{rebuild, run};
 use second::random::Random;
-use second::sets::{assignments, gather, size, spread};
+use second::sets::{all, assignments, gather, size};
 use second::split::{pair, possible, Split};
 use second::table::Table;
 
@@ -52,7 +53,10 @@ fn the_pair_gives_the_table_back_everywhere() {
     for i in 0..300 {
         let table = tables::KINDS[i % tables::KINDS.len()].draw(&mut random, 5).table;
         for &split in candidates(table.inputs, 4) {
-            let Some((d, h)) = pair(&table, split) else { continue };
+            let (d, h) = match pair(&table, split) {
+                Some(both) => both,
+                None => continue,
+            };
             let rest = split.shared | split.free(table.inputs);
             for (x, &bit) in table.bits.iter().enumerate() {
                 let d_bit = d.bits[gather(x, split.own | split.shared)] as usize;
@@ -87,7 +91,10 @@ fn a_sheet_carries_its_table() {
         let k = 2 + i % 5;
         let table = tables::KINDS[i % tables::KINDS.len()].draw(&mut random, 7).table;
         let n = table.inputs;
-        let Some(cells) = chain(&table, k) else { continue };
+        let cells = match chain(&table, k) {
+            Some(cells) => cells,
+            None => continue,
+        };
         assert!(cells.len() <= 1.max((n + 1).saturating_sub(k)));
         assert_eq!(read_sheet(n, &write_sheet(&cells)), Ok(cells.clone()));
         assert_eq!(rebuild(n, &cells), table);
@@ -109,11 +116,22 @@ fn handmade_sheets_are_sound_and_run_as_they_rebuild() {
 }
 
 #[test]
-fn laying_out_and_reading_agree() {
-    for mask in [0u16, 1, 6, 21, 32, 0x8001, 0x7F0F] {
-        let list: Vec<usize> = (0..1 << size(mask)).map(|number| spread(number, mask)).collect();
-        assert_eq!(assignments(mask), list);
+fn the_assignments_of_a_set_are_those_that_are_zero_elsewhere() {
+    for mask in [0u16, 1, 6, 21, 32, 0x8001, 0x7F0F, 0xFFFF] {
+        let walked = (0..1usize << 16).filter(|x| x & !usize::from(mask) == 0);
+        let list = assignments(mask);
+        assert!(walked.eq(list.iter().copied()));
         assert!(list.iter().enumerate().all(|(number, &x)| gather(x, mask) == number));
+    }
+}
+
+#[test]
+fn every_broken_rule_is_found_at_its_record() {
+    let mut random = Random::new(11);
+    for _ in 0..20 {
+        for broken in every_rule::sheets(&mut random) {
+            assert_eq!(read_sheet(broken.n, &broken.sheet), Err(broken.index));
+        }
     }
 }
 
@@ -128,28 +146,54 @@ fn bytes_and_numbers_give_the_table_back() {
 }
 
 #[test]
-fn writing_the_first_cell_bit_by_bit_loses_no_network() {
+fn two_cells_are_decided_as_by_trying_every_table_of_the_first() {
     let mut random = Random::new(7);
-    let mut carried = 0;
-    for i in 0..300 {
-        let table = tables::KINDS[i % tables::KINDS.len()].draw(&mut random, 4).table;
-        for (first, second) in [(0b0111, 0b1100), (0b1101, 0b0011), (0b1110, 0b0101)] {
-            let wiring = Wiring::new(&table, first, second);
-            assert_eq!(wiring.plain(), wiring.bit_by_bit());
-            carried += wiring.plain() as usize;
+    let (mut carried, mut not_carried) = (0, 0);
+    for i in 0..600 {
+        let (n, k) = [(4, 3), (5, 3), (4, 2)][i % 3];
+        let table = match i % 2 {
+            0 if n < 2 * k => networks::two_cells(&mut random, n, k),
+            _ => tables::KINDS[i % tables::KINDS.len()].draw(&mut random, n).table,
+        };
+        let n = table.inputs;
+        let first = Reads::new(n, random.part_of(all(n), k));
+        let second = Reads::new(n, random.part_of(all(n), k - 1));
+        let wiring = Wiring { table: &table, first: &first, second: &second };
+        assert_eq!(wiring.tried(), wiring.decided());
+        carried += usize::from(wiring.tried());
+        not_carried += usize::from(!wiring.tried());
+    }
+    assert!(carried > 30 && not_carried > 30, "{carried} and {not_carried}");
+}
+
+#[test]
+fn the_decision_agrees_for_first_cells_of_four_inputs() {
+    let mut random = Random::new(12);
+    for _ in 0..6 {
+        let table = networks::two_cells(&mut random, 5, 4);
+        let first = Reads::new(5, random.part_of(all(5), 4));
+        let second = Reads::new(5, random.part_of(all(5), 2));
+        let wiring = Wiring { table: &table, first: &first, second: &second };
+        assert_eq!(wiring.tried(), wiring.decided());
+    }
+}
+
+#[test]
+fn two_cells_carry_what_was_made_of_two() {
+    let mut random = Random::new(13);
+    for (n, k) in [(5, 3), (7, 4), (9, 5), (9, 6), (11, 6)] {
+        let of_size_k = Networks::new(n, k);
+        for _ in 0..10 {
+            assert!(of_size_k.fewest(&networks::two_cells(&mut random, n, k)).is_some());
         }
     }
-    assert!(carried > 30);
 }
 
 #[test]
 fn of_several_refusals_the_lowest_is_given() {
     let number = |n, k, table: &[u8], own, shared, room| {
-        let split = Split { own, shared };
-        match answer(&Case::Try { n, k, split, table: table.to_vec(), room }) {
-            Answer::Try { number, .. } => number,
-            _ => 255,
-        }
+        let case = try_split::case(n, k, Split { own, shared }, table.to_vec(), room);
+        answer(&case, PRESET).numbers[0]
     };
     assert_eq!(number(0, 9, &[], 0, 0, 0), 1);
     assert_eq!(number(u64::MAX, u64::MAX, &[], 0, 0, 0), 1);

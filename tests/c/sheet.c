@@ -61,6 +61,21 @@ static void find_and_try(void) {
     expect(room[0] == 0x0C && room[1] == PRESET && room[2] == PRESET, "try: H of example 5");
 }
 
+/* Masks are whole numbers: 65,539 names a position from n up, whatever its low 16 bits say. */
+static void masks_above_16_bits(void) {
+    static uint8_t table[8192], room[4096];
+    const uint64_t beyond[] = {65539, (UINT64_C(1) << 32) + 3, (UINT64_C(1) << 63) + 3};
+    memset(room, PRESET, sizeof room);
+    for (size_t i = 0; i < sizeof beyond / sizeof beyond[0]; i++) {
+        pelzurivan_tried own = pelzurivan_try(16, 6, beyond[i], 0, table, sizeof table, room, sizeof room);
+        expect(own.number == 5 && own.d == 0, "try: 5 for an own mask above 16 bits");
+        pelzurivan_tried shared = pelzurivan_try(16, 6, 12, beyond[i], table, sizeof table, room, sizeof room);
+        expect(shared.number == 5 && shared.d == 0, "try: 5 for a shared mask above 16 bits");
+    }
+    expect(all_are(PRESET, room, sizeof room), "try: 5 leaves the room");
+    expect(pelzurivan_try(16, 6, 3, 0, table, sizeof table, room, sizeof room).number == 0, "try: 3 is a mask");
+}
+
 static void refusals(void) {
     uint8_t sheet[PELZURIVAN_SHEET], work[PELZURIVAN_WORK], bad[sizeof EXAMPLE_2];
     memset(sheet, PRESET, sizeof sheet);
@@ -83,6 +98,7 @@ static void refusals(void) {
 int main(void) {
     make_and_run();
     find_and_try();
+    masks_above_16_bits();
     refusals();
     printf("tests/c: %d of %d checks hold\n", checks - faults, checks);
     return faults != 0;

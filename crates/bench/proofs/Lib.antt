@@ -1,5 +1,7 @@
--- The law of the table of refusals, its tests as the code asks them, and what each call replies.
+-- The laws of the table of refusals, and its tests as the code asks them.
 pub mod Lines
+pub mod Lent
 pub mod Tests
+pub mod Sheets
 pub mod Sets
-pub mod Replies
+pub mod BenchProgram

@@ -12,13 +12,19 @@ ghost use Rattle.splits.specs.Columns.{fewColumns};
 ghost use Rattle.splits.specs.Pair.{inputsH, bytesH};
 ghost use Rattle.splits.specs.Reading.{Held, Chart};
 ghost use Rattle.sheets.specs.Edition.{largestCell};
-ghost use Rattle.bench.specs.Outcomes.{into};
+ghost use Rattle.bench.specs.Lent.{into};
 
 // The bytes of H's table, from the chart of its columns, into the start of a room.
 fn store_h<'a>(t: &'a [u8], s: Split, seen: &'a [u16], end: usize, room: &mut [u8])
-    requires { ⌜ Held s × (2 ^ s .n ≤ 8 * length (now t)) × Chart s (tableBit (now t)) 2 (now seen) × (end ≤ length (now room)) × (end ≤ tableLength mostInputs) ⌝ }
+    requires { ⌜
+        Held s × (2 ^ s .n ≤ 8 * length (now t)) × Chart s (tableBit (now t)) 2 (now seen)
+        × (end ≤ length (now room)) × (end ≤ tableLength mostInputs)
+        ⌝ }
     requires { ⌜ end ≡ tableLength (inputsH (s .n) (tableBit (now t)) (bit (s .own)) (bit (s .shared)) 1) ⌝ }
-    ensures { λ r. ⌜ now (room .exit) ≡ into (bytesH (s .n) (tableBit (now (t .entry))) (bit (s .own)) (bit (s .shared)) 1) (now (room .entry)) ⌝ }
+    ensures { λ r. ⌜
+        now (room .exit)
+        ≡ into (bytesH (s .n) (tableBit (now (t .entry))) (bit (s .own)) (bit (s .shared)) 1) (now (room .entry))
+        ⌝ }
 {
     let mut i = 0;
     while i < end {
@@ -29,10 +35,16 @@ fn store_h<'a>(t: &'a [u8], s: Split, seen: &'a [u16], end: usize, room: &mut [u
 
 // H's table of a possible split into the start of a room; the bytes past it stay.
 pub fn put_h(t: &[u8], s: Split, end: usize, room: &mut [u8])
-    requires { ⌜ Held s × (2 ^ s .n ≤ 8 * length (now t)) × (size (s .n) (bit (s .shared)) ≤ largestCell) × (end ≤ length (now room)) × (end ≤ tableLength mostInputs) ⌝ }
+    requires { ⌜
+        Held s × (2 ^ s .n ≤ 8 * length (now t)) × (size (s .n) (bit (s .shared)) ≤ largestCell)
+        × (end ≤ length (now room)) × (end ≤ tableLength mostInputs)
+        ⌝ }
     requires { ⌜ end ≡ tableLength (inputsH (s .n) (tableBit (now t)) (bit (s .own)) (bit (s .shared)) 1) ⌝ }
     requires { ⌜ fewColumns (s .n) (tableBit (now t)) (bit (s .own)) (bit (s .shared)) 2 ≡ true ⌝ }
-    ensures { λ r. ⌜ now (room .exit) ≡ into (bytesH (s .n) (tableBit (now (t .entry))) (bit (s .own)) (bit (s .shared)) 1) (now (room .entry)) ⌝ }
+    ensures { λ r. ⌜
+        now (room .exit)
+        ≡ into (bytesH (s .n) (tableBit (now (t .entry))) (bit (s .own)) (bit (s .shared)) 1) (now (room .entry))
+        ⌝ }
 {
     let mut seen = pair::blank();
     pair::chart(t, s, 2, &mut seen);

@@ -1,6 +1,6 @@
 -- Document 01's starred examples: one listing, one claim, shown of the definitions by computation. Assumes nothing.
 -- An answer is the number; then D and the room for H (try), A and B (find), the count and the records (make), the bit and the index (run), or the
--- index and the table (rebuild).
+-- index and the table (rebuild). Of the bench program it is all that it writes.
 use mathlib.Core.Path.{_≡_, refl}
 use mathlib.Core.List.{List, [], _∷_}
 use Prim.Native.Nat.{ℕ}
@@ -18,8 +18,13 @@ use Rattle.sheets.specs.Record.{cellOf, spareOk, byteOk, keeps}
 use Rattle.sheets.specs.Sheet.{cellsFrom, sheetBit, rebuilt}
 use Rattle.sheets.specs.Writing.{recordByte, encode}
 use Rattle.chains.specs.Chain.{pick, chain, sheetOf}
-use Rattle.bench.specs.Outcomes.{tryOutcome, findOutcome, makeOutcome, runOutcome, rebuildOutcome}
-use Rattle.claims.specs.Questions.{Question, trying, finding, making, running, rebuilding, Example, answers, expected}
+use Rattle.bench.specs.TrySplit.{tryOutcome}
+use Rattle.bench.specs.FindBest.{findOutcome}
+use Rattle.bench.specs.MakeSheet.{makeOutcome}
+use Rattle.bench.specs.RunSheet.{runOutcome}
+use Rattle.bench.specs.RebuildTable.{rebuildOutcome}
+use Rattle.bench.specs.BenchProgram.{asked}
+use Rattle.claims.specs.Questions.{Question, trying, finding, making, running, rebuilding, reading, Example, answers, expected}
 
 infix 90 _gets_
 abbrev pub _gets_ : Question → List ℕ → Example
@@ -47,6 +52,7 @@ listing =
     making 1 2 (0x02 ∷ []) gets (0 ∷ 1 ∷ 0x01 ∷ 0 ∷ 0xFF ∷ 0xFF ∷ 0xFF ∷ 0xFF ∷ 0xFF ∷ 0 ∷ 0x02 ∷ 0 ∷ 0 ∷ 0 ∷ 0 ∷ 0 ∷ 0 ∷ 0 ∷ [])
     -- 2: AND
     ∷ making 3 2 (0x80 ∷ []) gets (0 ∷ 2 ∷ and3)
+    ∷ reading (3 ∷ 2 ∷ 0x80 ∷ []) gets (0 ∷ and3)
     -- 3: XOR
     ∷ making 3 2 (0x96 ∷ []) gets (0 ∷ 2 ∷ two 0 1 0x06 (two 2 3 0x06 []))
     -- 4: majority
@@ -110,5 +116,5 @@ listing =
     ∷ []
 
 pub examples : answers listing ≡ expected listing
-unfolding listing tryOutcome findOutcome makeOutcome runOutcome rebuildOutcome sheetOf chain pick listOf best first tryA tryB disjoint fewColumns tableD tableH bytesH codeAt code bitH columns column assign firsts number size gather spread least spareClear tableOf output run cellOf spareOk byteOk keeps cellsFrom sheetBit rebuilt recordByte encode
+unfolding listing asked tryOutcome findOutcome makeOutcome runOutcome rebuildOutcome sheetOf chain pick listOf best first tryA tryB disjoint fewColumns tableD tableH bytesH codeAt code bitH columns column assign firsts number size gather spread least spareClear tableOf output run cellOf spareOk byteOk keeps cellsFrom sheetBit rebuilt recordByte encode
 examples = refl

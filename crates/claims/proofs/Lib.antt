@@ -1,12 +1,14 @@
--- What an inspector reads: Demand1, Once, Demand2, Lent, Demand3, Tries, Examples. The others are the steps that these share.
-pub mod Passing
-pub mod Answered
+-- What an inspector reads: one file a call, the five tries, the examples. Verdicts, Sheets and Tables are the steps that these share.
+pub mod Verdicts
 pub mod Tables
-pub mod Settled
-pub mod Demand1
-pub mod Once
-pub mod Demand2
-pub mod Lent
-pub mod Demand3
+pub mod Sheets
+pub mod TrySplit
+pub mod FindBest
+pub mod RunSheet
+pub mod RebuildTable
+pub mod Made
+pub mod MakeSheet
+pub mod Fewest
+pub mod BenchProgram
 pub mod Tries
 pub mod Examples

@@ -1,4 +1,5 @@
--- Two laws on tables that the claims of demand 2 need: bytes are the table of their bits, and the pair of a split as bytes gives the table. Assumes nothing.
+-- Laws on tables that the claims need: bytes are the table of their bits, a table's spare bits are zero, and the pair of a split as bytes gives
+-- the table. Assumes nothing.
 use mathlib.Core.Path.{_≡_, sym, ap, ap₂, _∙_, subst}
 use mathlib.Core.Bool.{Bool, true, false, not, _&&_, _||_}
 use mathlib.Core.List.{List, _++_}
@@ -16,7 +17,7 @@ use Rattle.bits.proofs.Numbers.{bit-number, number-ext, number-bit, val-bit, va
 use Rattle.bits.proofs.Spreading.{gather-lt}
 use Rattle.bits.proofs.Below.{every-at}
 use Rattle.tables.specs.Table.{tableLength, tableBit, spareClear, tableOf, bytesOf}
-use Rattle.tables.proofs.Bytes.{byte-at, length-bytes, length-holds, length-table, table-of}
+use Rattle.tables.proofs.Bytes.{table-bytes, byte-at, length-bytes, length-holds, length-table, table-of}
 use Rattle.splits.specs.Split.{readsD, readsH, inputH}
 use Rattle.splits.specs.Columns.{fewColumns}
 use Rattle.splits.specs.Pair.{codeAt, tableD, bitH, inputsH, bytesH}
@@ -60,6 +61,12 @@ table-back n F t bytes long spare is =
         let r : (i * 8 + j) % 8 ≡ j = omega arith in
         same (i * 8 + j) (omega arith) ∙ ap₂ (λ (a b : ℕ). bit (getD t a 0) b) q r)
         ∙ number-bit 8 (getD t i 0) (bytes i (subst (λ (k : ℕ). i < k) (sym long) h))
+
+-- a table is written with its spare bits zero
+pub spare-zero : (n : ℕ) (f : ℕ → Bool) (x : ℕ) → 2 ^ n ≤ x → x < 8 * tableLength n → tableBit (tableOf n f) x ≡ false
+unfolding tableOf
+spare-zero n f x h l =
+    table-bytes (tableLength n) (λ y. ltb y (2 ^ n) && f y) x (omega arith) ∙ ap (λ (b : Bool). b && f x) (le-ltb x (2 ^ n) h)
 
 -- ---- the pair of a possible split, as try returns it: H in the first bytes of a room, and D as a number
 

@@ -1,21 +1,20 @@
--- The inspector's five tries on the promise of make, each shut out. Assumes nothing.
+-- The inspector's five tries on the promise of make, each shut out, over any edition and desk. Assumes nothing.
 use mathlib.Core.Path.{_≡_, refl, sym, ap, _∙_}
 use mathlib.Core.Bool.{false}
 use mathlib.Core.List.{List, [], _∷_, _++_}
 use Prim.Native.Nat.{ℕ, zero, suc, _+_, _-_, _*_, _^_, _≤_, _<_, max}
-use native.Mathlib.Nat.{not-suc-le-zero}
+use native.Mathlib.Nat.{not-suc-le-zero, mul-suc, mul-zero, mul-le-mul-left}
 use native.Mathlib.Omega.{arith}
-use lib.Dec.{lit<}
 use lib.ListN.{length, getD, take, drop, List·getD-append}
 use lib.Seq.{take-at, drop-at, drop-append-add, getD-take}
 use Rattle.bits.specs.Numbers.{bit, number}
 use Rattle.tables.specs.Table.{tableBit}
-use Rattle.sheets.specs.Edition.{recordSize, firstEdition}
+use Rattle.sheets.specs.declared.kinds.Edition.{Edition}
+use Rattle.sheets.specs.Edition.{IsEdition}
 use Rattle.sheets.specs.Network.{Cell, run}
 use Rattle.sheets.specs.Sheet.{recordBytes, records, Good}
 use Rattle.sheets.specs.Writing.{encode, sheetBytes}
-use Rattle.sheets.proofs.Keeping.{first-edition}
-use Rattle.sheets.proofs.Networks.{record-keeps}
+use Rattle.sheets.proofs.Looks.{record-keeps}
 use Rattle.sheets.proofs.Inverse.{length-encode}
 use Rattle.sheets.proofs.Wholes.{length-sheet}
 use Rattle.chains.specs.Chain.{made, inputs, lastCell}
@@ -23,113 +22,124 @@ use Rattle.chains.specs.Words.{Makes, ends}
 use Rattle.chains.proofs.Lists.{inputs-length}
 use Rattle.chains.proofs.View.{made-exactly}
 use Rattle.chains.proofs.Rules.{sheet-most}
-use Rattle.bench.specs.declared.answers.Refusal.{Refusal}
-use Rattle.bench.specs.declared.answers.MadeSheet.the-variants.{NotMade}
-use Rattle.bench.specs.Refusals.{makeLines, sheetFor}
-use Rattle.bench.specs.Outcomes.{cellsIn, into, madeBy, makeOutcome, rebuildOutcome}
-use Rattle.claims.specs.Words.{Silent, AllBytes, recordsOf, networkOf}
-use Rattle.claims.proofs.Passing.{fair}
-use Rattle.claims.proofs.Settled.{no-zero}
-use Rattle.claims.proofs.Answered.{IsMade, is-made, not-stuck, made-records, made-good, made-network}
-use Rattle.claims.proofs.Demand2.{made-rebuilds, made-gives}
+use Rattle.bench.specs.declared.refusals.Refusal.{Refusal}
+use Rattle.bench.specs.declared.refusals.Verdict.the-variants.{Fine, Refused}
+use Rattle.bench.specs.Lines.{InOrder}
+use Rattle.bench.specs.Lent.{into}
+use Rattle.bench.specs.MakeSheet.{sheetFor, cellsIn, makeForm, makeOutcome}
+use Rattle.bench.specs.RebuildTable.{rebuildOutcome}
+use Rattle.bench.proofs.Lines.{not-fine}
+use Rattle.bench.proofs.Sheets.{counted}
+use Rattle.claims.specs.Words.{AllBytes, recordsOf, networkOf}
+use Rattle.claims.proofs.Made.{IsMade, make-sound, is-made, not-stuck, made-records, made-good, made-network}
+use Rattle.claims.proofs.MakeSheet.{made-rebuilds, made-gives}
 
 -- ---- a bench that only says no
 
-module _ (n K : ℕ) (t sheet work : List ℕ) (sound : Silent (take 5 (makeLines n K t sheet work))) (small : n ≤ K) where
-  -- where lines 1 to 6 do not hold and n is at most K, make is done, with one cell
-  pub one-cell : (makeOutcome n K t sheet work .no ≡ 0) × (makeOutcome n K t sheet work .count ≡ 1)
+module _ (e : Edition) (d n K : ℕ) (t sheet work : List ℕ) (form : InOrder (makeForm e n K t sheet work)) (small : n ≤ K) where
+  -- where form and room are in order and n is at most K, make is done, with one cell
+  pub one-cell : makeOutcome e d n K t sheet work .answer ≡ record { verdict = Fine; count = 1 }
   one-cell =
-      let f = fair n K t (sound .0) (sound .1 .0) (sound .1 .1 .0) (sound .1 .1 .1 .0) in
+      let g = make-sound e d n K t sheet work form in
       let T = number (2 ^ n) (tableBit t) in
       let cs = lastCell (inputs n) T ∷ [] in
-      let w = not-stuck n K t sheet work sound cs (made-exactly n K T cs (f .some) (omega (arith, f .two)) .1 (ends (omega (arith, inputs-length n)))) in
-      (ap (λ o. o .no) (w .0 .outcome), ap (λ o. o .count) (w .0 .outcome) ∙ ap length (w .1))
+      let w = not-stuck e d n K t sheet work form cs (made-exactly n K T cs (g .some) (omega (arith, g .two)) .1 (ends (omega (arith, inputs-length n)))) in
+      ap (λ o. o .answer) (w .0 .outcome) ∙ ap (λ (l : List Cell). record { verdict = Fine; count = length l }) (w .1)
 
   -- so no refusal, whatever it leaves in the lent bytes, keeps the promise
-  pub not-only-no : (r : Refusal) (sheet′ work′ : List ℕ) → madeBy (NotMade r) sheet′ work′ ≡ makeOutcome n K t sheet work → ⊥
-  not-only-no r sheet′ work′ e = no-zero r (ap (λ o. o .no) e ∙ one-cell .0)
+  pub not-only-no : (r : Refusal) (c : ℕ) (sheet′ work′ : List ℕ)
+      → record { answer = record { verdict = Refused r; count = c }; sheet = sheet′; work = work′ } ≡ makeOutcome e d n K t sheet work → ⊥
+  not-only-no r c sheet′ work′ q = not-fine r (sym (ap (λ o. o .answer .verdict) q ∙ ap (λ a. a .verdict) one-cell))
 
 -- ---- one sheet for all tables
 
 -- two tables of n inputs for which make wrote the same records are the same table
-pub not-one-sheet : (n K K′ : ℕ) (t t′ sheet sheet′ work work′ : List ℕ) → AllBytes t → AllBytes t′
-    → makeOutcome n K t sheet work .no ≡ 0 → makeOutcome n K′ t′ sheet′ work′ .no ≡ 0
-    → recordsOf (makeOutcome n K t sheet work) ≡ recordsOf (makeOutcome n K′ t′ sheet′ work′) → t ≡ t′
-not-one-sheet n K K′ t t′ sheet sheet′ work work′ b b′ d d′ e =
-    let long = is-made n K t sheet work d .sound .long in
-    ap (λ o. o .table) (
-    sym (made-rebuilds n K t sheet work d b t long) ∙ ap (λ (s : List ℕ). rebuildOutcome n s t) e ∙ made-rebuilds n K′ t′ sheet′ work′ d′ b′ t long)
+pub not-one-sheet : (e : Edition) → IsEdition e → (d n K K′ : ℕ) (t t′ sheet sheet′ work work′ : List ℕ) → AllBytes t → AllBytes t′
+    → makeOutcome e d n K t sheet work .answer .verdict ≡ Fine → makeOutcome e d n K′ t′ sheet′ work′ .answer .verdict ≡ Fine
+    → recordsOf e (makeOutcome e d n K t sheet work) ≡ recordsOf e (makeOutcome e d n K′ t′ sheet′ work′) → t ≡ t′
+not-one-sheet e ok d n K K′ t t′ sheet sheet′ work work′ b b′ p p′ q =
+    let long = is-made e d n K t sheet work p .gate .long in
+    ap (λ o. o .table)
+    (sym (made-rebuilds e d n K t sheet work ok p b t long) ∙ ap (λ (s : List ℕ). rebuildOutcome e d n s t) q ∙ made-rebuilds e d n K′ t′ sheet′ work′ ok p′ b′ t long)
 
 -- ---- make says done
 
-record-is : (cs : List Cell) (i : ℕ) (c : Cell) → i < length cs → recordBytes firstEdition (sheetBytes firstEdition 0 cs) i ≡ encode firstEdition 0 (getD cs i c)
-record-is [] i c h = absurd (not-suc-le-zero h)
-record-is (a ∷ cs) zero c h = take-at (encode firstEdition 0 a) (sheetBytes firstEdition 0 cs) recordSize (length-encode firstEdition 0 a)
-record-is (a ∷ cs) (suc i) c h =
-    let e = encode firstEdition 0 a in
-    let q : recordSize * suc i ≡ length e + recordSize * i = omega (arith, length-encode firstEdition 0 a) in
-    ap (λ (k : ℕ). take recordSize (drop k (e ++ sheetBytes firstEdition 0 cs))) q
-    ∙ ap (take recordSize) (drop-append-add e (sheetBytes firstEdition 0 cs) (recordSize * i)) ∙ record-is cs i c (omega arith)
+record-is : (e : Edition) (d : ℕ) (cs : List Cell) (i : ℕ) (c : Cell) → i < length cs → recordBytes e (sheetBytes e d cs) i ≡ encode e d (getD cs i c)
+record-is e d [] i c h = absurd (not-suc-le-zero h)
+record-is e d (a ∷ cs) zero c h =
+    ap (λ (k : ℕ). take (e .size) (drop k (encode e d a ++ sheetBytes e d cs))) (mul-zero (e .size)) ∙ take-at (encode e d a) (sheetBytes e d cs) (e .size) (length-encode e d a)
+record-is e d (a ∷ cs) (suc i) c h =
+    let r = encode e d a in
+    let q : e .size * suc i ≡ length r + e .size * i = omega (arith, length-encode e d a, mul-suc (e .size) i) in
+    ap (λ (k : ℕ). take (e .size) (drop k (r ++ sheetBytes e d cs))) q
+    ∙ ap (take (e .size)) (drop-append-add r (sheetBytes e d cs) (e .size * i)) ∙ record-is e d cs i c (omega arith)
 
-module _ (n K : ℕ) (t sheet work : List ℕ) (done : makeOutcome n K t sheet work .no ≡ 0) where
-  w : IsMade n K t sheet work
-  w = is-made n K t sheet work done
+module _ (e : Edition) (ok : IsEdition e) (d n K : ℕ) (t sheet work : List ℕ) (done : makeOutcome e d n K t sheet work .answer .verdict ≡ Fine) where
+  w : IsMade e d n K t sheet work
+  w = is-made e d n K t sheet work done
 
   -- ---- an untouched buffer
 
-  -- the first 16 * count bytes, one record at least, are the bytes of the chain's cells, whatever was lent; the bytes behind them stay
-  pub all-written : (recordsOf (makeOutcome n K t sheet work) ≡ sheetBytes firstEdition 0 (cellsIn (sheetFor n K t)))
-      × (length (recordsOf (makeOutcome n K t sheet work)) ≡ recordSize * makeOutcome n K t sheet work .count)
-      × (1 ≤ makeOutcome n K t sheet work .count)
-      × (drop (recordSize * makeOutcome n K t sheet work .count) (makeOutcome n K t sheet work .sheet) ≡ drop (recordSize * makeOutcome n K t sheet work .count) sheet)
+  -- the first bytes, one record at least, are the bytes of the chain's cells, whatever was lent; the bytes behind them stay
+  pub all-written : (recordsOf e (makeOutcome e d n K t sheet work) ≡ sheetBytes e d (cellsIn (sheetFor n K t)))
+      × (length (recordsOf e (makeOutcome e d n K t sheet work)) ≡ e .size * makeOutcome e d n K t sheet work .answer .count)
+      × (1 ≤ makeOutcome e d n K t sheet work .answer .count)
+      × (drop (e .size * makeOutcome e d n K t sheet work .answer .count) (makeOutcome e d n K t sheet work .sheet) ≡ drop (e .size * makeOutcome e d n K t sheet work .answer .count) sheet)
   all-written =
-      let s = sheetBytes firstEdition 0 (w .cells) in
-      let long = length-sheet firstEdition 0 (w .cells) in
-      rw (made-records n K t sheet work w, w .outcome, w .chain) (
+      let s = sheetBytes e d (w .cells) in
+      let long = length-sheet e d (w .cells) in
+      rw (made-records e d n K t sheet work w, w .outcome, w .chain) (
         refl,
         long,
-        made-good n K t sheet work w .some,
-        drop-at s (drop (length s) sheet) (recordSize * length (w .cells)) long ∙ ap (λ (k : ℕ). drop k sheet) long,
+        made-good e d n K t sheet work w ok .some,
+        drop-at s (drop (length s) sheet) (e .size * length (w .cells)) long ∙ ap (λ (k : ℕ). drop k sheet) long,
       )
 
   -- so a lent sheet that begins with 0 is not left as it was
-  pub not-untouched : getD sheet 0 0 ≡ 0 → makeOutcome n K t sheet work .sheet ≡ sheet → ⊥
-  not-untouched z e = omega (arith, some (w .cells) (made-good n K t sheet work w), ap (λ (l : List ℕ). getD l 0 0) (sym (ap (λ o. o .sheet) (w .outcome)) ∙ e))
+  pub not-untouched : getD sheet 0 0 ≡ 0 → makeOutcome e d n K t sheet work .sheet ≡ sheet → ⊥
+  not-untouched z q = omega (arith, some (w .cells) (made-good e d n K t sheet work w ok), ap (λ (l : List ℕ). getD l 0 0) (sym (ap (λ o. o .sheet) (w .outcome)) ∙ q))
     where
       -- byte 0 of the first record is not 0
-      some : (cs : List Cell) → Good firstEdition 0 n (sheetBytes firstEdition 0 cs) (length cs) → 1 ≤ getD (into (sheetBytes firstEdition 0 cs) sheet) 0 0
+      some : (cs : List Cell) → Good e d n (sheetBytes e d cs) (length cs) → 1 ≤ getD (into (sheetBytes e d cs) sheet) 0 0
       some cs g =
-          let s = sheetBytes firstEdition 0 cs in
-          let first = record-keeps firstEdition first-edition 0 n s (length cs) (g .rules) 0 (g .some) .some in
-          omega (arith, first, getD-take 16 s 0 0 (lit< tt), List·getD-append s (drop (length s) sheet) 0 0 (omega (arith, g .whole, g .some)))
+          let s = sheetBytes e d cs in
+          let first = record-keeps e ok d n s (length cs) (g .rules) 0 (g .some) .some in
+          let here : 0 < e .size = omega (arith, ok .ends, ok .order) in
+          omega (
+            arith,
+            first,
+            ap (λ (k : ℕ). getD (take (e .size) (drop k s)) 0 0) (mul-zero (e .size)),
+            getD-take (e .size) s 0 0 here,
+            List·getD-append s (drop (length s) sheet) 0 0 (omega (arith, g .whole, mul-le-mul-left (e .size) (g .some))),
+          )
 
   -- ---- a first record that pretends to be the whole job
 
   -- record i is the encoding of cell i of the chain
-  pub each-record : (i : ℕ) (c : Cell) → i < makeOutcome n K t sheet work .count
-      → recordBytes firstEdition (recordsOf (makeOutcome n K t sheet work)) i ≡ encode firstEdition 0 (getD (cellsIn (sheetFor n K t)) i c)
-  each-record = rw (made-records n K t sheet work w, w .outcome, w .chain) (record-is (w .cells))
+  pub each-record : (i : ℕ) (c : Cell) → i < makeOutcome e d n K t sheet work .answer .count
+      → recordBytes e (recordsOf e (makeOutcome e d n K t sheet work)) i ≡ encode e d (getD (cellsIn (sheetFor n K t)) i c)
+  each-record = rw (made-records e d n K t sheet work w, w .outcome, w .chain) (record-is e d (w .cells))
 
   -- the cells are those of the chain of best splits, in words (`made-exactly`, chains)
-  pub chain-in-words : Makes K n (inputs n) (number (2 ^ n) (tableBit t)) (networkOf (makeOutcome n K t sheet work))
+  pub chain-in-words : Makes K n (inputs n) (number (2 ^ n) (tableBit t)) (networkOf e (makeOutcome e d n K t sheet work))
   chain-in-words =
-      rw (made-network n K t sheet work w)
-      (made-exactly n K (number (2 ^ n) (tableBit t)) (w .cells) (w .sound .some) (omega (arith, w .sound .two)) .0 (w .chain))
+      rw (made-network e d n K t sheet work w ok)
+      (made-exactly n K (number (2 ^ n) (tableBit t)) (w .cells) (w .gate .some) (omega (arith, w .gate .two)) .0 (w .chain))
 
   -- and the last record's output is the table's bit at every assignment
-  pub not-first-record-alone : (x : ℕ) → x < 2 ^ n → run false n (networkOf (makeOutcome n K t sheet work)) (bit x) ≡ tableBit t x
-  not-first-record-alone = made-gives n K t sheet work done .gives
+  pub not-first-record-alone : (x : ℕ) → x < 2 ^ n → run false n (networkOf e (makeOutcome e d n K t sheet work)) (bit x) ≡ tableBit t x
+  not-first-record-alone = made-gives e d n K t sheet work ok done .gives
 
   -- ---- an invented count
 
   -- the count is how many cells the chain has, how many the written network has, and how many records were written; it is at most max(1, n - K + 1)
-  pub not-invented-count : (sheetFor n K t ≡ made (networkOf (makeOutcome n K t sheet work)))
-      × (length (networkOf (makeOutcome n K t sheet work)) ≡ makeOutcome n K t sheet work .count)
-      × (records firstEdition (recordsOf (makeOutcome n K t sheet work)) ≡ makeOutcome n K t sheet work .count)
-      × (makeOutcome n K t sheet work .count ≤ max 1 (n + 1 - K))
-  not-invented-count = rw (made-network n K t sheet work w, made-records n K t sheet work w, w .outcome) (
+  pub not-invented-count : (sheetFor n K t ≡ made (networkOf e (makeOutcome e d n K t sheet work)))
+      × (length (networkOf e (makeOutcome e d n K t sheet work)) ≡ makeOutcome e d n K t sheet work .answer .count)
+      × (records e (recordsOf e (makeOutcome e d n K t sheet work)) ≡ makeOutcome e d n K t sheet work .answer .count)
+      × (makeOutcome e d n K t sheet work .answer .count ≤ max 1 (n + 1 - K))
+  not-invented-count = rw (made-network e d n K t sheet work w ok, made-records e d n K t sheet work w, w .outcome) (
     w .chain,
     refl,
-    omega (arith, length-sheet firstEdition 0 (w .cells)),
+    counted e d n (sheetBytes e d (w .cells)) ok (length (w .cells)) (made-good e d n K t sheet work w ok),
     sheet-most n K (number (2 ^ n) (tableBit t)) (w .cells) (w .chain),
   )

@@ -1,8 +1,18 @@
 -- A question to the bench, and what the definitions answer: the number, the values, and the result bytes as they are afterwards.
 use mathlib.Core.List.{List, [], _∷_}
-use Prim.Native.Nat.{ℕ}
+use Prim.Native.Nat.{ℕ, _*_}
 use lib.ListN.{replicate}
-use Rattle.bench.specs.Outcomes.{Try, Find, Make, Run, Rebuild, tryOutcome, findOutcome, makeOutcome, runOutcome, rebuildOutcome}
+use Rattle.bits.specs.Numbers.{val}
+use Rattle.sheets.specs.Edition.{recordSize, mostRecords, firstEdition}
+use Rattle.chains.specs.Area.{workLength}
+use Rattle.bench.specs.declared.run_sheet.RunAnswer.{RunAnswer}
+use Rattle.bench.specs.Lines.{numberOf, placeOf}
+use Rattle.bench.specs.TrySplit.{TryOutcome, tryOutcome}
+use Rattle.bench.specs.FindBest.{FindOutcome, findOutcome}
+use Rattle.bench.specs.MakeSheet.{MakeOutcome, makeOutcome}
+use Rattle.bench.specs.RunSheet.{runOutcome}
+use Rattle.bench.specs.RebuildTable.{RebuildOutcome, rebuildOutcome}
+use Rattle.bench.specs.BenchProgram.{written}
 use Rattle.claims.specs.Words.{recordsOf}
 
 -- what the bench can be asked
@@ -16,42 +26,45 @@ pub data Question : Type 0 where
   running : ℕ → List ℕ → ℕ → Question
   -- n, the sheet and the lent table
   rebuilding : ℕ → List ℕ → List ℕ → Question
+  -- the bytes that the bench program reads
+  reading : List ℕ → Question
 
 -- the lent sheet, preset to AA
 abbrev pub lentSheet : List ℕ
-lentSheet = replicate 240 0xAA
+lentSheet = replicate (recordSize * mostRecords) 0xAA
 
 -- the lent work area, preset to AA
 abbrev pub lentWork : List ℕ
-lentWork = replicate 16384 0xAA
+lentWork = replicate workLength 0xAA
 
 -- the number, D, the room
-abbrev pub sayTry : Try → List ℕ
-sayTry o = o .no ∷ o .D ∷ o .room
+abbrev pub sayTry : TryOutcome → List ℕ
+sayTry o = numberOf (o .answer .verdict) ∷ o .answer .d ∷ o .room
 
 -- the number and the masks
-abbrev pub sayFind : Find → List ℕ
-sayFind o = o .no ∷ o .own ∷ o .shared ∷ []
+abbrev pub sayFind : FindOutcome → List ℕ
+sayFind o = numberOf (o .answer .verdict) ∷ o .answer .own ∷ o .answer .shared ∷ []
 
 -- of the sheet, the records that were written
-abbrev pub sayMake : Make → List ℕ
-sayMake o = o .no ∷ o .count ∷ recordsOf o
+abbrev pub sayMake : MakeOutcome → List ℕ
+sayMake o = numberOf (o .answer .verdict) ∷ o .answer .count ∷ recordsOf firstEdition o
 
 -- the number, the bit, the index
-abbrev pub sayRun : Run → List ℕ
-sayRun o = o .no ∷ o .bit ∷ o .index ∷ []
+abbrev pub sayRun : RunAnswer → List ℕ
+sayRun a = numberOf (a .verdict) ∷ val (a .bit) ∷ placeOf (a .verdict) ∷ []
 
 -- the number, the index, the table
-abbrev pub sayRebuild : Rebuild → List ℕ
-sayRebuild o = o .no ∷ o .index ∷ o .table
+abbrev pub sayRebuild : RebuildOutcome → List ℕ
+sayRebuild o = numberOf (o .verdict) ∷ placeOf (o .verdict) ∷ o .table
 
--- what the definitions answer
+-- what the definitions answer, in the first edition and for the bench's own desk
 abbrev pub answer : Question → List ℕ
-answer (trying n K A B t room) = sayTry (tryOutcome n K A B t room)
-answer (finding n K t) = sayFind (findOutcome n K t lentWork)
-answer (making n K t) = sayMake (makeOutcome n K t lentSheet lentWork)
-answer (running n s x) = sayRun (runOutcome n s x)
-answer (rebuilding n s table) = sayRebuild (rebuildOutcome n s table)
+answer (trying n K A B t room) = sayTry (tryOutcome firstEdition n K A B t room)
+answer (finding n K t) = sayFind (findOutcome firstEdition n K t lentWork)
+answer (making n K t) = sayMake (makeOutcome firstEdition 0 n K t lentSheet lentWork)
+answer (running n s x) = sayRun (runOutcome firstEdition 0 n s x)
+answer (rebuilding n s table) = sayRebuild (rebuildOutcome firstEdition 0 n s table)
+answer (reading input) = written input
 
 -- an example: what is asked, and what is to be answered
 pub record Example : Type 0 where

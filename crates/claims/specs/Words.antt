@@ -1,35 +1,41 @@
 -- Words that the claims use.
 use mathlib.Core.Path.{_≡_}
-use mathlib.Core.Bool.{false}
-use mathlib.Core.List.{List, [], _∷_}
+use mathlib.Core.Logic.{_↔_, _⊎_}
+use mathlib.Core.List.{List}
 use Prim.Native.Nat.{ℕ, _+_, _*_, _<_}
 use lib.ListN.{length, getD, take}
+use Rattle.sheets.specs.declared.kinds.Edition.{Edition}
 use Rattle.sheets.specs.Network.{Cell}
-use Rattle.sheets.specs.Edition.{recordSize, firstEdition}
 use Rattle.sheets.specs.Record.{Keeps}
 use Rattle.sheets.specs.Sheet.{recordAt, records, sheetCells}
-use Rattle.bench.specs.Lines.{Line}
-use Rattle.bench.specs.Outcomes.{Make}
+use Rattle.bench.specs.declared.refusals.Verdict.{Verdict}
+use Rattle.bench.specs.declared.refusals.Verdict.the-variants.{Fine}
+use Rattle.bench.specs.Lines.{Line, InOrder, Given, numberOf}
+use Rattle.bench.specs.MakeSheet.{MakeOutcome}
 
--- none of these lines holds
-abbrev pub Silent : List Line → Type 0
-Silent [] = Unit {0}
-Silent (l ∷ ls) = (l .holds ≡ false) × Silent ls
+-- a verdict is the one that a call's lines ask for
+pub record ByLines (v : Verdict) (ls : List Line) : Type 0 where
+  -- done, or the number of the first line of the list that holds
+  pub listed : (v ≡ Fine) ⊎ Given (numberOf v) ls
+  -- a number is given exactly when its line holds and no earlier one does
+  pub exactly : (k : ℕ) → (k ≡ 0 → ⊥) → (numberOf v ≡ k) ↔ Given k ls
+  -- and 0, done, exactly when no line holds
+  pub done : (numberOf v ≡ 0) ↔ InOrder ls
 
 -- what a lent slice of u8 holds: every number is a byte
 abbrev pub AllBytes : List ℕ → Type 0
 AllBytes t = (i : ℕ) → i < length t → getD t i 0 < 256
 
--- the records that make wrote: the first 16 * count bytes of the lent sheet, as they are afterwards
-abbrev pub recordsOf : Make → List ℕ
-recordsOf o = take (recordSize * o .count) (o .sheet)
+-- the records that make wrote: so many of the first bytes of the lent sheet, as they are afterwards
+abbrev pub recordsOf : Edition → MakeOutcome → List ℕ
+recordsOf e o = take (e .size * o .answer .count) (o .sheet)
 
 -- the network that these bytes say
-abbrev pub networkOf : Make → List Cell
-networkOf o = sheetCells firstEdition (recordsOf o) (o .count)
+abbrev pub networkOf : Edition → MakeOutcome → List Cell
+networkOf e o = sheetCells e (recordsOf e o) (o .answer .count)
 
--- record i of a sheet is the first that breaks the record rules (byte 7 is 0; it may read only signals below n + i)
-pub record FirstBad (n : ℕ) (s : List ℕ) (i : ℕ) : Type 0 where
-  pub within : i < records firstEdition s
-  pub breaks : Keeps firstEdition 0 (n + i) (recordAt firstEdition s i) → ⊥
-  pub before : (j : ℕ) → j < i → Keeps firstEdition 0 (n + j) (recordAt firstEdition s j)
+-- record i of a sheet is the first that breaks the record rules (the desk's byte is d; it may read only signals below n + i)
+pub record FirstBad (e : Edition) (d n : ℕ) (s : List ℕ) (i : ℕ) : Type 0 where
+  pub within : i < records e s
+  pub breaks : Keeps e d (n + i) (recordAt e s i) → ⊥
+  pub before : (j : ℕ) → j < i → Keeps e d (n + j) (recordAt e s j)

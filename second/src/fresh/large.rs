@@ -3,9 +3,10 @@
 
 use super::tables::{chain_for, compose, Drawn, Kind};
 use super::Fresh;
-use crate::calls::{Case, WORK_BYTES};
+use crate::calls;
 use crate::cell::SHEET_BYTES;
 use crate::random::Random;
+use crate::refusals::WORK_BYTES;
 
 pub fn cases(random: &mut Random) -> Vec<Fresh> {
     let mut list = Vec::new();
@@ -40,12 +41,12 @@ fn tags(name: &str) -> Vec<String> {
 fn find(name: &str, drawn: &Drawn, k: u64) -> Fresh {
     let n = drawn.table.inputs as u64;
     let table = drawn.table.to_bytes();
-    Fresh { case: Case::Find { n, k, table, work: WORK_BYTES }, tags: tags(name) }
+    Fresh { case: calls::find::case(n, k, table, WORK_BYTES), tags: tags(name) }
 }
 
 fn make(name: &str, drawn: &Drawn, k: usize) -> Fresh {
     let n = drawn.table.inputs as u64;
     let table = drawn.table.to_bytes();
-    let case = Case::Make { n, k: k as u64, table, room: SHEET_BYTES, work: WORK_BYTES };
+    let case = calls::make::case(n, k as u64, table, SHEET_BYTES, WORK_BYTES);
     Fresh { case, tags: tags(name) }
 }

@@ -1,14 +1,17 @@
-//! Fresh cases for all five calls, sound and damaged.
+//! Fresh cases for every call, sound and damaged.
 
 mod bad;
 pub mod damage;
-mod gate_cases;
+pub mod every_rule;
+pub mod gate;
 mod large;
-mod sheet_cases;
+pub mod networks;
+pub mod sheet;
 pub mod sheets;
 pub mod tables;
 
-use crate::calls::Case;
+use crate::calls::TABLE;
+use crate::case::{Case, Field};
 use crate::random::Random;
 
 /// A case and what is to be counted about it.
@@ -17,34 +20,24 @@ pub struct Fresh {
     pub tags: Vec<String>,
 }
 
-/// So many fresh cases, the five calls in turn, and a few large ones besides.
+/// So many fresh cases, the calls in turn; besides, a few large ones, and every
+/// rule of the records broken.
 pub fn cases(random: &mut Random, count: usize) -> Vec<Fresh> {
-    let mut list: Vec<Fresh> = (0..count).map(|i| one(random, i)).collect();
+    let mut list: Vec<Fresh> = (0..count).map(|i| (TABLE[i % TABLE.len()].fresh)(random)).collect();
     list.extend(large::cases(random));
+    list.extend(every_rule::cases(random));
     for fresh in &mut list {
-        let size = size_tag(&fresh.case);
-        fresh.tags.push(size);
+        fresh.tags.extend(size_tag(&fresh.case));
     }
     list
 }
 
-fn one(random: &mut Random, i: usize) -> Fresh {
-    match i % 5 {
-        0 => gate_cases::try_case(random),
-        1 => gate_cases::find_case(random),
-        2 => gate_cases::make_case(random),
-        3 => sheet_cases::run_case(random),
-        _ => sheet_cases::rebuild_case(random),
+/// The range in which n lies, for a call whose first field is n.
+fn size_tag(case: &Case) -> Option<String> {
+    if !matches!(case.call.asks.first(), Some(Field::Number("n", _))) {
+        return None;
     }
-}
-
-fn size_tag(case: &Case) -> String {
-    let (Case::Try { n, .. }
-    | Case::Find { n, .. }
-    | Case::Make { n, .. }
-    | Case::Run { n, .. }
-    | Case::Rebuild { n, .. }) = case;
-    let range = match n {
+    let range = match case.numbers[0] {
         0 => "0",
         1..=3 => "01 to 03",
         4..=8 => "04 to 08",
@@ -53,5 +46,29 @@ fn size_tag(case: &Case) -> String {
         17..=65_535 => "17 and more",
         _ => "2^16 and more",
     };
-    format!("n: {range}")
+    Some(format!("n: {range}"))
+}
+
+/// What is to be asked, and the words to count it under.
+trait Tagged {
+    fn tags(&mut self) -> &mut Vec<String>;
+}
+
+/// A way to spoil what is to be asked, with its name.
+type Fault<Ask> = (&'static str, fn(&mut Random, &mut Ask));
+
+/// No fault in so many of twelve cases, else one, now and then several at once
+/// (so that one sees that the lowest number wins).
+fn spoil<Ask: Tagged>(random: &mut Random, ask: &mut Ask, faults: &[Fault<Ask>], sound: usize) {
+    let plan = random.below(12);
+    if plan < sound {
+        return;
+    }
+    let one = random.below(faults.len());
+    for (i, (name, fault)) in faults.iter().enumerate() {
+        if i == one || (plan == 11 && random.one_in(3)) {
+            fault(random, ask);
+            ask.tags().push(format!("fault: {name}"));
+        }
+    }
 }

@@ -84,6 +84,17 @@ fn handmade(random: &mut Random, n: usize, records: usize) -> Vec<Cell> {
         .collect()
 }
 
+/// A sheet whose every record reads 2 to 5 signals, so that each rule of the
+/// records can be broken in it (n is at least 2).
+pub fn middling(random: &mut Random, n: usize, records: usize) -> Vec<u8> {
+    let mut cells = Vec::new();
+    for i in 0..records {
+        let places = random.between(2, 5);
+        cells.push(cell(random, n + i, places));
+    }
+    write_sheet(&cells)
+}
+
 fn dead(random: &mut Random, n: usize, records: usize) -> Vec<Cell> {
     let mut cells = handmade(random, n, records);
     let places = random.between(1, MOST_READS);

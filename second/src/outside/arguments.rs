@@ -48,6 +48,15 @@ impl Arguments {
         }
     }
 
+    /// Two hexadecimal digits.
+    pub fn byte(&self, name: &str, otherwise: u8) -> Result<u8, String> {
+        match self.values.get(name) {
+            None => Ok(otherwise),
+            Some(text) => u8::from_str_radix(text, 16)
+                .map_err(|_| format!("{name}: {text} is not a byte in hexadecimal")),
+        }
+    }
+
     /// The given seed, or one from the clock.
     pub fn seed(&self) -> Result<u64, String> {
         self.number("--seed", Random::clock_seed())

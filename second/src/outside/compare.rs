@@ -1,13 +1,15 @@
-//! The comparison: one batch to both programs, byte for byte.
+//! The comparison: the same batches to both programs, byte for byte.
 
 use std::time::Instant;
 
 use super::arguments::Arguments;
 use super::broken;
 use super::command;
+use super::parallel::each_of;
 use super::tally::Tally;
 use crate::batch::{answer_bytes, case_bytes};
-use crate::calls::{answer, Case};
+use crate::calls::TABLE;
+use crate::case::{Case, PRESET};
 use crate::describe::{answer_text, case_text};
 use crate::examples;
 use crate::fresh::{self, Fresh};
@@ -23,34 +25,42 @@ struct Question {
     expected: Vec<u8>,
 }
 
+/// Questions that are asked in one run, and what lent bytes hold before.
+struct Batch {
+    preset: u8,
+    questions: Vec<Question>,
+}
+
+impl Batch {
+    /// What the command is told: nothing where lent bytes hold what they do anyway.
+    fn words(&self) -> Vec<String> {
+        match self.preset {
+            PRESET => Vec::new(),
+            other => vec!["--preset".to_string(), format!("{other:02X}")],
+        }
+    }
+}
+
 pub fn compare(arguments: &Arguments) -> Result<(), String> {
     let wanted = arguments.wanted_command()?;
     let seed = arguments.seed()?;
     let count = arguments.number("--cases", 6000)? as usize;
     println!("comparison: seed {seed}, {count} fresh cases");
     let mut random = Random::new(seed);
-    let mut questions = document_questions()?;
-    let start = Instant::now();
-    questions.extend(fresh::cases(&mut random, count).into_iter().map(ask_ourselves));
-    println!("the second program: {:.1} s", start.elapsed().as_secs_f64());
-    if arguments.flag("--fault") {
-        put_in_a_fault(&mut random, &mut questions);
+    let mut batches = batches(&mut random, count)?;
+    let faults =
+        if arguments.flag("--fault") { plant_faults(&mut random, &mut batches) } else { 0 };
+    let mut tally = Tally::default();
+    let mut differences = Vec::new();
+    for batch in &batches {
+        differences.extend(ask(wanted, batch, &mut tally)?);
     }
-    let batch: Vec<u8> = questions.iter().flat_map(|question| case_bytes(&question.case)).collect();
-    let ran = command::run(wanted, &batch)?;
-    println!(
-        "the command: {:.1} s, {} bytes in, {} out",
-        ran.seconds,
-        batch.len(),
-        ran.output.len()
-    );
-    let (tally, differences) = judge(&questions, &ran.output);
     tally.print();
+    if faults > 0 && differences.len() == faults {
+        return Err(format!("every planted fault was seen: {}", first_of(&differences)));
+    }
     if !differences.is_empty() {
         return Err(first_of(&differences));
-    }
-    if !ran.status.success() {
-        return Err(format!("the command ended with {}", ran.status));
     }
     let broken = broken::compare(&mut random, wanted)?;
     println!("batches that break off: {broken} passed");
@@ -58,15 +68,37 @@ pub fn compare(arguments: &Arguments) -> Result<(), String> {
     if !missing.is_empty() {
         return Err(format!("the cases cover too little:\n  {}", missing.join("\n  ")));
     }
-    println!("all {} cases passed", questions.len());
+    let all: usize = batches.iter().map(|batch| batch.questions.len()).sum();
+    println!("all {all} cases passed");
     Ok(())
+}
+
+/// The document's examples and half of the fresh cases as lent bytes are preset
+/// anyway, the others with two other values: a stray write of a preset value
+/// would not be seen in its own batch.
+fn batches(random: &mut Random, count: usize) -> Result<Vec<Batch>, String> {
+    let start = Instant::now();
+    let mut first = document_questions()?;
+    let mut fresh = fresh::cases(random, count);
+    random.shuffle(&mut fresh);
+    let third = fresh.split_off(fresh.len() * 3 / 4);
+    let second = fresh.split_off(fresh.len() * 2 / 3);
+    first.extend(ask_ourselves(fresh, PRESET));
+    let any = random.between(1, 255) as u8;
+    let list = vec![
+        Batch { preset: PRESET, questions: first },
+        Batch { preset: !PRESET, questions: ask_ourselves(second, !PRESET) },
+        Batch { preset: any, questions: ask_ourselves(third, any) },
+    ];
+    println!("the second program: {:.1} s", start.elapsed().as_secs_f64());
+    Ok(list)
 }
 
 /// The document's examples: our own answers must be the document's.
 fn document_questions() -> Result<Vec<Question>, String> {
     let mut list = Vec::new();
     for example in examples::all() {
-        let ours = answer_bytes(&answer(&example.case));
+        let ours = answer_bytes(&example.case, PRESET);
         let tags = vec![format!("document example {:>2}", example.name)];
         let question = Question { case: example.case, tags, expected: example.expected };
         if ours != question.expected {
@@ -78,31 +110,54 @@ fn document_questions() -> Result<Vec<Question>, String> {
     Ok(list)
 }
 
-fn ask_ourselves(fresh: Fresh) -> Question {
-    let expected = answer_bytes(&answer(&fresh.case));
-    Question { case: fresh.case, tags: fresh.tags, expected }
+fn ask_ourselves(list: Vec<Fresh>, preset: u8) -> Vec<Question> {
+    let answers = each_of(&list, |fresh| answer_bytes(&fresh.case, preset));
+    let pairs = list.into_iter().zip(answers);
+    pairs.map(|(Fresh { case, tags }, expected)| Question { case, tags, expected }).collect()
 }
 
-/// Flips one bit of one expected answer, to show that it does not go unseen.
-fn put_in_a_fault(random: &mut Random, questions: &mut [Question]) {
-    let at = random.below(questions.len());
-    let question = &mut questions[at];
-    let bit = random.below(question.expected.len() * 8);
-    question.expected[bit / 8] ^= 1 << (bit % 8);
-    println!("a fault: bit {bit} of our answer to case {at} is flipped");
+/// Flips one bit of one expected answer to each call, to show that none goes
+/// unseen. Says how many that are.
+fn plant_faults(random: &mut Random, batches: &mut [Batch]) -> usize {
+    for call in TABLE {
+        let questions = batches.iter_mut().flat_map(|batch| &mut batch.questions);
+        let mut asked: Vec<&mut Question> =
+            questions.filter(|question| question.case.call.code == call.code).collect();
+        let at = random.below(asked.len());
+        let bit = random.below(asked[at].expected.len() * 8);
+        asked[at].expected[bit / 8] ^= 1 << (bit % 8);
+        println!("a fault: bit {bit} of our answer to a case of {} is flipped", call.name);
+    }
+    TABLE.len()
 }
 
-/// Goes through the answers; the length of each is known beforehand. Gives the
-/// count of what passed and a description of what did not.
-fn judge(questions: &[Question], output: &[u8]) -> (Tally, Vec<String>) {
-    let mut tally = Tally::default();
+/// Runs the command on a batch; what differs.
+fn ask(wanted: &[String], batch: &Batch, tally: &mut Tally) -> Result<Vec<String>, String> {
+    let questions = &batch.questions;
+    let input: Vec<u8> = questions.iter().flat_map(|question| case_bytes(&question.case)).collect();
+    let ran = command::run(wanted, &batch.words(), &input)?;
+    let (preset, seconds) = (batch.preset, ran.seconds);
+    let (read, written) = (input.len(), ran.output.len());
+    println!(
+        "the command, lent bytes {preset:02X}: {seconds:.1} s, {read} bytes in, {written} out"
+    );
+    let mut differences = judge(questions, &ran.output, tally);
+    if !ran.status.success() {
+        differences.push(format!("the command ended with {}\n{}", ran.status, ran.said));
+    }
+    Ok(differences)
+}
+
+/// Goes through the answers; the length of each is known beforehand. Counts
+/// what passed and describes what did not.
+fn judge(questions: &[Question], output: &[u8], tally: &mut Tally) -> Vec<String> {
     let mut differences = Vec::new();
     let mut left = output;
     for (at, question) in questions.iter().enumerate() {
         let (got, rest) = left.split_at(question.expected.len().min(left.len()));
         left = rest;
         if got == question.expected {
-            tally.count(&question.case, got[0], &question.tags);
+            tally.count(question.case.call, got, &question.tags);
         } else {
             differences.push(format!("case {at}: {}", difference(question, got)));
         }
@@ -114,7 +169,7 @@ fn judge(questions: &[Question], output: &[u8]) -> (Tally, Vec<String>) {
     if !left.is_empty() {
         differences.push(format!("the output is {} bytes too long", left.len()));
     }
-    (tally, differences)
+    differences
 }
 
 fn first_of(differences: &[String]) -> String {

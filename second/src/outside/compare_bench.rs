@@ -28,6 +28,9 @@ fn document_runs() -> Vec<(Vec<u8>, Vec<u8>)> {
         (long(16, 8193), vec![3]),
         (long(16, 20_000), vec![3]),
         (long(17, 20_000), vec![1]),
+        // More than a pipe holds: whoever writes it must not be cut off.
+        (long(16, 300_000), vec![3]),
+        (long(17, 300_000), vec![1]),
     ]
 }
 
@@ -64,11 +67,14 @@ pub fn compare_bench(arguments: &Arguments) -> Result<(), String> {
         if i < documented && bench(input) != *expected {
             return Err(format!("the second program itself differs on {}", hex(input)));
         }
-        let ran = command::run(wanted, input)?;
-        if ran.output != *expected || !ran.status.success() {
+        let ran = command::run(wanted, &[], input)?;
+        if ran.output != *expected || !ran.status.success() || !ran.took_all {
             let (input, expected, got) = (hex(input), hex(expected), hex(&ran.output));
-            let ended = ran.status;
-            return Err(format!("input {input}\n  expected {expected}\n  got {got}; {ended}"));
+            let taken = if ran.took_all { "" } else { "; the input was not taken to its end" };
+            let (ended, said) = (ran.status, ran.said);
+            return Err(format!(
+                "input {input}\n  expected {expected}\n  got {got}; {ended}{taken}\n{said}"
+            ));
         }
         numbers[expected[0] as usize] += 1;
     }

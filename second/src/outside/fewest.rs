@@ -1,22 +1,32 @@
-//! Demand 3 from outside: make's count against brute force over networks.
+//! Demand 3 from outside: make's count against networks of one and two cells.
 
 use super::arguments::Arguments;
 use super::command;
+use super::parallel::each_of;
 use crate::batch::{answer_length, case_bytes};
-use crate::calls::{Case, WORK_BYTES};
-use crate::carry::{one_cell, two_cells};
-use crate::cell::{read_sheet, RECORD_BYTES, SHEET_BYTES};
+use crate::calls::make;
+use crate::carry::Networks;
+use crate::case::Case;
+use crate::cell::{read_sheet, MOST_READS, RECORD_BYTES, SHEET_BYTES};
 use crate::describe::hex;
-use crate::fresh::tables::{any, KINDS};
+use crate::fresh::networks;
+use crate::fresh::tables::{any, flip_bits, KINDS};
 use crate::network::rebuild;
 use crate::random::Random;
+use crate::refusals::WORK_BYTES;
 use crate::table::Table;
+
+/// A table, and whether it was made up as two cells.
+struct Asked {
+    table: Table,
+    made_of_two: bool,
+}
 
 /// All tables asked about for one n and K.
 struct Group {
     n: usize,
     k: usize,
-    tables: Vec<Table>,
+    tables: Vec<Asked>,
 }
 
 #[derive(Default)]
@@ -38,16 +48,15 @@ pub fn fewest(arguments: &Arguments) -> Result<(), String> {
         groups.extend([2, 3].map(|k| Group { n: 4, k, tables: all_tables(4) }));
     }
     let batch: Vec<u8> = groups.iter().flat_map(group_bytes).collect();
-    let ran = command::run(wanted, &batch)?;
+    let ran = command::run(wanted, &[], &batch)?;
     println!("the command: {:.1} s", ran.seconds);
     if !ran.status.success() {
-        return Err(format!("the command ended with {}", ran.status));
+        return Err(format!("the command ended with {}\n{}", ran.status, ran.said));
     }
     println!("  n  K   tables  no promise   one cell  two cells  more are needed (refused)");
     let mut left = &ran.output[..];
     for group in &groups {
-        let counts = judge_group(group, &mut left)?;
-        let Counts { refused, no_promise, one, two, more } = counts;
+        let Counts { refused, no_promise, one, two, more } = judge_group(group, &mut left)?;
         let (n, k, all) = (group.n, group.k, group.tables.len());
         println!("{n:>3}{k:>3}{all:>9}{no_promise:>12}{one:>11}{two:>11}{more:>11} ({refused})");
     }
@@ -58,59 +67,68 @@ pub fn fewest(arguments: &Arguments) -> Result<(), String> {
     Ok(())
 }
 
-fn all_tables(n: usize) -> Vec<Table> {
-    (0..1u64 << (1 << n)).map(|number| Table::from_number(n, number)).collect()
+fn all_tables(n: usize) -> Vec<Asked> {
+    let numbers = 0..1u64 << (1 << n);
+    let tables = numbers.map(|number| Table::from_number(n, number));
+    tables.map(|table| Asked { table, made_of_two: false }).collect()
 }
 
-/// Every table up to 3 inputs, and samples at 4 and 5.
+/// Every table up to 3 inputs; samples at 4 and 5 for K up to 4, and beyond
+/// that at each n that two cells of size K can read, up to 9.
 fn groups(random: &mut Random, sample: usize) -> Vec<Group> {
     let mut list = Vec::new();
     for n in 1..=3 {
-        list.extend((2..=6).map(|k| Group { n, k, tables: all_tables(n) }));
+        list.extend((2..=MOST_READS).map(|k| Group { n, k, tables: all_tables(n) }));
     }
-    for n in 4..=5 {
-        for k in 2..=4 {
-            let tables = (0..sample).map(|i| sampled(random, n, i)).collect();
-            list.push(Group { n, k, tables });
-        }
+    let small = (4..=5).flat_map(|n| (2..=4).map(move |k| (n, k, sample)));
+    let large = (4..=MOST_READS)
+        .flat_map(|k| (6.max(k + 1)..=9.min(2 * k - 1)).map(move |n| (n, k, sample / 4)));
+    for (n, k, count) in small.chain(large) {
+        let tables = (0..count).map(|i| sampled(random, n, k, i)).collect();
+        list.push(Group { n, k, tables });
     }
     list
 }
 
-/// Every third table is random, the others are of the structured kinds.
-fn sampled(random: &mut Random, n: usize, i: usize) -> Table {
-    let structured = [false, true, true][i % 3];
-    if structured {
-        let kind = random.pick(&KINDS);
-        let table = kind.draw(random, n).table;
-        // Some kinds need more inputs than n; those give way to a random table.
-        if table.inputs == n {
-            return table;
+/// By turns two cells wired in any way, the same with a bit or two flipped, a
+/// table of a structured kind, and a random one.
+fn sampled(random: &mut Random, n: usize, k: usize, i: usize) -> Asked {
+    if i % 2 == 0 && n < 2 * k {
+        let mut table = networks::two_cells(random, n, k);
+        let made_of_two = i % 4 == 0;
+        if !made_of_two {
+            flip_bits(random, &mut table);
         }
+        return Asked { table, made_of_two };
     }
-    any(random, n)
+    let structured = random.pick(&KINDS).draw(random, n).table;
+    // Some kinds need more inputs than n; those give way to a random table.
+    let taken = i % 4 != 3 && structured.inputs == n;
+    Asked { table: if taken { structured } else { any(random, n) }, made_of_two: false }
 }
 
-fn make_case(group: &Group, table: &Table) -> Case {
-    let (n, k) = (group.n as u64, group.k as u64);
-    Case::Make { n, k, table: table.to_bytes(), room: SHEET_BYTES, work: WORK_BYTES }
+fn make_case(group: &Group, asked: &Asked) -> Case {
+    let table = asked.table.to_bytes();
+    make::case(group.n as u64, group.k as u64, table, SHEET_BYTES, WORK_BYTES)
 }
 
 fn group_bytes(group: &Group) -> Vec<u8> {
-    group.tables.iter().flat_map(|table| case_bytes(&make_case(group, table))).collect()
+    group.tables.iter().flat_map(|asked| case_bytes(&make_case(group, asked))).collect()
 }
 
 fn judge_group(group: &Group, left: &mut &[u8]) -> Result<Counts, String> {
+    let networks = Networks::new(group.n, group.k);
+    let fewest = each_of(&group.tables, |asked| networks.fewest(&asked.table));
     let mut counts = Counts::default();
-    for table in &group.tables {
-        let length = answer_length(&make_case(group, table));
+    for (asked, fewest) in group.tables.iter().zip(fewest) {
+        let length = answer_length(&make_case(group, asked));
         if left.len() < length {
             return Err("the output ends early".to_string());
         }
         let (answer, rest) = left.split_at(length);
         *left = rest;
-        judge_one(group, table, answer, &mut counts).map_err(|what| {
-            let (n, k, table) = (group.n, group.k, hex(&table.to_bytes()));
+        judge_one(group, asked, fewest, answer, &mut counts).map_err(|what| {
+            let (n, k, table) = (group.n, group.k, hex(&asked.table.to_bytes()));
             format!("n={n} K={k} table {table}: {what}\n  make answered {}", hex(answer))
         })?;
     }
@@ -121,26 +139,23 @@ fn judge_group(group: &Group, left: &mut &[u8]) -> Result<Counts, String> {
 /// give two; promised only for tables that depend on each input, or that fit a cell.
 fn judge_one(
     group: &Group,
-    table: &Table,
+    asked: &Asked,
+    fewest: Option<usize>,
     answer: &[u8],
     counts: &mut Counts,
 ) -> Result<(), String> {
+    if asked.made_of_two && fewest.is_none() {
+        return Err("made of two cells, and the second program itself says more".to_string());
+    }
     let made = match (answer[0], answer[1] as usize) {
-        (0, count) => Some(carried_count(group.n, table, count, &answer[2..])?),
+        (0, count) => Some(carried_count(group.n, &asked.table, count, &answer[2..])?),
         (8, 0) => None,
         (number, count) => return Err(format!("number {number}, count {count}")),
     };
-    if group.n > group.k && !table.depends_on_each_input() {
+    if group.n > group.k && !asked.table.depends_on_each_input() {
         counts.no_promise += 1;
         return Ok(());
     }
-    let fewest = if one_cell(table, group.k) {
-        Some(1)
-    } else if two_cells(table, group.k) {
-        Some(2)
-    } else {
-        None
-    };
     match (fewest, made) {
         (Some(1), Some(1)) => counts.one += 1,
         (Some(2), Some(2)) => counts.two += 1,
@@ -149,7 +164,7 @@ fn judge_one(
             counts.more += 1;
             counts.refused += 1;
         }
-        _ => return Err(format!("fewest by brute force {fewest:?}, by make {made:?}")),
+        _ => return Err(format!("fewest by networks {fewest:?}, by make {made:?}")),
     }
     Ok(())
 }

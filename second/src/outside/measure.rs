@@ -1,67 +1,22 @@
-//! Measuring: tables to measure with, and the time a command takes for each call.
+//! Measuring: tables to measure with, and the time that passes inside each call.
 
 use std::io::Write;
 
 use super::arguments::Arguments;
 use super::command;
+use super::subjects::{subjects, table_of_kind, Subject};
 use crate::batch::{answer_length, case_bytes};
-use crate::best::{best, candidates};
-use crate::calls::{Case, DONE, NO_SPLIT, WORK_BYTES};
-use crate::cell::{write_sheet, MOST_READS, SHEET_BYTES};
-use crate::chain::chain;
-use crate::fresh::sheets;
-use crate::fresh::tables::{any, chain_for, compose, compose_parity, flip_bits};
+use crate::best::candidates;
+use crate::case::Case;
+use crate::cell::MOST_READS;
 use crate::random::Random;
-use crate::table::Table;
+use crate::refusals::NO_SPLIT;
 
-/// Up to here it is cheap to check that a near miss has no split.
-const CHECKED_INPUTS: usize = 12;
-/// A measurement is repeated with more cases until it takes this long.
-const LONG_ENOUGH: f64 = 0.5;
+/// A measurement is repeated with more cases until they take this long together.
+const LONG_ENOUGH: f64 = 500.0;
 /// After this long a single case will do.
-const VERY_LONG: f64 = 2.0;
-const MOST_CASES: usize = 65_536;
-const SIZES: [usize; 5] = [8, 10, 12, 14, 16];
-
-/// A table of one of the kinds that `second tables` knows.
-fn table_of_kind(random: &mut Random, kind: &str, n: usize) -> Result<Table, String> {
-    match kind {
-        "random" => Ok(any(random, n)),
-        "split" => {
-            let own = random.between(2, MOST_READS.min(n - 1));
-            let shared = random.below((MOST_READS - own).min(n - own) + 1);
-            Ok(compose(random, n, own, shared).table)
-        }
-        "near" => Ok(near(random, n)),
-        "sparse" => Ok(sparse(random, n)),
-        _ => Err(format!("{kind} is no kind of table")),
-    }
-}
-
-/// A composition with one or two bits flipped, so that it has no split any more
-/// (checked where that is cheap, and likely elsewhere).
-fn near(random: &mut Random, n: usize) -> Table {
-    loop {
-        let own = random.between(2, MOST_READS.min(n - 2));
-        let mut table = compose_parity(random, n, own).table;
-        flip_bits(random, &mut table);
-        let unchecked = n > CHECKED_INPUTS || n <= MOST_READS;
-        if unchecked || best(&table, MOST_READS).is_none() {
-            return table;
-        }
-    }
-}
-
-/// A few ones among zeros: nearly all columns are alike, so that each candidate
-/// is looked at for long before it fails.
-fn sparse(random: &mut Random, n: usize) -> Table {
-    let mut table = Table::from_rule(n, |_| false);
-    for _ in 0..4 * n {
-        let x = random.below(table.bits.len());
-        table.bits[x] = true;
-    }
-    table
-}
+const VERY_LONG: f64 = 2000.0;
+const MOST_CASES: usize = 16_384;
 
 /// Writes a stream of tables to standard output.
 pub fn tables(arguments: &Arguments) -> Result<(), String> {
@@ -80,146 +35,94 @@ pub fn tables(arguments: &Arguments) -> Result<(), String> {
     Ok(())
 }
 
-/// One thing to measure: its name, and how a case for it is drawn.
-struct Subject {
-    name: String,
-    n: usize,
-    draw: fn(&mut Random, usize) -> Case,
-    expected: u8,
-}
-
-fn find_random(random: &mut Random, n: usize) -> Case {
-    find(any(random, n))
-}
-
-fn find_near(random: &mut Random, n: usize) -> Case {
-    find(near(random, n))
-}
-
-fn find_sparse(random: &mut Random, n: usize) -> Case {
-    find(sparse(random, n))
-}
-
-fn find(table: Table) -> Case {
-    let (n, k) = (table.inputs as u64, MOST_READS as u64);
-    Case::Find { n, k, table: table.to_bytes(), work: WORK_BYTES }
-}
-
-fn make_and(_: &mut Random, n: usize) -> Case {
-    make(Table::from_rule(n, |x| x + 1 == 1 << n), MOST_READS)
-}
-
-fn make_xor_small_cells(_: &mut Random, n: usize) -> Case {
-    make(Table::from_rule(n, |x| x.count_ones() % 2 == 1), 2)
-}
-
-fn make(table: Table, k: usize) -> Case {
-    let (n, k) = (table.inputs as u64, k as u64);
-    Case::Make { n, k, table: table.to_bytes(), room: SHEET_BYTES, work: WORK_BYTES }
-}
-
-fn run_longest(random: &mut Random, n: usize) -> Case {
-    let sheet = sheets::Kind::Longest.draw(random, n);
-    let x = random.below(1 << n) as u64;
-    Case::Run { n: n as u64, x, sheet }
-}
-
-fn rebuild_longest(random: &mut Random, n: usize) -> Case {
-    let sheet = sheets::Kind::Longest.draw(random, n);
-    Case::Rebuild { n: n as u64, sheet, room: Table::byte_length(n) }
-}
-
-fn rebuild_chain(random: &mut Random, n: usize) -> Case {
-    let table = chain_for(random, n, 2).table;
-    let sheet = chain(&table, 2).map(|cells| write_sheet(&cells)).unwrap_or_default();
-    Case::Rebuild { n: n as u64, sheet, room: Table::byte_length(n) }
-}
-
-fn subjects() -> Vec<Subject> {
-    type Draw = fn(&mut Random, usize) -> Case;
-    let rows: [(&str, Draw, u8); 8] = [
-        ("find, no split, random", find_random, NO_SPLIT),
-        ("find, no split, near miss", find_near, NO_SPLIT),
-        ("find, no split, sparse", find_sparse, NO_SPLIT),
-        ("make, AND, K = 6", make_and, DONE),
-        ("make, XOR, K = 2", make_xor_small_cells, DONE),
-        ("run, 15 records", run_longest, DONE),
-        ("rebuild, 15 records", rebuild_longest, DONE),
-        ("rebuild, made with K = 2", rebuild_chain, DONE),
-    ];
-    let mut list = Vec::new();
-    for (name, draw, expected) in rows {
-        list.extend(SIZES.map(|n| Subject { name: name.to_string(), n, draw, expected }));
-    }
-    list
-}
-
-/// Prints the time for one case of each subject, and how it grows with n.
+/// Prints the time for one case of each subject whose name has the wanted words
+/// in it, and how it grows with n. The command is told to say its times.
 pub fn measure(arguments: &Arguments) -> Result<(), String> {
     let wanted = arguments.wanted_command()?;
     let seed = arguments.seed()?;
-    println!("measured with seed {seed}; start-up of the command is taken off");
-    println!("| what | n | candidates | cases | as expected | ms each | times the row above |");
-    println!("|---|---|---|---|---|---|---|");
-    let mut random = Random::new(seed);
-    let empty = start_up(wanted)?;
-    let mut above: Option<f64> = None;
-    for subject in subjects() {
-        let Subject { name, n, .. } = &subject;
-        let (cases, right, each) = measure_one(&mut random, wanted, empty, &subject)?;
-        let ratio = match above {
-            Some(above) if *n > SIZES[0] => format!("{:.1}", each / above),
-            _ => "".to_string(),
-        };
-        let pairs = match subject.expected {
-            NO_SPLIT => candidates(*n, MOST_READS).len().to_string(),
-            _ => "".to_string(),
-        };
-        println!("| {name} | {n} | {pairs} | {cases} | {right} | {each:.4} | {ratio} |");
-        above = Some(each);
+    let only = arguments.text("--only", "");
+    println!("measured with seed {seed}; milliseconds inside the call");
+    println!("| what | n | candidates | cases | as expected | each | the slowest | times the row above |");
+    println!("|---|---|---|---|---|---|---|---|");
+    for subject in subjects().iter().filter(|subject| subject.name.contains(&only)) {
+        // Each subject starts afresh, so that it is the same alone as among the others.
+        let mut random = Random::new(seed);
+        let mut above: Option<f64> = None;
+        for &n in subject.sizes {
+            let Measured { cases, right, each, slowest } =
+                measure_one(&mut random, wanted, subject, n)?;
+            let ratio = above.map_or(String::new(), |above| format!("{:.1}", each / above));
+            let pairs = match subject.expected {
+                NO_SPLIT => candidates(n, MOST_READS).len().to_string(),
+                _ => String::new(),
+            };
+            let name = subject.name;
+            println!("| {name} | {n} | {pairs} | {cases} | {right} | {each:.4} | {slowest:.4} | {ratio} |");
+            above = Some(each);
+        }
     }
     Ok(())
 }
 
-/// The time the command takes for an empty batch, the least of a few tries.
-fn start_up(wanted: &[String]) -> Result<f64, String> {
-    let mut least = f64::MAX;
-    for _ in 0..5 {
-        least = least.min(command::run(wanted, &[])?.seconds);
-    }
-    Ok(least)
+struct Measured {
+    cases: usize,
+    /// How many were answered with the number that was expected.
+    right: usize,
+    /// Milliseconds: the mean, and the most of any case (which on a busy
+    /// machine tells of the machine).
+    each: f64,
+    slowest: f64,
 }
 
-/// Four times as many cases until the run is long enough; milliseconds for each.
+/// Four times as many cases until they take long enough.
 fn measure_one(
     random: &mut Random,
     wanted: &[String],
-    empty: f64,
     subject: &Subject,
-) -> Result<(usize, usize, f64), String> {
-    let mut cases: Vec<Case> = vec![(subject.draw)(random, subject.n)];
+    n: usize,
+) -> Result<Measured, String> {
+    let mut cases: Vec<Case> = vec![(subject.draw)(random, n)];
     loop {
         let batch: Vec<u8> = cases.iter().flat_map(case_bytes).collect();
-        let ran = command::run(wanted, &batch)?;
-        let right = count_right(&cases, &ran.output, subject.expected);
-        let seconds = (ran.seconds - empty).max(0.0);
+        let ran = command::run(wanted, &["--times".to_string()], &batch)?;
+        let times = milliseconds(&ran.said, &cases)?;
+        let total: f64 = times.iter().sum();
         // One case alone may bear costs that come once in a run.
-        let enough = seconds >= LONG_ENOUGH && (cases.len() > 1 || seconds >= VERY_LONG);
+        let enough = total >= LONG_ENOUGH && (cases.len() > 1 || total >= VERY_LONG);
         if enough || cases.len() >= MOST_CASES {
-            return Ok((cases.len(), right, seconds * 1000.0 / cases.len() as f64));
+            let right = count_right(&cases, &ran.output, subject.expected);
+            let each = total / cases.len() as f64;
+            let slowest = times.into_iter().fold(0.0, f64::max);
+            return Ok(Measured { cases: cases.len(), right, each, slowest });
         }
         for _ in 0..cases.len() * 3 {
-            cases.push((subject.draw)(random, subject.n));
+            cases.push((subject.draw)(random, n));
         }
     }
 }
 
-/// How many cases were answered with the number that was expected.
+/// The lines of `--times`: a code and the nanoseconds, one for each case.
+fn milliseconds(said: &str, cases: &[Case]) -> Result<Vec<f64>, String> {
+    let mut list = Vec::new();
+    for (line, case) in said.lines().zip(cases) {
+        let (code, time) = line.split_once(' ').unwrap_or((line, ""));
+        match time.parse::<f64>() {
+            Ok(time) if code == format!("{:02X}", case.call.code) => list.push(time / 1e6),
+            _ => return Err(format!("{line} is no code and time")),
+        }
+    }
+    if list.len() != cases.len() {
+        return Err(format!("{} cases, but {} times", cases.len(), list.len()));
+    }
+    Ok(list)
+}
+
 fn count_right(cases: &[Case], output: &[u8], expected: u8) -> usize {
     let mut start = 0;
     let mut right = 0;
     for case in cases {
-        right += (output.get(start) == Some(&expected)) as usize;
+        let number = output.get(start + case.call.number_at());
+        right += usize::from(number == Some(&expected));
         start += answer_length(case);
     }
     right

@@ -7,4 +7,6 @@ pub mod compare;
 pub mod compare_bench;
 pub mod fewest;
 pub mod measure;
+mod parallel;
+mod subjects;
 pub mod tally;

@@ -1,5 +1,4 @@
 -- `put_h` meets its contract: the chart has room for the columns of every shared assignment. Assumes nothing.
-use Prim.Native.Nat.{_^_}
 use native.Mathlib.Omega.{arith}
 use lib.Pow.{pow-mono}
 use borrow.Author.Needs.{needs}
@@ -21,12 +20,5 @@ chart-requires c κs =
 
 pub put-h-spec : {M : Type 1} → statement M
 put-h-spec =
-    tie.close
-    (tie.spec
-    (λ c κs. search needs)
-    (λ c. search needs)
-    chart-requires
-    (λ c. search needs)
-    (λ c κs. search needs)
-    (λ c. search needs)
-    (λ c. search needs))
+    tie.close (tie.spec (λ c κs. search needs) (λ c. search needs) chart-requires (λ c. search needs)
+    (λ c κs. search needs) (λ c. search needs) (λ c. search needs))

@@ -1,0 +1,82 @@
+-- `write_chain` meets its contract: the held chain is the sheet of the table, and is written as records. Assumes nothing.
+use mathlib.Core.Path.{_≡_, sym, ap, ap₂, _∙_}
+use mathlib.Core.Bool.{Bool, cond}
+use mathlib.Core.List.{List, [], _∷_, _++_}
+use Prim.Native.Nat.{ℕ, _*_}
+use native.Mathlib.Nat.{le-trans, mul-le-mul-left}
+use native.Mathlib.Omega.{arith}
+use lib.ListN.{length, drop, replicate}
+use borrow.Author.Needs.{needs}
+use borrow.Author.Tests.{not-true, not-false}
+use Rattle.bits.proofs.Lists.{length-list}
+use Rattle.tables.specs.Table.{tableBit}
+use Rattle.sheets.specs.declared.kinds.Edition.{Edition}
+use Rattle.sheets.specs.declared.kinds.Sheet.{Sheet}
+use Rattle.sheets.specs.Writing.{sheetBytes}
+use Rattle.sheets.specs.Held.{cellsOf}
+use Rattle.sheets.proofs.Wholes.{length-sheet}
+use Rattle.chains.specs.Chain.{Made, stuck, made}
+use Rattle.chains.proofs.Loaded.{made-fits}
+use Rattle.bench.specs.declared.refusals.Verdict.{Verdict}
+use Rattle.bench.specs.declared.refusals.Verdict.the-variants.{Fine}
+use Rattle.bench.specs.Lines.{verdict, reply}
+use Rattle.bench.specs.Refusals.{chainStuck}
+use Rattle.bench.specs.MakeSheet.{MakeOutcome, cellsIn, makeDone, makeNot}
+use Rattle.bench.proofs.make_sheet.write_chain.Statement.{statement}
+use Rattle.bench.proofs.make_sheet.write_chain.Tie as tie
+
+-- what is answered of a chain
+abbrev answered : Edition → ℕ → List ℕ → List ℕ → Made → MakeOutcome
+answered e d sheet work w = reply (verdict (chainStuck w ∷ [])) (makeDone e d (cellsIn w) sheet work) (makeNot sheet work)
+
+-- a held sheet written: its count, and its records over the first bytes
+written : (e : Edition) (d : ℕ) (held : Sheet) (sheet work : List ℕ)
+    → record { answer = record { verdict = Fine; count = held .count }; sheet = sheetBytes e d (cellsOf held) ++ drop (e .size * held .count) sheet; work = replicate (length work) 0 }
+    ≡ makeDone e d (cellsOf held) sheet work
+written e d held sheet work =
+    let count : length (cellsOf held) ≡ held .count = length-list (held .count) _ in
+    ap₂ (λ (k m : ℕ). record { answer = record { verdict = Fine; count = k }; sheet = sheetBytes e d (cellsOf held) ++ drop m sheet; work = replicate (length work) 0 })
+    (sym count) (sym (length-sheet e d (cellsOf held) ∙ ap (λ (k : ℕ). e .size * k) count))
+
+chain-of-requires : tie.Need-chain-of-requires
+chain-of-requires c κs =
+    let s = c .before .before .before .before in
+    let p = s .pre .0 in
+    (p .2, p .3, p .4, omega (arith, p .5, p .1), s .pre .1 .0, s .pre .1 .2)
+
+returns : tie.Need-returns
+returns c =
+    let m = c .before .before .before .before .before in
+    let a = m .before .before .before .before .before .args in
+    let r = m .chain-of .result in
+    ap₂ (λ (v : Verdict) (l : List ℕ). record { answer = record { verdict = v; count = 0 }; sheet = a .sheet .now; work = l }) (c .refuse .ensures) (m .chain-of .ensures .cleared)
+    ∙ ap (answered (a .e) (a .d) (a .sheet .now) (a .work .now))
+    (ap (λ (b : Bool). cond b (made (cellsOf (r .sheet))) stuck) (sym (not-true (r .finished) (c .before .if1 .taken))) ∙ m .chain-of .ensures .chain)
+
+put-all-requires : tie.Need-put-all-requires
+put-all-requires c κs =
+    let i = c .before .before in
+    let m = i .before .before .before .before in
+    let s = m .before .before .before .before .before in
+    let a = s .args in
+    let p = s .pre .0 in
+    let r = m .chain-of .result in
+    let w = sym (m .chain-of .ensures .chain) ∙ ap (λ (b : Bool). cond b (made (cellsOf (r .sheet))) stuck) (not-false (r .finished) (i .if1 .left)) in
+    (p .0, p .1, m .chain-of .ensures .few, made-fits (a .e .most) (a .n) (a .k) (tableBit (a .t .now)) (cellsOf (r .sheet)) (p .5) w, le-trans (mul-le-mul-left (a .e .size) (m .chain-of .ensures .few)) (s .pre .1 .1))
+
+returns-2 : tie.Need-returns-2
+returns-2 c =
+    let o = c .before .before in
+    let i = o .before .before .before in
+    let m = i .before .before .before .before in
+    let a = m .before .before .before .before .before .args in
+    let r = m .chain-of .result in
+    ap₂ (λ (l w : List ℕ). record { answer = record { verdict = Fine; count = r .sheet .count }; sheet = l; work = w }) (o .put-all .ensures) (m .chain-of .ensures .cleared)
+    ∙ written (a .e) (a .d) (r .sheet) (a .sheet .now) (a .work .now)
+    ∙ ap (answered (a .e) (a .d) (a .sheet .now) (a .work .now))
+    (ap (λ (b : Bool). cond b (made (cellsOf (r .sheet))) stuck) (sym (not-false (r .finished) (i .if1 .left))) ∙ m .chain-of .ensures .chain)
+
+pub write-chain-spec : {M : Type 1} → statement M
+write-chain-spec =
+    tie.close (tie.spec chain-of-requires (λ c κs. search needs) (λ c. search needs) returns put-all-requires
+    (λ c. search needs) (λ c. search needs) returns-2)

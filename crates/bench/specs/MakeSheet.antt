@@ -1,0 +1,55 @@
+-- Make a sheet: how many cells, and their records in a lent sheet.
+use mathlib.Core.List.{List, [], _∷_, _++_}
+use Prim.Native.Nat.{ℕ, _^_}
+use lib.ListN.{length}
+use Rattle.bits.specs.Numbers.{number}
+use Rattle.tables.specs.Table.{tableBit}
+use Rattle.sheets.specs.declared.kinds.Edition.{Edition}
+use Rattle.sheets.specs.Network.{Cell}
+use Rattle.sheets.specs.Writing.{sheetBytes}
+use Rattle.chains.specs.Chain.{Made, stuck, made, sheetOf}
+use Rattle.bench.specs.declared.refusals.Refusal.{Refusal}
+use Rattle.bench.specs.declared.refusals.Verdict.the-variants.{Fine, Refused}
+use Rattle.bench.specs.declared.make_sheet.MakeAnswer.{MakeAnswer}
+use Rattle.bench.specs.Lines.{Line, verdict, reply}
+use Rattle.bench.specs.Refusals.{gateLines, shortSheet, chainStuck}
+use Rattle.bench.specs.Lent.{into, workAfter}
+
+-- the chain of a gate's table, as a number
+abbrev pub sheetFor : ℕ → ℕ → List ℕ → Made
+sheetFor n K t = sheetOf n K (number (2 ^ n) (tableBit t))
+
+-- the cells of a chain
+abbrev pub cellsIn : Made → List Cell
+cellsIn stuck = []
+cellsIn (made cs) = cs
+
+-- form and room: 1 to 4, and 6 of the sheet and the work area
+abbrev pub makeForm : Edition → ℕ → ℕ → List ℕ → List ℕ → List ℕ → List Line
+makeForm e n K t sheet work = gateLines e n K t ++ (shortSheet e sheet work ∷ [])
+
+-- and 8
+abbrev pub makeLines : Edition → ℕ → ℕ → List ℕ → List ℕ → List ℕ → List Line
+makeLines e n K t sheet work = makeForm e n K t sheet work ++ (chainStuck (sheetFor n K t) ∷ [])
+
+-- the answer; the lent sheet and the work area afterwards
+pub record MakeOutcome : Type 0 where
+  pub answer : MakeAnswer
+  pub sheet : List ℕ
+  pub work : List ℕ
+
+-- done: how many cells, and each record in its own bytes, the desk's byte being d; bytes after the last record stay
+abbrev pub makeDone : Edition → ℕ → List Cell → List ℕ → List ℕ → MakeOutcome
+makeDone e d cs sheet work = record {
+  answer = record { verdict = Fine; count = length cs };
+  sheet = into (sheetBytes e d cs) sheet;
+  work = workAfter Fine work;
+}
+
+-- refused: the count is 0, and the sheet is as it was lent
+abbrev pub makeNot : List ℕ → List ℕ → Refusal → MakeOutcome
+makeNot sheet work r = record { answer = record { verdict = Refused r; count = 0 }; sheet = sheet; work = workAfter (Refused r) work }
+
+-- what make is to return and leave, whatever is handed over
+unfoldable pub makeOutcome : Edition → ℕ → ℕ → ℕ → List ℕ → List ℕ → List ℕ → MakeOutcome
+makeOutcome e d n K t sheet work = reply (verdict (makeLines e n K t sheet work)) (makeDone e d (cellsIn (sheetFor n K t)) sheet work) (makeNot sheet work)

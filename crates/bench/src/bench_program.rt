@@ -1,0 +1,50 @@
+// The bench program but for its reading and writing: n, K and the table come in as bytes, and the answer number and
+// the sheet go out.
+use crate::make_sheet::make_sheet;
+use crate::refusals::number_of;
+use chains::area::HALF;
+use sheets::kinds::Sheet;
+use tables::clear;
+ghost use mathlib.Core.Path.{_≡_};
+ghost use Prim.Native.Nat.{_≤_};
+ghost use lib.ListN.{length, getD, drop};
+ghost use Rattle.chains.specs.Area.{workLength};
+ghost use Rattle.bench.specs.BenchProgram.{mostWritten, programOutcome};
+
+// n, K, the longest table and one byte more: a table with that byte has a wrong length, however long it is.
+pub const MOST_READ: usize = 2 + HALF + 1;
+// The answer number and the longest sheet.
+pub const MOST_WRITTEN: usize = 1 + Sheet::BYTES;
+
+// Byte i of s, or 0 where s ends before it.
+fn byte_or_zero(s: &[u8], i: usize) -> u64
+    ensures { λ r. ⌜ r ≡ getD (now (s .entry)) i 0 ⌝ }
+{
+    if i < s.len() { s[i] as u64 } else { 0 }
+}
+
+// Where the table starts: after n and K, if they are there.
+fn table_start(s: &[u8]) -> usize
+    ensures { λ r. ⌜ (r ≤ length (now (s .entry))) × (drop r (now (s .entry)) ≡ drop 2 (now (s .entry))) ⌝ }
+{
+    if s.len() < 2 { s.len() } else { 2 }
+}
+
+// Answers the input into the first bytes of out; how many they are. Both rooms are cleared first, so that nothing of
+// what they held matters.
+pub fn answer_input(input: &[u8], out: &mut [u8], work: &mut [u8]) -> usize
+    requires { ⌜ (length (now out) ≡ mostWritten) × (length (now work) ≡ workLength) ⌝ }
+    ensures { λ r. ⌜
+        record { count = r; out = now (out .exit); work = now (work .exit) } ≡ programOutcome (now (input .entry))
+        ⌝ }
+{
+    clear(out);
+    clear(work);
+    let n = byte_or_zero(input, 0);
+    let k = byte_or_zero(input, 1);
+    let start = table_start(input);
+    let answer = make_sheet(n, k, &input[start..], &mut out[1..], work);
+    let verdict = answer.verdict;
+    out[0] = number_of(verdict);
+    1 + Sheet::RECORD * answer.count
+}

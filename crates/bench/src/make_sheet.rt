@@ -1,0 +1,125 @@
+// Making a sheet of best splits.
+use crate::form;
+use crate::refusals::Refusal;
+use crate::refusals::Verdict;
+use crate::refusals::refuse;
+use chains::area::WORK;
+use chains::chaining::chain_of;
+use sheets::kinds::Edition;
+use sheets::kinds::Sheet;
+use sheets::writing::put_all;
+ghost use mathlib.Core.Path.{_≡_};
+ghost use mathlib.Core.List.{[], _∷_};
+ghost use Prim.Native.Nat.{_*_, _≤_};
+ghost use lib.ListN.{length};
+ghost use Rattle.tables.specs.Table.{mostInputs, tableLength};
+ghost use Rattle.sheets.specs.Edition.{IsEdition, largestCell, mostRecords, firstEdition};
+ghost use Rattle.chains.specs.Area.{workLength};
+ghost use Rattle.bench.specs.Lines.{verdict, reply};
+ghost use Rattle.bench.specs.Refusals.{chainStuck};
+ghost use Rattle.bench.specs.MakeSheet.{sheetFor, cellsIn, makeForm, makeDone, makeNot, makeOutcome};
+
+// How many cells, if nothing is wrong.
+pub struct MakeAnswer {
+    pub verdict: Verdict,
+    pub count: usize,
+}
+
+// Lines 1 to 4, and 6.
+fn make_form<'a>(
+    e: Edition,
+    n: u64,
+    k: u64,
+    t: &'a [u8],
+    sheet: &'a [u8],
+    work: &'a [u8],
+) -> Verdict
+    requires { ⌜ IsEdition e ⌝ }
+    ensures { λ r. ⌜ r ≡ verdict (makeForm e n k (now (t .entry)) (now (sheet .entry)) (now (work .entry))) ⌝ }
+{
+    let gate = form::gate(e, n, k, t);
+    let Verdict::Fine = gate else {
+        return gate;
+    };
+    if sheet.len() < e.size * Sheet::RECORDS {
+        return refuse(Refusal::ROOM);
+    }
+    if work.len() < WORK {
+        return refuse(Refusal::ROOM);
+    }
+    Verdict::Fine
+}
+
+// The sheet of a gate into lent bytes that are enough, or that its chain is stuck; the work area is cleared.
+fn write_chain(
+    e: Edition,
+    d: u8,
+    n: u32,
+    k: u32,
+    t: &[u8],
+    sheet: &mut [u8],
+    work: &mut [u8],
+) -> MakeAnswer
+    requires { ⌜ IsEdition e × (e .most ≤ largestCell) × (1 ≤ n) × (n ≤ mostInputs) × (2 ≤ k) × (k ≤ e .most) ⌝ }
+    requires { ⌜
+        (length (now t) ≡ tableLength n) × (e .size * mostRecords ≤ length (now sheet))
+        × (workLength ≤ length (now work))
+        ⌝ }
+    ensures { λ r. ⌜
+        record { answer = r; sheet = now (sheet .exit); work = now (work .exit) }
+        ≡ reply (verdict (chainStuck (sheetFor n k (now (t .entry))) ∷ []))
+        (makeDone e d (cellsIn (sheetFor n k (now (t .entry)))) (now (sheet .entry)) (now (work .entry)))
+        (makeNot (now (sheet .entry)) (now (work .entry)))
+        ⌝ }
+{
+    let chain = chain_of(t, n, k, work);
+    if !chain.finished {
+        return MakeAnswer {
+            verdict: refuse(Refusal::SPLIT),
+            count: 0,
+        };
+    }
+    let held = chain.sheet;
+    let cells = held.count;
+    put_all(e, d, held, sheet);
+    MakeAnswer {
+        verdict: Verdict::Fine,
+        count: cells,
+    }
+}
+
+// Makes the sheet of a table in an edition's records, the desk's byte being d.
+pub fn make_in(
+    e: Edition,
+    d: u8,
+    n: u64,
+    k: u64,
+    t: &[u8],
+    sheet: &mut [u8],
+    work: &mut [u8],
+) -> MakeAnswer
+    requires { ⌜ IsEdition e × (e .most ≤ largestCell) ⌝ }
+    ensures { λ r. ⌜
+        record { answer = r; sheet = now (sheet .exit); work = now (work .exit) } ≡ makeOutcome e d n k
+        (now (t .entry)) (now (sheet .entry)) (now (work .entry))
+        ⌝ }
+{
+    let form = make_form(e, n, k, t, sheet, work);
+    let Verdict::Fine = form else {
+        return MakeAnswer {
+            verdict: form,
+            count: 0,
+        };
+    };
+    write_chain(e, d, n as u32, k as u32, t, sheet, work)
+}
+
+// Makes the sheet of a table: how many cells.
+pub fn make_sheet(n: u64, k: u64, t: &[u8], sheet: &mut [u8], work: &mut [u8]) -> MakeAnswer
+    ensures { λ r. ⌜
+        record { answer = r; sheet = now (sheet .exit); work = now (work .exit) }
+        ≡ makeOutcome firstEdition 0 n k (now (t .entry)) (now (sheet .entry)) (now (work .entry))
+        ⌝ }
+{
+    make_in(Edition::first(), 0, n, k, t, sheet, work)
+}

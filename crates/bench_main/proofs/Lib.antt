@@ -1,2 +1,0 @@
--- Why the bench program's bytes are the answer.
-pub mod Answer

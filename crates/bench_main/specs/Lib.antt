@@ -1,2 +1,0 @@
--- What the bench program writes.
-pub mod Written

@@ -1,2 +1,0 @@
--- A law of the proofs.
-pub mod All

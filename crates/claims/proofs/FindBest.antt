@@ -1,0 +1,109 @@
+-- Find the best split: what is claimed of it, over any edition. Assumes nothing.
+use mathlib.Core.Path.{_≡_, refl, sym, ap, _∙_}
+use mathlib.Core.Logic.{_⊎_}
+use mathlib.Core.Bool.{true, false}
+use mathlib.Core.List.{List, [], _∷_}
+use Prim.Native.Nat.{ℕ, _≤_}
+use native.Mathlib.Omega.{arith}
+use lib.ListN.{length, replicate}
+use Rattle.bits.specs.Numbers.{bit}
+use Rattle.bits.proofs.Bools.{clash}
+use Rattle.tables.specs.Table.{tableBit}
+use Rattle.splits.specs.Split.{Possible}
+use Rattle.best.specs.Best.{Candidate, Best}
+use Rattle.best.specs.Search.{Answer, none, split, best}
+use Rattle.best.proofs.Best.{best-split, best-none}
+use Rattle.sheets.specs.declared.kinds.Edition.{Edition}
+use Rattle.bench.specs.declared.refusals.Refusal.{Refusal}
+use Rattle.bench.specs.declared.refusals.Verdict.{Verdict}
+use Rattle.bench.specs.declared.refusals.Verdict.the-variants.{Fine, Refused}
+use Rattle.bench.specs.declared.find_best.FindAnswer.{FindAnswer}
+use Rattle.bench.specs.Lines.{InOrder, verdict, numberOf, reply}
+use Rattle.bench.specs.Refusals.{noneBest, isNone}
+use Rattle.bench.specs.Lent.{workAfter}
+use Rattle.bench.specs.FindBest.{FindOutcome, bestFor, ownOf, sharedOf, findForm, findLines, findDone, findNot, findOutcome}
+use Rattle.bench.proofs.Lines.{in-order, passes, held}
+use Rattle.bench.proofs.Lent.{work-found}
+use Rattle.claims.specs.Words.{ByLines}
+use Rattle.claims.proofs.Verdicts.{says-verdict, is-done, is-refused, by-lines, work-cleared}
+
+module _ (e : Edition) (n K : ℕ) (t work : List ℕ) where
+  says : findOutcome e n K t work .answer .verdict ≡ verdict (findLines e n K t work)
+  unfolding findOutcome
+  says = says-verdict (λ (o : FindOutcome). o .answer .verdict) (findDone (bestFor n K t) work) (findNot work) refl (λ r. refl) (verdict (findLines e n K t work))
+
+  -- the work area is left as the verdict asks
+  left : findOutcome e n K t work .work ≡ workAfter (findOutcome e n K t work .answer .verdict) work
+  unfolding findOutcome
+  left = go (verdict (findLines e n K t work))
+    where
+      go : (v : Verdict) → reply v (findDone (bestFor n K t) work) (findNot work) .work ≡ workAfter (reply v (findDone (bestFor n K t) work) (findNot work) .answer .verdict) work
+      go Fine = refl
+      go (Refused r) = refl
+
+  -- the verdict is that of lines 1 to 4 and 6 to 8
+  pub find-lines : ByLines (findOutcome e n K t work .answer .verdict) (findLines e n K t work)
+  find-lines = by-lines (findLines e n K t work) refl (findOutcome e n K t work .answer .verdict) says
+
+  -- refused: both masks are 0
+  pub find-refused : (r : Refusal) → findOutcome e n K t work .answer .verdict ≡ Refused r → (findOutcome e n K t work .answer .own ≡ 0) × (findOutcome e n K t work .answer .shared ≡ 0)
+  unfolding findOutcome
+  find-refused r h =
+      let q = is-refused (λ (o : FindOutcome). o .answer .verdict) (findDone (bestFor n K t) work) (findNot work) refl (λ u. refl) (verdict (findLines e n K t work)) r h in
+      (ap (λ o. o .answer .own) q, ap (λ o. o .answer .shared) q)
+
+  -- 1 to 7 leave the work area as found
+  pub find-keeps : 1 ≤ numberOf (findOutcome e n K t work .answer .verdict) → numberOf (findOutcome e n K t work .answer .verdict) ≤ 7 → findOutcome e n K t work .work ≡ work
+  find-keeps h g = left ∙ work-found (findOutcome e n K t work .answer .verdict) work h g
+
+  -- after 0 or 8 the whole of it is zeros
+  pub find-clears : (numberOf (findOutcome e n K t work .answer .verdict) ≡ 0) ⊎ (numberOf (findOutcome e n K t work .answer .verdict) ≡ 8)
+      → findOutcome e n K t work .work ≡ replicate (length work) 0
+  find-clears h = left ∙ work-cleared (findOutcome e n K t work .answer .verdict) work h
+
+  -- two outcomes that keep the promise are equal: the answer, and the work area afterwards
+  pub find-once : (a a′ : FindAnswer) (l l′ : List ℕ) → record { answer = a; work = l } ≡ findOutcome e n K t work → record { answer = a′; work = l′ } ≡ findOutcome e n K t work
+      → (a ≡ a′) × (l ≡ l′)
+  find-once a a′ l l′ p q = (ap (λ o. o .answer) (p ∙ sym q), ap (λ o. o .work) (p ∙ sym q))
+
+  -- ---- demand 3
+
+  -- done: the masks are the best of all possible splits (`best-split`, best)
+  pub found-best : findOutcome e n K t work .answer .verdict ≡ Fine → Best n K 1 (tableBit t) (findOutcome e n K t work .answer .own) (findOutcome e n K t work .answer .shared)
+  unfolding findOutcome
+  found-best h =
+      let w = in-order (findLines e n K t work) (sym says ∙ h) in
+      rw (is-done (λ (o : FindOutcome). o .answer .verdict) (findDone (bestFor n K t) work) (findNot work) refl (λ u. refl) (verdict (findLines e n K t work)) h)
+      (go (bestFor n K t) refl (w .1 .1 .1 .1 .1 .1 .0))
+    where
+      go : (a : Answer) → best n 1 (tableBit t) K ≡ a → isNone a ≡ false → Best n K 1 (tableBit t) (ownOf a) (sharedOf a)
+      go none q g = absurd (clash refl g)
+      go (split A B) q g = best-split n 1 (tableBit t) K A B q
+
+  -- refused as 8: no candidate is possible (`best-none`, best)
+  pub none-possible : numberOf (findOutcome e n K t work .answer .verdict) ≡ 8 → (A B : ℕ) → Candidate n K 1 A B → Possible n (tableBit t) (bit A) (bit B) 1 → ⊥
+  none-possible h = go (bestFor n K t) refl (held (findForm e n K t work) (noneBest (bestFor n K t)) [] 8 refl refl (λ z. omega arith) (ap numberOf (sym says) ∙ h) .0)
+    where
+      go : (a : Answer) → best n 1 (tableBit t) K ≡ a → isNone a ≡ true → (A B : ℕ) → Candidate n K 1 A B → Possible n (tableBit t) (bit A) (bit B) 1 → ⊥
+      go none q g = best-none n 1 (tableBit t) K q
+      go (split A B) q g = absurd (clash g refl)
+
+  module _ (form : InOrder (findForm e n K t work)) where
+    by-search : findOutcome e n K t work .answer .verdict ≡ verdict (noneBest (bestFor n K t) ∷ [])
+    by-search = says ∙ passes (findForm e n K t work) (noneBest (bestFor n K t) ∷ []) form
+
+    -- the other way: where form and room are in order and no candidate is possible, find is refused as 8
+    pub impossible-refused : ((A B : ℕ) → Candidate n K 1 A B → Possible n (tableBit t) (bit A) (bit B) 1 → ⊥) → numberOf (findOutcome e n K t work .answer .verdict) ≡ 8
+    impossible-refused never = ap numberOf by-search ∙ go (bestFor n K t) refl
+      where
+        go : (a : Answer) → best n 1 (tableBit t) K ≡ a → numberOf (verdict (noneBest a ∷ [])) ≡ 8
+        go none q = refl
+        go (split A B) q = let b = best-split n 1 (tableBit t) K A B q in absurd (never A B (b .candidate) (b .possible))
+
+    -- and where a candidate is possible, find is done
+    pub possible-found : (A B : ℕ) → Candidate n K 1 A B → Possible n (tableBit t) (bit A) (bit B) 1 → findOutcome e n K t work .answer .verdict ≡ Fine
+    possible-found A B c P = by-search ∙ go (bestFor n K t) refl
+      where
+        go : (a : Answer) → best n 1 (tableBit t) K ≡ a → verdict (noneBest a ∷ []) ≡ Fine
+        go none q = absurd (best-none n 1 (tableBit t) K q A B c P)
+        go (split A′ B′) q = refl

@@ -1,0 +1,102 @@
+-- What a done make has behind it: the chain made cells, and these are what is counted and written. Assumes nothing.
+use mathlib.Core.Path.{_≡_, refl, sym, ap, ap₂, _∙_}
+use mathlib.Core.Bool.{false}
+use mathlib.Core.List.{List, [], _∷_}
+use Prim.Native.Nat.{ℕ, _*_, _^_}
+use native.Mathlib.Omega.{arith}
+use lib.ListN.{length, drop}
+use lib.Seq.{take-at}
+use Rattle.bits.specs.Numbers.{number}
+use Rattle.bits.proofs.Numbers.{number-lt}
+use Rattle.bits.proofs.Bools.{clash}
+use Rattle.tables.specs.Table.{tableBit}
+use Rattle.sheets.specs.declared.kinds.Edition.{Edition}
+use Rattle.sheets.specs.Edition.{IsEdition}
+use Rattle.sheets.specs.Network.{Cell}
+use Rattle.sheets.specs.Sheet.{sheetCells, Good}
+use Rattle.sheets.specs.Writing.{sheetBytes}
+use Rattle.sheets.proofs.Wholes.{length-sheet, cells-back}
+use Rattle.chains.specs.Chain.{Made, stuck, made}
+use Rattle.chains.proofs.Rules.{sheet-fits}
+use Rattle.chains.proofs.Written.{written-good}
+use Rattle.bench.specs.declared.refusals.Verdict.{Verdict}
+use Rattle.bench.specs.declared.refusals.Verdict.the-variants.{Fine}
+use Rattle.bench.specs.Lines.{InOrder, verdict, reply}
+use Rattle.bench.specs.Refusals.{chainStuck, isStuck}
+use Rattle.bench.specs.MakeSheet.{MakeOutcome, sheetFor, cellsIn, makeForm, makeLines, makeDone, makeNot, makeOutcome}
+use Rattle.bench.proofs.Lines.{in-order, passes}
+use Rattle.bench.proofs.Tests.{Sound, sound}
+use Rattle.claims.specs.Words.{recordsOf, networkOf}
+use Rattle.claims.proofs.Verdicts.{says-verdict, is-done}
+
+module _ (e : Edition) (d n K : ℕ) (t sheet work : List ℕ) where
+  pub make-says : makeOutcome e d n K t sheet work .answer .verdict ≡ verdict (makeLines e n K t sheet work)
+  unfolding makeOutcome
+  make-says =
+      says-verdict (λ (o : MakeOutcome). o .answer .verdict) (makeDone e d (cellsIn (sheetFor n K t)) sheet work) (makeNot sheet work) refl (λ r. refl)
+      (verdict (makeLines e n K t sheet work))
+
+  -- form and room are in order: so is the gate
+  pub make-sound : InOrder (makeForm e n K t sheet work) → Sound e n K t
+  make-sound s = sound e n K t (s .0, (s .1 .0, (s .1 .1 .0, (s .1 .1 .1 .0, tt))))
+
+  pub record IsMade : Type 0 where
+    pub gate : Sound e n K t
+    pub cells : List Cell
+    pub chain : sheetFor n K t ≡ made cells
+    pub outcome : makeOutcome e d n K t sheet work ≡ makeDone e d cells sheet work
+
+  -- done: the chain made cells
+  pub is-made : makeOutcome e d n K t sheet work .answer .verdict ≡ Fine → IsMade
+  unfolding makeOutcome
+  is-made h = go (sheetFor n K t) refl (w .1 .1 .1 .1 .1 .0)
+    where
+      w : InOrder (makeLines e n K t sheet work)
+      w = in-order (makeLines e n K t sheet work) (sym make-says ∙ h)
+
+      go : (c : Made) → sheetFor n K t ≡ c → isStuck c ≡ false → IsMade
+      go stuck q g = absurd (clash refl g)
+      go (made cs) q g = record {
+        gate = sound e n K t (w .0, (w .1 .0, (w .1 .1 .0, (w .1 .1 .1 .0, tt))));
+        cells = cs;
+        chain = q;
+        outcome =
+            is-done (λ (o : MakeOutcome). o .answer .verdict) (makeDone e d (cellsIn (sheetFor n K t)) sheet work) (makeNot sheet work) refl (λ r. refl)
+            (verdict (makeLines e n K t sheet work)) h
+            ∙ ap (λ (c : Made). makeDone e d (cellsIn c) sheet work) q;
+      }
+
+  -- the other way: form and room are in order, and the chain made cells
+  pub not-stuck : InOrder (makeForm e n K t sheet work) → (cs : List Cell) → sheetFor n K t ≡ made cs → (w : IsMade) × (w .cells ≡ cs)
+  unfolding makeOutcome
+  not-stuck s cs q = (
+    record {
+      gate = make-sound s;
+      cells = cs;
+      chain = q;
+      outcome =
+          ap (λ (v : Verdict). reply v (makeDone e d (cellsIn (sheetFor n K t)) sheet work) (makeNot sheet work))
+          (passes (makeForm e n K t sheet work) (chainStuck (sheetFor n K t) ∷ []) s)
+          ∙ ap (λ (c : Made). reply (verdict (chainStuck c ∷ [])) (makeDone e d (cellsIn c) sheet work) (makeNot sheet work)) q;
+    },
+    refl,
+  )
+
+  module _ (w : IsMade) where
+    -- the first bytes are the sheet of these cells
+    pub made-records : recordsOf e (makeOutcome e d n K t sheet work) ≡ sheetBytes e d (w .cells)
+    made-records =
+        ap (recordsOf e) (w .outcome)
+        ∙ take-at (sheetBytes e d (w .cells)) (drop (length (sheetBytes e d (w .cells))) sheet) (e .size * length (w .cells)) (length-sheet e d (w .cells))
+
+    module _ (ok : IsEdition e) where
+      pub made-good : Good e d n (sheetBytes e d (w .cells)) (length (w .cells))
+      made-good =
+          written-good e ok d n K (number (2 ^ n) (tableBit t)) (w .cells) (w .gate .largest) (number-lt (2 ^ n) (tableBit t)) (w .chain)
+          (omega (arith, w .gate .most, w .gate .two))
+
+      -- read as a network, they are the cells
+      pub made-network : networkOf e (makeOutcome e d n K t sheet work) ≡ w .cells
+      made-network =
+          ap₂ (sheetCells e) made-records (ap (λ o. o .answer .count) (w .outcome))
+          ∙ cells-back e d ok n (w .cells) (sheet-fits e n K (number (2 ^ n) (tableBit t)) (w .cells) (w .gate .largest) (number-lt (2 ^ n) (tableBit t)) (w .chain))

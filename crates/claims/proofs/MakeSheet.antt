@@ -1,0 +1,148 @@
+-- Make a sheet: what is claimed of it, over any edition and desk. Assumes nothing.
+use mathlib.Core.Path.{_≡_, refl, sym, ap, _∙_}
+use mathlib.Core.Logic.{_⊎_}
+use mathlib.Core.Bool.{Bool, true}
+use mathlib.Core.List.{List, [], _∷_}
+use Prim.Native.Nat.{ℕ, _^_, _<_, _≤_}
+use native.Mathlib.Omega.{arith}
+use lib.ListN.{length, replicate}
+use Rattle.bits.specs.Numbers.{bit, number}
+use Rattle.bits.proofs.Bools.{clash}
+use Rattle.bits.proofs.Numbers.{bit-number, number-lt}
+use Rattle.tables.specs.Table.{tableLength, tableBit}
+use Rattle.sheets.specs.declared.kinds.Edition.{Edition}
+use Rattle.sheets.specs.Edition.{IsEdition}
+use Rattle.sheets.specs.Network.{Cell, Gives, Carries}
+use Rattle.sheets.specs.Writing.{sheetBytes}
+use Rattle.chains.specs.Chain.{Made, stuck, made, inputs}
+use Rattle.chains.specs.Words.{Blocked}
+use Rattle.chains.specs.Fewest.{AllCount, Fewest}
+use Rattle.chains.proofs.View.{stuck-exactly}
+use Rattle.chains.proofs.Same.{table-gives, table-fewest}
+use Rattle.chains.proofs.Written.{written-bit, written-table}
+use Rattle.bench.specs.declared.refusals.Refusal.{Refusal}
+use Rattle.bench.specs.declared.refusals.Verdict.{Verdict}
+use Rattle.bench.specs.declared.refusals.Verdict.the-variants.{Fine, Refused}
+use Rattle.bench.specs.declared.make_sheet.MakeAnswer.{MakeAnswer}
+use Rattle.bench.specs.Lines.{InOrder, verdict, numberOf, reply}
+use Rattle.bench.specs.Refusals.{chainStuck, isStuck}
+use Rattle.bench.specs.Lent.{workAfter}
+use Rattle.bench.specs.MakeSheet.{MakeOutcome, sheetFor, cellsIn, makeForm, makeLines, makeDone, makeNot, makeOutcome}
+use Rattle.bench.specs.RunSheet.{runOutcome}
+use Rattle.bench.specs.RebuildTable.{rebuildOutcome}
+use Rattle.bench.proofs.Lines.{passed, passes, held}
+use Rattle.bench.proofs.Lent.{work-found}
+use Rattle.claims.specs.Words.{ByLines, AllBytes, recordsOf, networkOf}
+use Rattle.claims.proofs.Verdicts.{is-refused, by-lines, work-cleared}
+use Rattle.claims.proofs.Tables.{table-back}
+use Rattle.claims.proofs.Sheets.{good-run, good-rebuild}
+use Rattle.claims.proofs.Made.{IsMade, make-says, make-sound, is-made, not-stuck, made-records, made-good, made-network}
+
+module _ (e : Edition) (d n K : ℕ) (t sheet work : List ℕ) where
+  abbrev T : ℕ
+  T = number (2 ^ n) (tableBit t)
+
+  left : makeOutcome e d n K t sheet work .work ≡ workAfter (makeOutcome e d n K t sheet work .answer .verdict) work
+  unfolding makeOutcome
+  left = go (verdict (makeLines e n K t sheet work))
+    where
+      go : (v : Verdict) → let o = reply v (makeDone e d (cellsIn (sheetFor n K t)) sheet work) (makeNot sheet work) in o .work ≡ workAfter (o .answer .verdict) work
+      go Fine = refl
+      go (Refused r) = refl
+
+  -- the verdict is that of lines 1 to 4, 6 and 8
+  pub make-lines : ByLines (makeOutcome e d n K t sheet work .answer .verdict) (makeLines e n K t sheet work)
+  make-lines = by-lines (makeLines e n K t sheet work) refl (makeOutcome e d n K t sheet work .answer .verdict) (make-says e d n K t sheet work)
+
+  -- refused: the count is 0, and the sheet is as it was lent
+  pub make-refused : (r : Refusal) → makeOutcome e d n K t sheet work .answer .verdict ≡ Refused r
+      → (makeOutcome e d n K t sheet work .answer .count ≡ 0) × (makeOutcome e d n K t sheet work .sheet ≡ sheet)
+  unfolding makeOutcome
+  make-refused r h =
+      let q = is-refused (λ (o : MakeOutcome). o .answer .verdict) (makeDone e d (cellsIn (sheetFor n K t)) sheet work) (makeNot sheet work) refl (λ u. refl)
+      (verdict (makeLines e n K t sheet work)) r h in
+      (ap (λ o. o .answer .count) q, ap (λ o. o .sheet) q)
+
+  -- 1 to 7 leave the work area as found
+  pub make-keeps : 1 ≤ numberOf (makeOutcome e d n K t sheet work .answer .verdict) → numberOf (makeOutcome e d n K t sheet work .answer .verdict) ≤ 7
+      → makeOutcome e d n K t sheet work .work ≡ work
+  make-keeps h g = left ∙ work-found (makeOutcome e d n K t sheet work .answer .verdict) work h g
+
+  -- after 0 or 8 the whole of it is zeros
+  pub make-clears : (numberOf (makeOutcome e d n K t sheet work .answer .verdict) ≡ 0) ⊎ (numberOf (makeOutcome e d n K t sheet work .answer .verdict) ≡ 8)
+      → makeOutcome e d n K t sheet work .work ≡ replicate (length work) 0
+  make-clears h = left ∙ work-cleared (makeOutcome e d n K t sheet work .answer .verdict) work h
+
+  -- two outcomes that keep the promise are equal: the answer, the sheet and the work area afterwards
+  pub make-once : (a a′ : MakeAnswer) (l l′ w w′ : List ℕ) → record { answer = a; sheet = l; work = w } ≡ makeOutcome e d n K t sheet work
+      → record { answer = a′; sheet = l′; work = w′ } ≡ makeOutcome e d n K t sheet work → (a ≡ a′) × (l ≡ l′) × (w ≡ w′)
+  make-once a a′ l l′ w w′ p q = (ap (λ o. o .answer) (p ∙ sym q), ap (λ o. o .sheet) (p ∙ sym q), ap (λ o. o .work) (p ∙ sym q))
+
+  -- ---- demand 2: done; s are the records that it wrote
+
+  module _ (ok : IsEdition e) (done : makeOutcome e d n K t sheet work .answer .verdict ≡ Fine) where
+    w : IsMade e d n K t sheet work
+    w = is-made e d n K t sheet work done
+
+    -- running s at any assignment gives the table's own bit (`written-bit`, chains)
+    pub made-runs : (x : ℕ) → x < 2 ^ n → runOutcome e d n (recordsOf e (makeOutcome e d n K t sheet work)) x ≡ record { verdict = Fine; bit = tableBit t x }
+    made-runs x h =
+        let cs = w .cells in
+        let same = written-bit e ok d n K T cs (w .gate .largest) (number-lt (2 ^ n) (tableBit t)) (w .chain) x h in
+        ap (λ (s : List ℕ). runOutcome e d n s x) (made-records e d n K t sheet work w)
+        ∙ good-run e ok d n (sheetBytes e d cs) (length cs) (w .gate .some) (w .gate .most) (made-good e d n K t sheet work w ok) x h
+        ∙ ap (λ (b : Bool). record { verdict = Fine; bit = b }) (same ∙ bit-number (2 ^ n) (tableBit t) x h)
+
+    -- rebuilding from s, into any lent table of the right length, gives the table back, byte for byte (`written-table`, chains)
+    pub made-rebuilds : AllBytes t → (table : List ℕ) → length table ≡ tableLength n
+        → rebuildOutcome e d n (recordsOf e (makeOutcome e d n K t sheet work)) table ≡ record { verdict = Fine; table = t }
+    made-rebuilds bytes table h =
+        let cs = w .cells in
+        let back = written-table e ok d n K T cs (w .gate .largest) (number-lt (2 ^ n) (tableBit t)) (w .chain) in
+        ap (λ (s : List ℕ). rebuildOutcome e d n s table) (made-records e d n K t sheet work w)
+        ∙ good-rebuild e ok d n (sheetBytes e d cs) (length cs) (w .gate .some) (w .gate .most) (made-good e d n K t sheet work w ok) table h
+        ∙ ap (λ (l : List ℕ). record { verdict = Fine; table = l }) (back ∙ table-back n (bit T) t bytes (w .gate .long) (w .gate .spare) (bit-number (2 ^ n) (tableBit t)))
+
+    -- s is a network of cells of at most K inputs, each reading signals given before it, that gives the table (`table-gives`, chains)
+    pub made-gives : Gives n K (tableBit t) (networkOf e (makeOutcome e d n K t sheet work))
+    made-gives = rw (made-network e d n K t sheet work w ok) (table-gives n K (tableBit t) (w .cells) (w .chain))
+
+  -- ---- demand 3
+
+  -- refused as 8: a table in the chain with more than K inputs has no possible split (`stuck-exactly`, chains)
+  pub made-blocked : numberOf (makeOutcome e d n K t sheet work .answer .verdict) ≡ 8 → Blocked K n (inputs n) T
+  made-blocked h =
+      let q = ap numberOf (sym (make-says e d n K t sheet work)) ∙ h in
+      let g = make-sound e d n K t sheet work (passed (makeForm e n K t sheet work) (chainStuck (sheetFor n K t) ∷ []) 8 refl q .0) in
+      stuck-exactly n K T (g .some) (omega (arith, g .two)) .0
+      (is-stuck (sheetFor n K t) (held (makeForm e n K t sheet work) (chainStuck (sheetFor n K t)) [] 8 refl refl (λ z. omega arith) q .0))
+    where
+      is-stuck : (c : Made) → isStuck c ≡ true → c ≡ stuck
+      is-stuck stuck g = refl
+      is-stuck (made cs) g = absurd (clash g refl)
+
+  module _ (form : InOrder (makeForm e n K t sheet work)) where
+    -- the other way: where form and room are in order and such a table is in the chain, make is refused as 8
+    pub blocked-refused : Blocked K n (inputs n) T → numberOf (makeOutcome e d n K t sheet work .answer .verdict) ≡ 8
+    blocked-refused b =
+        let g = make-sound e d n K t sheet work form in
+        ap numberOf (make-says e d n K t sheet work ∙ passes (makeForm e n K t sheet work) (chainStuck (sheetFor n K t) ∷ []) form)
+        ∙ ap (λ (c : Made). numberOf (verdict (chainStuck c ∷ []))) (stuck-exactly n K T (g .some) (omega (arith, g .two)) .1 b)
+
+    -- where form and room are in order, the output depends on each input, and one or two cells carry the table, wired in any way at all: make is done,
+    -- the network that it wrote gives the table with the fewest cells, and its count is that fewest number (`table-fewest`, chains)
+    pub made-fewest : IsEdition e → AllCount n (tableBit t) → (m : ℕ) → Carries n K m (tableBit t) → m ≤ 2
+        → (makeOutcome e d n K t sheet work .answer .verdict ≡ Fine) × Fewest n K (tableBit t) (networkOf e (makeOutcome e d n K t sheet work))
+        × ((m′ : ℕ) → Carries n K m′ (tableBit t) → makeOutcome e d n K t sheet work .answer .count ≤ m′)
+    made-fewest ok all m c h =
+        let g = make-sound e d n K t sheet work form in go (table-fewest n K (tableBit t) m (g .some) (omega (arith, g .two)) all c h)
+      where
+        go : (cs : List Cell) × (sheetFor n K t ≡ made cs) × Fewest n K (tableBit t) cs
+            → (makeOutcome e d n K t sheet work .answer .verdict ≡ Fine) × Fewest n K (tableBit t) (networkOf e (makeOutcome e d n K t sheet work))
+            × ((m′ : ℕ) → Carries n K m′ (tableBit t) → makeOutcome e d n K t sheet work .answer .count ≤ m′)
+        go p =
+            let w = not-stuck e d n K t sheet work form (p .0) (p .1) in (
+              ap (λ o. o .answer .verdict) (w .0 .outcome),
+              rw (made-network e d n K t sheet work (w .0) ok, w .1) (p .2),
+              rw (w .0 .outcome, w .1) (p .2 .least),
+            )

@@ -1,0 +1,43 @@
+-- What every call's verdict says, once for all calls: it is the verdict of the call's lines, and it settles what is returned and left.
+-- Assumes nothing.
+use mathlib.Core.Path.{_≡_, refl, sym, ap, _∙_}
+use mathlib.Core.Logic.{_⊎_, inl, inr}
+use mathlib.Core.Bool.{true}
+use mathlib.Core.List.{List}
+use Prim.Native.Nat.{ℕ}
+use lib.ListN.{length, replicate}
+use Rattle.bench.specs.declared.refusals.Refusal.{Refusal}
+use Rattle.bench.specs.declared.refusals.Verdict.{Verdict}
+use Rattle.bench.specs.declared.refusals.Verdict.the-variants.{Fine, Refused}
+use Rattle.bench.specs.Lines.{Line, verdict, numberOf, reply, Given}
+use Rattle.bench.specs.Lent.{workAfter}
+use Rattle.bench.proofs.Lines.{others, given, done, another}
+use Rattle.claims.specs.Words.{ByLines}
+
+-- a call's verdict is that of its lines
+module _ {A : Type 0} (says : A → Verdict) (done : A) (refused : Refusal → A) (f : says done ≡ Fine) (g : (r : Refusal) → says (refused r) ≡ Refused r) where
+  pub says-verdict : (v : Verdict) → says (reply v done refused) ≡ v
+  says-verdict Fine = f
+  says-verdict (Refused r) = g r
+
+  pub is-done : (v : Verdict) → says (reply v done refused) ≡ Fine → reply v done refused ≡ done
+  is-done v e = ap (λ (u : Verdict). reply u done refused) (sym (says-verdict v) ∙ e)
+
+  pub is-refused : (v : Verdict) (r : Refusal) → says (reply v done refused) ≡ Refused r → reply v done refused ≡ refused r
+  is-refused v r e = ap (λ (u : Verdict). reply u done refused) (sym (says-verdict v) ∙ e)
+
+pub by-lines : (ls : List Line) → others 0 ls ≡ true → (v : Verdict) → v ≡ verdict ls → ByLines v ls
+by-lines ls o v e = record {
+  listed = cases v e;
+  exactly = λ k some. rw e (given ls k some);
+  done = rw e (done ls o);
+}
+  where
+    cases : (u : Verdict) → u ≡ verdict ls → (u ≡ Fine) ⊎ Given (numberOf u) ls
+    cases Fine q = inl refl
+    cases (Refused r) q = inr (given ls (r .number) (another ls 0 r o (sym q)) .0 (ap numberOf (sym q)))
+
+-- a work area after 0 or 8 is zeros
+pub work-cleared : (v : Verdict) (work : List ℕ) → (numberOf v ≡ 0) ⊎ (numberOf v ≡ 8) → workAfter v work ≡ replicate (length work) 0
+work-cleared v work (inl e) = rw e
+work-cleared v work (inr e) = rw e

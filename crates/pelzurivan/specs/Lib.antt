@@ -1,0 +1,6 @@
+-- What C gets of each call's outcome: the paper's number, then the values. One file for each call, as in the bench.
+pub mod TrySplit
+pub mod FindBest
+pub mod MakeSheet
+pub mod RunSheet
+pub mod RebuildTable

@@ -1,0 +1,9 @@
+-- A sheet run, for C.
+use Rattle.bits.specs.Numbers.{val}
+use Rattle.bench.specs.declared.run_sheet.RunAnswer.{RunAnswer}
+use Rattle.bench.specs.Lines.{numberOf, placeOf}
+use Rattle.pelzurivan.specs.declared.run_sheet.RanC.{RanC}
+
+-- the number, the bit, and the first bad record
+abbrev pub ranC : RunAnswer → RanC
+ranC a = record { number = numberOf (a .verdict); bit = val (a .bit); index = placeOf (a .verdict) }

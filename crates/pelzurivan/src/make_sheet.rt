@@ -1,0 +1,39 @@
+// Making a sheet, for C.
+use bench::make_sheet::make_sheet;
+use bench::refusals::number_of;
+ghost use mathlib.Core.Path.{_≡_};
+ghost use Rattle.sheets.specs.Edition.{firstEdition};
+ghost use Rattle.bench.specs.MakeSheet.{makeOutcome};
+ghost use Rattle.pelzurivan.specs.MakeSheet.{madeC};
+
+// The number, how many cells.
+#[repr(C)]
+pub struct MadeC {
+    pub number: u64,
+    pub count: u64,
+}
+
+// Makes a sheet into lent bytes: how many cells.
+#[no_mangle]
+pub extern "C" fn pelzurivan_make(
+    n: u64,
+    k: u64,
+    t: &[u8],
+    sheet: &mut [u8],
+    work: &mut [u8],
+) -> MadeC
+    ensures { λ r. ⌜
+        (r ≡ madeC (makeOutcome firstEdition 0 n k (now (t .entry)) (now (sheet .entry)) (now (work .entry))))
+        × (now (sheet .exit)
+        ≡ makeOutcome firstEdition 0 n k (now (t .entry)) (now (sheet .entry)) (now (work .entry)) .sheet)
+        × (now (work .exit)
+        ≡ makeOutcome firstEdition 0 n k (now (t .entry)) (now (sheet .entry)) (now (work .entry)) .work)
+        ⌝ }
+{
+    let answer = make_sheet(n, k, t, sheet, work);
+    let verdict = answer.verdict;
+    MadeC {
+        number: number_of(verdict) as u64,
+        count: answer.count as u64,
+    }
+}

@@ -1,0 +1,30 @@
+// Rebuilding a table, for C.
+use bench::rebuild_table::rebuild_table;
+use bench::refusals::number_of;
+use bench::refusals::place_of;
+ghost use mathlib.Core.Path.{_≡_};
+ghost use Rattle.sheets.specs.Edition.{firstEdition};
+ghost use Rattle.bench.specs.RebuildTable.{rebuildOutcome};
+ghost use Rattle.pelzurivan.specs.RebuildTable.{rebuiltC};
+
+// The number, the first bad record.
+#[repr(C)]
+pub struct RebuiltC {
+    pub number: u64,
+    pub index: u64,
+}
+
+// Rebuilds a table from a sheet into lent bytes.
+#[no_mangle]
+pub extern "C" fn pelzurivan_rebuild(n: u64, s: &[u8], table: &mut [u8]) -> RebuiltC
+    ensures { λ r. ⌜
+        (r ≡ rebuiltC (rebuildOutcome firstEdition 0 n (now (s .entry)) (now (table .entry))))
+        × (now (table .exit) ≡ rebuildOutcome firstEdition 0 n (now (s .entry)) (now (table .entry)) .table)
+        ⌝ }
+{
+    let verdict = rebuild_table(n, s, table);
+    RebuiltC {
+        number: number_of(verdict) as u64,
+        index: place_of(verdict),
+    }
+}

@@ -1,0 +1,30 @@
+// Running a sheet, for C.
+use bench::refusals::number_of;
+use bench::refusals::place_of;
+use bench::run_sheet::run_sheet;
+ghost use mathlib.Core.Path.{_≡_};
+ghost use Rattle.sheets.specs.Edition.{firstEdition};
+ghost use Rattle.bench.specs.RunSheet.{runOutcome};
+ghost use Rattle.pelzurivan.specs.RunSheet.{ranC};
+
+// The number, the bit, the first bad record.
+#[repr(C)]
+pub struct RanC {
+    pub number: u64,
+    pub bit: u64,
+    pub index: u64,
+}
+
+// Runs a sheet at the assignment x: one bit.
+#[no_mangle]
+pub extern "C" fn pelzurivan_run(n: u64, s: &[u8], x: u64) -> RanC
+    ensures { λ r. ⌜ r ≡ ranC (runOutcome firstEdition 0 n (now (s .entry)) x) ⌝ }
+{
+    let answer = run_sheet(n, s, x);
+    let verdict = answer.verdict;
+    RanC {
+        number: number_of(verdict) as u64,
+        bit: answer.bit as u64,
+        index: place_of(verdict),
+    }
+}

@@ -1,0 +1,37 @@
+// Trying a named split, for C.
+use bench::refusals::number_of;
+use bench::try_split::try_split;
+ghost use mathlib.Core.Path.{_≡_};
+ghost use Rattle.sheets.specs.Edition.{firstEdition};
+ghost use Rattle.bench.specs.TrySplit.{tryOutcome};
+ghost use Rattle.pelzurivan.specs.TrySplit.{triedC};
+
+// The number, D.
+#[repr(C)]
+pub struct TriedC {
+    pub number: u64,
+    pub d: u64,
+}
+
+// Tries a named split: D, and H into the lent room.
+#[no_mangle]
+pub extern "C" fn pelzurivan_try(
+    n: u64,
+    k: u64,
+    own: u64,
+    shared: u64,
+    t: &[u8],
+    room: &mut [u8],
+) -> TriedC
+    ensures { λ r. ⌜
+        (r ≡ triedC (tryOutcome firstEdition n k own shared (now (t .entry)) (now (room .entry))))
+        × (now (room .exit) ≡ tryOutcome firstEdition n k own shared (now (t .entry)) (now (room .entry)) .room)
+        ⌝ }
+{
+    let answer = try_split(n, k, own, shared, t, room);
+    let verdict = answer.verdict;
+    TriedC {
+        number: number_of(verdict) as u64,
+        d: answer.d,
+    }
+}

@@ -1,0 +1,17 @@
+//! Every call, one file each.
+
+pub mod find;
+pub mod make;
+pub mod rebuild;
+pub mod run;
+pub mod try_split;
+
+use crate::case::Call;
+
+/// The calls that are answered today, by code.
+pub static TABLE: [&Call; 5] =
+    [&try_split::CALL, &find::CALL, &make::CALL, &run::CALL, &rebuild::CALL];
+
+pub fn call_of(code: u8) -> Option<&'static Call> {
+    TABLE.iter().copied().find(|call| call.code == code)
+}

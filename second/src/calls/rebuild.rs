@@ -1,0 +1,61 @@
+//! Rebuild a table from a sheet.
+
+use crate::case::{Call, Case, Field, Part, SHEET_BUFFER, TABLE_BUFFER};
+use crate::fresh::sheet::{self, Ask};
+use crate::fresh::Fresh;
+use crate::network;
+use crate::random::Random;
+use crate::refusals::{cells, inputs, DONE, NO_LENGTH};
+use crate::table::Table;
+
+pub static CALL: Call = Call {
+    code: 0x05,
+    name: "rebuild",
+    asks: &[
+        Field::Number("n", 8),
+        Field::Bytes("sheet", SHEET_BUFFER),
+        Field::Lent("room for the table", TABLE_BUFFER),
+    ],
+    answers: &[Part::Number("number", 1), Part::Number("index", 1), Part::Lent(0)],
+    gives: &[0, 1, 3, 9, 10],
+    answer,
+    fresh,
+};
+
+pub fn case(n: u64, sheet: Vec<u8>, room: usize) -> Case {
+    Case { call: &CALL, numbers: vec![n], bytes: vec![sheet], lent: vec![room] }
+}
+
+fn rebuild(n: u64, sheet: &[u8], room: usize) -> Result<Table, (u8, usize)> {
+    let n = inputs(n).map_err(|number| (number, 0))?;
+    if room != Table::byte_length(n) {
+        return Err((NO_LENGTH, 0));
+    }
+    let cells = cells(n, sheet)?;
+    Ok(network::rebuild(n, &cells))
+}
+
+fn answer(case: &Case, lent: &mut [Vec<u8>]) -> Vec<u64> {
+    let [n] = case.numbers();
+    match rebuild(n, &case.bytes[0], lent[0].len()) {
+        Ok(table) => {
+            lent[0].copy_from_slice(&table.to_bytes());
+            vec![u64::from(DONE), 0]
+        }
+        Err((number, index)) => vec![u64::from(number), index as u64],
+    }
+}
+
+fn fresh(random: &mut Random) -> Fresh {
+    let n = match random.below(60) {
+        0 => random.between(13, 16),
+        1..=3 => random.between(9, 12),
+        _ => random.between(1, 8),
+    };
+    let mut ask = sheet::draw(random, n);
+    let record = sheet::RECORD;
+    let faults = [record, record, record, sheet::LENGTH, sheet::ROOM, sheet::INPUTS];
+    sheet::spoil(random, &mut ask, &faults);
+    let Ask { n, sheet, room, tags, .. } = ask;
+    Fresh { case: case(n, sheet, room), tags }
+}

@@ -1,0 +1,55 @@
+//! Run a sheet at an assignment: one bit.
+
+use crate::case::{Call, Case, Field, Part, SHEET_BUFFER};
+use crate::fresh::sheet::{self, Ask};
+use crate::fresh::Fresh;
+use crate::network;
+use crate::random::Random;
+use crate::refusals::{cells, inputs, DONE, NO_ASSIGNMENT};
+
+pub static CALL: Call = Call {
+    code: 0x04,
+    name: "run",
+    asks: &[Field::Number("n", 8), Field::Number("x", 8), Field::Bytes("sheet", SHEET_BUFFER)],
+    answers: &[Part::Number("number", 1), Part::Number("bit", 1), Part::Number("index", 1)],
+    gives: &[0, 1, 9, 10, 11],
+    answer,
+    fresh,
+};
+
+pub fn case(n: u64, x: u64, sheet: Vec<u8>) -> Case {
+    Case { call: &CALL, numbers: vec![n, x], bytes: vec![sheet], lent: Vec::new() }
+}
+
+fn run(n: u64, x: u64, sheet: &[u8]) -> Result<bool, (u8, usize)> {
+    let n = inputs(n).map_err(|number| (number, 0))?;
+    let cells = cells(n, sheet)?;
+    if x >= 1 << n {
+        return Err((NO_ASSIGNMENT, 0));
+    }
+    Ok(network::run(n, &cells, x as usize))
+}
+
+fn answer(case: &Case, _: &mut [Vec<u8>]) -> Vec<u64> {
+    let [n, x] = case.numbers();
+    match run(n, x, &case.bytes[0]) {
+        Ok(bit) => vec![u64::from(DONE), u64::from(bit), 0],
+        Err((number, index)) => vec![u64::from(number), 0, index as u64],
+    }
+}
+
+fn fresh(random: &mut Random) -> Fresh {
+    let n = if random.one_in(4) { random.between(9, 16) } else { random.between(1, 8) };
+    let mut ask = sheet::draw(random, n);
+    let last = (1u64 << n) - 1;
+    ask.x = match random.below(4) {
+        0 => last,
+        1 => 0,
+        _ => random.bits() & last,
+    };
+    let record = sheet::RECORD;
+    let faults = [record, record, record, sheet::LENGTH, sheet::ASSIGNMENT, sheet::INPUTS];
+    sheet::spoil(random, &mut ask, &faults);
+    let Ask { n, x, sheet, tags, .. } = ask;
+    Fresh { case: case(n, x, sheet), tags }
+}

@@ -1,0 +1,75 @@
+//! Try a named split: D as a number, H into a lent table.
+
+use crate::case::{Call, Case, Field, Part, TABLE_BUFFER};
+use crate::fresh::gate::{self, Ask};
+use crate::fresh::Fresh;
+use crate::random::Random;
+use crate::refusals::{gate, DONE, NO_ROOM, NO_SETS, NO_SPLIT};
+use crate::sets::{all, size};
+use crate::split::{pair, Split};
+use crate::table::Table;
+
+pub static CALL: Call = Call {
+    code: 0x01,
+    name: "try",
+    asks: &[
+        Field::Number("n", 8),
+        Field::Number("K", 8),
+        Field::Number("A", 2),
+        Field::Number("B", 2),
+        Field::Bytes("table", TABLE_BUFFER),
+        Field::Lent("room for H", TABLE_BUFFER),
+    ],
+    answers: &[Part::Number("number", 1), Part::Number("D", 8), Part::Lent(0)],
+    gives: &[0, 1, 2, 3, 4, 5, 6, 8],
+    answer,
+    fresh,
+};
+
+pub fn case(n: u64, k: u64, split: Split, table: Vec<u8>, room: usize) -> Case {
+    let numbers = vec![n, k, u64::from(split.own), u64::from(split.shared)];
+    Case { call: &CALL, numbers, bytes: vec![table], lent: vec![room] }
+}
+
+fn try_split(
+    n: u64,
+    k: u64,
+    split: Split,
+    table: &[u8],
+    room: usize,
+) -> Result<(Table, Table), u8> {
+    let (gate, k) = gate(n, k, table)?;
+    let Split { own, shared } = split;
+    let outside = (own | shared) & !all(gate.inputs) != 0;
+    let overlap = own & shared != 0;
+    if outside || overlap || size(own) < 2 || size(own) + size(shared) > k {
+        return Err(NO_SETS);
+    }
+    if room < Table::byte_length(split.inputs_of_h(gate.inputs)) {
+        return Err(NO_ROOM);
+    }
+    pair(&gate, split).ok_or(NO_SPLIT)
+}
+
+fn answer(case: &Case, lent: &mut [Vec<u8>]) -> Vec<u64> {
+    let [n, k, own, shared] = case.numbers();
+    let split = Split { own: own as u16, shared: shared as u16 };
+    match try_split(n, k, split, &case.bytes[0], lent[0].len()) {
+        Ok((d, h)) => {
+            let h = h.to_bytes();
+            lent[0][..h.len()].copy_from_slice(&h);
+            vec![u64::from(DONE), d.to_number()]
+        }
+        Err(number) => vec![u64::from(number), 0],
+    }
+}
+
+fn fresh(random: &mut Random) -> Fresh {
+    let mut ask = gate::draw(random, true);
+    ask.needed = Table::byte_length(ask.split.inputs_of_h(ask.n as usize));
+    gate::lend_room(random, &mut ask, TABLE_BUFFER);
+    let faults = [gate::SPARE, gate::SETS, gate::ROOM, gate::LENGTH, gate::CELL_SIZE, gate::INPUTS];
+    gate::spoil(random, &mut ask, &faults);
+    let Ask { n, k, split, table, room, tags, .. } = ask;
+    Fresh { case: case(n, k, split, table, room), tags }
+}

@@ -1,0 +1,154 @@
+//! What the calls that take a table can be asked, and the ways to spoil it.
+
+use super::bad;
+use super::tables::{Drawn, KINDS};
+use super::Tagged;
+use crate::case::{TABLE_BUFFER, WORK_BUFFER};
+use crate::cell::MOST_READS;
+use crate::random::Random;
+use crate::refusals::WORK_BYTES;
+use crate::sets::{all, size};
+use crate::split::Split;
+
+/// What may be asked about a table, sound at first and then perhaps spoiled.
+pub struct Ask {
+    pub n: u64,
+    pub k: u64,
+    pub split: Split,
+    pub table: Vec<u8>,
+    /// How much room is needed, and how much is lent.
+    pub needed: usize,
+    pub room: usize,
+    pub work: usize,
+    pub tags: Vec<String>,
+}
+
+impl Tagged for Ask {
+    fn tags(&mut self) -> &mut Vec<String> {
+        &mut self.tags
+    }
+}
+
+type Fault = super::Fault<Ask>;
+
+// The spare bit comes first because it changes n, n itself comes last.
+pub const SPARE: Fault = ("spare bit", spare_bit);
+pub const SETS: Fault = ("own and shared sets", bad_sets);
+pub const ROOM: Fault = ("room", short_room);
+pub const WORK: Fault = ("work area", short_work);
+pub const LENGTH: Fault = ("table length", bad_length);
+pub const CELL_SIZE: Fault = ("K", bad_cell_size);
+pub const INPUTS: Fault = ("n", bad_inputs);
+
+/// A sound question. Only try is cheap enough for many large tables.
+pub fn draw(random: &mut Random, cheap: bool) -> Ask {
+    let n = match random.below(40) {
+        0..=2 => random.between(1, 2),
+        3..=34 => random.between(3, 8),
+        35..=38 if cheap => random.between(9, 16),
+        35..=37 => random.between(9, 12),
+        _ => random.between(5, 9),
+    };
+    let kind = random.pick(&KINDS);
+    let drawn = kind.draw(random, n);
+    let k = suitable_cell_size(random, &drawn);
+    let split = choose_sets(random, &drawn, k);
+    let (work, work_tag) = bad::enough(random, WORK_BYTES, WORK_BUFFER);
+    let mut tags = vec![format!("table: {}", kind.name())];
+    if !cheap {
+        tags.push(format!("work area: {work_tag}"));
+    }
+    let table = drawn.table.to_bytes();
+    let n = drawn.table.inputs as u64;
+    Ask { n, k: k as u64, split, table, needed: 0, room: 0, work, tags }
+}
+
+/// Mostly a cell size that leaves something to split, and one that suits the
+/// table if it was built for one.
+fn suitable_cell_size(random: &mut Random, drawn: &Drawn) -> usize {
+    let n = drawn.table.inputs;
+    match drawn.suits {
+        Some(suits) if !random.one_in(4) => random.between(suits, MOST_READS),
+        _ if n > 2 && !random.one_in(4) => random.between(2, MOST_READS.min(n - 1)),
+        _ => random.between(2, MOST_READS),
+    }
+}
+
+/// The planted pair, or any pair that may be named (where n = 1 has none).
+fn choose_sets(random: &mut Random, drawn: &Drawn, k: usize) -> Split {
+    let n = drawn.table.inputs;
+    if let Some(split) = drawn.planted {
+        if size(split.own | split.shared) <= k && !random.one_in(4) {
+            return split;
+        }
+    }
+    let own_size = random.between(2, k.min(n).max(2));
+    let own = random.part_of(all(n), own_size);
+    let shared_size = random.below(k - own_size + 1);
+    let shared = random.part_of(all(n) & !own, shared_size);
+    Split { own, shared }
+}
+
+/// Room enough, or more.
+pub fn lend_room(random: &mut Random, ask: &mut Ask, most: usize) {
+    let (room, tag) = bad::enough(random, ask.needed, most);
+    ask.room = room;
+    ask.tags.push(format!("room: {tag}"));
+}
+
+/// No fault in most cases, since it is the answers that cost most to get right.
+pub fn spoil(random: &mut Random, ask: &mut Ask, faults: &[Fault]) {
+    super::spoil(random, ask, faults, 7);
+}
+
+fn bad_inputs(random: &mut Random, ask: &mut Ask) {
+    ask.n = bad::inputs(random, ask.n);
+}
+
+fn bad_cell_size(random: &mut Random, ask: &mut Ask) {
+    ask.k = bad::cell_size(random, ask.k);
+}
+
+fn bad_length(random: &mut Random, ask: &mut Ask) {
+    // The longest lengths are rare: they cost time and show nothing new.
+    let most = if random.one_in(20) { TABLE_BUFFER } else { 2 * ask.table.len() + 20 };
+    let length = bad::wrong(random, ask.table.len(), most);
+    ask.table.resize(length, 0);
+}
+
+fn spare_bit(random: &mut Random, ask: &mut Ask) {
+    ask.n = random.between(1, 2) as u64;
+    let bits = 1 << ask.n;
+    let spare = 1 << random.between(bits, 7);
+    ask.table = vec![(random.below(1 << bits) | spare | (random.below(256) >> bits << bits)) as u8];
+}
+
+fn short_room(random: &mut Random, ask: &mut Ask) {
+    let (room, tag) = bad::too_short(random, ask.needed);
+    ask.room = room;
+    ask.tags.push(format!("room: {tag}"));
+}
+
+fn short_work(random: &mut Random, ask: &mut Ask) {
+    let (work, tag) = bad::too_short(random, WORK_BYTES);
+    ask.work = work;
+    ask.tags.push(format!("work area: {tag}"));
+}
+
+/// Spoils the sets in one of the ways that line 5 of the refusals names.
+fn bad_sets(random: &mut Random, ask: &mut Ask) {
+    let Split { own, shared } = ask.split;
+    let n = (ask.n as usize).clamp(1, 16);
+    let beyond = random.part_of(!all(n), 1);
+    let way = random.below(6);
+    ask.split = match way {
+        0 => Split { own: 0, shared },
+        1 => Split { own: random.part_of(own, 1), shared },
+        2 => Split { own, shared: shared | random.part_of(own, 1) },
+        3 => Split { own: random.part_of(own, size(own) - 1) | beyond, shared },
+        4 => Split { own, shared: random.part_of(shared, size(shared).max(1) - 1) | beyond },
+        _ => Split { own, shared: random.part_of(all(n) & !own, ask.k as usize + 1 - size(own)) },
+    };
+    let names = ["A empty", "A of one", "overlap", "A beyond n", "B beyond n", "A and B above K"];
+    ask.tags.push(format!("sets: {}", names[way]));
+}

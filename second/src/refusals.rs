@@ -1,0 +1,68 @@
+//! When the bench says no: the numbers, and the lines that several calls have in common.
+//!
+//! Each call checks its own lines of the document's table in the order of their
+//! numbers, so that the lowest number that applies is the one given.
+
+use crate::cell::{read_sheet, Cell, MOST_READS, RECORD_BYTES, SHEET_BYTES};
+use crate::table::{Table, MOST_INPUTS};
+
+pub const DONE: u8 = 0;
+pub const NO_INPUTS: u8 = 1;
+pub const NO_CELL_SIZE: u8 = 2;
+pub const NO_LENGTH: u8 = 3;
+pub const NO_SPARE: u8 = 4;
+pub const NO_SETS: u8 = 5;
+pub const NO_ROOM: u8 = 6;
+pub const NO_NEED: u8 = 7;
+pub const NO_SPLIT: u8 = 8;
+pub const NO_SHEET: u8 = 9;
+pub const NO_RECORD: u8 = 10;
+pub const NO_ASSIGNMENT: u8 = 11;
+
+/// The least work area that find and make take.
+pub const WORK_BYTES: usize = 16_384;
+
+/// Lines 1 to 4, which try, find and make have in common.
+pub fn gate(n: u64, k: u64, table: &[u8]) -> Result<(Table, usize), u8> {
+    let n = inputs(n)?;
+    let k = cell_size(k)?;
+    if table.len() != Table::byte_length(n) {
+        return Err(NO_LENGTH);
+    }
+    if n < 3 && table[0] >> (1 << n) != 0 {
+        return Err(NO_SPARE);
+    }
+    Ok((Table::from_bytes(n, table), k))
+}
+
+/// Line 1.
+pub fn inputs(n: u64) -> Result<usize, u8> {
+    match usize::try_from(n) {
+        Ok(n) if (1..=MOST_INPUTS).contains(&n) => Ok(n),
+        _ => Err(NO_INPUTS),
+    }
+}
+
+/// Line 2.
+fn cell_size(k: u64) -> Result<usize, u8> {
+    match usize::try_from(k) {
+        Ok(k) if (2..=MOST_READS).contains(&k) => Ok(k),
+        _ => Err(NO_CELL_SIZE),
+    }
+}
+
+/// Lines 9 and 10: the length of the sheet, then its records.
+pub fn cells(n: usize, sheet: &[u8]) -> Result<Vec<Cell>, (u8, usize)> {
+    let whole = sheet.chunks(RECORD_BYTES).all(|record| record.len() == RECORD_BYTES);
+    if sheet.is_empty() || !whole || sheet.len() > SHEET_BYTES {
+        return Err((NO_SHEET, 0));
+    }
+    read_sheet(n, sheet).map_err(|index| (NO_RECORD, index))
+}
+
+/// The work area afterwards: 1 to 7 leave it as found, 0 and 8 leave zeros.
+pub fn clear_work(number: u8, work: &mut [u8]) {
+    if number == DONE || number == NO_SPLIT {
+        work.fill(0);
+    }
+}
