@@ -1,4 +1,4 @@
-/* The five calls of the Pelzurivan bench, for C. Link libpelzurivan.a (rt staticlib pelzurivan), on x86-64.
+/* The calls of the Pelzurivan bench, for C. Link libpelzurivan.a (rt staticlib pelzurivan), on x86-64.
  *
  * Anyone may make any call with any numbers and any bytes; each ends with an answer or one refusal. A slice is a
  * pointer and then a length. C must see to two things: every pointer is valid for its length and not null, not even
@@ -20,7 +20,8 @@
  *    9  sheet empty, not a multiple of 16, or over 240 bytes
  *   10  a record breaks the record rules; index is the first that does
  *   11  assignment 2^n or more
- * After a refusal every other value is 0 (but for the index of 10) and no result byte is touched.
+ *   12  the sheet doesn't give the table's bit everywhere; place is the least assignment at which it doesn't
+ * After a refusal every other value is 0 (but for what 10 and 12 name) and no result byte is touched.
  */
 #ifndef PELZURIVAN_H
 #define PELZURIVAN_H
@@ -39,6 +40,7 @@ typedef struct { uint64_t number, own, shared; } pelzurivan_sought;
 typedef struct { uint64_t number, count; } pelzurivan_made;
 typedef struct { uint64_t number, bit, index; } pelzurivan_ran;
 typedef struct { uint64_t number, index; } pelzurivan_rebuilt;
+typedef struct { uint64_t number, place; } pelzurivan_checked;
 
 /* Tries a named split: D in d, H in the first bytes of room, the bytes after its table stay. 1 to 6, 8. */
 pelzurivan_tried pelzurivan_try(uint64_t n, uint64_t k, uint64_t own, uint64_t shared, const uint8_t *table,
@@ -58,6 +60,11 @@ pelzurivan_ran pelzurivan_run(uint64_t n, const uint8_t *sheet, size_t sheet_len
 /* Rebuilds a gate's table from a sheet, written whole, spare bits zero. 1, 3, 9, 10. */
 pelzurivan_rebuilt pelzurivan_rebuild(uint64_t n, const uint8_t *sheet, size_t sheet_length, uint8_t *table,
                                       size_t table_length);
+
+/* Checks anyone's sheet against a gate's table: place is a bad record's index (10) or the least assignment at which
+ * the two differ (12). 1, 3, 4, 9, 10, 12. */
+pelzurivan_checked pelzurivan_check(uint64_t n, const uint8_t *table, size_t table_length, const uint8_t *sheet,
+                                    size_t sheet_length);
 
 #ifdef __cplusplus
 }

@@ -1,4 +1,5 @@
-//! The bench examples 1 to 11 of document 01, with its answers as literals.
+//! The bench examples 1 to 11 of document 01, with its answers as literals, and
+//! some for the requests of document 02.
 
 use crate::batch::answer_length;
 use crate::calls;
@@ -8,7 +9,7 @@ use crate::refusals::{NO_SPLIT, WORK_BYTES};
 use crate::split::Split;
 
 pub struct Example {
-    /// The number it has in the document.
+    /// The number it has in document 01, or the request that it belongs to.
     pub name: &'static str,
     pub case: Case,
     /// The answer as it stands in a batch.
@@ -39,6 +40,10 @@ fn run(n: u64, x: u64, sheet: &[u8]) -> Case {
 
 fn rebuild(n: u64, sheet: &[u8]) -> Case {
     calls::rebuild::case(n, sheet.to_vec(), 1)
+}
+
+fn check(n: u64, table: &str, sheet: &[u8]) -> Case {
+    calls::check::case(n, unhex(table), sheet.to_vec())
 }
 
 fn example(name: &'static str, case: Case, expected: Vec<u8>) -> Example {
@@ -86,8 +91,8 @@ const SHEET_OF_6_ZEROS: &str = "02 00 01 FF FF FF FF 00 00 00 00 00 00 00 00 00
                                 02 02 03 FF FF FF FF 00 00 00 00 00 00 00 00 00";
 const SHEET_OF_6_ONES: &str = "02 00 01 FF FF FF FF 00 00 00 00 00 00 00 00 00
                                02 02 03 FF FF FF FF 00 0F 00 00 00 00 00 00 00";
-const SELECTOR: &str = "AA AA F0 F0 CC CC 00 FF";
-const SHEET_OF_7: &str = "04 00 02 04 05 FF FF 00 CA F0 00 00 00 00 00 00
+pub const SELECTOR: &str = "AA AA F0 F0 CC CC 00 FF";
+pub const SHEET_OF_7: &str = "04 00 02 04 05 FF FF 00 CA F0 00 00 00 00 00 00
                           04 01 03 05 06 FF FF 00 A0 CF 00 00 00 00 00 00";
 const SHEET_OF_8: &str = "06 00 01 02 03 04 05 00 00 00 00 00 00 00 00 80
                           06 06 07 08 09 0A 0B 00 00 00 00 00 00 00 00 80
@@ -140,6 +145,7 @@ fn example_10() -> Vec<Example> {
         list.push(refusal("10", make(n, 2, "80"), 1));
         list.push(refusal("10", run(n, 0, &sheet), 1));
         list.push(refusal("10", rebuild(n, &sheet), 1));
+        list.push(refusal("10", check(n, "80", &sheet), 1));
     }
     for k in [1, 7] {
         list.push(refusal("10", name_sets(3, k, 3, 0, "80"), 2));
@@ -150,6 +156,7 @@ fn example_10() -> Vec<Example> {
         list.push(refusal("10", name_sets(n, 2, 3, 0, table), number));
         list.push(refusal("10", find(n, 2, table), number));
         list.push(refusal("10", make(n, 2, table), number));
+        list.push(refusal("10", check(n, table, &unhex(SHEET_OF_2)), number));
     }
     list.push(sheet("10", make(2, 2, "0F"), ones_of_2));
     list
@@ -169,11 +176,49 @@ fn example_11() -> Vec<Example> {
         let sheet: Vec<u8> = and.iter().copied().cycle().take(length).collect();
         list.push(refusal("11", run(3, 7, &sheet), 9));
         list.push(refusal("11", rebuild(3, &sheet), 9));
+        list.push(refusal("11", check(3, "80", &sheet), 9));
     }
     list
 }
 
+/// The majority of three out of cells of two, (a AND b) OR (c AND (a OR b)): a
+/// and b are read twice, so no chain of splits has this shape.
+pub const HAND_WIRED: &str = "02 00 01 FF FF FF FF 00 08 00 00 00 00 00 00 00
+                              02 00 01 FF FF FF FF 00 0E 00 00 00 00 00 00 00
+                              02 02 04 FF FF FF FF 00 08 00 00 00 00 00 00 00
+                              02 03 05 FF FF FF FF 00 0E 00 00 00 00 00 00 00";
+/// The XOR of two out of four NANDs; the first is read twice.
+const FOUR_NANDS: &str = "02 00 01 FF FF FF FF 00 07 00 00 00 00 00 00 00
+                          02 00 02 FF FF FF FF 00 07 00 00 00 00 00 00 00
+                          02 01 02 FF FF FF FF 00 07 00 00 00 00 00 00 00
+                          02 03 04 FF FF FF FF 00 07 00 00 00 00 00 00 00";
+
+/// What check says: a number and a place below 256.
+fn told(case: Case, number: u8, place: u8) -> Example {
+    example("E1", case, vec![number, place, 0, 0, 0, 0, 0, 0, 0])
+}
+
+fn examples_of_e1() -> Vec<Example> {
+    let (and, wired) = (unhex(SHEET_OF_2), unhex(HAND_WIRED));
+    let (mut damaged, mut bad) = (wired.clone(), wired.clone());
+    // Without c AND (a OR b) only a AND b is left: 88 for E8, and bit 5 is the first that differs.
+    damaged[2 * 16 + 8] = 0;
+    bad[3 * 16] = 7;
+    vec![
+        told(check(3, "80", &and), 0, 0),
+        told(check(6, SELECTOR, &unhex(SHEET_OF_7)), 0, 0),
+        told(check(3, "E8", &wired), 0, 0),
+        told(check(2, "06", &unhex(FOUR_NANDS)), 0, 0),
+        told(check(3, "E8", &and), 12, 3),
+        told(check(3, "81", &and), 12, 0),
+        told(check(3, "00", &and), 12, 7),
+        told(check(3, "E8", &damaged), 12, 5),
+        told(check(3, "17", &bad), 10, 3),
+    ]
+}
+
 pub fn all() -> Vec<Example> {
-    let parts = [examples_1_to_5(), examples_6_to_9(), example_10(), example_11()];
-    parts.into_iter().flatten().collect()
+    let base = [examples_1_to_5(), examples_6_to_9(), example_10(), example_11()];
+    let requests = [examples_of_e1()];
+    base.into_iter().chain(requests).flatten().collect()
 }

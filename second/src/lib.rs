@@ -1,7 +1,7 @@
-//! The second program: document 01 once more, in ordinary Rust, by brute force.
+//! The second program: documents 01 and 02 once more, in ordinary Rust, by brute force.
 //!
-//! The first group of modules is the bench itself, the second the two formats
-//! it speaks, the third what is needed to question another program.
+//! The first group of modules is the bench itself, the second the formats it
+//! speaks, the third what is needed to question another program.
 
 pub mod best;
 pub mod calls;
@@ -17,6 +17,7 @@ pub mod batch;
 pub mod bench;
 pub mod case;
 pub mod describe;
+pub mod inspect;
 
 pub mod carry;
 pub mod examples;

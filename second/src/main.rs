@@ -6,14 +6,17 @@ use std::process::ExitCode;
 use second::batch::answer_batch;
 use second::bench::bench;
 use second::case::PRESET;
+use second::inspect::inspect;
 use second::outside::arguments::Arguments;
-use second::outside::{compare, compare_bench, fewest, measure};
+use second::outside::{compare, compare_bench, compare_inspect, fewest, measure, programs};
 
 const USAGE: &str =
     "second answer [--preset XX]   a batch on standard input, its answers on standard output
 second bench   n, K and a table on standard input, number and sheet on standard output
+second inspect n, a table and a sheet on standard input, number and place on standard output
 second compare [--seed S] [--cases N] [--fault] -- COMMAND ARGS..
-second compare-bench [--seed S] [--cases N] -- COMMAND ARGS..
+second compare-bench [--seed S] [--cases N] [--fault] -- COMMAND ARGS..
+second compare-inspect [--seed S] [--cases N] [--fault] -- COMMAND ARGS..
 second fewest [--seed S] [--cases N] [--all-of-4] -- COMMAND ARGS..
 second measure [--seed S] [--only WORDS] -- COMMAND ARGS..
 second tables --kind random|near|split|sparse --n N --count C [--seed S]";
@@ -32,14 +35,18 @@ fn main() -> ExitCode {
 fn obey(words: &[String]) -> Result<(), String> {
     let (command, rest) = words.split_first().ok_or(USAGE)?;
     let options = |values: &[&str], flags: &[&str]| Arguments::read(rest, values, flags);
+    let comparison = || options(&["--seed", "--cases"], &["--fault"]);
+    let compare_program = |program| programs::compare(program, &comparison()?);
     match command.as_str() {
         "answer" => {
             let preset = options(&["--preset"], &[])?.byte("--preset", PRESET)?;
             filter(|batch| answer_batch(batch, preset))
         }
         "bench" => filter(bench),
-        "compare" => compare::compare(&options(&["--seed", "--cases"], &["--fault"])?),
-        "compare-bench" => compare_bench::compare_bench(&options(&["--seed", "--cases"], &[])?),
+        "inspect" => filter(inspect),
+        "compare" => compare::compare(&comparison()?),
+        "compare-bench" => compare_program(&compare_bench::PROGRAM),
+        "compare-inspect" => compare_program(&compare_inspect::PROGRAM),
         "fewest" => fewest::fewest(&options(&["--seed", "--cases"], &["--all-of-4"])?),
         "measure" => measure::measure(&options(&["--seed", "--only"], &[])?),
         "tables" => measure::tables(&options(&["--kind", "--n", "--count", "--seed"], &[])?),

@@ -18,6 +18,21 @@ pub const NO_SPLIT: u8 = 8;
 pub const NO_SHEET: u8 = 9;
 pub const NO_RECORD: u8 = 10;
 pub const NO_ASSIGNMENT: u8 = 11;
+pub const NO_MATCH: u8 = 12;
+
+/// A refusal: its number and what it names (a record's index, an assignment), else 0.
+#[derive(Clone, Copy, Debug, PartialEq, Eq)]
+pub struct Refusal {
+    pub number: u8,
+    pub place: usize,
+}
+
+/// A number that names nothing.
+impl From<u8> for Refusal {
+    fn from(number: u8) -> Refusal {
+        Refusal { number, place: 0 }
+    }
+}
 
 /// The least work area that find and make take.
 pub const WORK_BYTES: usize = 16_384;
@@ -26,13 +41,7 @@ pub const WORK_BYTES: usize = 16_384;
 pub fn gate(n: u64, k: u64, table: &[u8]) -> Result<(Table, usize), u8> {
     let n = inputs(n)?;
     let k = cell_size(k)?;
-    if table.len() != Table::byte_length(n) {
-        return Err(NO_LENGTH);
-    }
-    if n < 3 && table[0] >> (1 << n) != 0 {
-        return Err(NO_SPARE);
-    }
-    Ok((Table::from_bytes(n, table), k))
+    Ok((table_of(n, table)?, k))
 }
 
 /// Line 1.
@@ -51,13 +60,24 @@ fn cell_size(k: u64) -> Result<usize, u8> {
     }
 }
 
+/// Lines 3 and 4: the length of the table, then its spare bits.
+pub fn table_of(n: usize, table: &[u8]) -> Result<Table, u8> {
+    if table.len() != Table::byte_length(n) {
+        return Err(NO_LENGTH);
+    }
+    if n < 3 && table[0] >> (1 << n) != 0 {
+        return Err(NO_SPARE);
+    }
+    Ok(Table::from_bytes(n, table))
+}
+
 /// Lines 9 and 10: the length of the sheet, then its records.
-pub fn cells(n: usize, sheet: &[u8]) -> Result<Vec<Cell>, (u8, usize)> {
+pub fn cells(n: usize, sheet: &[u8]) -> Result<Vec<Cell>, Refusal> {
     let whole = sheet.chunks(RECORD_BYTES).all(|record| record.len() == RECORD_BYTES);
     if sheet.is_empty() || !whole || sheet.len() > SHEET_BYTES {
-        return Err((NO_SHEET, 0));
+        return Err(NO_SHEET.into());
     }
-    read_sheet(n, sheet).map_err(|index| (NO_RECORD, index))
+    read_sheet(n, sheet).map_err(|place| Refusal { number: NO_RECORD, place })
 }
 
 /// The work area afterwards: 1 to 7 leave it as found, 0 and 8 leave zeros.

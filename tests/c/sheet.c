@@ -1,5 +1,5 @@
-/* Makes, runs and rebuilds the sheet of the AND of three inputs (document 01, example 2) through the C interface,
- * and makes each of the five calls. It prints a line and returns 0 if every byte is as the document says. */
+/* Makes, runs, rebuilds and checks the sheet of the AND of three inputs (document 01, example 2) through the C
+ * interface, and makes each of the other calls. It prints a line and returns 0 if all is as the documents say. */
 #include "pelzurivan.h"
 
 #include <stdio.h>
@@ -61,6 +61,29 @@ static void find_and_try(void) {
     expect(room[0] == 0x0C && room[1] == PRESET && room[2] == PRESET, "try: H of example 5");
 }
 
+/* The majority of three out of cells of two, which no chain of splits makes: inputs 0 and 1 are each read twice. */
+static void check_a_suppliers_sheet(void) {
+    static const uint8_t majority[] = {0xE8};
+    uint8_t sheet[] = {
+        2, 0, 1, 255, 255, 255, 255, 0, 8, 0, 0, 0, 0, 0, 0, 0,
+        2, 0, 1, 255, 255, 255, 255, 0, 14, 0, 0, 0, 0, 0, 0, 0,
+        2, 2, 4, 255, 255, 255, 255, 0, 8, 0, 0, 0, 0, 0, 0, 0,
+        2, 3, 5, 255, 255, 255, 255, 0, 14, 0, 0, 0, 0, 0, 0, 0,
+    };
+    pelzurivan_checked ours = pelzurivan_check(3, AND_OF_3, 1, EXAMPLE_2, sizeof EXAMPLE_2);
+    expect(ours.number == 0 && ours.place == 0, "check: the sheet of example 2 is accepted");
+    pelzurivan_checked theirs = pelzurivan_check(3, majority, 1, sheet, sizeof sheet);
+    expect(theirs.number == 0 && theirs.place == 0, "check: a hand-wired majority is accepted");
+    pelzurivan_checked other = pelzurivan_check(3, AND_OF_3, 1, sheet, sizeof sheet);
+    expect(other.number == 12 && other.place == 3, "check: 12, the majority isn't the AND, first at assignment 3");
+    sheet[2 * PELZURIVAN_RECORD + 8] = 0;
+    pelzurivan_checked damaged = pelzurivan_check(3, majority, 1, sheet, sizeof sheet);
+    expect(damaged.number == 12 && damaged.place == 5, "check: 12, a changed table, first seen at assignment 5");
+    sheet[3 * PELZURIVAN_RECORD] = 7;
+    pelzurivan_checked bad = pelzurivan_check(3, majority, 1, sheet, sizeof sheet);
+    expect(bad.number == 10 && bad.place == 3, "check: 10, record 3");
+}
+
 /* Masks are whole numbers: 65,539 names a position from n up, whatever its low 16 bits say. */
 static void masks_above_16_bits(void) {
     static uint8_t table[8192], room[4096];
@@ -98,6 +121,7 @@ static void refusals(void) {
 int main(void) {
     make_and_run();
     find_and_try();
+    check_a_suppliers_sheet();
     masks_above_16_bits();
     refusals();
     printf("tests/c: %d of %d checks hold\n", checks - faults, checks);

@@ -67,8 +67,19 @@ static void rebuild(void) {
     put_area(table);
 }
 
+static void check(void) {
+    uint64_t n = number(8);
+    area table = handed(TABLE), sheet = handed(SHEET);
+    if (!whole()) return;
+    start();
+    pelzurivan_checked a = pelzurivan_check(n, table.bytes, table.length, sheet.bytes, sheet.length);
+    stop();
+    put(1, a.number);
+    put(8, a.place);
+}
+
 static const call CALLS[] = {
-    {0x01, try_split}, {0x02, find}, {0x03, make}, {0x04, run}, {0x05, rebuild},
+    {0x01, try_split}, {0x02, find}, {0x03, make}, {0x04, run}, {0x05, rebuild}, {0x06, check},
 };
 
 const call *call_of(int code) {

@@ -47,7 +47,7 @@ within input q =
 -- ---- both rooms cleared, make asked what the input asks, and its number stored in front of the part that it was lent
 
 -- a part from a on to the end
-rest : (a : ℕ) (xs : List ℕ) → midOf a (length xs - a) xs ≡ drop a xs
+pub rest : (a : ℕ) (xs : List ℕ) → midOf a (length xs - a) xs ≡ drop a xs
 rest a xs = take-all (length xs - a) (drop a xs) (omega (arith, length-drop a xs))
 
 module _ (input out work o w ys ws : List ℕ) (n k start number : ℕ) (answer : MakeAnswer)

@@ -14,6 +14,7 @@ use Rattle.best.specs.Search.{Answer, none, split}
 use Rattle.sheets.specs.declared.kinds.Edition.{Edition}
 use Rattle.sheets.specs.Edition.{mostRecords}
 use Rattle.sheets.specs.Sheet.{badLength, records, firstBad}
+use Rattle.runs.specs.Checking.{firstDifference}
 use Rattle.chains.specs.Area.{workLength}
 use Rattle.chains.specs.Chain.{Made, stuck, made}
 use Rattle.bench.specs.Lines.{Line, line, naming}
@@ -88,6 +89,10 @@ badRecord e d n s = naming 10 (firstBad e d n s (records e s)) (ltb (firstBad e 
 -- 11: assignment 2 ^ n or more
 abbrev pub badAssignment : ℕ → ℕ → Line
 badAssignment n x = line 11 (leb (2 ^ n) x)
+
+-- 12: the sheet doesn't give the table's bit at some assignment; the least such is named
+abbrev pub tableDiffers : Edition → ℕ → List ℕ → List ℕ → Line
+tableDiffers e n t s = naming 12 (firstDifference e n s (records e s) t) (ltb (firstDifference e n s (records e s) t) (2 ^ n))
 
 -- ---- lines that several calls share
 

@@ -7,7 +7,7 @@ use sheets::kinds::Sheet;
 use tables::clear;
 ghost use mathlib.Core.Path.{_≡_};
 ghost use Prim.Native.Nat.{_≤_};
-ghost use lib.ListN.{length, getD, drop};
+ghost use lib.ListN.{length, getD, take, drop};
 ghost use Rattle.chains.specs.Area.{workLength};
 ghost use Rattle.bench.specs.BenchProgram.{mostWritten, programOutcome};
 
@@ -17,17 +17,21 @@ pub const MOST_READ: usize = 2 + HALF + 1;
 pub const MOST_WRITTEN: usize = 1 + Sheet::BYTES;
 
 // Byte i of s, or 0 where s ends before it.
-fn byte_or_zero(s: &[u8], i: usize) -> u64
+pub fn byte_or_zero(s: &[u8], i: usize) -> u64
     ensures { λ r. ⌜ r ≡ getD (now (s .entry)) i 0 ⌝ }
 {
     if i < s.len() { s[i] as u64 } else { 0 }
 }
 
-// Where the table starts: after n and K, if they are there.
-fn table_start(s: &[u8]) -> usize
-    ensures { λ r. ⌜ (r ≤ length (now (s .entry))) × (drop r (now (s .entry)) ≡ drop 2 (now (s .entry))) ⌝ }
+// Where s is cut after its first i bytes: at its end if it has fewer.
+pub fn cut_at(s: &[u8], i: usize) -> usize
+    ensures { λ r. ⌜
+        (r ≤ length (now (s .entry)))
+        × (take r (now (s .entry)) ≡ take i (now (s .entry)))
+        × (drop r (now (s .entry)) ≡ drop i (now (s .entry)))
+        ⌝ }
 {
-    if s.len() < 2 { s.len() } else { 2 }
+    if s.len() < i { s.len() } else { i }
 }
 
 // Answers the input into the first bytes of out; how many they are. Both rooms are cleared first, so that nothing of
@@ -42,7 +46,7 @@ pub fn answer_input(input: &[u8], out: &mut [u8], work: &mut [u8]) -> usize
     clear(work);
     let n = byte_or_zero(input, 0);
     let k = byte_or_zero(input, 1);
-    let start = table_start(input);
+    let start = cut_at(input, 2);
     let answer = make_sheet(n, k, &input[start..], &mut out[1..], work);
     let verdict = answer.verdict;
     out[0] = number_of(verdict);

@@ -32,6 +32,8 @@ impl Refusal {
     pub const RECORD: u8 = 10;
     // the assignment is 2^n or more
     pub const ASSIGNMENT: u8 = 11;
+    // the sheet doesn't give the table's bit: the least such assignment
+    pub const DIFFERS: u8 = 12;
 }
 
 // What looking at a call's lines comes to.

@@ -8,6 +8,7 @@ pub mod RunSheet
 pub mod RebuildTable
 pub mod Made
 pub mod MakeSheet
+pub mod CheckSheet
 pub mod Fewest
 pub mod BenchProgram
 pub mod Tries

@@ -11,7 +11,7 @@ use Rattle.tables.proofs.Bytes.{length-table}
 use Rattle.sheets.specs.declared.kinds.Edition.{Edition}
 use Rattle.sheets.specs.Edition.{IsEdition}
 use Rattle.sheets.specs.Sheet.{records, sheetBit, rebuilt, Good}
-use Rattle.sheets.proofs.Runs.{rebuilt-bit}
+use Rattle.sheets.proofs.Wholes.{rebuilt-bit}
 use Rattle.bench.specs.declared.refusals.Refusal.{Refusal}
 use Rattle.bench.specs.declared.refusals.Verdict.{Verdict}
 use Rattle.bench.specs.declared.refusals.Verdict.the-variants.{Fine, Refused}

@@ -4,3 +4,4 @@ pub mod FindBest
 pub mod MakeSheet
 pub mod RunSheet
 pub mod RebuildTable
+pub mod CheckSheet

@@ -1,5 +1,6 @@
 // The calls for C, one file for each: the answer is a struct of the paper's number and the values, all of 64 bits.
 // The header is include/pelzurivan.h.
+pub mod check_sheet;
 pub mod find_best;
 pub mod make_sheet;
 pub mod rebuild_table;

@@ -1,5 +1,6 @@
 //! Every call, one file each.
 
+pub mod check;
 pub mod find;
 pub mod make;
 pub mod rebuild;
@@ -9,8 +10,8 @@ pub mod try_split;
 use crate::case::Call;
 
 /// The calls that are answered today, by code.
-pub static TABLE: [&Call; 5] =
-    [&try_split::CALL, &find::CALL, &make::CALL, &run::CALL, &rebuild::CALL];
+pub static TABLE: [&Call; 6] =
+    [&try_split::CALL, &find::CALL, &make::CALL, &run::CALL, &rebuild::CALL, &check::CALL];
 
 pub fn call_of(code: u8) -> Option<&'static Call> {
     TABLE.iter().copied().find(|call| call.code == code)

@@ -5,7 +5,7 @@ use crate::fresh::sheet::{self, Ask};
 use crate::fresh::Fresh;
 use crate::network;
 use crate::random::Random;
-use crate::refusals::{cells, inputs, DONE, NO_LENGTH};
+use crate::refusals::{cells, inputs, Refusal, DONE, NO_LENGTH};
 use crate::table::Table;
 
 pub static CALL: Call = Call {
@@ -26,10 +26,10 @@ pub fn case(n: u64, sheet: Vec<u8>, room: usize) -> Case {
     Case { call: &CALL, numbers: vec![n], bytes: vec![sheet], lent: vec![room] }
 }
 
-fn rebuild(n: u64, sheet: &[u8], room: usize) -> Result<Table, (u8, usize)> {
-    let n = inputs(n).map_err(|number| (number, 0))?;
+fn rebuild(n: u64, sheet: &[u8], room: usize) -> Result<Table, Refusal> {
+    let n = inputs(n)?;
     if room != Table::byte_length(n) {
-        return Err((NO_LENGTH, 0));
+        return Err(NO_LENGTH.into());
     }
     let cells = cells(n, sheet)?;
     Ok(network::rebuild(n, &cells))
@@ -42,16 +42,12 @@ fn answer(case: &Case, lent: &mut [Vec<u8>]) -> Vec<u64> {
             lent[0].copy_from_slice(&table.to_bytes());
             vec![u64::from(DONE), 0]
         }
-        Err((number, index)) => vec![u64::from(number), index as u64],
+        Err(Refusal { number, place }) => vec![u64::from(number), place as u64],
     }
 }
 
 fn fresh(random: &mut Random) -> Fresh {
-    let n = match random.below(60) {
-        0 => random.between(13, 16),
-        1..=3 => random.between(9, 12),
-        _ => random.between(1, 8),
-    };
+    let n = sheet::walked_inputs(random);
     let mut ask = sheet::draw(random, n);
     let record = sheet::RECORD;
     let faults = [record, record, record, sheet::LENGTH, sheet::ROOM, sheet::INPUTS];

@@ -5,7 +5,7 @@ use crate::fresh::sheet::{self, Ask};
 use crate::fresh::Fresh;
 use crate::network;
 use crate::random::Random;
-use crate::refusals::{cells, inputs, DONE, NO_ASSIGNMENT};
+use crate::refusals::{cells, inputs, Refusal, DONE, NO_ASSIGNMENT};
 
 pub static CALL: Call = Call {
     code: 0x04,
@@ -21,11 +21,11 @@ pub fn case(n: u64, x: u64, sheet: Vec<u8>) -> Case {
     Case { call: &CALL, numbers: vec![n, x], bytes: vec![sheet], lent: Vec::new() }
 }
 
-fn run(n: u64, x: u64, sheet: &[u8]) -> Result<bool, (u8, usize)> {
-    let n = inputs(n).map_err(|number| (number, 0))?;
+fn run(n: u64, x: u64, sheet: &[u8]) -> Result<bool, Refusal> {
+    let n = inputs(n)?;
     let cells = cells(n, sheet)?;
     if x >= 1 << n {
-        return Err((NO_ASSIGNMENT, 0));
+        return Err(NO_ASSIGNMENT.into());
     }
     Ok(network::run(n, &cells, x as usize))
 }
@@ -34,7 +34,7 @@ fn answer(case: &Case, _: &mut [Vec<u8>]) -> Vec<u64> {
     let [n, x] = case.numbers();
     match run(n, x, &case.bytes[0]) {
         Ok(bit) => vec![u64::from(DONE), u64::from(bit), 0],
-        Err((number, index)) => vec![u64::from(number), 0, index as u64],
+        Err(Refusal { number, place }) => vec![u64::from(number), 0, place as u64],
     }
 }
 

@@ -2,6 +2,7 @@
 //! of a sheet: each must be refused as 10 with that record's index.
 
 use super::sheets::middling;
+use super::tables::any;
 use super::Fresh;
 use crate::calls;
 use crate::cell::{MOST_RECORDS, RECORD_BYTES, UNUSED};
@@ -69,15 +70,16 @@ pub fn sheets(random: &mut Random) -> Vec<Broken> {
     list
 }
 
-/// The two calls that look at a sheet's records.
+/// The calls that look at a sheet's records.
 pub fn cases(random: &mut Random) -> Vec<Fresh> {
     let mut list = Vec::new();
     for Broken { n, sheet, tags, .. } in sheets(random) {
         let x = random.below(1 << n) as u64;
         let run = calls::run::case(n as u64, x, sheet.clone());
-        let rebuild = calls::rebuild::case(n as u64, sheet, Table::byte_length(n));
-        list.push(Fresh { case: run, tags: tags.clone() });
-        list.push(Fresh { case: rebuild, tags });
+        let rebuild = calls::rebuild::case(n as u64, sheet.clone(), Table::byte_length(n));
+        let check = calls::check::case(n as u64, any(random, n).to_bytes(), sheet);
+        let cases = [run, rebuild, check];
+        list.extend(cases.map(|case| Fresh { case, tags: tags.clone() }));
     }
     list
 }

@@ -2,6 +2,7 @@
 
 mod bad;
 pub mod damage;
+pub mod every_bit;
 pub mod every_rule;
 pub mod gate;
 mod large;
@@ -20,12 +21,13 @@ pub struct Fresh {
     pub tags: Vec<String>,
 }
 
-/// So many fresh cases, the calls in turn; besides, a few large ones, and every
-/// rule of the records broken.
+/// So many fresh cases, the calls in turn; besides, a few large ones, every rule
+/// of the records broken, and every bit of some sheets flipped.
 pub fn cases(random: &mut Random, count: usize) -> Vec<Fresh> {
     let mut list: Vec<Fresh> = (0..count).map(|i| (TABLE[i % TABLE.len()].fresh)(random)).collect();
     list.extend(large::cases(random));
     list.extend(every_rule::cases(random));
+    list.extend(every_bit::cases(random));
     for fresh in &mut list {
         fresh.tags.extend(size_tag(&fresh.case));
     }
@@ -55,20 +57,26 @@ trait Tagged {
 }
 
 /// A way to spoil what is to be asked, with its name.
-type Fault<Ask> = (&'static str, fn(&mut Random, &mut Ask));
+pub type Fault<Ask> = (&'static str, fn(&mut Random, &mut Ask));
 
-/// No fault in so many of twelve cases, else one, now and then several at once
-/// (so that one sees that the lowest number wins).
+/// No fault in so many of twelve cases, else one, now and then two or more at
+/// once (so that one sees that the lowest number wins).
 fn spoil<Ask: Tagged>(random: &mut Random, ask: &mut Ask, faults: &[Fault<Ask>], sound: usize) {
     let plan = random.below(12);
     if plan < sound {
         return;
     }
-    let one = random.below(faults.len());
+    let (one, two) = (random.below(faults.len()), random.below(faults.len()));
+    let mut names = Vec::new();
     for (i, (name, fault)) in faults.iter().enumerate() {
-        if i == one || (plan == 11 && random.one_in(3)) {
+        if i == one || (plan >= 10 && i == two) || (plan == 11 && random.one_in(4)) {
             fault(random, ask);
-            ask.tags().push(format!("fault: {name}"));
+            names.push(*name);
         }
+    }
+    let tags = ask.tags();
+    tags.extend(names.iter().map(|name| format!("fault: {name}")));
+    if names.len() > 1 {
+        tags.push("several faults at once".to_string());
     }
 }

@@ -4,7 +4,8 @@ use super::sheets::KINDS;
 use super::Tagged;
 use super::{bad, damage};
 use crate::case::{SHEET_BUFFER, TABLE_BUFFER};
-use crate::cell::{RECORD_BYTES, SHEET_BYTES};
+use crate::cell::{read_sheet, RECORD_BYTES, SHEET_BYTES};
+use crate::network::rebuild;
 use crate::random::Random;
 use crate::table::Table;
 
@@ -12,6 +13,8 @@ use crate::table::Table;
 pub struct Ask {
     pub n: u64,
     pub x: u64,
+    /// The table that the sheet carries, for a call that takes one.
+    pub table: Vec<u8>,
     pub sheet: Vec<u8>,
     pub room: usize,
     pub tags: Vec<String>,
@@ -23,21 +26,40 @@ impl Tagged for Ask {
     }
 }
 
-type Fault = super::Fault<Ask>;
+pub type Fault = super::Fault<Ask>;
 
-// n comes last because the other faults need a sound one.
+// The spare bit comes first because it changes n, n itself comes last.
+pub const SPARE: Fault = ("spare bit", spare_bit);
+pub const DIFFERENCE: Fault = ("another bit in the table", difference);
 pub const RECORD: Fault = ("a record", bad_record);
 pub const LENGTH: Fault = ("sheet length", bad_sheet_length);
 pub const ASSIGNMENT: Fault = ("assignment", bad_assignment);
 pub const ROOM: Fault = ("room for the table", bad_room);
+pub const TABLE_LENGTH: Fault = ("table length", bad_table_length);
 pub const INPUTS: Fault = ("n", bad_inputs);
+
+/// An n for a call that goes through all assignments: seldom a large one.
+pub fn walked_inputs(random: &mut Random) -> usize {
+    match random.below(60) {
+        0 => random.between(13, 16),
+        1..=3 => random.between(9, 12),
+        _ => random.between(1, 8),
+    }
+}
 
 /// A sound sheet for a gate of n inputs.
 pub fn draw(random: &mut Random, n: usize) -> Ask {
     let kind = random.pick(&KINDS);
     let sheet = kind.draw(random, n);
     let tags = vec![format!("sheet: {}", kind.name())];
-    Ask { n: n as u64, x: 0, sheet, room: Table::byte_length(n), tags }
+    Ask { n: n as u64, x: 0, table: Vec::new(), sheet, room: Table::byte_length(n), tags }
+}
+
+/// The same, with the table that the sheet carries.
+pub fn draw_with_table(random: &mut Random, n: usize) -> Ask {
+    let ask = draw(random, n);
+    let cells = read_sheet(n, &ask.sheet).expect("a sound sheet");
+    Ask { table: rebuild(n, &cells).to_bytes(), ..ask }
 }
 
 /// No fault in every third case: there is much that can be wrong with a sheet.
@@ -91,6 +113,35 @@ fn bad_assignment(random: &mut Random, ask: &mut Ask) {
 fn bad_room(random: &mut Random, ask: &mut Ask) {
     let most = if random.one_in(20) { TABLE_BUFFER } else { 2 * ask.room + 20 };
     ask.room = bad::wrong(random, ask.room, most);
+}
+
+fn bad_table_length(random: &mut Random, ask: &mut Ask) {
+    let most = if random.one_in(20) { TABLE_BUFFER } else { 2 * ask.table.len() + 20 };
+    let length = bad::wrong(random, ask.table.len(), most);
+    ask.table.resize(length, 0);
+}
+
+fn spare_bit(random: &mut Random, ask: &mut Ask) {
+    let n = random.between(1, 2);
+    *ask = draw_with_table(random, n);
+    ask.table[0] |= 1 << random.between(1 << n, 7);
+}
+
+/// Turns the table's bit at one assignment or at several.
+fn difference(random: &mut Random, ask: &mut Ask) {
+    let last = (1usize << ask.n) - 1;
+    let (mut places, name) = match random.below(4) {
+        0 => (vec![0], "the first"),
+        1 => (vec![last], "the last"),
+        2 => (vec![random.below(last + 1)], "any one"),
+        _ => ((0..random.between(2, 9)).map(|_| random.below(last + 1)).collect(), "several"),
+    };
+    places.sort();
+    places.dedup();
+    for x in places {
+        ask.table[x / 8] ^= 1 << (x % 8);
+    }
+    ask.tags.push(format!("another bit at assignments: {name}"));
 }
 
 fn bad_inputs(random: &mut Random, ask: &mut Ask) {

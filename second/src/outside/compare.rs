@@ -15,6 +15,8 @@ use crate::examples;
 use crate::fresh::{self, Fresh};
 use crate::random::Random;
 
+/// So many fresh cases for each call, unless it is said otherwise.
+const CASES_A_CALL: u64 = 1000;
 /// This many differences are described in full.
 const SHOWN: usize = 5;
 
@@ -44,7 +46,7 @@ impl Batch {
 pub fn compare(arguments: &Arguments) -> Result<(), String> {
     let wanted = arguments.wanted_command()?;
     let seed = arguments.seed()?;
-    let count = arguments.number("--cases", 6000)? as usize;
+    let count = arguments.number("--cases", CASES_A_CALL * TABLE.len() as u64)? as usize;
     println!("comparison: seed {seed}, {count} fresh cases");
     let mut random = Random::new(seed);
     let mut batches = batches(&mut random, count)?;
@@ -172,7 +174,8 @@ fn judge(questions: &[Question], output: &[u8], tally: &mut Tally) -> Vec<String
     differences
 }
 
-fn first_of(differences: &[String]) -> String {
+/// How many differences there are, and a few of them.
+pub fn first_of(differences: &[String]) -> String {
     let shown = &differences[..differences.len().min(SHOWN)];
     format!("{} differences, the first of them:\n{}", differences.len(), shown.join("\n"))
 }

@@ -1,15 +1,16 @@
-//! The comparison for the bench program: one run for each table.
+//! The bench program from outside.
 
-use super::arguments::Arguments;
-use super::command;
+use super::programs::{Program, Run};
 use crate::bench::bench;
-use crate::describe::hex;
 use crate::examples::{unhex, SHEET_OF_1, SHEET_OF_2};
 use crate::fresh::tables::KINDS;
 use crate::random::Random;
 
+pub static PROGRAM: Program =
+    Program { name: "bench", ours: bench, documented, fresh, number: |output| output[0] };
+
 /// What the document itself says about the bench program.
-fn document_runs() -> Vec<(Vec<u8>, Vec<u8>)> {
+fn documented() -> Vec<Run> {
     let done = |sheet: &str| [&[0], &unhex(sheet)[..]].concat();
     let long = |n: u8, length: usize| [vec![n, 6], vec![0; length]].concat();
     vec![
@@ -35,7 +36,7 @@ fn document_runs() -> Vec<(Vec<u8>, Vec<u8>)> {
 }
 
 /// Fresh tables, in every tenth run with a few bytes cut off or added.
-fn fresh_run(random: &mut Random, i: usize) -> Vec<u8> {
+fn fresh(random: &mut Random, i: usize) -> Vec<u8> {
     let kind = KINDS[i % KINDS.len()];
     let n = random.between(1, 9);
     let drawn = kind.draw(random, n);
@@ -47,38 +48,4 @@ fn fresh_run(random: &mut Random, i: usize) -> Vec<u8> {
         input.resize(length, 0);
     }
     input
-}
-
-pub fn compare_bench(arguments: &Arguments) -> Result<(), String> {
-    let wanted = arguments.wanted_command()?;
-    let seed = arguments.seed()?;
-    let count = arguments.number("--cases", 60)? as usize;
-    println!("comparison of the bench program: seed {seed}, {count} fresh tables");
-    let mut random = Random::new(seed);
-    let mut runs = document_runs();
-    let documented = runs.len();
-    for i in 0..count {
-        let input = fresh_run(&mut random, i);
-        let expected = bench(&input);
-        runs.push((input, expected));
-    }
-    let mut numbers = [0; 12];
-    for (i, (input, expected)) in runs.iter().enumerate() {
-        if i < documented && bench(input) != *expected {
-            return Err(format!("the second program itself differs on {}", hex(input)));
-        }
-        let ran = command::run(wanted, &[], input)?;
-        if ran.output != *expected || !ran.status.success() || !ran.took_all {
-            let (input, expected, got) = (hex(input), hex(expected), hex(&ran.output));
-            let taken = if ran.took_all { "" } else { "; the input was not taken to its end" };
-            let (ended, said) = (ran.status, ran.said);
-            return Err(format!(
-                "input {input}\n  expected {expected}\n  got {got}; {ended}{taken}\n{said}"
-            ));
-        }
-        numbers[expected[0] as usize] += 1;
-    }
-    println!("passed, by answer number 0 to 11: {numbers:?}");
-    println!("all {} runs passed", runs.len());
-    Ok(())
 }

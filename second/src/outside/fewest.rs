@@ -1,19 +1,20 @@
 //! Demand 3 from outside: make's count against networks of one and two cells.
+//! The sheets are then handed back to the command, which must accept each.
 
 use super::arguments::Arguments;
 use super::command;
 use super::parallel::each_of;
 use crate::batch::{answer_length, case_bytes};
-use crate::calls::make;
+use crate::calls::{check, make};
 use crate::carry::Networks;
 use crate::case::Case;
 use crate::cell::{read_sheet, MOST_READS, RECORD_BYTES, SHEET_BYTES};
-use crate::describe::hex;
+use crate::describe::{answer_text, case_text, hex};
 use crate::fresh::networks;
 use crate::fresh::tables::{any, flip_bits, KINDS};
 use crate::network::rebuild;
 use crate::random::Random;
-use crate::refusals::WORK_BYTES;
+use crate::refusals::{DONE, NO_SPLIT, WORK_BYTES};
 use crate::table::Table;
 
 /// A table, and whether it was made up as two cells.
@@ -48,23 +49,63 @@ pub fn fewest(arguments: &Arguments) -> Result<(), String> {
         groups.extend([2, 3].map(|k| Group { n: 4, k, tables: all_tables(4) }));
     }
     let batch: Vec<u8> = groups.iter().flat_map(group_bytes).collect();
-    let ran = command::run(wanted, &[], &batch)?;
+    let output = ask(wanted, &batch)?;
+    println!("  n  K   tables  no promise   one cell  two cells  more are needed (refused)");
+    let mut left = &output[..];
+    let mut made = Vec::new();
+    for group in &groups {
+        let Counts { refused, no_promise, one, two, more } =
+            judge_group(group, &mut left, &mut made)?;
+        let (n, k, all) = (group.n, group.k, group.tables.len());
+        println!("{n:>3}{k:>3}{all:>9}{no_promise:>12}{one:>11}{two:>11}{more:>11} ({refused})");
+    }
+    nothing_left(left)?;
+    println!("make's count is the fewest wherever it is promised");
+    accepted(wanted, &made)
+}
+
+fn ask(wanted: &[String], batch: &[u8]) -> Result<Vec<u8>, String> {
+    let ran = command::run(wanted, &[], batch)?;
     println!("the command: {:.1} s", ran.seconds);
     if !ran.status.success() {
         return Err(format!("the command ended with {}\n{}", ran.status, ran.said));
     }
-    println!("  n  K   tables  no promise   one cell  two cells  more are needed (refused)");
-    let mut left = &ran.output[..];
-    for group in &groups {
-        let Counts { refused, no_promise, one, two, more } = judge_group(group, &mut left)?;
-        let (n, k, all) = (group.n, group.k, group.tables.len());
-        println!("{n:>3}{k:>3}{all:>9}{no_promise:>12}{one:>11}{two:>11}{more:>11} ({refused})");
+    Ok(ran.output)
+}
+
+/// Each sheet that make wrote must be accepted: number 0, place 0.
+fn accepted(wanted: &[String], made: &[Case]) -> Result<(), String> {
+    let batch: Vec<u8> = made.iter().flat_map(case_bytes).collect();
+    let output = ask(wanted, &batch)?;
+    let mut left = &output[..];
+    for case in made {
+        let answer = next_answer(case, &mut left)?;
+        if answer.iter().any(|&byte| byte != 0) {
+            let (case, answer) = (case_text(case), answer_text(case, answer));
+            return Err(format!("a sheet that make wrote is not accepted: {case}\n  {answer}"));
+        }
     }
-    if !left.is_empty() {
-        return Err(format!("the output is {} bytes too long", left.len()));
-    }
-    println!("make's count is the fewest wherever it is promised");
+    nothing_left(left)?;
+    println!("each of the {} sheets is accepted by check", made.len());
     Ok(())
+}
+
+/// The answer to a case, taken off the front of the output.
+fn next_answer<'a>(case: &Case, left: &mut &'a [u8]) -> Result<&'a [u8], String> {
+    let length = answer_length(case);
+    if left.len() < length {
+        return Err("the output ends early".to_string());
+    }
+    let (answer, rest) = left.split_at(length);
+    *left = rest;
+    Ok(answer)
+}
+
+fn nothing_left(left: &[u8]) -> Result<(), String> {
+    match left.len() {
+        0 => Ok(()),
+        many => Err(format!("the output is {many} bytes too long")),
+    }
 }
 
 fn all_tables(n: usize) -> Vec<Asked> {
@@ -116,21 +157,22 @@ fn group_bytes(group: &Group) -> Vec<u8> {
     group.tables.iter().flat_map(|asked| case_bytes(&make_case(group, asked))).collect()
 }
 
-fn judge_group(group: &Group, left: &mut &[u8]) -> Result<Counts, String> {
+/// Judges the answers to a group; its sheets go to those to be checked.
+fn judge_group(group: &Group, left: &mut &[u8], sheets: &mut Vec<Case>) -> Result<Counts, String> {
     let networks = Networks::new(group.n, group.k);
     let fewest = each_of(&group.tables, |asked| networks.fewest(&asked.table));
     let mut counts = Counts::default();
     for (asked, fewest) in group.tables.iter().zip(fewest) {
-        let length = answer_length(&make_case(group, asked));
-        if left.len() < length {
-            return Err("the output ends early".to_string());
-        }
-        let (answer, rest) = left.split_at(length);
-        *left = rest;
+        let answer = next_answer(&make_case(group, asked), left)?;
+        let table = asked.table.to_bytes();
         judge_one(group, asked, fewest, answer, &mut counts).map_err(|what| {
-            let (n, k, table) = (group.n, group.k, hex(&asked.table.to_bytes()));
+            let (n, k, table) = (group.n, group.k, hex(&table));
             format!("n={n} K={k} table {table}: {what}\n  make answered {}", hex(answer))
         })?;
+        if answer[0] == DONE {
+            let sheet = &answer[2..][..usize::from(answer[1]) * RECORD_BYTES];
+            sheets.push(check::case(group.n as u64, table, sheet.to_vec()));
+        }
     }
     Ok(counts)
 }
@@ -148,8 +190,8 @@ fn judge_one(
         return Err("made of two cells, and the second program itself says more".to_string());
     }
     let made = match (answer[0], answer[1] as usize) {
-        (0, count) => Some(carried_count(group.n, &asked.table, count, &answer[2..])?),
-        (8, 0) => None,
+        (DONE, count) => Some(carried_count(group.n, &asked.table, count, &answer[2..])?),
+        (NO_SPLIT, 0) => None,
         (number, count) => return Err(format!("number {number}, count {count}")),
     };
     if group.n > group.k && !asked.table.depends_on_each_input() {

@@ -3,10 +3,11 @@
 use crate::best::best;
 use crate::calls;
 use crate::case::Case;
-use crate::cell::{write_sheet, MOST_READS, SHEET_BYTES};
+use crate::cell::{read_sheet, write_sheet, MOST_READS, SHEET_BYTES};
 use crate::chain::chain;
 use crate::fresh::sheets;
 use crate::fresh::tables::{any, chain_for, compose, compose_parity, flip_bits};
+use crate::network::rebuild;
 use crate::random::Random;
 use crate::refusals::{DONE, NO_SPLIT, WORK_BYTES};
 use crate::table::Table;
@@ -39,6 +40,7 @@ pub fn subjects() -> Vec<Subject> {
         done("run, 15 records", run_longest),
         done("rebuild, 15 records", rebuild_longest),
         done("rebuild, made with K = 2", rebuild_chain),
+        done("check, 15 records", check_longest),
     ]
 }
 
@@ -133,6 +135,13 @@ fn run_longest(random: &mut Random, n: usize) -> Case {
 fn rebuild_longest(random: &mut Random, n: usize) -> Case {
     let sheet = sheets::Kind::Longest.draw(random, n);
     calls::rebuild::case(n as u64, sheet, Table::byte_length(n))
+}
+
+/// The same sheets as in the rows of rebuild, each with the table it carries.
+fn check_longest(random: &mut Random, n: usize) -> Case {
+    let sheet = sheets::Kind::Longest.draw(random, n);
+    let cells = read_sheet(n, &sheet).expect("a sound sheet");
+    calls::check::case(n as u64, rebuild(n, &cells).to_bytes(), sheet)
 }
 
 fn rebuild_chain(random: &mut Random, n: usize) -> Case {

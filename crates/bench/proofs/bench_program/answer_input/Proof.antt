@@ -20,7 +20,7 @@ returns c =
     let a = s .args in
     handed (a .input .now) (a .out .now) (a .work .now) _ _ _ _ _ _ _ _ _ (s .pre .0) (s .pre .1) (o .clear .ensures)
     (w .clear2 .ensures) (t .before .before .byte-or-zero .ensures) (t .before .byte-or-zero2 .ensures)
-    (t .table-start .ensures .1) (m .make-sheet .ensures) (c .before .number-of .ensures)
+    (t .cut-at .ensures .2) (m .make-sheet .ensures) (c .before .number-of .ensures)
 
 same-length : tie.Need-same-length
 same-length c =

@@ -1,0 +1,2 @@
+-- The laws of the inspecting program.
+pub mod InspectProgram

@@ -1,0 +1,3 @@
+-- Looking over sheets that anyone made.
+pub mod CheckSheet
+pub mod InspectProgram

@@ -1,0 +1,57 @@
+// Checking a sheet, whoever made it, against a gate's table.
+use bench::form;
+use bench::refusals::Refusal;
+use bench::refusals::Verdict;
+use bench::refusals::refuse;
+use bench::refusals::refuse_at;
+use runs::checking::first_difference;
+use sheets::kinds::Edition;
+ghost use mathlib.Core.Path.{_≡_};
+ghost use Rattle.sheets.specs.Edition.{IsEdition, firstEdition};
+ghost use Rattle.bench.specs.Lines.{verdict};
+ghost use Rattle.inspection.specs.CheckSheet.{tableLines, checkOutcome};
+
+// Lines 1, 3 and 4.
+fn table_form(n: u64, t: &[u8]) -> Verdict
+    ensures { λ r. ⌜ r ≡ verdict (tableLines n (now (t .entry))) ⌝ }
+{
+    if form::bad_inputs(n) {
+        return refuse(Refusal::INPUTS);
+    }
+    let inputs = n as u32;
+    if form::bad_table(inputs, t) {
+        return refuse(Refusal::TABLE);
+    }
+    if !tables::spare_clear(inputs, t) {
+        return refuse(Refusal::SPARE);
+    }
+    Verdict::Fine
+}
+
+// Checks a sheet of an edition, the desk's byte being d, against a table.
+pub fn check_in<'a>(e: Edition, d: u8, n: u64, t: &'a [u8], s: &'a [u8]) -> Verdict
+    requires { ⌜ IsEdition e ⌝ }
+    ensures { λ r. ⌜ r ≡ checkOutcome e d n (now (t .entry)) (now (s .entry)) ⌝ }
+{
+    let table = table_form(n, t);
+    let Verdict::Fine = table else {
+        return table;
+    };
+    let inputs = n as u32;
+    let sheet = form::sheet(e, d, inputs, s);
+    let Verdict::Fine = sheet else {
+        return sheet;
+    };
+    let x = first_difference(e, inputs, s, s.len() / e.size, t);
+    if x < 1 << inputs {
+        return refuse_at(Refusal::DIFFERS, x as u64);
+    }
+    Verdict::Fine
+}
+
+// Checks a sheet against a table: accepted, or why not.
+pub fn check_sheet<'a>(n: u64, t: &'a [u8], s: &'a [u8]) -> Verdict
+    ensures { λ r. ⌜ r ≡ checkOutcome firstEdition 0 n (now (t .entry)) (now (s .entry)) ⌝ }
+{
+    check_in(Edition::first(), 0, n, t, s)
+}
