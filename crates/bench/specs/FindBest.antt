@@ -40,11 +40,17 @@ sharedOf (split A B) = B
 
 -- done: the masks of the best split
 abbrev pub findDone : Answer → List ℕ → FindOutcome
-findDone a work = record { answer = record { verdict = Fine; own = ownOf a; shared = sharedOf a }; work = workAfter Fine work }
+findDone a work = record {
+  answer = record { verdict = Fine; own = ownOf a; shared = sharedOf a };
+  work = workAfter Fine work;
+}
 
 -- refused: both masks are 0
 abbrev pub findNot : List ℕ → Refusal → FindOutcome
-findNot work r = record { answer = record { verdict = Refused r; own = 0; shared = 0 }; work = workAfter (Refused r) work }
+findNot work r = record {
+  answer = record { verdict = Refused r; own = 0; shared = 0 };
+  work = workAfter (Refused r) work;
+}
 
 -- what find is to return and leave, whatever is handed over
 unfoldable pub findOutcome : Edition → ℕ → ℕ → List ℕ → List ℕ → FindOutcome

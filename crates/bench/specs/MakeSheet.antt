@@ -48,8 +48,14 @@ makeDone e d cs sheet work = record {
 
 -- refused: the count is 0, and the sheet is as it was lent
 abbrev pub makeNot : List ℕ → List ℕ → Refusal → MakeOutcome
-makeNot sheet work r = record { answer = record { verdict = Refused r; count = 0 }; sheet = sheet; work = workAfter (Refused r) work }
+makeNot sheet work r = record {
+  answer = record { verdict = Refused r; count = 0 };
+  sheet = sheet;
+  work = workAfter (Refused r) work;
+}
 
 -- what make is to return and leave, whatever is handed over
 unfoldable pub makeOutcome : Edition → ℕ → ℕ → ℕ → List ℕ → List ℕ → List ℕ → MakeOutcome
-makeOutcome e d n K t sheet work = reply (verdict (makeLines e n K t sheet work)) (makeDone e d (cellsIn (sheetFor n K t)) sheet work) (makeNot sheet work)
+makeOutcome e d n K t sheet work =
+    reply (verdict (makeLines e n K t sheet work)) (makeDone e d (cellsIn (sheetFor n K t)) sheet work)
+    (makeNot sheet work)

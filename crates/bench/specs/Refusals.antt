@@ -1,5 +1,5 @@
--- The table of refusals: each line under its number, with its words and what it names besides (nothing, where nothing is said). The code has
--- the numbers in src/refusals.rt. Number 17 is given by nobody yet.
+-- The table of refusals: each line under its number, with its words and what it names besides (nothing, where nothing
+-- is said). The code has the numbers in src/refusals.rt. Number 17 is given by nobody yet.
 use mathlib.Core.Bool.{Bool, true, false, not, _&&_, _||_}
 use mathlib.Core.List.{List, [], _∷_}
 use Prim.Native.Nat.{ℕ, _+_, _*_, _^_}
@@ -38,7 +38,8 @@ badSpare n t = line 4 (ltb n 3 && not (spareClear n t))
 -- 5: A or B names a position from n up; they overlap; A below 2; A and B together above K
 abbrev pub badSets : ℕ → ℕ → ℕ → ℕ → Line
 badSets n K A B =
-    line 5 (leb (2 ^ n) A || (leb (2 ^ n) B || (not (disjoint n (bit A) (bit B)) || (ltb (size n (bit A)) 2 || ltb K (size n (bit A) + size n (bit B))))))
+    line 5 (leb (2 ^ n) A || (leb (2 ^ n) B ||
+    (not (disjoint n (bit A) (bit B)) || (ltb (size n (bit A)) 2 || ltb K (size n (bit A) + size n (bit B))))))
 
 -- 6: room for H shorter than its table
 abbrev pub shortRoom : ℕ → ℕ → ℕ → List ℕ → List ℕ → Line
@@ -92,7 +93,8 @@ badAssignment n x = line 11 (leb (2 ^ n) x)
 
 -- 12: the sheet doesn't give the table's bit at some assignment; the least such is named
 abbrev pub tableDiffers : Edition → ℕ → List ℕ → List ℕ → Line
-tableDiffers e n t s = naming 12 (firstDifference e n s (records e s) t) (ltb (firstDifference e n s (records e s) t) (2 ^ n))
+tableDiffers e n t s = naming 12 (firstDifference e n s (records e s) t)
+    (ltb (firstDifference e n s (records e s) t) (2 ^ n))
 
 -- ---- lines that several calls share
 

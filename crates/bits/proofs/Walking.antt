@@ -5,6 +5,8 @@ use Prim.Native.Nat.{ℕ, _+_, _^_, _<_, _≤_}
 use native.Mathlib.Omega.{arith}
 use Rattle.bits.specs.Numbers.{bit}
 use Rattle.bits.specs.Sets.{maskWidth, size, gather, spread}
+use Rattle.bits.proofs.Masks.{mask-most}
+use Rattle.bits.proofs.Sizes.{size-le}
 use Rattle.bits.proofs.Spreading.{spread-zero, spread-lt, gather-spread}
 
 pub record Walked (n m many s v : ℕ) : Type 0 where
@@ -13,9 +15,11 @@ pub record Walked (n m many s v : ℕ) : Type 0 where
   pub upto : v ≤ many
   pub at : s ≡ spread n (bit m) v
 
--- `many` as `parts` gives it
-pub walked-none : {n m many : ℕ} → (many ≡ 2 ^ size n (bit m)) × (1 ≤ many) × (many ≤ 2 ^ maskWidth) → Walked n m many 0 0
-walked-none {n} {m} e = record { all = e .0; few = e .2; upto = omega arith; at = sym (spread-zero n (bit m)) }
+pub walked-none : {n m many : ℕ} → n ≤ maskWidth → many ≡ 2 ^ size n (bit m) → Walked n m many 0 0
+walked-none {n} {m} {many} most e = record { all = e; few = few; upto = omega arith; at = sym (spread-zero n (bit m)) }
+  where
+    few : many ≤ 2 ^ maskWidth
+    few = omega (arith, e, mask-most {n = size n (bit m)} (omega (arith, size-le n (bit m))))
 
 module _ {n m many s v : ℕ} (w : Walked n m many s v) where
   pub walked-lt : s < 2 ^ n

@@ -21,14 +21,18 @@ use Rattle.chains.specs.Area.{atHand, NextTable}
 
 -- D as a cell: the signals of A and B, and the table of D, where s splits the table F over the signals l
 abbrev pub dCell : Split → (ℕ → Bool) → List ℕ → Cell
-dCell s F l = record { signals = pick (s .n) (readsD (bit (s .own)) (bit (s .shared))) l; table = tableD (s .n) F (bit (s .own)) (bit (s .shared)) 0 }
+dCell s F l = record {
+  signals = pick (s .n) (readsD (bit (s .own)) (bit (s .shared))) l;
+  table = tableD (s .n) F (bit (s .own)) (bit (s .shared)) 0;
+}
 
 -- one step: the cell is appended, the signals are those of B and C and then the cell's own, and H is the table at hand
 pub record Stepped (g : Stage) (next : ℕ) (s : Split) (before : List ℕ) (r : Stage) (after : List ℕ) : Type 0 where
   pub count : r .sheet .count ≡ g .sheet .count + 1
   pub cells : cellsOf (r .sheet) ≡ cellsOf (g .sheet) ++ (dCell s (atHand before) (signalsOf (g .signals)) ∷ [])
   pub listed : Listed (r .signals)
-  pub signals : signalsOf (r .signals) ≡ pick (s .n) (readsH (bit (s .own)) (bit (s .shared))) (signalsOf (g .signals)) ++ (next ∷ [])
+  pub signals : signalsOf (r .signals) ≡ pick (s .n) (readsH (bit (s .own)) (bit (s .shared)))
+      (signalsOf (g .signals)) ++ (next ∷ [])
   pub table : NextTable s before after
 
 -- what a chain that came to its end, as the code holds it, says

@@ -1,4 +1,5 @@
--- A question to the bench, and what the definitions answer: the number, the values, and the result bytes as they are afterwards.
+-- A question to the bench, and what the definitions answer: the number, the values, and the result bytes as they are
+-- afterwards.
 use mathlib.Core.List.{List, [], _∷_}
 use Prim.Native.Nat.{ℕ, _*_}
 use lib.ListN.{replicate}

@@ -34,7 +34,8 @@ recordsOf e o = take (e .size * o .answer .count) (o .sheet)
 abbrev pub networkOf : Edition → MakeOutcome → List Cell
 networkOf e o = sheetCells e (recordsOf e o) (o .answer .count)
 
--- record i of a sheet is the first that breaks the record rules (the desk's byte is d; it may read only signals below n + i)
+-- record i of a sheet is the first that breaks the record rules (the desk's byte is d; it may read only signals below
+-- n + i)
 pub record FirstBad (e : Edition) (d n : ℕ) (s : List ℕ) (i : ℕ) : Type 0 where
   pub within : i < records e s
   pub breaks : Keeps e d (n + i) (recordAt e s i) → ⊥

@@ -21,7 +21,8 @@ checkLines e d n t s = tableLines n t ++ (sheetLines e d n s ++ (tableDiffers e 
 unfoldable pub checkOutcome : Edition → ℕ → ℕ → List ℕ → List ℕ → Verdict
 checkOutcome e d n t s = verdict (checkLines e d n t s)
 
--- in words, of a gate whose table is in order: the sheet keeps the record rules, and at every assignment it gives the table's bit
+-- in words, of a gate whose table is in order: the sheet keeps the record rules, and at every assignment it gives the
+-- table's bit
 pub record Accepted (e : Edition) (d n : ℕ) (t s : List ℕ) : Type 0 where
   pub rules : Good e d n s (records e s)
   pub gives : (x : ℕ) → x < 2 ^ n → sheetBit e n s (records e s) x ≡ tableBit t x

@@ -1,4 +1,5 @@
-// A stretch of a table, read at once: as many bits as a word of 64 has from some assignment on. A table of fewer than eight
+// A stretch of a table, read at once: as many bits as a word of 64 has from some assignment on. A table of fewer than
+// eight
 // bytes is one short word.
 ghost use mathlib.Core.Path.{_≡_};
 ghost use Prim.Native.Nat.{ℕ, _+_, _*_, _/_, _%_, _<_, _≤_};

@@ -120,6 +120,6 @@ returns-4 c =
 
 pub check-in-spec : {M : Type 1} → statement M
 check-in-spec =
-    tie.close (tie.spec (λ c κs. search needs) (λ c. search needs) (λ c. search needs) returns cast-inputs sheet-requires
-    (λ c. search needs) (λ c. search needs) returns-2 div-first-difference first-difference-requires shl-if1
-    (λ c. search needs) (λ c κs. search needs) returns-3 returns-4)
+    tie.close (tie.spec (λ c κs. search needs) (λ c. search needs) (λ c. search needs) returns cast-inputs
+    sheet-requires (λ c. search needs) (λ c. search needs) returns-2 div-first-difference first-difference-requires
+    shl-if1 (λ c. search needs) (λ c κs. search needs) returns-3 returns-4)

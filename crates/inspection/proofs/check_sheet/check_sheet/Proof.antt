@@ -14,4 +14,6 @@ returns c =
     c .check-in .ensures ∙ ap (λ (e : Edition). checkOutcome e 0 (a .n) (a .t .now) (a .s .now)) (c .before .first .ensures)
 
 pub check-sheet-spec : {M : Type 1} → statement M
-check-sheet-spec = tie.close (tie.spec (λ c κs. search needs) (λ c κs. subst IsEdition (sym (c .first .ensures)) first-edition) returns)
+check-sheet-spec =
+    tie.close (tie.spec (λ c κs. search needs) (λ c κs. subst IsEdition (sym (c .first .ensures)) first-edition)
+    returns)

@@ -82,6 +82,7 @@ returns c =
 pub answer-input-spec : {M : Type 1} → statement M
 answer-input-spec =
     tie.close (tie.spec (λ c κs. search needs) (λ c κs. search needs) (λ c κs. search needs) (λ c. search needs)
-    write-decimal-requires slice-write-out (λ c κs. search needs) (λ c. omega (arith, behind (c .before .before .before) .0))
-    sub-write-decimal sub-write-decimal (λ c. search needs) write-decimal-requires-2
-    (λ c. omega (arith, add-result-2 c)) add-result-2 same-length returns)
+    write-decimal-requires slice-write-out (λ c κs. search needs)
+    (λ c. omega (arith, behind (c .before .before .before) .0)) sub-write-decimal sub-write-decimal
+    (λ c. search needs) write-decimal-requires-2 (λ c. omega (arith, add-result-2 c)) add-result-2 same-length
+    returns)

@@ -11,4 +11,5 @@ returns c =
 
 pub pelzurivan-check-spec : {M : Type 1} → statement M
 pelzurivan-check-spec =
-    tie.close (tie.spec (λ c κs. search needs) (λ c κs. search needs) (λ c. search needs) (λ c κs. search needs) returns)
+    tie.close (tie.spec (λ c κs. search needs) (λ c κs. search needs) (λ c. search needs) (λ c κs. search needs)
+    returns)

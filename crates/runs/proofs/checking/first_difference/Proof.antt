@@ -84,5 +84,5 @@ returns-2 c =
 
 pub first-difference-spec : {M : Type 1} → statement M
 first-difference-spec =
-    tie.close (tie.spec Inv-loop μ-loop (λ c. search needs) loop-holds word-of-requires bits-from-requires (λ c κs. search needs) add-result returns (λ c. search needs)
-    (λ c. search needs) loop-again returns-2)
+    tie.close (tie.spec Inv-loop μ-loop (λ c. search needs) loop-holds word-of-requires bits-from-requires
+    (λ c κs. search needs) add-result returns (λ c. search needs) (λ c. search needs) loop-again returns-2)

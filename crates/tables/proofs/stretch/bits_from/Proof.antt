@@ -18,15 +18,6 @@ returns-2 c =
 
 pub bits-from-spec : {M : Type 1} → statement M
 bits-from-spec =
-    tie.close
-    (tie.spec
-    (λ c κs. search needs)
-    (λ c. search needs)
-    (λ c. search needs)
-    returns
-    (λ c. search needs)
-    (λ c. search needs)
-    (λ c κs. let g = c .before .before in (g .pre .long (omega arith), omega arith))
-    (λ c. search needs)
-    (λ c. search needs)
-    returns-2)
+    tie.close (tie.spec (λ c κs. search needs) (λ c. search needs) (λ c. search needs) returns (λ c. search needs)
+    (λ c. search needs) (λ c κs. let g = c .before .before in (g .pre .long (omega arith), omega arith))
+    (λ c. search needs) (λ c. search needs) returns-2)

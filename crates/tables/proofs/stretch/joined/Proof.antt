@@ -39,18 +39,9 @@ returns c =
 
 pub joined-spec : {M : Type 1} → statement M
 joined-spec =
-    tie.close
-    (tie.spec
-    Inv-loop
-    μ-loop
-    loop-holds
-    (λ c. search needs)
-    (λ c. search needs)
-    (λ c. omega (arith, small c))
-    (λ c. search needs)
-    (λ c. search needs)
+    tie.close (tie.spec Inv-loop μ-loop loop-holds (λ c. search needs) (λ c. search needs)
+    (λ c. omega (arith, small c)) (λ c. search needs) (λ c. search needs)
     (λ c. omega (arith, byte-fits (a c .args .t .now) (a c .args .from) (i c) (omega arith) (small c) (c .before .before .loop .inv .1)))
-    (λ c. search needs)
-    (λ c. search needs)
+    (λ c. search needs) (λ c. search needs)
     (λ c. (omega arith, byte-joined (a c .args .t .now) (a c .args .from) (i c) (omega arith) (small c) (c .before .before .loop .inv .1)))
     returns)
