@@ -1,8 +1,9 @@
--- A loop over all the numbers that a mask spreads, in increasing order: at turn v the number at hand is v spread. Its step is
--- that of `next`. Assumes nothing.
+-- A loop over all the numbers that a mask spreads, in increasing order: at turn v the number at hand is v spread. Its
+-- step is that of `next`. Assumes nothing.
 use mathlib.Core.Path.{_≡_, sym, ap, _∙_}
 use Prim.Native.Nat.{ℕ, _+_, _^_, _<_, _≤_}
 use native.Mathlib.Omega.{arith}
+use lib.Pow.{pow-pos}
 use Rattle.bits.specs.Numbers.{bit}
 use Rattle.bits.specs.Sets.{maskWidth, size, gather, spread}
 use Rattle.bits.proofs.Masks.{mask-most}
@@ -15,8 +16,14 @@ pub record Walked (n m many s v : ℕ) : Type 0 where
   pub upto : v ≤ many
   pub at : s ≡ spread n (bit m) v
 
-pub walked-none : {n m many : ℕ} → n ≤ maskWidth → many ≡ 2 ^ size n (bit m) → Walked n m many 0 0
-walked-none {n} {m} {many} most e = record { all = e; few = few; upto = omega arith; at = sym (spread-zero n (bit m)) }
+-- `many` as `parts` gives it
+pub walked-none : {n m many : ℕ} → (many ≡ 2 ^ size n (bit m)) × (1 ≤ many) × (many ≤ 2 ^ maskWidth)
+    → Walked n m many 0 0
+walked-none {n} {m} e = record { all = e .0; few = e .2; upto = omega arith; at = sym (spread-zero n (bit m)) }
+
+-- and as it is held
+pub walked-held : {n m many : ℕ} → n ≤ maskWidth → many ≡ 2 ^ size n (bit m) → Walked n m many 0 0
+walked-held {n} {m} {many} most e = walked-none (e, omega (arith, e, pow-pos (size n (bit m))), few)
   where
     few : many ≤ 2 ^ maskWidth
     few = omega (arith, e, mask-most {n = size n (bit m)} (omega (arith, size-le n (bit m))))
@@ -29,7 +36,8 @@ module _ {n m many s v : ℕ} (w : Walked n m many s v) where
   walked-end h = omega (arith, w .all, w .upto)
 
   module _ (l : v < many) where
-    pub walked-more : {s′ : ℕ} → ((u : ℕ) → s ≡ spread n (bit m) u → s′ ≡ spread n (bit m) (u + 1)) → Walked n m many s′ (v + 1)
+    pub walked-more : {s′ : ℕ} → ((u : ℕ) → s ≡ spread n (bit m) u → s′ ≡ spread n (bit m) (u + 1))
+        → Walked n m many s′ (v + 1)
     walked-more step = record { all = w .all; few = w .few; upto = omega arith; at = step v (w .at) }
 
     pub walked-turn : v < 2 ^ size n (bit m)

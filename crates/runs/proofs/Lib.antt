@@ -2,4 +2,3 @@
 pub mod Runs
 pub mod Halving
 pub mod Choosing
-pub mod Differences

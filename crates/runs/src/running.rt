@@ -27,8 +27,7 @@ fn value(e: Edition, b: &[u8], w: u32, j: u32) -> bool
     (w >> b[at]) & 1 == 1
 }
 
-// The bit of the table t at the number that inputs 0 to 5 make: t is halved by input after input, until only that bit
-// is left.
+// The bit of the table t at the number that inputs 0 to 5 make: t is halved by input after input, until only that bit is left.
 fn halved(e: Edition, b: &[u8], w: u32, t: u64) -> bool
     requires { ⌜ Runnable e (now b) ⌝ }
     ensures { λ r. ⌜ r ≡ bit t (number 6 (inputAt (byteAt (now (b .entry))) (bit w))) ⌝ }
@@ -52,13 +51,9 @@ fn output_of(e: Edition, b: &[u8], w: u32) -> bool
     halved(e, b, w, bits_from(&b[start..], 64 * high))
 }
 
-// What a sheet of m records gives at the assignment x. The word holds the signals so far: the inputs, then each
-// record's output.
+// What a sheet of m records gives at the assignment x. The word holds the signals so far: the inputs, then each record's output.
 pub fn bit_of(e: Edition, n: u32, s: &[u8], m: usize, x: u32) -> bool
-    requires { ⌜
-        IsEdition e × (m ≤ mostRecords) × (n ≤ mostInputs) × (e .size * m ≤ length (now s))
-        × AllReadable e (now s) m
-        ⌝ }
+    requires { ⌜ IsEdition e × (m ≤ mostRecords) × (n ≤ mostInputs) × (e .size * m ≤ length (now s)) × AllReadable e (now s) m ⌝ }
     requires { ⌜ x < 2 ^ n ⌝ }
     ensures { λ r. ⌜ r ≡ sheetBit e n (now (s .entry)) m x ⌝ }
 {
@@ -77,10 +72,7 @@ pub fn bit_of(e: Edition, n: u32, s: &[u8], m: usize, x: u32) -> bool
 
 // The table of a sheet of m records, into a lent one of its length, which is written whole.
 pub fn rebuild(e: Edition, n: u32, s: &[u8], m: usize, out: &mut [u8])
-    requires { ⌜
-        IsEdition e × (m ≤ mostRecords) × (n ≤ mostInputs) × (e .size * m ≤ length (now s))
-        × AllReadable e (now s) m
-        ⌝ }
+    requires { ⌜ IsEdition e × (m ≤ mostRecords) × (n ≤ mostInputs) × (e .size * m ≤ length (now s)) × AllReadable e (now s) m ⌝ }
     requires { ⌜ length (now out) ≡ tableLength n ⌝ }
     ensures { λ r. ⌜ now (out .exit) ≡ rebuilt e n (now (s .entry)) m ⌝ }
 {

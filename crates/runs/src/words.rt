@@ -74,10 +74,7 @@ fn cell_input<'a>(e: Edition, b: &'a [u8], words: &'a [u64], j: usize) -> u64
 // For each pair h of a table's bits, 2 h and 2 h + 1, the word that the word of input 0 chooses from it.
 fn pairs(t: &[u8], first: u64, many: usize, v: &mut [u64])
     requires { ⌜ (many ≤ 4 * length (now t)) × (many ≤ length (now v)) ⌝ }
-    ensures { λ r. ⌜
-        ((h i : ℕ) → h < many → i < 64 → lane (now (v .exit)) i h ≡ tableBit (now (t .entry))
-        (2 * h + val (bit first i)))
-        ⌝ }
+    ensures { λ r. ⌜ ((h i : ℕ) → h < many → i < 64 → lane (now (v .exit)) i h ≡ tableBit (now (t .entry)) (2 * h + val (bit first i))) ⌝ }
 {
     let four = [0, !first, first, !0];
     let mut h = 0;
@@ -91,10 +88,7 @@ fn pairs(t: &[u8], first: u64, many: usize, v: &mut [u64])
 // Halves a table of words by an input: place h takes the word at h or the one at half + h, as the input's word chooses.
 fn halve(s: u64, half: usize, v: &mut [u64])
     requires { ⌜ half + half ≤ length (now v) ⌝ }
-    ensures { λ r. ⌜
-        ((h i : ℕ) → h < half → i < 64 → lane (now (v .exit)) i h ≡ cond (bit s i)
-        (lane (now (v .entry)) i (half + h)) (lane (now (v .entry)) i h))
-        ⌝ }
+    ensures { λ r. ⌜ ((h i : ℕ) → h < half → i < 64 → lane (now (v .exit)) i h ≡ cond (bit s i) (lane (now (v .entry)) i (half + h)) (lane (now (v .entry)) i h)) ⌝ }
 {
     let mut h = 0;
     while h < half {
@@ -117,8 +111,7 @@ fn first_half<'a>(e: Edition, b: &'a [u8], words: &'a [u64], v: &mut [u64]) -> u
     ensures { λ r. ⌜ r ≡ byteAt (now (b .entry)) 0 - 1 ⌝ }
     ensures { λ r. ⌜
         ((h i : ℕ) → h < 2 ^ r → i < 64
-        → lane (now (v .exit)) i h ≡ cellBit e (byteAt (now (b .entry)))
-        (2 * h + val (inputAt (byteAt (now (b .entry))) (lane (now (words .entry)) i) 0)))
+        → lane (now (v .exit)) i h ≡ cellBit e (byteAt (now (b .entry))) (2 * h + val (inputAt (byteAt (now (b .entry))) (lane (now (words .entry)) i) 0)))
         ⌝ }
 {
     let start = e.start;
@@ -131,9 +124,7 @@ fn first_half<'a>(e: Edition, b: &'a [u8], words: &'a [u64], v: &mut [u64]) -> u
 // The word of a record's cell: its table is halved by input 0 pair by pair, then from the highest input down.
 fn cell_word<'a>(e: Edition, b: &'a [u8], words: &'a [u64], v: &mut [u64]) -> u64
     requires { ⌜ Runnable e (now b) × (32 ≤ length (now words)) × (128 ≤ length (now v)) ⌝ }
-    ensures { λ r. ⌜
-        ((i : ℕ) → i < 64 → bit r i ≡ output (cellOf e (byteAt (now (b .entry)))) (lane (now (words .entry)) i))
-        ⌝ }
+    ensures { λ r. ⌜ ((i : ℕ) → i < 64 → bit r i ≡ output (cellOf e (byteAt (now (b .entry)))) (lane (now (words .entry)) i)) ⌝ }
 {
     let mut j = first_half(e, b, words, v);
     while 0 < j {
@@ -159,10 +150,7 @@ fn first_bits(n: u32, o: u64) -> u64
 
 // Word w of the table of a sheet of m records.
 pub fn word_of(e: Edition, n: u32, s: &[u8], m: usize, w: u32) -> u64
-    requires { ⌜
-        IsEdition e × (m ≤ mostRecords) × (n ≤ mostInputs) × (e .size * m ≤ length (now s))
-        × AllReadable e (now s) m
-        ⌝ }
+    requires { ⌜ IsEdition e × (m ≤ mostRecords) × (n ≤ mostInputs) × (e .size * m ≤ length (now s)) × AllReadable e (now s) m ⌝ }
     requires { ⌜ 64 * w < 2 ^ n ⌝ }
     ensures { λ r. ⌜ r ≡ sheetWord e n (now (s .entry)) m w ⌝ }
 {

@@ -74,5 +74,18 @@ returns c =
 
 pub bit-of-spec : {M : Type 1} → statement M
 bit-of-spec =
-    tie.close (tie.spec Inv-loop μ-loop loop-holds record-of-requires output-of-requires (λ c. search needs)
-    (λ c. search needs) add-w (λ c. search needs) (λ c. search needs) (λ c. search needs) loop-again returns)
+    tie.close
+    (tie.spec
+    Inv-loop
+    μ-loop
+    loop-holds
+    record-of-requires
+    output-of-requires
+    (λ c. search needs)
+    (λ c. search needs)
+    add-w
+    (λ c. search needs)
+    (λ c. search needs)
+    (λ c. search needs)
+    loop-again
+    returns)

@@ -39,6 +39,18 @@ returns c =
 
 pub output-of-spec : {M : Type 1} → statement M
 output-of-spec =
-    tie.close (tie.spec (λ c κs. search needs) (λ c. search needs) (λ c κs. search needs) (λ c. search needs)
-    (λ c. omega (arith, few c)) (λ c. omega (arith, few c)) (λ c. search needs) (λ c. search needs)
-    (λ c. search needs) (λ c. omega (arith, few (c .before))) bits-from-requires (λ c κs. search needs) returns)
+    tie.close
+    (tie.spec
+    (λ c κs. search needs)
+    (λ c. search needs)
+    (λ c κs. search needs)
+    (λ c. search needs)
+    (λ c. omega (arith, few c))
+    (λ c. omega (arith, few c))
+    (λ c. search needs)
+    (λ c. search needs)
+    (λ c. search needs)
+    (λ c. omega (arith, few (c .before)))
+    bits-from-requires
+    (λ c κs. search needs)
+    returns)

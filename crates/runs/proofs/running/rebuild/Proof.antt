@@ -29,6 +29,9 @@ Inv-loop e n s m out₀ o₀ i₀ out o i =
 abbrev μ-loop : tie.MeasureT-loop
 μ-loop e n s m out₀ o₀ i₀ out o i = length out₀ - i
 
+loop-holds : tie.Need-loop-holds Inv-loop μ-loop
+loop-holds c = (filled-none (omega arith), λ h. absurd (h refl))
+
 cast-word-of : tie.Need-cast-word-of Inv-loop μ-loop
 cast-word-of c =
     let t = c .before .before .before .before .before in
@@ -62,6 +65,19 @@ returns c =
 
 pub rebuild-spec : {M : Type 1} → statement M
 rebuild-spec =
-    tie.close (tie.spec Inv-loop μ-loop (λ c. (filled-none (omega arith), λ h. absurd (h refl))) cast-word-of
-    word-of-requires (λ c. search needs) (λ c. search needs) (λ c. search needs) (λ c. search needs)
-    (λ c. search needs) (λ c. search needs) loop-again (λ c. search needs) returns)
+    tie.close
+    (tie.spec
+    Inv-loop
+    μ-loop
+    loop-holds
+    cast-word-of
+    word-of-requires
+    (λ c. search needs)
+    (λ c. search needs)
+    (λ c. search needs)
+    (λ c. search needs)
+    (λ c. search needs)
+    (λ c. search needs)
+    loop-again
+    (λ c. search needs)
+    returns)

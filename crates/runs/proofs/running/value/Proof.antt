@@ -25,7 +25,13 @@ returns-2 c =
 
 pub value-spec : {M : Type 1} → statement M
 value-spec =
-    tie.close (tie.spec (λ c. search needs) (λ c. search needs) returns (λ c. search needs) (λ c. search needs)
+    tie.close
+    (tie.spec
+    (λ c. search needs)
+    (λ c. search needs)
+    returns
+    (λ c. search needs)
+    (λ c. search needs)
     (λ c. omega (arith, c .shared-slice-known2 .given (c .before .before .before .args .j + 1)))
     (λ c. let t = c .before .before .before in omega (arith, t .pre .readable .below (t .args .j) (omega arith)))
     returns-2)

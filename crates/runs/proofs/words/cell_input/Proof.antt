@@ -33,6 +33,14 @@ returns-2 c = λ i.
 
 pub cell-input-spec : {M : Type 1} → statement M
 cell-input-spec =
-    tie.close (tie.spec (λ c. search needs) (λ c. search needs) returns (λ c. search needs) (λ c. search needs)
-    (λ c. omega (arith, c .shared-slice-known2 .given (c .before .before .before .args .j + 1))) mul-result
-    shared-slice-read-result returns-2)
+    tie.close
+    (tie.spec
+    (λ c. search needs)
+    (λ c. search needs)
+    returns
+    (λ c. search needs)
+    (λ c. search needs)
+    (λ c. omega (arith, c .shared-slice-known2 .given (c .before .before .before .args .j + 1)))
+    mul-result
+    shared-slice-read-result
+    returns-2)

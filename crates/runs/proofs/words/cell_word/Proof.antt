@@ -81,5 +81,18 @@ returns c =
 
 pub cell-word-spec : {M : Type 1} → statement M
 cell-word-spec =
-    tie.close (tie.spec Inv-loop μ-loop (λ c κs. search needs) loop-holds (λ c κs. search needs) (λ c. search needs)
-    shl-halve halve-requires (λ c. search needs) loop-again slice-read-result same-length returns)
+    tie.close
+    (tie.spec
+    Inv-loop
+    μ-loop
+    (λ c κs. search needs)
+    loop-holds
+    (λ c κs. search needs)
+    (λ c. search needs)
+    shl-halve
+    halve-requires
+    (λ c. search needs)
+    loop-again
+    slice-read-result
+    same-length
+    returns)

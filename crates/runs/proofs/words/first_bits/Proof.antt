@@ -23,5 +23,10 @@ returns-2 c = let a = c .before .args in first-whole (a .n) (a .o) (omega arith)
 
 pub first-bits-spec : {M : Type 1} → statement M
 first-bits-spec =
-    tie.close (tie.spec (λ c. search needs) (λ c. many (c .before .args .n) (c .if1 .taken))
-    (λ c. let a = c .before .args in omega (arith, end (a .n) (c .if1 .taken), pow-pos (2 ^ a .n))) returns returns-2)
+    tie.close
+    (tie.spec
+    (λ c. search needs)
+    (λ c. many (c .before .args .n) (c .if1 .taken))
+    (λ c. let a = c .before .args in omega (arith, end (a .n) (c .if1 .taken), pow-pos (2 ^ a .n)))
+    returns
+    returns-2)

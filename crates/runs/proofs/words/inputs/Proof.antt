@@ -43,5 +43,16 @@ returns c = (
 
 pub inputs-spec : {M : Type 1} → statement M
 inputs-spec =
-    tie.close (tie.spec Inv-loop μ-loop (λ c. filled-none (omega arith)) (λ c. search needs) (λ c κs. search needs)
-    (λ c. search needs) (λ c. search needs) (λ c. search needs) (λ c. search needs) loop-again returns)
+    tie.close
+    (tie.spec
+    Inv-loop
+    μ-loop
+    (λ c. filled-none (omega arith))
+    (λ c. search needs)
+    (λ c κs. search needs)
+    (λ c. search needs)
+    (λ c. search needs)
+    (λ c. search needs)
+    (λ c. search needs)
+    loop-again
+    returns)
