@@ -1,5 +1,7 @@
-//! The bench examples 1 to 11 of document 01, with its answers as literals, and
-//! some for the requests of document 02.
+//! The bench examples 1 to 11 of document 01, with its answers as literals (6 and
+//! 9 as document 02 has them), and some for the requests of document 02.
+
+pub mod requests;
 
 use crate::batch::answer_length;
 use crate::calls;
@@ -87,10 +89,9 @@ pub const SHEET_OF_2: &str = "02 00 01 FF FF FF FF 00 08 00 00 00 00 00 00 00
 const SHEET_OF_3: &str = "02 00 01 FF FF FF FF 00 06 00 00 00 00 00 00 00
                           02 02 03 FF FF FF FF 00 06 00 00 00 00 00 00 00";
 const SHEET_OF_4: &str = "03 00 01 02 FF FF FF 00 E8 00 00 00 00 00 00 00";
-const SHEET_OF_6_ZEROS: &str = "02 00 01 FF FF FF FF 00 00 00 00 00 00 00 00 00
-                                02 02 03 FF FF FF FF 00 00 00 00 00 00 00 00 00";
-const SHEET_OF_6_ONES: &str = "02 00 01 FF FF FF FF 00 00 00 00 00 00 00 00 00
-                               02 02 03 FF FF FF FF 00 0F 00 00 00 00 00 00 00";
+/// As document 02 (E2) has it: one cell that reads signal 0.
+pub const SHEET_OF_6_ZEROS: &str = "01 00 FF FF FF FF FF 00 00 00 00 00 00 00 00 00";
+pub const SHEET_OF_6_ONES: &str = "01 00 FF FF FF FF FF 00 03 00 00 00 00 00 00 00";
 pub const SELECTOR: &str = "AA AA F0 F0 CC CC 00 FF";
 pub const SHEET_OF_7: &str = "04 00 02 04 05 FF FF 00 CA F0 00 00 00 00 00 00
                           04 01 03 05 06 FF FF 00 A0 CF 00 00 00 00 00 00";
@@ -115,11 +116,9 @@ fn examples_1_to_5() -> Vec<Example> {
     ]
 }
 
-/// Example 9 fixes what the cells read; their tables follow from document 01:
-/// the second cell reads input 11 and ignores it, the last reads its D first.
+/// As document 02 (E2) has it: two cells, reading 0-5 and 6-10 with 12.
 const SHEET_OF_9: &str = "06 00 01 02 03 04 05 00 00 00 00 00 00 00 00 80
-                          06 06 07 08 09 0A 0B 00 00 00 00 80 00 00 00 80
-                          02 0C 0D FF FF FF FF 00 08 00 00 00 00 00 00 00";
+                          06 06 07 08 09 0A 0C 00 00 00 00 00 00 00 00 80";
 
 fn examples_6_to_9() -> Vec<Example> {
     let and_of_16 = "00".repeat(8191) + "80";
@@ -131,12 +130,12 @@ fn examples_6_to_9() -> Vec<Example> {
         masks("7", find(6, 4, SELECTOR), 21, 32),
         sheet("7", make(6, 4, SELECTOR), SHEET_OF_7),
         sheet("8", make(16, 6, &and_of_16), SHEET_OF_8),
+        masks("9", find(12, 6, &and_of_11), 63, 0),
         sheet("9", make(12, 6, &and_of_11), SHEET_OF_9),
     ]
 }
 
 fn example_10() -> Vec<Example> {
-    let ones_of_2 = "02 00 01 FF FF FF FF 00 0F 00 00 00 00 00 00 00";
     let mut list = Vec::new();
     for n in [0, 17] {
         let sheet = unhex(SHEET_OF_2);
@@ -158,7 +157,7 @@ fn example_10() -> Vec<Example> {
         list.push(refusal("10", make(n, 2, table), number));
         list.push(refusal("10", check(n, table, &unhex(SHEET_OF_2)), number));
     }
-    list.push(sheet("10", make(2, 2, "0F"), ones_of_2));
+    list.push(sheet("10", make(2, 2, "0F"), SHEET_OF_6_ONES));
     list
 }
 
@@ -181,44 +180,7 @@ fn example_11() -> Vec<Example> {
     list
 }
 
-/// The majority of three out of cells of two, (a AND b) OR (c AND (a OR b)): a
-/// and b are read twice, so no chain of splits has this shape.
-pub const HAND_WIRED: &str = "02 00 01 FF FF FF FF 00 08 00 00 00 00 00 00 00
-                              02 00 01 FF FF FF FF 00 0E 00 00 00 00 00 00 00
-                              02 02 04 FF FF FF FF 00 08 00 00 00 00 00 00 00
-                              02 03 05 FF FF FF FF 00 0E 00 00 00 00 00 00 00";
-/// The XOR of two out of four NANDs; the first is read twice.
-const FOUR_NANDS: &str = "02 00 01 FF FF FF FF 00 07 00 00 00 00 00 00 00
-                          02 00 02 FF FF FF FF 00 07 00 00 00 00 00 00 00
-                          02 01 02 FF FF FF FF 00 07 00 00 00 00 00 00 00
-                          02 03 04 FF FF FF FF 00 07 00 00 00 00 00 00 00";
-
-/// What check says: a number and a place below 256.
-fn told(case: Case, number: u8, place: u8) -> Example {
-    example("E1", case, vec![number, place, 0, 0, 0, 0, 0, 0, 0])
-}
-
-fn examples_of_e1() -> Vec<Example> {
-    let (and, wired) = (unhex(SHEET_OF_2), unhex(HAND_WIRED));
-    let (mut damaged, mut bad) = (wired.clone(), wired.clone());
-    // Without c AND (a OR b) only a AND b is left: 88 for E8, and bit 5 is the first that differs.
-    damaged[2 * 16 + 8] = 0;
-    bad[3 * 16] = 7;
-    vec![
-        told(check(3, "80", &and), 0, 0),
-        told(check(6, SELECTOR, &unhex(SHEET_OF_7)), 0, 0),
-        told(check(3, "E8", &wired), 0, 0),
-        told(check(2, "06", &unhex(FOUR_NANDS)), 0, 0),
-        told(check(3, "E8", &and), 12, 3),
-        told(check(3, "81", &and), 12, 0),
-        told(check(3, "00", &and), 12, 7),
-        told(check(3, "E8", &damaged), 12, 5),
-        told(check(3, "17", &bad), 10, 3),
-    ]
-}
-
 pub fn all() -> Vec<Example> {
     let base = [examples_1_to_5(), examples_6_to_9(), example_10(), example_11()];
-    let requests = [examples_of_e1()];
-    base.into_iter().chain(requests).flatten().collect()
+    base.into_iter().flatten().chain(requests::all()).collect()
 }
