@@ -6,7 +6,8 @@
  * everything else.
  *
  * A gate has n inputs, 1 to 16. Its table has bit x mod 8 of byte x div 8 for each assignment x: 1 byte up to n = 3,
- * else 2^(n-3) bytes. A cell has at most k inputs, 2 to 6. A sheet is records of 16 bytes, the last is the output.
+ * else 2^(n-3) bytes. An input counts if flipping it alone changes the table's bit at some assignment. A cell has at
+ * most k inputs, 2 to 6. A sheet is records of 16 bytes, the last is the output.
  *
  * number is 0 where the call is done, else the first of these that holds:
  *    1  n outside 1 to 16
@@ -15,7 +16,7 @@
  *    4  n below 3 and a spare bit set
  *    5  own or shared names a position from n up; they overlap; own below 2; both together above k
  *    6  room for H shorter than its table, room for the sheet under 240 bytes, or a work area under 16,384 bytes
- *    7  n at most k, so nothing to split
+ *    7  at most k inputs count, so nothing to split
  *    8  the split isn't possible; none is; a table in the chain has none
  *    9  sheet empty, not a multiple of 16, or over 240 bytes
  *   10  a record breaks the record rules; index is the first that does
@@ -46,11 +47,13 @@ typedef struct { uint64_t number, place; } pelzurivan_checked;
 pelzurivan_tried pelzurivan_try(uint64_t n, uint64_t k, uint64_t own, uint64_t shared, const uint8_t *table,
                                 size_t table_length, uint8_t *room, size_t room_length);
 
-/* Finds the best split: its masks. After 0 and 8 the work area is zeros, else as it was. 1 to 4, 6, 7, 8. */
+/* Finds the best split of the inputs that count: its masks, in the gate's own positions. After 0 and 8 the work area
+ * is zeros, else as it was. 1 to 4, 6, 7, 8. */
 pelzurivan_sought pelzurivan_find(uint64_t n, uint64_t k, const uint8_t *table, size_t table_length, uint8_t *work,
                                   size_t work_length);
 
-/* Makes a sheet: count records, the bytes after them stay; the work area as in find. 1 to 4, 6, 8. */
+/* Makes a sheet over the inputs that count (of a constant one cell that reads signal 0): count records, the bytes
+ * after them stay; the work area as in find. 1 to 4, 6, 8. */
 pelzurivan_made pelzurivan_make(uint64_t n, uint64_t k, const uint8_t *table, size_t table_length, uint8_t *sheet,
                                 size_t sheet_length, uint8_t *work, size_t work_length);
 

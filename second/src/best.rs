@@ -1,5 +1,5 @@
 //! The best split: list every candidate, sort by the document's order, take
-//! the first that is possible.
+//! the first that is possible, of those that name only inputs that count.
 
 use std::cmp::Reverse;
 use std::sync::Mutex;
@@ -43,8 +43,11 @@ pub fn candidates(n: usize, k: usize) -> &'static [Split] {
     pairs
 }
 
-/// The best split of the table, if any is possible.
+/// The best split of the table's inputs that count, if any is possible. Nothing
+/// is moved: the masks name the table's own positions.
 pub fn best(table: &Table, k: usize) -> Option<Split> {
-    let pairs = candidates(table.inputs, k).iter();
-    pairs.copied().find(|&split| possible(table, split))
+    let counting = table.counting();
+    let pairs = candidates(table.inputs, k).iter().copied();
+    let mut counted = pairs.filter(|split| (split.own | split.shared) & !counting == 0);
+    counted.find(|&split| possible(table, split))
 }

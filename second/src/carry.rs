@@ -54,7 +54,7 @@ impl Networks {
     /// Whether two cells carry the table: the first reads inputs, the second
     /// reads inputs and the first cell's output.
     pub fn two(&self, table: &Table) -> bool {
-        let needed = needed_inputs(table);
+        let needed = table.counting();
         self.full.iter().any(|first| {
             // What no cell reads cannot change the output.
             let all_read = |second: &&Reads| needed & !(first.set | second.set) == 0;
@@ -73,10 +73,6 @@ impl Networks {
         }
         self.two(table).then_some(2)
     }
-}
-
-fn needed_inputs(table: &Table) -> u16 {
-    (0..table.inputs).filter(|&input| table.depends_on(input)).map(|input| 1 << input).sum()
 }
 
 /// Two cells with their reads fixed and their tables open.

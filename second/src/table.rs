@@ -1,5 +1,7 @@
 //! A gate table: one bit for each assignment, kept as a plain list.
 
+use crate::sets::size;
+
 /// The most inputs a gate may have.
 pub const MOST_INPUTS: usize = 16;
 
@@ -58,7 +60,14 @@ impl Table {
         (0..self.bits.len()).any(|x| self.bits[x] != self.bits[x ^ (1 << input)])
     }
 
-    pub fn depends_on_each_input(&self) -> bool {
-        (0..self.inputs).all(|input| self.depends_on(input))
+    /// The inputs that count: the set of those that the table depends on.
+    pub fn counting(&self) -> u16 {
+        (0..self.inputs).filter(|&input| self.depends_on(input)).map(|input| 1 << input).sum()
+    }
+
+    /// The table over a set of its inputs, all others fixed at 0.
+    pub fn over(&self, set: u16) -> Table {
+        let left = (0..self.bits.len()).filter(|x| x & !usize::from(set) == 0);
+        Table { inputs: size(set), bits: left.map(|x| self.bits[x]).collect() }
     }
 }

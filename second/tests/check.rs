@@ -3,7 +3,8 @@
 use second::calls::check::check;
 use second::cell::{read_sheet, write_sheet, RECORD_BYTES};
 use second::chain::chain;
-use second::examples::{unhex, HAND_WIRED, SHEET_OF_2};
+use second::examples::requests::HAND_WIRED;
+use second::examples::{unhex, SHEET_OF_2};
 use second::fresh::{every_bit, sheets, tables};
 use second::inspect::inspect;
 use second::network::rebuild;

@@ -61,6 +61,21 @@ static void find_and_try(void) {
     expect(room[0] == 0x0C && room[1] == PRESET && room[2] == PRESET, "try: H of example 5");
 }
 
+/* Inputs that do nothing are set aside: table C0 is input 1 AND input 2, table FF is a constant (example 6). */
+static void unused_inputs(void) {
+    uint8_t sheet[PELZURIVAN_SHEET] = {0}, work[PELZURIVAN_WORK] = {0};
+    const uint8_t and_of_two[] = {0xC0}, constant[] = {0xFF};
+    const uint8_t and_cell[PELZURIVAN_RECORD] = {2, 1, 2, 255, 255, 255, 255, 0, 8};
+    const uint8_t constant_cell[PELZURIVAN_RECORD] = {1, 0, 255, 255, 255, 255, 255, 0, 3};
+    pelzurivan_made made = pelzurivan_make(3, 2, and_of_two, 1, sheet, sizeof sheet, work, sizeof work);
+    expect(made.number == 0 && made.count == 1, "make: one cell, since two inputs count");
+    expect(memcmp(sheet, and_cell, sizeof and_cell) == 0, "make: the cell reads the inputs that count");
+    made = pelzurivan_make(3, 2, constant, 1, sheet, sizeof sheet, work, sizeof work);
+    expect(made.number == 0 && made.count == 1, "make: one cell for a constant");
+    expect(memcmp(sheet, constant_cell, sizeof constant_cell) == 0, "make: it reads signal 0, with table 3");
+    expect(pelzurivan_find(3, 2, and_of_two, 1, work, sizeof work).number == 7, "find: 7, since two inputs count");
+}
+
 /* The majority of three out of cells of two, which no chain of splits makes: inputs 0 and 1 are each read twice. */
 static void check_a_suppliers_sheet(void) {
     static const uint8_t majority[] = {0xE8};
@@ -121,6 +136,7 @@ static void refusals(void) {
 int main(void) {
     make_and_run();
     find_and_try();
+    unused_inputs();
     check_a_suppliers_sheet();
     masks_above_16_bits();
     refusals();

@@ -2,7 +2,8 @@
 use mathlib.Core.List.{List, [], _∷_, _++_}
 use Prim.Native.Nat.{ℕ}
 use Rattle.tables.specs.Table.{tableBit}
-use Rattle.best.specs.Search.{Answer, none, split, best}
+use Rattle.best.specs.Search.{Answer, none, split}
+use Rattle.best.specs.Counting.{bestCounting}
 use Rattle.sheets.specs.declared.kinds.Edition.{Edition}
 use Rattle.bench.specs.declared.refusals.Refusal.{Refusal}
 use Rattle.bench.specs.declared.refusals.Verdict.the-variants.{Fine, Refused}
@@ -11,17 +12,21 @@ use Rattle.bench.specs.Lines.{Line, verdict, reply}
 use Rattle.bench.specs.Refusals.{gateLines, shortWork, nothingToSplit, noneBest}
 use Rattle.bench.specs.Lent.{workAfter}
 
--- the best split of a gate's table
+-- the best split of a gate's table, over the inputs that count
 abbrev pub bestFor : ℕ → ℕ → List ℕ → Answer
-bestFor n K t = best n 1 (tableBit t) K
+bestFor n K t = bestCounting n 1 (tableBit t) K
 
--- form and room: 1 to 4, 6 of the work area, and 7
+-- form and room: 1 to 4, and 6 of the work area
 abbrev pub findForm : Edition → ℕ → ℕ → List ℕ → List ℕ → List Line
-findForm e n K t work = gateLines e n K t ++ (shortWork work ∷ nothingToSplit n K ∷ [])
+findForm e n K t work = gateLines e n K t ++ (shortWork work ∷ [])
 
--- and 8
+-- what the table says: 7 and 8
+abbrev pub findSays : ℕ → ℕ → List ℕ → List Line
+findSays n K t = nothingToSplit n K t ∷ noneBest (bestFor n K t) ∷ []
+
+-- all of them
 abbrev pub findLines : Edition → ℕ → ℕ → List ℕ → List ℕ → List Line
-findLines e n K t work = findForm e n K t work ++ (noneBest (bestFor n K t) ∷ [])
+findLines e n K t work = findForm e n K t work ++ findSays n K t
 
 -- the answer, and the work area afterwards
 pub record FindOutcome : Type 0 where

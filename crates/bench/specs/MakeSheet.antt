@@ -7,7 +7,8 @@ use Rattle.tables.specs.Table.{tableBit}
 use Rattle.sheets.specs.declared.kinds.Edition.{Edition}
 use Rattle.sheets.specs.Network.{Cell}
 use Rattle.sheets.specs.Writing.{sheetBytes}
-use Rattle.chains.specs.Chain.{Made, stuck, made, sheetOf}
+use Rattle.chains.specs.Chain.{Made, stuck, made}
+use Rattle.chains.specs.Aside.{sheetAside}
 use Rattle.bench.specs.declared.refusals.Refusal.{Refusal}
 use Rattle.bench.specs.declared.refusals.Verdict.the-variants.{Fine, Refused}
 use Rattle.bench.specs.declared.make_sheet.MakeAnswer.{MakeAnswer}
@@ -15,9 +16,9 @@ use Rattle.bench.specs.Lines.{Line, verdict, reply}
 use Rattle.bench.specs.Refusals.{gateLines, shortSheet, chainStuck}
 use Rattle.bench.specs.Lent.{into, workAfter}
 
--- the chain of a gate's table, as a number
+-- the chain of a gate's table, as a number, with what does not count set aside
 abbrev pub sheetFor : ℕ → ℕ → List ℕ → Made
-sheetFor n K t = sheetOf n K (number (2 ^ n) (tableBit t))
+sheetFor n K t = sheetAside n K (number (2 ^ n) (tableBit t))
 
 -- the cells of a chain
 abbrev pub cellsIn : Made → List Cell

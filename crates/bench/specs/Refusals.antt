@@ -8,6 +8,7 @@ use lib.ListN.{length}
 use Rattle.bits.specs.Numbers.{bit}
 use Rattle.bits.specs.Sets.{disjoint, size}
 use Rattle.tables.specs.Table.{mostInputs, tableLength, tableBit, spareClear}
+use Rattle.tables.specs.Counting.{support}
 use Rattle.splits.specs.Columns.{fewColumns}
 use Rattle.splits.specs.Pair.{inputsH}
 use Rattle.best.specs.Search.{Answer, none, split}
@@ -53,9 +54,9 @@ shortWork work = line 6 (ltb (length work) workLength)
 abbrev pub shortSheet : Edition → List ℕ → List ℕ → Line
 shortSheet e sheet work = line 6 (ltb (length sheet) (e .size * mostRecords) || ltb (length work) workLength)
 
--- 7: n at most K, so nothing to split
-abbrev pub nothingToSplit : ℕ → ℕ → Line
-nothingToSplit n K = line 7 (leb n K)
+-- 7: at most K inputs count, so nothing to split
+abbrev pub nothingToSplit : ℕ → ℕ → List ℕ → Line
+nothingToSplit n K t = line 7 (leb (size n (bit (support n (tableBit t)))) K)
 
 -- 8: the named split isn't possible: some b has more than two columns
 abbrev pub notPossible : ℕ → ℕ → ℕ → List ℕ → Line

@@ -3,7 +3,7 @@ use splits::pair;
 use splits::split::Split;
 ghost use mathlib.Core.Path.{_≡_};
 ghost use mathlib.Core.Bool.{true};
-ghost use Prim.Native.Nat.{ℕ, _+_, _*_, _^_, _≤_};
+ghost use Prim.Native.Nat.{_+_, _*_, _^_, _≤_};
 ghost use lib.ListN.{length};
 ghost use Rattle.bits.specs.Numbers.{bit};
 ghost use Rattle.bits.specs.Sets.{size};

@@ -3,19 +3,18 @@ use crate::form;
 use crate::refusals::Refusal;
 use crate::refusals::Verdict;
 use crate::refusals::refuse;
-use best::Found;
-use best::search::find;
+use best::counted::Counted;
+use best::counted::find_counting;
 use chains::area::WORK;
 use sheets::kinds::Edition;
 ghost use mathlib.Core.Path.{_≡_};
-ghost use mathlib.Core.List.{[], _∷_};
 ghost use Prim.Native.Nat.{_≤_};
 ghost use lib.ListN.{length};
 ghost use Rattle.tables.specs.Table.{mostInputs, tableLength};
 ghost use Rattle.sheets.specs.Edition.{IsEdition, firstEdition};
+ghost use Rattle.chains.specs.Area.{workLength};
 ghost use Rattle.bench.specs.Lines.{verdict, reply};
-ghost use Rattle.bench.specs.Refusals.{noneBest};
-ghost use Rattle.bench.specs.FindBest.{bestFor, findForm, findDone, findNot, findOutcome};
+ghost use Rattle.bench.specs.FindBest.{bestFor, findForm, findSays, findDone, findNot, findOutcome};
 
 // The own and the shared mask, if nothing is wrong.
 pub struct FindAnswer {
@@ -24,7 +23,7 @@ pub struct FindAnswer {
     pub shared: u16,
 }
 
-// Lines 1 to 4, 6 and 7.
+// Lines 1 to 4, and 6.
 fn find_form<'a>(e: Edition, n: u64, k: u64, t: &'a [u8], work: &'a [u8]) -> Verdict
     ensures { λ r. ⌜ r ≡ verdict (findForm e n k (now (t .entry)) (now (work .entry))) ⌝ }
 {
@@ -35,30 +34,33 @@ fn find_form<'a>(e: Edition, n: u64, k: u64, t: &'a [u8], work: &'a [u8]) -> Ver
     if work.len() < WORK {
         return refuse(Refusal::ROOM);
     }
-    if n <= k {
-        return refuse(Refusal::NOTHING);
-    }
     Verdict::Fine
 }
 
-// The best split of a table, or that none is possible; the work area is cleared.
+// Lines 7 and 8: the best split over the inputs that count, or that at most k count, or that none is possible.
 fn search(n: u32, k: u32, t: &[u8], work: &mut [u8]) -> FindAnswer
-    requires { ⌜ (n ≤ mostInputs) × (k ≤ mostInputs) × (length (now t) ≡ tableLength n) ⌝ }
+    requires { ⌜
+        (n ≤ mostInputs) × (k ≤ mostInputs) × (length (now t) ≡ tableLength n) × (workLength ≤ length (now work))
+        ⌝ }
     ensures { λ r. ⌜
         record { answer = r; work = now (work .exit) }
-        ≡ reply (verdict (noneBest (bestFor n k (now (t .entry))) ∷ []))
+        ≡ reply (verdict (findSays n k (now (t .entry))))
         (findDone (bestFor n k (now (t .entry))) (now (work .entry))) (findNot (now (work .entry)))
         ⌝ }
 {
-    tables::clear(work);
-    let found = find(t, n, k);
+    let found = find_counting(t, n, k, work);
     match found {
-        Found::Split(own, shared) => FindAnswer {
+        Counted::Few => FindAnswer {
+            verdict: refuse(Refusal::NOTHING),
+            own: 0,
+            shared: 0,
+        },
+        Counted::Split(own, shared) => FindAnswer {
             verdict: Verdict::Fine,
             own: own,
             shared: shared,
         },
-        Found::Nothing => FindAnswer {
+        Counted::Nothing => FindAnswer {
             verdict: refuse(Refusal::SPLIT),
             own: 0,
             shared: 0,

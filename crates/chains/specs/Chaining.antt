@@ -15,7 +15,8 @@ use Rattle.sheets.specs.Writing.{AtMost}
 use Rattle.sheets.specs.Held.{cellsOf}
 use Rattle.chains.specs.declared.chaining.Stage.{Stage}
 use Rattle.chains.specs.declared.chaining.ChainEnd.{ChainEnd}
-use Rattle.chains.specs.Chain.{pick, Made, stuck, made, sheetOf}
+use Rattle.chains.specs.Chain.{pick, Made, stuck, made, chain}
+use Rattle.chains.specs.Aside.{sheetAside}
 use Rattle.chains.specs.Stage.{signalsOf, Listed}
 use Rattle.chains.specs.Area.{atHand, NextTable}
 
@@ -39,9 +40,15 @@ pub record Stepped (g : Stage) (next : ℕ) (s : Split) (before : List ℕ) (r :
 abbrev pub endOf : ChainEnd → Made
 endOf r = cond (r .finished) (made (cellsOf (r .sheet))) stuck
 
--- the sheet of a gate's table: the chain of document 01, held so that it can be written; the work area is zeros
+-- the chain of the table T over the signals l, with cells from signal n on, held so that it can be written
+pub record Followed (n K : ℕ) (l : List ℕ) (T : ℕ) (r : ChainEnd) : Type 0 where
+  pub chain : endOf r ≡ chain n K n l T
+  pub few : r .sheet .count ≤ mostRecords
+  pub fit : AtMost largestCell (cellsOf (r .sheet))
+
+-- the sheet of a gate's table, held so; the work area is zeros
 pub record Chained (n K : ℕ) (t work : List ℕ) (r : ChainEnd) (work′ : List ℕ) : Type 0 where
-  pub chain : endOf r ≡ sheetOf n K (number (2 ^ n) (tableBit t))
+  pub chain : endOf r ≡ sheetAside n K (number (2 ^ n) (tableBit t))
   pub few : r .sheet .count ≤ mostRecords
   pub fit : AtMost largestCell (cellsOf (r .sheet))
   pub cleared : work′ ≡ replicate (length work) 0

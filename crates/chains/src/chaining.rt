@@ -1,7 +1,5 @@
 // Making a sheet: best splits while the list of signals is longer than K, and at last what remains as the final cell.
 use crate::area::HALF;
-use crate::area::cell_table;
-use crate::area::load;
 use crate::area::next_table;
 use crate::signals::Signals;
 use best::Found;
@@ -10,7 +8,10 @@ use sheets::kinds::HeldCell;
 use sheets::kinds::Sheet;
 use splits::pair::d_table;
 use splits::split::Split;
+use tables::aside::set_aside;
 use tables::clear;
+use tables::counting::kept_of;
+use tables::words::cell_table;
 ghost use mathlib.Core.Path.{_≡_};
 ghost use mathlib.Core.Bool.{true};
 ghost use Prim.Native.Nat.{_+_, _*_, _^_, _<_, _≤_};
@@ -21,12 +22,10 @@ ghost use Rattle.tables.specs.Table.{mostInputs, tableLength, tableBit};
 ghost use Rattle.splits.specs.Columns.{fewColumns};
 ghost use Rattle.splits.specs.Reading.{Held};
 ghost use Rattle.sheets.specs.Edition.{largestCell, mostRecords};
-ghost use Rattle.sheets.specs.Writing.{AtMost};
-ghost use Rattle.sheets.specs.Held.{networkCell, cellsOf};
-ghost use Rattle.chains.specs.Chain.{sheetOf};
+ghost use Rattle.sheets.specs.Held.{networkCell};
 ghost use Rattle.chains.specs.Stage.{signalsOf, Listed};
 ghost use Rattle.chains.specs.Area.{workLength, atHand};
-ghost use Rattle.chains.specs.Chaining.{dCell, Stepped, endOf, Chained};
+ghost use Rattle.chains.specs.Chaining.{dCell, Stepped, Followed, Chained};
 
 // A sheet, if the chain came to its end.
 pub struct ChainEnd {
@@ -78,17 +77,15 @@ fn step(stage: Stage, next: u8, s: Split, work: &mut [u8]) -> Stage
     }
 }
 
-// The chain of the table of n inputs in the work area.
-fn follow(n: u32, k: u32, work: &mut [u8]) -> ChainEnd
-    requires { ⌜ (1 ≤ n) × (n ≤ mostInputs) × (2 ≤ k) × (k ≤ largestCell) × (workLength ≤ length (now work)) ⌝ }
-    ensures { λ r. ⌜
-        (endOf r ≡ sheetOf n k (number (2 ^ n) (atHand (now (work .entry))))) × (r .sheet .count ≤ mostRecords)
-        × AtMost largestCell (cellsOf (r .sheet))
-        ⌝ }
+// The chain of the table in the work area over some of a gate's n signals.
+fn follow(n: u32, start: Signals, k: u32, work: &mut [u8]) -> ChainEnd
+    requires { ⌜ (n ≤ mostInputs) × (2 ≤ k) × (k ≤ largestCell) × (workLength ≤ length (now work)) ⌝ }
+    requires { ⌜ Listed start × (1 ≤ start .count) × (start .count ≤ n) ⌝ }
+    ensures { λ r. ⌜ Followed n k (signalsOf start) (number (2 ^ start .count) (atHand (now (work .entry)))) r ⌝ }
 {
     let most = k as usize;
     let mut sheet = Sheet::empty();
-    let mut signals = Signals::inputs(n);
+    let mut signals = start;
     let mut next = n as u8;
     while most < signals.count {
         let m = signals.count as u32;
@@ -115,7 +112,8 @@ fn follow(n: u32, k: u32, work: &mut [u8]) -> ChainEnd
     }
 }
 
-// The sheet of a gate's table.
+// The sheet of a gate's table: the inputs that do not count are set aside, once, since every later table counts all of
+// its own.
 pub fn chain_of(t: &[u8], n: u32, k: u32, work: &mut [u8]) -> ChainEnd
     requires { ⌜
         (1 ≤ n) × (n ≤ mostInputs) × (2 ≤ k) × (k ≤ largestCell) × (length (now t) ≡ tableLength n)
@@ -123,8 +121,10 @@ pub fn chain_of(t: &[u8], n: u32, k: u32, work: &mut [u8]) -> ChainEnd
         ⌝ }
     ensures { λ r. ⌜ Chained n k (now (t .entry)) (now (work .entry)) r (now (work .exit)) ⌝ }
 {
-    load(t, work);
-    let end = follow(n, k, work);
+    let kept = kept_of(t, n);
+    set_aside(t, n, kept, work);
+    let signals = Signals::inputs(n).pick(kept);
+    let end = follow(n, signals, k, work);
     clear(work);
     end
 }

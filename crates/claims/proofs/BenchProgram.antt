@@ -14,7 +14,6 @@ use Rattle.sheets.specs.Edition.{recordSize, mostRecords, firstEdition}
 use Rattle.sheets.specs.Network.{Carries}
 use Rattle.sheets.proofs.Keeping.{first-edition}
 use Rattle.chains.specs.Area.{workLength}
-use Rattle.chains.specs.Fewest.{AllCount}
 use Rattle.bench.specs.declared.refusals.Verdict.the-variants.{Fine}
 use Rattle.bench.specs.Lines.{InOrder, verdict, numberOf}
 use Rattle.bench.specs.Refusals.{badInputs, badCell, gateLines, shortSheet, chainStuck}
@@ -84,11 +83,10 @@ module _ (input : List ℕ) where
     unfolding asked
     written-rebuilds b table h = rw written-is (made-rebuilds firstEdition 0 n K t sheet work first-edition done b table h)
 
-  -- demand 3: form in order (6 can't be wrong), the output depends on each input, and one or two cells carry the table: it is done, and no fewer cells carry it
-  -- than records are written
-  pub written-fewest : InOrder (gateLines firstEdition (getD input 0 0) (getD input 1 0) (drop 2 input)) → AllCount (getD input 0 0) (tableBit (drop 2 input)) → (m : ℕ)
+  -- demand 3: form in order (6 can't be wrong), and one or two cells carry the table: it is done, and no fewer cells carry it than records are written
+  pub written-fewest : InOrder (gateLines firstEdition (getD input 0 0) (getD input 1 0) (drop 2 input)) → (m : ℕ)
       → Carries (getD input 0 0) (getD input 1 0) m (tableBit (drop 2 input)) → m ≤ 2
       → (asked input .answer .verdict ≡ Fine) × ((m′ : ℕ) → Carries (getD input 0 0) (getD input 1 0) m′ (tableBit (drop 2 input)) → asked input .answer .count ≤ m′)
   unfolding asked
-  written-fewest s all m c h =
-      let w = made-fewest firstEdition 0 n K t sheet work (s .0, (s .1 .0, (s .1 .1 .0, (s .1 .1 .1 .0, (rooms, tt))))) first-edition all m c h in (w .0, w .2)
+  written-fewest s m c h =
+      let w = made-fewest firstEdition 0 n K t sheet work (s .0, (s .1 .0, (s .1 .1 .0, (s .1 .1 .1 .0, (rooms, tt))))) first-edition m c h in (w .0, w .2)

@@ -1,18 +1,16 @@
 -- Check a sheet against a table: what is claimed of it, over any edition and desk. Assumes nothing.
 use mathlib.Core.Path.{_≡_, refl, sym, ap, _∙_, subst}
 use mathlib.Core.Logic.{_↔_}
-use mathlib.Core.Bool.{Bool, true, false, not, _||_, Bool·beq}
+use mathlib.Core.Bool.{true, false, not, _||_, Bool·beq}
 use mathlib.Core.List.{List, [], _∷_, _++_}
 use Prim.Native.Nat.{ℕ, _^_, _≤_, _<_}
-use native.Mathlib.Nat.{le-of-eq}
 use native.Mathlib.Omega.{arith}
 use lib.Dec.{eqb}
 use lib.ListN.{length}
 use borrow.Author.Tests.{ltb-true, ltb-false, lt-ltb, le-ltb, le-leb, eq-eqb, not-false}
-use Rattle.bits.specs.Numbers.{bit, number}
+use Rattle.bits.specs.Numbers.{bit}
 use Rattle.bits.proofs.Bools.{clash, false-of, beq-same, same-beq}
 use Rattle.bits.proofs.Least.{is-least, least-of}
-use Rattle.bits.proofs.Numbers.{bit-number, number-lt}
 use Rattle.tables.specs.Table.{mostInputs, tableLength, tableBit, spareClear}
 use Rattle.sheets.specs.declared.kinds.Edition.{Edition}
 use Rattle.sheets.specs.Edition.{IsEdition}
@@ -25,7 +23,7 @@ use Rattle.bench.specs.declared.refusals.Verdict.{Verdict}
 use Rattle.bench.specs.declared.refusals.Verdict.the-variants.{Fine, Refused}
 use Rattle.bench.specs.declared.run_sheet.RunAnswer.{RunAnswer}
 use Rattle.bench.specs.Lines.{refusal, InOrder, verdict, numberOf, placeOf}
-use Rattle.bench.specs.Refusals.{badSheet, badRecord, sheetLines, tableDiffers}
+use Rattle.bench.specs.Refusals.{badSheet, sheetLines, tableDiffers}
 use Rattle.bench.specs.RebuildTable.{RebuildOutcome, rebuildOutcome}
 use Rattle.bench.specs.MakeSheet.{makeOutcome}
 use Rattle.bench.proofs.Lines.{in-order, passes, held, names-nothing}

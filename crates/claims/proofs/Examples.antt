@@ -1,4 +1,4 @@
--- Document 01's starred examples: one listing, one claim, shown of the definitions by computation. Assumes nothing.
+-- The starred examples of documents 01 and 02: one listing, one claim, shown of the definitions by computation. Assumes nothing.
 -- An answer is the number; then D and the room for H (try), A and B (find), the count and the records (make), the bit and the index (run), or the
 -- index and the table (rebuild). Of the bench program it is all that it writes.
 use mathlib.Core.Path.{_≡_, refl}
@@ -9,15 +9,18 @@ use Rattle.bits.specs.Numbers.{number}
 use Rattle.bits.specs.Below.{least}
 use Rattle.bits.specs.Sets.{size, disjoint, gather, spread}
 use Rattle.tables.specs.Table.{spareClear, tableOf}
+use Rattle.tables.specs.Counting.{counts, support, kept, tableOver}
 use Rattle.splits.specs.Columns.{firsts, assign, column, columns, fewColumns}
 use Rattle.splits.specs.Pair.{code, codeAt, tableD, bitH, tableH, bytesH}
 use Rattle.best.specs.Search.{first, tryB, tryA, best}
+use Rattle.best.specs.Counting.{bestCounting}
 use Rattle.sheets.specs.Network.{output, run}
 use Rattle.bits.specs.Lists.{listOf}
 use Rattle.sheets.specs.Record.{cellOf, spareOk, byteOk, keeps}
 use Rattle.sheets.specs.Sheet.{cellsFrom, sheetBit, rebuilt}
 use Rattle.sheets.specs.Writing.{recordByte, encode}
-use Rattle.chains.specs.Chain.{pick, chain, sheetOf}
+use Rattle.chains.specs.Chain.{pick, turn}
+use Rattle.chains.specs.Aside.{keptSignals, keptTable, chainAside, sheetAside}
 use Rattle.bench.specs.TrySplit.{tryOutcome}
 use Rattle.bench.specs.FindBest.{findOutcome}
 use Rattle.bench.specs.MakeSheet.{makeOutcome}
@@ -29,6 +32,10 @@ use Rattle.claims.specs.Questions.{Question, trying, finding, making, ru
 infix 90 _gets_
 abbrev pub _gets_ : Question → List ℕ → Example
 q gets a = record { asks = q; gets = a }
+
+-- the record of a cell that reads signal 0
+abbrev pub one : ℕ → List ℕ
+one T = 1 ∷ 0 ∷ 0xFF ∷ 0xFF ∷ 0xFF ∷ 0xFF ∷ 0xFF ∷ 0 ∷ T ∷ 0 ∷ 0 ∷ 0 ∷ 0 ∷ 0 ∷ 0 ∷ 0 ∷ []
 
 -- the record of a cell that reads two signals, with a table of one byte, before more records
 abbrev pub two : ℕ → ℕ → ℕ → List ℕ → List ℕ
@@ -49,7 +56,7 @@ and3 = two 0 1 0x08 (two 2 3 0x08 [])
 pub listing : List Example
 listing =
     -- 1
-    making 1 2 (0x02 ∷ []) gets (0 ∷ 1 ∷ 0x01 ∷ 0 ∷ 0xFF ∷ 0xFF ∷ 0xFF ∷ 0xFF ∷ 0xFF ∷ 0 ∷ 0x02 ∷ 0 ∷ 0 ∷ 0 ∷ 0 ∷ 0 ∷ 0 ∷ 0 ∷ [])
+    making 1 2 (0x02 ∷ []) gets (0 ∷ 1 ∷ one 0x02)
     -- 2: AND
     ∷ making 3 2 (0x80 ∷ []) gets (0 ∷ 2 ∷ and3)
     ∷ reading (3 ∷ 2 ∷ 0x80 ∷ []) gets (0 ∷ and3)
@@ -65,8 +72,8 @@ listing =
     ∷ making 3 2 (0xCA ∷ []) gets (8 ∷ 0 ∷ [])
     ∷ trying 3 3 3 4 (0xCA ∷ []) (0xAA ∷ 0xAA ∷ []) gets (0 ∷ 0xCA ∷ 0x0C ∷ 0xAA ∷ [])
     -- 6: constants
-    ∷ making 3 2 (0x00 ∷ []) gets (0 ∷ 2 ∷ two 0 1 0x00 (two 2 3 0x00 []))
-    ∷ making 3 2 (0xFF ∷ []) gets (0 ∷ 2 ∷ two 0 1 0x00 (two 2 3 0x0F []))
+    ∷ making 3 2 (0x00 ∷ []) gets (0 ∷ 1 ∷ one 0x00)
+    ∷ making 3 2 (0xFF ∷ []) gets (0 ∷ 1 ∷ one 0x03)
     -- 7: the four-way selector
     ∷ finding 6 4 selector gets (0 ∷ 21 ∷ 32 ∷ [])
     ∷ making 6 4 selector gets (0 ∷ 2 ∷ four 0 2 4 5 0xCA 0xF0 (four 1 3 5 6 0xA0 0xCF []))
@@ -98,7 +105,7 @@ listing =
     ∷ making 2 2 (0x10 ∷ []) gets (4 ∷ 0 ∷ [])
     ∷ trying 2 2 3 0 (0x0F ∷ []) (0xAA ∷ []) gets (0 ∷ 0 ∷ 0x03 ∷ [])
     ∷ finding 2 2 (0x0F ∷ []) gets (7 ∷ 0 ∷ 0 ∷ [])
-    ∷ making 2 2 (0x0F ∷ []) gets (0 ∷ 1 ∷ two 0 1 0x0F [])
+    ∷ making 2 2 (0x0F ∷ []) gets (0 ∷ 1 ∷ one 0x03)
     -- 11: sets
     ∷ trying 3 3 1 0 (0x80 ∷ []) (0xAA ∷ []) gets (5 ∷ 0 ∷ 0xAA ∷ [])
     ∷ trying 3 3 3 1 (0x80 ∷ []) (0xAA ∷ []) gets (5 ∷ 0 ∷ 0xAA ∷ [])
@@ -116,5 +123,5 @@ listing =
     ∷ []
 
 pub examples : answers listing ≡ expected listing
-unfolding listing asked tryOutcome findOutcome makeOutcome runOutcome rebuildOutcome sheetOf chain pick listOf best first tryA tryB disjoint fewColumns tableD tableH bytesH codeAt code bitH columns column assign firsts number size gather spread least spareClear tableOf output run cellOf spareOk byteOk keeps cellsFrom sheetBit rebuilt recordByte encode
+unfolding listing asked tryOutcome findOutcome makeOutcome runOutcome rebuildOutcome sheetAside chainAside turn keptSignals keptTable kept support counts tableOver bestCounting pick listOf best first tryA tryB disjoint fewColumns tableD tableH bytesH codeAt code bitH columns column assign firsts number size gather spread least spareClear tableOf output run cellOf spareOk byteOk keeps cellsFrom sheetBit rebuilt recordByte encode
 examples = refl

@@ -2,22 +2,20 @@
 use mathlib.Core.Path.{_≡_, refl, sym, ap, ap₂, _∙_}
 use mathlib.Core.Bool.{false}
 use mathlib.Core.List.{List, [], _∷_}
-use Prim.Native.Nat.{ℕ, _*_, _^_}
+use Prim.Native.Nat.{ℕ, _*_, _≤_}
 use native.Mathlib.Omega.{arith}
 use lib.ListN.{length, drop}
 use lib.Seq.{take-at}
-use Rattle.bits.specs.Numbers.{number}
-use Rattle.bits.proofs.Numbers.{number-lt}
 use Rattle.bits.proofs.Bools.{clash}
 use Rattle.tables.specs.Table.{tableBit}
 use Rattle.sheets.specs.declared.kinds.Edition.{Edition}
 use Rattle.sheets.specs.Edition.{IsEdition}
-use Rattle.sheets.specs.Network.{Cell}
+use Rattle.sheets.specs.Network.{Cell, Gives}
 use Rattle.sheets.specs.Sheet.{sheetCells, Good}
-use Rattle.sheets.specs.Writing.{sheetBytes}
+use Rattle.sheets.specs.Writing.{FitsFrom, sheetBytes}
 use Rattle.sheets.proofs.Wholes.{length-sheet, cells-back}
 use Rattle.chains.specs.Chain.{Made, stuck, made}
-use Rattle.chains.proofs.Rules.{sheet-fits}
+use Rattle.chains.proofs.Aside.{table-gives, table-fits, table-records}
 use Rattle.chains.proofs.Written.{written-good}
 use Rattle.bench.specs.declared.refusals.Verdict.{Verdict}
 use Rattle.bench.specs.declared.refusals.Verdict.the-variants.{Fine}
@@ -89,14 +87,24 @@ module _ (e : Edition) (d n K : ℕ) (t sheet work : List ℕ) where
         ap (recordsOf e) (w .outcome)
         ∙ take-at (sheetBytes e d (w .cells)) (drop (length (sheetBytes e d (w .cells))) sheet) (e .size * length (w .cells)) (length-sheet e d (w .cells))
 
+    abbrev one : 1 ≤ K
+    one = omega (arith, w .gate .two)
+
+    -- each cell fits its record, and their network gives the table
+    pub made-fits : FitsFrom e n (w .cells)
+    made-fits = table-fits n K (tableBit t) (w .gate .some) one (w .cells) (w .chain) e (w .gate .largest)
+
+    pub cells-give : Gives n K (tableBit t) (w .cells)
+    cells-give = table-gives n K (tableBit t) (w .gate .some) one (w .cells) (w .chain)
+
     module _ (ok : IsEdition e) where
       pub made-good : Good e d n (sheetBytes e d (w .cells)) (length (w .cells))
       made-good =
-          written-good e ok d n K (number (2 ^ n) (tableBit t)) (w .cells) (w .gate .largest) (number-lt (2 ^ n) (tableBit t)) (w .chain)
-          (omega (arith, w .gate .most, w .gate .two))
+          written-good e ok d n K (tableBit t) (w .cells) made-fits cells-give
+          (table-records n K (tableBit t) (w .gate .some) one (w .cells) (w .chain) (omega (arith, w .gate .most, w .gate .two)))
 
       -- read as a network, they are the cells
       pub made-network : networkOf e (makeOutcome e d n K t sheet work) ≡ w .cells
       made-network =
           ap₂ (sheetCells e) made-records (ap (λ o. o .answer .count) (w .outcome))
-          ∙ cells-back e d ok n (w .cells) (sheet-fits e n K (number (2 ^ n) (tableBit t)) (w .cells) (w .gate .largest) (number-lt (2 ^ n) (tableBit t)) (w .chain))
+          ∙ cells-back e d ok n (w .cells) made-fits

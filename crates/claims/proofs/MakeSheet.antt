@@ -1,24 +1,28 @@
 -- Make a sheet: what is claimed of it, over any edition and desk. Assumes nothing.
 use mathlib.Core.Path.{_≡_, refl, sym, ap, _∙_}
 use mathlib.Core.Logic.{_⊎_}
-use mathlib.Core.Bool.{Bool, true}
-use mathlib.Core.List.{List, [], _∷_}
+use mathlib.Core.Bool.{Bool, true, cond}
+use mathlib.Core.List.{List, [], _∷_, _++_}
 use Prim.Native.Nat.{ℕ, _^_, _<_, _≤_}
 use native.Mathlib.Omega.{arith}
 use lib.ListN.{length, replicate}
-use Rattle.bits.specs.Numbers.{bit, number}
+use Rattle.bits.specs.Numbers.{bit}
+use Rattle.bits.specs.Sets.{size}
 use Rattle.bits.proofs.Bools.{clash}
-use Rattle.bits.proofs.Numbers.{bit-number, number-lt}
 use Rattle.tables.specs.Table.{tableLength, tableBit}
+use Rattle.tables.specs.Counting.{AllCount, support, kept, tableOver}
+use Rattle.splits.specs.Split.{readsD}
+use Rattle.best.proofs.Counting.{counting-answer}
 use Rattle.sheets.specs.declared.kinds.Edition.{Edition}
 use Rattle.sheets.specs.Edition.{IsEdition}
 use Rattle.sheets.specs.Network.{Cell, Gives, Carries}
 use Rattle.sheets.specs.Writing.{sheetBytes}
-use Rattle.chains.specs.Chain.{Made, stuck, made, inputs}
+use Rattle.chains.specs.Chain.{Made, stuck, made, pick, inputs, lastCell}
 use Rattle.chains.specs.Words.{Blocked}
-use Rattle.chains.specs.Fewest.{AllCount, Fewest}
-use Rattle.chains.proofs.View.{stuck-exactly}
-use Rattle.chains.proofs.Same.{table-gives, table-fewest}
+use Rattle.chains.specs.Fewest.{Fewest}
+use Rattle.chains.proofs.Aside.{sheet-stuck, sheet-plain}
+use Rattle.chains.proofs.Fewest.{table-fewest}
+use Rattle.chains.proofs.Picked.{first-reads, sheet-constant}
 use Rattle.chains.proofs.Written.{written-bit, written-table}
 use Rattle.bench.specs.declared.refusals.Refusal.{Refusal}
 use Rattle.bench.specs.declared.refusals.Verdict.{Verdict}
@@ -27,20 +31,27 @@ use Rattle.bench.specs.declared.make_sheet.MakeAnswer.{MakeAnswer}
 use Rattle.bench.specs.Lines.{InOrder, verdict, numberOf, reply}
 use Rattle.bench.specs.Refusals.{chainStuck, isStuck}
 use Rattle.bench.specs.Lent.{workAfter}
+use Rattle.bench.specs.FindBest.{findOutcome}
 use Rattle.bench.specs.MakeSheet.{MakeOutcome, sheetFor, cellsIn, makeForm, makeLines, makeDone, makeNot, makeOutcome}
 use Rattle.bench.specs.RunSheet.{runOutcome}
 use Rattle.bench.specs.RebuildTable.{rebuildOutcome}
 use Rattle.bench.proofs.Lines.{passed, passes, held}
 use Rattle.bench.proofs.Lent.{work-found}
 use Rattle.claims.specs.Words.{ByLines, AllBytes, recordsOf, networkOf}
+use Rattle.claims.specs.Before.{makeBefore}
 use Rattle.claims.proofs.Verdicts.{is-refused, by-lines, work-cleared}
 use Rattle.claims.proofs.Tables.{table-back}
+use Rattle.claims.proofs.FindBest.{found-more, found-best}
 use Rattle.claims.proofs.Sheets.{good-run, good-rebuild}
-use Rattle.claims.proofs.Made.{IsMade, make-says, make-sound, is-made, not-stuck, made-records, made-good, made-network}
+use Rattle.claims.proofs.Made.{IsMade, make-says, make-sound, is-made, not-stuck, made-records, made-fits, cells-give, made-good, made-network}
 
 module _ (e : Edition) (d n K : ℕ) (t sheet work : List ℕ) where
-  abbrev T : ℕ
-  T = number (2 ^ n) (tableBit t)
+  -- the inputs that are kept of the gate's, as signals, and the table over them
+  abbrev keptInputs : List ℕ
+  keptInputs = pick n (bit (kept n (tableBit t))) (inputs n)
+
+  abbrev keptOf : ℕ
+  keptOf = tableOver n (bit (kept n (tableBit t))) (tableBit t)
 
   left : makeOutcome e d n K t sheet work .work ≡ workAfter (makeOutcome e d n K t sheet work .answer .verdict) work
   unfolding makeOutcome
@@ -88,33 +99,33 @@ module _ (e : Edition) (d n K : ℕ) (t sheet work : List ℕ) where
     pub made-runs : (x : ℕ) → x < 2 ^ n → runOutcome e d n (recordsOf e (makeOutcome e d n K t sheet work)) x ≡ record { verdict = Fine; bit = tableBit t x }
     made-runs x h =
         let cs = w .cells in
-        let same = written-bit e ok d n K T cs (w .gate .largest) (number-lt (2 ^ n) (tableBit t)) (w .chain) x h in
+        let same = written-bit e ok d n K (tableBit t) cs (made-fits e d n K t sheet work w) (cells-give e d n K t sheet work w) x h in
         ap (λ (s : List ℕ). runOutcome e d n s x) (made-records e d n K t sheet work w)
         ∙ good-run e ok d n (sheetBytes e d cs) (length cs) (w .gate .some) (w .gate .most) (made-good e d n K t sheet work w ok) x h
-        ∙ ap (λ (b : Bool). record { verdict = Fine; bit = b }) (same ∙ bit-number (2 ^ n) (tableBit t) x h)
+        ∙ ap (λ (b : Bool). record { verdict = Fine; bit = b }) same
 
     -- rebuilding from s, into any lent table of the right length, gives the table back, byte for byte (`written-table`, chains)
     pub made-rebuilds : AllBytes t → (table : List ℕ) → length table ≡ tableLength n
         → rebuildOutcome e d n (recordsOf e (makeOutcome e d n K t sheet work)) table ≡ record { verdict = Fine; table = t }
     made-rebuilds bytes table h =
         let cs = w .cells in
-        let back = written-table e ok d n K T cs (w .gate .largest) (number-lt (2 ^ n) (tableBit t)) (w .chain) in
+        let back = written-table e ok d n K (tableBit t) cs (made-fits e d n K t sheet work w) (cells-give e d n K t sheet work w) in
         ap (λ (s : List ℕ). rebuildOutcome e d n s table) (made-records e d n K t sheet work w)
         ∙ good-rebuild e ok d n (sheetBytes e d cs) (length cs) (w .gate .some) (w .gate .most) (made-good e d n K t sheet work w ok) table h
-        ∙ ap (λ (l : List ℕ). record { verdict = Fine; table = l }) (back ∙ table-back n (bit T) t bytes (w .gate .long) (w .gate .spare) (bit-number (2 ^ n) (tableBit t)))
+        ∙ ap (λ (l : List ℕ). record { verdict = Fine; table = l }) (back ∙ table-back n (tableBit t) t bytes (w .gate .long) (w .gate .spare) (λ x l. refl))
 
     -- s is a network of cells of at most K inputs, each reading signals given before it, that gives the table (`table-gives`, chains)
     pub made-gives : Gives n K (tableBit t) (networkOf e (makeOutcome e d n K t sheet work))
-    made-gives = rw (made-network e d n K t sheet work w ok) (table-gives n K (tableBit t) (w .cells) (w .chain))
+    made-gives = rw (made-network e d n K t sheet work w ok) (cells-give e d n K t sheet work w)
 
   -- ---- demand 3
 
-  -- refused as 8: a table in the chain with more than K inputs has no possible split (`stuck-exactly`, chains)
-  pub made-blocked : numberOf (makeOutcome e d n K t sheet work .answer .verdict) ≡ 8 → Blocked K n (inputs n) T
+  -- refused as 8: a table in the chain of the inputs that count has more than K of them and no possible split (`sheet-stuck`, chains)
+  pub made-blocked : numberOf (makeOutcome e d n K t sheet work .answer .verdict) ≡ 8 → Blocked K n keptInputs keptOf
   made-blocked h =
       let q = ap numberOf (sym (make-says e d n K t sheet work)) ∙ h in
       let g = make-sound e d n K t sheet work (passed (makeForm e n K t sheet work) (chainStuck (sheetFor n K t) ∷ []) 8 refl q .0) in
-      stuck-exactly n K T (g .some) (omega (arith, g .two)) .0
+      sheet-stuck n K (tableBit t) (g .some) (omega (arith, g .two)) .0
       (is-stuck (sheetFor n K t) (held (makeForm e n K t sheet work) (chainStuck (sheetFor n K t)) [] 8 refl refl (λ z. omega arith) q .0))
     where
       is-stuck : (c : Made) → isStuck c ≡ true → c ≡ stuck
@@ -123,19 +134,19 @@ module _ (e : Edition) (d n K : ℕ) (t sheet work : List ℕ) where
 
   module _ (form : InOrder (makeForm e n K t sheet work)) where
     -- the other way: where form and room are in order and such a table is in the chain, make is refused as 8
-    pub blocked-refused : Blocked K n (inputs n) T → numberOf (makeOutcome e d n K t sheet work .answer .verdict) ≡ 8
+    pub blocked-refused : Blocked K n keptInputs keptOf → numberOf (makeOutcome e d n K t sheet work .answer .verdict) ≡ 8
     blocked-refused b =
         let g = make-sound e d n K t sheet work form in
         ap numberOf (make-says e d n K t sheet work ∙ passes (makeForm e n K t sheet work) (chainStuck (sheetFor n K t) ∷ []) form)
-        ∙ ap (λ (c : Made). numberOf (verdict (chainStuck c ∷ []))) (stuck-exactly n K T (g .some) (omega (arith, g .two)) .1 b)
+        ∙ ap (λ (c : Made). numberOf (verdict (chainStuck c ∷ []))) (sheet-stuck n K (tableBit t) (g .some) (omega (arith, g .two)) .1 b)
 
-    -- where form and room are in order, the output depends on each input, and one or two cells carry the table, wired in any way at all: make is done,
-    -- the network that it wrote gives the table with the fewest cells, and its count is that fewest number (`table-fewest`, chains)
-    pub made-fewest : IsEdition e → AllCount n (tableBit t) → (m : ℕ) → Carries n K m (tableBit t) → m ≤ 2
+    -- where form and room are in order and one or two cells carry the table, wired in any way at all: make is done, the network that it wrote gives the
+    -- table with the fewest cells, and its count is that fewest number (`table-fewest`, chains)
+    pub made-fewest : IsEdition e → (m : ℕ) → Carries n K m (tableBit t) → m ≤ 2
         → (makeOutcome e d n K t sheet work .answer .verdict ≡ Fine) × Fewest n K (tableBit t) (networkOf e (makeOutcome e d n K t sheet work))
         × ((m′ : ℕ) → Carries n K m′ (tableBit t) → makeOutcome e d n K t sheet work .answer .count ≤ m′)
-    made-fewest ok all m c h =
-        let g = make-sound e d n K t sheet work form in go (table-fewest n K (tableBit t) m (g .some) (omega (arith, g .two)) all c h)
+    made-fewest ok m c h =
+        let g = make-sound e d n K t sheet work form in go (table-fewest n K (tableBit t) (g .some) (omega (arith, g .two)) m c h)
       where
         go : (cs : List Cell) × (sheetFor n K t ≡ made cs) × Fewest n K (tableBit t) cs
             → (makeOutcome e d n K t sheet work .answer .verdict ≡ Fine) × Fewest n K (tableBit t) (networkOf e (makeOutcome e d n K t sheet work))
@@ -146,3 +157,32 @@ module _ (e : Edition) (d n K : ℕ) (t sheet work : List ℕ) where
               rw (made-network e d n K t sheet work (w .0) ok, w .1) (p .2),
               rw (w .0 .outcome, w .1) (p .2 .least),
             )
+
+  -- ---- where the output depends on each input, make answers as it did before inputs were set aside (`sheet-plain`, chains)
+  pub make-as-before : AllCount n (tableBit t) → makeOutcome e d n K t sheet work ≡ makeBefore e d n K t sheet work
+  unfolding makeOutcome
+  make-as-before all =
+      ap (λ (c : Made). reply (verdict (makeForm e n K t sheet work ++ (chainStuck c ∷ []))) (makeDone e d (cellsIn c) sheet work) (makeNot sheet work))
+      (sheet-plain n (tableBit t) K all)
+
+-- ---- a constant, and find beside make
+
+-- where no input counts, make is done with one cell that reads signal 0, and its table is 0 or 3 (`sheet-constant`, chains)
+pub constant-made : (e : Edition) → IsEdition e → (d n K : ℕ) (t sheet work : List ℕ) → InOrder (makeForm e n K t sheet work) → size n (bit (support n (tableBit t))) ≡ 0
+    → (makeOutcome e d n K t sheet work .answer .verdict ≡ Fine)
+    × (networkOf e (makeOutcome e d n K t sheet work) ≡ lastCell (0 ∷ []) (cond (tableBit t 0) 3 0) ∷ [])
+constant-made e ok d n K t sheet work form none =
+    let g = make-sound e d n K t sheet work form in
+    let cs = lastCell (0 ∷ []) (cond (tableBit t 0) 3 0) ∷ [] in
+    let w = not-stuck e d n K t sheet work form cs (sheet-constant n K (tableBit t) (g .some) (omega (arith, g .two)) none) in
+    (ap (λ o. o .answer .verdict) (w .0 .outcome), made-network e d n K t sheet work (w .0) ok ∙ w .1)
+
+-- where both are done, find's masks are the inputs that make's first cell reads (`first-reads`, chains)
+pub first-cell-reads : (e : Edition) → IsEdition e → (d n K : ℕ) (t sheet work area : List ℕ) → makeOutcome e d n K t sheet work .answer .verdict ≡ Fine
+    → findOutcome e n K t area .answer .verdict ≡ Fine → (c : Cell) (cs : List Cell) → networkOf e (makeOutcome e d n K t sheet work) ≡ c ∷ cs
+    → c .signals ≡ pick n (readsD (bit (findOutcome e n K t area .answer .own)) (bit (findOutcome e n K t area .answer .shared))) (inputs n)
+first-cell-reads e ok d n K t sheet work area done found c cs is =
+    let w = is-made e d n K t sheet work done in
+    let b = found-best e n K t area found in
+    first-reads n K (tableBit t) _ _ c cs (w .gate .some) (omega (arith, w .gate .two)) (found-more e n K t area found)
+    (w .chain ∙ ap made (sym (made-network e d n K t sheet work w ok) ∙ is)) (counting-answer n 1 (tableBit t) K _ _ b)

@@ -7,8 +7,11 @@ use native.Mathlib.Nat.{not-suc-le-zero, mul-suc, mul-zero, mul-le-mul-left}
 use native.Mathlib.Omega.{arith}
 use lib.ListN.{length, getD, take, drop, List·getD-append}
 use lib.Seq.{take-at, drop-at, drop-append-add, getD-take}
-use Rattle.bits.specs.Numbers.{bit, number}
+use Rattle.bits.specs.Numbers.{bit}
+use Rattle.bits.specs.Sets.{size}
 use Rattle.tables.specs.Table.{tableBit}
+use Rattle.tables.specs.Counting.{support, kept, tableOver}
+use Rattle.tables.proofs.Keeping.{kept-most}
 use Rattle.sheets.specs.declared.kinds.Edition.{Edition}
 use Rattle.sheets.specs.Edition.{IsEdition}
 use Rattle.sheets.specs.Network.{Cell, run}
@@ -17,11 +20,10 @@ use Rattle.sheets.specs.Writing.{encode, sheetBytes}
 use Rattle.sheets.proofs.Looks.{record-keeps}
 use Rattle.sheets.proofs.Inverse.{length-encode}
 use Rattle.sheets.proofs.Wholes.{length-sheet}
-use Rattle.chains.specs.Chain.{made, inputs, lastCell}
+use Rattle.chains.specs.Chain.{made, pick, inputs, lastCell}
 use Rattle.chains.specs.Words.{Makes, ends}
-use Rattle.chains.proofs.Lists.{inputs-length}
-use Rattle.chains.proofs.View.{made-exactly}
-use Rattle.chains.proofs.Rules.{sheet-most}
+use Rattle.chains.proofs.Lists.{pick-length}
+use Rattle.chains.proofs.Aside.{sheet-made, table-most}
 use Rattle.bench.specs.declared.refusals.Refusal.{Refusal}
 use Rattle.bench.specs.declared.refusals.Verdict.the-variants.{Fine, Refused}
 use Rattle.bench.specs.Lines.{InOrder}
@@ -36,14 +38,15 @@ use Rattle.claims.proofs.MakeSheet.{made-rebuilds, made-gives}
 
 -- ---- a bench that only says no
 
-module _ (e : Edition) (d n K : ℕ) (t sheet work : List ℕ) (form : InOrder (makeForm e n K t sheet work)) (small : n ≤ K) where
-  -- where form and room are in order and n is at most K, make is done, with one cell
+module _ (e : Edition) (d n K : ℕ) (t sheet work : List ℕ) (form : InOrder (makeForm e n K t sheet work)) (small : size n (bit (support n (tableBit t))) ≤ K) where
+  -- where form and room are in order and at most K inputs count, make is done, with one cell
   pub one-cell : makeOutcome e d n K t sheet work .answer ≡ record { verdict = Fine; count = 1 }
   one-cell =
       let g = make-sound e d n K t sheet work form in
-      let T = number (2 ^ n) (tableBit t) in
-      let cs = lastCell (inputs n) T ∷ [] in
-      let w = not-stuck e d n K t sheet work form cs (made-exactly n K T cs (g .some) (omega (arith, g .two)) .1 (ends (omega (arith, inputs-length n)))) in
+      let s = bit (kept n (tableBit t)) in
+      let cs = lastCell (pick n s (inputs n)) (tableOver n s (tableBit t)) ∷ [] in
+      let few : length (pick n s (inputs n)) ≤ K = omega (arith, pick-length n s (inputs n), kept-most n (tableBit t), g .two) in
+      let w = not-stuck e d n K t sheet work form cs (sheet-made n K (tableBit t) (g .some) (omega (arith, g .two)) cs .1 (ends few)) in
       ap (λ o. o .answer) (w .0 .outcome) ∙ ap (λ (l : List Cell). record { verdict = Fine; count = length l }) (w .1)
 
   -- so no refusal, whatever it leaves in the lent bytes, keeps the promise
@@ -120,11 +123,11 @@ module _ (e : Edition) (ok : IsEdition e) (d n K : ℕ) (t sheet work : List ℕ
       → recordBytes e (recordsOf e (makeOutcome e d n K t sheet work)) i ≡ encode e d (getD (cellsIn (sheetFor n K t)) i c)
   each-record = rw (made-records e d n K t sheet work w, w .outcome, w .chain) (record-is e d (w .cells))
 
-  -- the cells are those of the chain of best splits, in words (`made-exactly`, chains)
-  pub chain-in-words : Makes K n (inputs n) (number (2 ^ n) (tableBit t)) (networkOf e (makeOutcome e d n K t sheet work))
+  -- the cells are those of the chain of best splits over what is kept, in words (`sheet-made`, chains)
+  pub chain-in-words : let s = bit (kept n (tableBit t)) in Makes K n (pick n s (inputs n)) (tableOver n s (tableBit t)) (networkOf e (makeOutcome e d n K t sheet work))
   chain-in-words =
       rw (made-network e d n K t sheet work w ok)
-      (made-exactly n K (number (2 ^ n) (tableBit t)) (w .cells) (w .gate .some) (omega (arith, w .gate .two)) .0 (w .chain))
+      (sheet-made n K (tableBit t) (w .gate .some) (omega (arith, w .gate .two)) (w .cells) .0 (w .chain))
 
   -- and the last record's output is the table's bit at every assignment
   pub not-first-record-alone : (x : ℕ) → x < 2 ^ n → run false n (networkOf e (makeOutcome e d n K t sheet work)) (bit x) ≡ tableBit t x
@@ -132,14 +135,14 @@ module _ (e : Edition) (ok : IsEdition e) (d n K : ℕ) (t sheet work : List ℕ
 
   -- ---- an invented count
 
-  -- the count is how many cells the chain has, how many the written network has, and how many records were written; it is at most max(1, n - K + 1)
+  -- the count is how many cells the chain has, how many the written network has, and how many records were written; it is at most max(1, c - K + 1), where c inputs count
   pub not-invented-count : (sheetFor n K t ≡ made (networkOf e (makeOutcome e d n K t sheet work)))
       × (length (networkOf e (makeOutcome e d n K t sheet work)) ≡ makeOutcome e d n K t sheet work .answer .count)
       × (records e (recordsOf e (makeOutcome e d n K t sheet work)) ≡ makeOutcome e d n K t sheet work .answer .count)
-      × (makeOutcome e d n K t sheet work .answer .count ≤ max 1 (n + 1 - K))
+      × (makeOutcome e d n K t sheet work .answer .count ≤ max 1 (size n (bit (support n (tableBit t))) + 1 - K))
   not-invented-count = rw (made-network e d n K t sheet work w ok, made-records e d n K t sheet work w, w .outcome) (
     w .chain,
     refl,
     counted e d n (sheetBytes e d (w .cells)) ok (length (w .cells)) (made-good e d n K t sheet work w ok),
-    sheet-most n K (number (2 ^ n) (tableBit t)) (w .cells) (w .chain),
+    table-most n K (tableBit t) (w .gate .some) (omega (arith, w .gate .two)) (w .cells) (w .chain),
   )

@@ -1,3 +1,4 @@
 -- A few words for the claims, and the listing of examples.
 pub mod Words
 pub mod Questions
+pub mod Before

@@ -18,7 +18,7 @@ use Rattle.bits.proofs.Numbers.{bit-below, bit-shr, bit-mod, bit-zero, bit-numb
 use Rattle.bits.proofs.Sums.{number-append, bit-not}
 use Rattle.bits.proofs.Filling.{Filled}
 use Rattle.tables.specs.Table.{tableLength, tableBit}
-use Rattle.tables.specs.Stretch.{WordAt}
+use Rattle.tables.specs.Words.{WordAt}
 use Rattle.runs.specs.Words.{inputWord, lane}
 use Rattle.sheets.specs.declared.kinds.Edition.{Edition}
 use Rattle.sheets.specs.Network.{output}
@@ -52,7 +52,7 @@ module _ (e : Edition) (r : List ℕ) (w : Runnable e r) (v : ℕ → Bool) {q :
       short : 8 ≤ length part → e .most < 6 → ⊥
       short h g = omega (arith, w .long, part-length e r, w .sound .ends, pow-mono {i = e .most - 3} {j = 2} (omega arith))
 
-      long : 6 ≤ e .most → 64 * q / 64 * 8 + 8 ≤ length part
+      long : 6 ≤ e .most → 8 * (64 * q / 64) + 8 ≤ length part
       long g =
           let z : e .most - 3 ≡ 3 + (e .most - 6) = omega arith in
           omega (arith, room, w .long, part-length e r, w .sound .ends, ap (λ (k : ℕ). 2 ^ k) z ∙ pow-add 2 3 (e .most - 6))

@@ -1,23 +1,23 @@
 -- Words of a sheet and of a table, place by place: where they are the same no assignment differs, and the lowest place at which they aren't is the
 -- least assignment that does. Past the last assignment both are 0. Assumes nothing.
-use mathlib.Core.Path.{_≡_, refl, sym, ap, ap₂, _∙_, subst}
+use mathlib.Core.Path.{_≡_, sym, ap, ap₂, _∙_, subst}
 use mathlib.Core.Bool.{Bool, true, false, not, _&&_, _||_, Bool·beq}
 use mathlib.Core.List.{List}
 use Prim.Native.Nat.{ℕ, _+_, _-_, _*_, _/_, _%_, _^_, _<_, _≤_}
 use native.Mathlib.Decide.{decLt}
 use native.Mathlib.Omega.{arith}
 use lib.Dec.{ltb}
-use lib.ListN.{length, getD, List·getD-eq-default}
+use lib.ListN.{length, List·getD-eq-default}
 use lib.Pow.{pow-add, pow-mono}
 use borrow.Author.Tests.{lt-ltb, le-ltb, not-true, not-false}
-use Rattle.bits.specs.Numbers.{bit, number}
+use Rattle.bits.specs.Numbers.{bit}
 use Rattle.bits.specs.Below.{least, IsLeast}
-use Rattle.bits.proofs.Bools.{clash, beq-same, same-beq, false-of}
+use Rattle.bits.proofs.Bools.{clash, beq-same, same-beq}
 use Rattle.bits.proofs.Below.{every-at}
 use Rattle.bits.proofs.Least.{is-least, least-of}
 use Rattle.bits.proofs.Numbers.{bit-number, bit-zero, number-bit, number-ext, number-lt}
 use Rattle.tables.specs.Table.{tableLength, tableBit, spareClear}
-use Rattle.tables.specs.Stretch.{WordAt}
+use Rattle.tables.specs.Words.{WordAt}
 use Rattle.sheets.specs.declared.kinds.Edition.{Edition}
 use Rattle.sheets.specs.Sheet.{sheetBit}
 use Rattle.runs.specs.Words.{sheetWord}

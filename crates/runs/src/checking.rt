@@ -1,7 +1,7 @@
 // A sheet held against a table, 64 assignments at a time.
 use crate::words::word_of;
 use sheets::kinds::Edition;
-use tables::stretch::bits_from;
+use tables::words::bits_from;
 ghost use mathlib.Core.Path.{_≡_};
 ghost use mathlib.Core.Bool.{true};
 ghost use Prim.Native.Nat.{_*_, _<_, _≤_};

@@ -3,7 +3,7 @@ use crate::words::word_of;
 use bits::patterns::half;
 use sheets::kinds::Edition;
 use sheets::rules;
-use tables::stretch::bits_from;
+use tables::words::bits_from;
 ghost use mathlib.Core.Path.{_≡_};
 ghost use Prim.Native.Nat.{_*_, _^_, _<_, _≤_};
 ghost use lib.ListN.{length};

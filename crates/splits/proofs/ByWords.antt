@@ -1,7 +1,7 @@
 -- Columns compared word by word: a part of the free inputs is a part of those from position 6 on, which names a word, and a part of those
 -- below, which names a place within it. Assumes nothing.
-use mathlib.Core.Path.{_≡_, refl, sym, ap, ap₂, _∙_, subst}
-use mathlib.Core.Bool.{Bool, true, false, _&&_, _||_, Bool·beq}
+use mathlib.Core.Path.{_≡_, sym, ap, _∙_}
+use mathlib.Core.Bool.{Bool, true, false, _&&_, _||_}
 use mathlib.Core.List.{List}
 use Prim.Native.Nat.{ℕ, _+_, _-_, _*_, _/_, _%_, _^_, _<_, _≤_}
 use native.Mathlib.Nat.{mod-lt}
@@ -11,7 +11,7 @@ use lib.Bits.{bitAnd}
 use lib.Dec.{lit<}
 use lib.ListN.{length}
 use lib.Pow.{pow-add, pow-pos, pow-mono}
-use Rattle.bits.specs.Numbers.{bit, number}
+use Rattle.bits.specs.Numbers.{bit}
 use Rattle.bits.specs.Sets.{wordPositions, partOf, size, gather, spread}
 use Rattle.bits.proofs.Below.{every-at, every-all}
 use Rattle.bits.proofs.Bools.{clash, false-of, and-left, beq-same, same-beq}
@@ -21,7 +21,7 @@ use Rattle.bits.proofs.Spreading.{bit-spread, spread-lt, gather-lt}
 use Rattle.bits.proofs.Subsets.{part-at, part-all}
 use Rattle.bits.proofs.Sums.{number-join}
 use Rattle.bits.proofs.Walking.{Walked}
-use Rattle.tables.specs.Stretch.{WordAt}
+use Rattle.tables.specs.Words.{WordAt}
 use Rattle.splits.specs.Reading.{Without, alike, highPart, lowPlaces}
 use Rattle.splits.proofs.Reading.{read-lt}
 
@@ -162,7 +162,7 @@ module _ (n L : ℕ) (below : L < 2 ^ n) where
 pub word-at : (n : ℕ) (t : List ℕ) (p : ℕ) → 2 ^ n ≤ 8 * length t → p < 2 ^ n → WordAt t p
 word-at n t p room l = record { long = long; short = λ h. omega arith }
   where
-    long : 8 ≤ length t → p / 64 * 8 + 8 ≤ length t
+    long : 8 ≤ length t → 8 * (p / 64) + 8 ≤ length t
     long h = elim (decLt n 6) [
       | yes g ↦ omega (arith, pow-mono {i = n} {j = 6} (omega arith))
       | no g ↦ let e : n ≡ 6 + (n - 6) = omega arith in omega (arith, ap (λ (m : ℕ). 2 ^ m) e ∙ pow-add 2 6 (n - 6))

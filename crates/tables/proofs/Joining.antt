@@ -12,7 +12,7 @@ use Rattle.bits.proofs.Building.{joined, joined-fits}
 use Rattle.bits.proofs.Numbers.{number-lt, number-ext, number-bit, bit-number, bit-shr, bit-high, bit-zero}
 use Rattle.bits.proofs.Sums.{number-append}
 use Rattle.tables.specs.Table.{tableBit}
-use Rattle.tables.specs.Stretch.{WordAt}
+use Rattle.tables.specs.Words.{WordAt}
 
 module _ (t : List ℕ) (a : ℕ) where
   -- the bits from byte a on
@@ -56,7 +56,7 @@ stretch-short t p r k l is h =
     shifted t 0 (length t) r (p % 64) k is (λ j g m. ap (λ (b : ℕ). bit b ((8 * 0 + j) % 8)) (List·getD-eq-default t 0 {n = (8 * 0 + j) / 8} (omega arith)) ∙ bit-zero ((8 * 0 + j) % 8)) h
     ∙ ap (tableBit t) e
 
-pub stretch-long : (t : List ℕ) (p r k : ℕ) → r ≡ number (8 * 8) (λ j. tableBit t (8 * (p / 64 * 8) + j)) → p % 64 + k < 64 → bit (r / 2 ^ (p % 64)) k ≡ tableBit t (p + k)
+pub stretch-long : (t : List ℕ) (p r k : ℕ) → r ≡ number (8 * 8) (λ j. tableBit t (8 * (8 * (p / 64)) + j)) → p % 64 + k < 64 → bit (r / 2 ^ (p % 64)) k ≡ tableBit t (p + k)
 stretch-long t p r k is h =
-    let e : 8 * (p / 64 * 8) + (p % 64 + k) ≡ p + k = omega arith in
-    shifted t (p / 64 * 8) 8 r (p % 64) k is (λ j g m. absurd (omega arith)) h ∙ ap (tableBit t) e
+    let e : 8 * (8 * (p / 64)) + (p % 64 + k) ≡ p + k = omega arith in
+    shifted t (8 * (p / 64)) 8 r (p % 64) k is (λ j g m. absurd (omega arith)) h ∙ ap (tableBit t) e

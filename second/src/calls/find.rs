@@ -6,6 +6,7 @@ use crate::fresh::gate::{self, Ask};
 use crate::fresh::Fresh;
 use crate::random::Random;
 use crate::refusals::{clear_work, gate, DONE, NO_NEED, NO_ROOM, NO_SPLIT, WORK_BYTES};
+use crate::sets::size;
 use crate::split::Split;
 
 pub static CALL: Call = Call {
@@ -37,7 +38,7 @@ fn find(n: u64, k: u64, table: &[u8], work: usize) -> Result<Split, u8> {
     if work < WORK_BYTES {
         return Err(NO_ROOM);
     }
-    if gate.inputs <= k {
+    if size(gate.counting()) <= k {
         return Err(NO_NEED);
     }
     best(&gate, k).ok_or(NO_SPLIT)

@@ -5,6 +5,7 @@ pub mod damage;
 pub mod every_bit;
 pub mod every_rule;
 pub mod gate;
+pub mod ignored;
 mod large;
 pub mod networks;
 pub mod sheet;
@@ -21,11 +22,13 @@ pub struct Fresh {
     pub tags: Vec<String>,
 }
 
-/// So many fresh cases, the calls in turn; besides, a few large ones, every rule
-/// of the records broken, and every bit of some sheets flipped.
+/// So many fresh cases, the calls in turn; besides, a few large ones, tables that
+/// ignore inputs in every place, every rule of the records broken, and every bit
+/// of some sheets flipped.
 pub fn cases(random: &mut Random, count: usize) -> Vec<Fresh> {
     let mut list: Vec<Fresh> = (0..count).map(|i| (TABLE[i % TABLE.len()].fresh)(random)).collect();
     list.extend(large::cases(random));
+    list.extend(ignored::cases(random));
     list.extend(every_rule::cases(random));
     list.extend(every_bit::cases(random));
     for fresh in &mut list {

@@ -240,5 +240,11 @@ fn ignored(random: &mut Random, n: usize) -> Table {
     let places = random.part_of(all(n), read);
     let kind = random.pick(&[Kind::Random, Kind::And, Kind::Xor, Kind::Majority, Kind::Chain]);
     let inner = kind.draw(random, size(places)).table;
-    Table::from_rule(n, |x| inner.bits[gather(x, places)])
+    spread(&inner, n, places)
+}
+
+/// The table of n inputs that reads the members of a set as the inner table
+/// reads its inputs, and ignores the others.
+pub fn spread(inner: &Table, n: usize, set: u16) -> Table {
+    Table::from_rule(n, |x| inner.bits[gather(x, set)])
 }

@@ -2,20 +2,22 @@
 
 use super::programs::{Program, Run};
 use crate::bench::bench;
-use crate::examples::{unhex, SHEET_OF_1, SHEET_OF_2};
+use crate::examples::{unhex, SHEET_OF_1, SHEET_OF_2, SHEET_OF_6_ONES, SHEET_OF_6_ZEROS};
 use crate::fresh::tables::KINDS;
 use crate::random::Random;
 
 pub static PROGRAM: Program =
     Program { name: "bench", ours: bench, documented, fresh, number: |output| output[0] };
 
-/// What the document itself says about the bench program.
+/// What the documents themselves say about the bench program.
 fn documented() -> Vec<Run> {
     let done = |sheet: &str| [&[0], &unhex(sheet)[..]].concat();
     let long = |n: u8, length: usize| [vec![n, 6], vec![0; length]].concat();
     vec![
         (vec![1, 2, 0x02], done(SHEET_OF_1)),
         (vec![3, 2, 0x80], done(SHEET_OF_2)),
+        (vec![3, 2, 0x00], done(SHEET_OF_6_ZEROS)),
+        (vec![3, 2, 0xFF], done(SHEET_OF_6_ONES)),
         (vec![3, 2, 0xE8], vec![8]),
         (vec![0, 2, 0x80], vec![1]),
         (vec![17, 2, 0x80], vec![1]),

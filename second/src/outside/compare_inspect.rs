@@ -2,7 +2,8 @@
 
 use super::programs::{Program, Run};
 use crate::calls::check;
-use crate::examples::{unhex, HAND_WIRED, SHEET_OF_2};
+use crate::examples::requests::HAND_WIRED;
+use crate::examples::{unhex, SHEET_OF_2};
 use crate::inspect::inspect;
 use crate::random::Random;
 

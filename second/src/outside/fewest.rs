@@ -11,10 +11,11 @@ use crate::case::Case;
 use crate::cell::{read_sheet, MOST_READS, RECORD_BYTES, SHEET_BYTES};
 use crate::describe::{answer_text, case_text, hex};
 use crate::fresh::networks;
-use crate::fresh::tables::{any, flip_bits, KINDS};
+use crate::fresh::tables::{any, flip_bits, spread, KINDS};
 use crate::network::rebuild;
 use crate::random::Random;
 use crate::refusals::{DONE, NO_SPLIT, WORK_BYTES};
+use crate::sets::all;
 use crate::table::Table;
 
 /// A table, and whether it was made up as two cells.
@@ -30,13 +31,15 @@ struct Group {
     tables: Vec<Asked>,
 }
 
+/// How many sheets of one, two, three and more cells make wrote, and how many
+/// tables it refused. Those of up to three cells have the fewest.
 #[derive(Default)]
 struct Counts {
-    refused: usize,
-    no_promise: usize,
     one: usize,
     two: usize,
+    three: usize,
     more: usize,
+    refused: usize,
 }
 
 pub fn fewest(arguments: &Arguments) -> Result<(), String> {
@@ -50,17 +53,18 @@ pub fn fewest(arguments: &Arguments) -> Result<(), String> {
     }
     let batch: Vec<u8> = groups.iter().flat_map(group_bytes).collect();
     let output = ask(wanted, &batch)?;
-    println!("  n  K   tables  no promise   one cell  two cells  more are needed (refused)");
+    println!("  n  K   tables   one cell  two cells      three       more    refused");
     let mut left = &output[..];
     let mut made = Vec::new();
     for group in &groups {
-        let Counts { refused, no_promise, one, two, more } =
-            judge_group(group, &mut left, &mut made)?;
-        let (n, k, all) = (group.n, group.k, group.tables.len());
-        println!("{n:>3}{k:>3}{all:>9}{no_promise:>12}{one:>11}{two:>11}{more:>11} ({refused})");
+        let Counts { one, two, three, more, refused } = judge_group(group, &mut left, &mut made)?;
+        let (n, k, tables) = (group.n, group.k, group.tables.len());
+        println!("{n:>3}{k:>3}{tables:>9}{one:>11}{two:>11}{three:>11}{more:>11}{refused:>11}");
     }
     nothing_left(left)?;
-    println!("make's count is the fewest wherever it is promised");
+    println!(
+        "make's count is the fewest wherever one or two cells do, and in each sheet of up to three"
+    );
     accepted(wanted, &made)
 }
 
@@ -131,9 +135,17 @@ fn groups(random: &mut Random, sample: usize) -> Vec<Group> {
     list
 }
 
+/// In every third table only some of the n inputs count, in any places.
+fn sampled(random: &mut Random, n: usize, k: usize, i: usize) -> Asked {
+    let inputs = if random.one_in(3) { random.between(1, n) } else { n };
+    let Asked { table, made_of_two } = sampled_over_all(random, inputs, k, i);
+    let set = random.part_of(all(n), inputs);
+    Asked { table: spread(&table, n, set), made_of_two }
+}
+
 /// By turns two cells wired in any way, the same with a bit or two flipped, a
 /// table of a structured kind, and a random one.
-fn sampled(random: &mut Random, n: usize, k: usize, i: usize) -> Asked {
+fn sampled_over_all(random: &mut Random, n: usize, k: usize, i: usize) -> Asked {
     if i % 2 == 0 && n < 2 * k {
         let mut table = networks::two_cells(random, n, k);
         let made_of_two = i % 4 == 0;
@@ -178,7 +190,8 @@ fn judge_group(group: &Group, left: &mut &[u8], sheets: &mut Vec<Case>) -> Resul
 }
 
 /// Where one cell carries the table make must give one, where two do it must
-/// give two; promised only for tables that depend on each input, or that fit a cell.
+/// give two. Where neither do it may give three, which are then the fewest, or
+/// more, or refuse.
 fn judge_one(
     group: &Group,
     asked: &Asked,
@@ -194,18 +207,12 @@ fn judge_one(
         (NO_SPLIT, 0) => None,
         (number, count) => return Err(format!("number {number}, count {count}")),
     };
-    if group.n > group.k && !asked.table.depends_on_each_input() {
-        counts.no_promise += 1;
-        return Ok(());
-    }
     match (fewest, made) {
         (Some(1), Some(1)) => counts.one += 1,
         (Some(2), Some(2)) => counts.two += 1,
-        (None, Some(count)) if count > 2 => counts.more += 1,
-        (None, None) => {
-            counts.more += 1;
-            counts.refused += 1;
-        }
+        (None, Some(3)) => counts.three += 1,
+        (None, Some(count)) if count > 3 => counts.more += 1,
+        (None, None) => counts.refused += 1,
         _ => return Err(format!("fewest by networks {fewest:?}, by make {made:?}")),
     }
     Ok(())

@@ -6,10 +6,11 @@ use crate::case::Case;
 use crate::cell::{read_sheet, write_sheet, MOST_READS, SHEET_BYTES};
 use crate::chain::chain;
 use crate::fresh::sheets;
-use crate::fresh::tables::{any, chain_for, compose, compose_parity, flip_bits};
+use crate::fresh::tables::{any, chain_for, compose, compose_parity, flip_bits, spread};
 use crate::network::rebuild;
 use crate::random::Random;
-use crate::refusals::{DONE, NO_SPLIT, WORK_BYTES};
+use crate::refusals::{DONE, NO_NEED, NO_SPLIT, WORK_BYTES};
+use crate::sets::all;
 use crate::table::Table;
 
 /// Up to here it is cheap to check that a near miss has no split.
@@ -34,6 +35,7 @@ pub fn subjects() -> Vec<Subject> {
         none("find, no split, near miss", SIZES, |random, n| find(near(random, n))),
         none("find, no split, sparse", SIZES, |random, n| find(sparse(random, n))),
         none("find, no split, XOR but the last row", SIZES_OF_SLOW, |_, n| find(nearly_xor(n))),
+        Subject { name: "find, 6 inputs count", sizes: SIZES, draw: find_few, expected: NO_NEED },
         done("try, 4 own and 2 shared", try_planted),
         done("make, AND, K = 6", |_, n| make(and(n), MOST_READS)),
         done("make, XOR, K = 2", |_, n| make(xor(n), 2)),
@@ -113,6 +115,13 @@ fn nearly_xor(n: usize) -> Table {
 
 fn find(table: Table) -> Case {
     calls::find::case(table.inputs as u64, MOST_READS as u64, table.to_bytes(), WORK_BYTES)
+}
+
+/// A random table over six of the inputs.
+fn find_few(random: &mut Random, n: usize) -> Case {
+    let inner = any(random, MOST_READS);
+    let set = random.part_of(all(n), MOST_READS);
+    find(spread(&inner, n, set))
 }
 
 fn try_planted(random: &mut Random, n: usize) -> Case {

@@ -16,7 +16,7 @@ use Rattle.sheets.specs.Writing.{sheetBytes}
 use Rattle.sheets.specs.Held.{cellsOf}
 use Rattle.sheets.proofs.Wholes.{length-sheet}
 use Rattle.chains.specs.Chain.{Made, stuck, made}
-use Rattle.chains.proofs.Loaded.{made-fits}
+use Rattle.chains.proofs.Aside.{table-few}
 use Rattle.bench.specs.declared.refusals.Verdict.{Verdict}
 use Rattle.bench.specs.declared.refusals.Verdict.the-variants.{Fine}
 use Rattle.bench.specs.Lines.{verdict, reply}
@@ -62,7 +62,7 @@ put-all-requires c κs =
     let p = s .pre .0 in
     let r = m .chain-of .result in
     let w = sym (m .chain-of .ensures .chain) ∙ ap (λ (b : Bool). cond b (made (cellsOf (r .sheet))) stuck) (not-false (r .finished) (i .if1 .left)) in
-    (p .0, p .1, m .chain-of .ensures .few, made-fits (a .e .most) (a .n) (a .k) (tableBit (a .t .now)) (cellsOf (r .sheet)) (p .5) w, le-trans (mul-le-mul-left (a .e .size) (m .chain-of .ensures .few)) (s .pre .1 .1))
+    (p .0, p .1, m .chain-of .ensures .few, table-few (a .n) (a .k) (tableBit (a .t .now)) (p .2) (omega (arith, p .4)) (cellsOf (r .sheet)) w (a .e .most) (p .5), le-trans (mul-le-mul-left (a .e .size) (m .chain-of .ensures .few)) (s .pre .1 .1))
 
 returns-2 : tie.Need-returns-2
 returns-2 c =

@@ -18,7 +18,15 @@ add-pick : tie.Need-add-pick
 add-pick c =
     let g = c .before .before in
     let s = g .args .s in
-    omega (arith, mask-lt (s .n) (readsD (bit (s .own)) (bit (s .shared))) (s .own + s .shared) (below-mask s (g .pre .0 .0)), pow-mono {i = s .n} {j = 16} (g .pre .0 .0 .most))
+    omega (
+      arith,
+      mask-lt (s .n) (readsD (bit (s .own)) (bit (s .shared))) (s .own + s .shared) (below-mask s (g .pre .0 .0)),
+      pow-mono {i = s .n} {j = 16}
+          (g .pre .0 .0 .most),
+    )
+
+pick-requires : tie.Need-pick-requires
+pick-requires c κs = c .before .before .pre .0 .1
 
 d-table-requires : tie.Need-d-table-requires
 d-table-requires c κs =
@@ -39,7 +47,8 @@ cell-requires c κs =
         arith,
         g .pre .1 .0,
         reads-D (s .n) (bit (s .own)) (bit (s .shared)) (h .apart),
-        picked-count (s .n) (s .own + s .shared) S (below-mask s h) (g .args .signals .count) (g .pre .0 .2) (signalsOf (g .args .signals)) (p .result) (p .ensures .1),
+        picked-count (s .n) (s .own + s .shared) S (below-mask s h) (g .args .signals .count) (g .pre .0 .2) (signalsOf (g .args .signals)) (p .result)
+            (p .ensures .1),
       ),
     )
 
@@ -53,8 +62,8 @@ returns c =
     let S = readsD (bit (s .own)) (bit (s .shared)) in
     c .cell .ensures .0
     ∙ ap₂ (λ (l : List ℕ) (T : ℕ). record { signals = l; table = T })
-    (picked-set (s .n) (s .own + s .shared) S (below-mask s h) (g .args .signals .count) (g .pre .0 .2) (signalsOf (g .args .signals)) (p .result) (p .ensures .1)) (d .d-table .ensures)
+    (picked-set (s .n) (s .own + s .shared) S (below-mask s h) (g .args .signals .count) (g .pre .0 .2) (signalsOf (g .args .signals)) (p .result)
+    (p .ensures .1)) (d .d-table .ensures)
 
 pub first-cell-spec : {M : Type 1} → statement M
-first-cell-spec =
-    tie.close (tie.spec add-pick (λ c κs. c .before .before .pre .0 .1) d-table-requires cell-requires returns)
+first-cell-spec = tie.close (tie.spec add-pick pick-requires d-table-requires cell-requires returns)

@@ -13,28 +13,28 @@ use Rattle.sheets.specs.declared.kinds.Sheet.{Sheet}
 use Rattle.sheets.specs.Edition.{largestCell}
 use Rattle.sheets.specs.Writing.{AtMost}
 use Rattle.sheets.specs.Held.{cellsOf}
-use Rattle.chains.specs.Chain.{sheetOf, lastCell}
+use Rattle.chains.specs.Chain.{lastCell, chain}
 use Rattle.chains.specs.Stage.{signalsOf}
 use Rattle.chains.specs.Area.{atHand}
 use Rattle.chains.proofs.Halves.{half-whole, half-bits}
-use Rattle.chains.proofs.Following.{Followed, following-starts, following-stops, following-shrinks, following-goes, following-ends, split-fits}
-use Rattle.chains.proofs.Loaded.{made-fits}
+use Rattle.chains.proofs.Following.{Underway, following-starts, following-stops, following-shrinks, following-goes, following-ends, split-fits, chain-fits}
 use Rattle.chains.proofs.chaining.follow.Statement.{statement}
 use Rattle.chains.proofs.chaining.follow.Tie as tie
 
 abbrev Inv-loop : tie.InvT-loop
 Inv-loop n k work₀ most sheet₀ signals₀ next₀ work sheet signals next =
-    Followed n k (sheetOf n k (number (2 ^ n) (atHand work₀))) sheet signals next work × (length work ≡ length work₀)
+    Underway n k (chain n k n (signalsOf signals₀) (number (2 ^ signals₀ .count) (atHand work₀))) sheet signals next work × (length work ≡ length work₀)
 
 abbrev μ-loop : tie.MeasureT-loop
 μ-loop n k work₀ most sheet₀ signals₀ next₀ work sheet signals next = signals .count
 
 loop-holds : tie.Need-loop-holds Inv-loop μ-loop
 loop-holds c =
-    let g = c .before .before .before in
-    let e = c .before .empty in (
-      following-starts (g .args .n) (g .args .k) (e .result) (c .inputs .result) (g .args .work .now) (g .pre .0) (g .pre .4) (ap (λ (s : Sheet). s .count) (e .ensures .0)) (e .ensures .1)
-          (c .inputs .ensures .0) (c .inputs .ensures .1) (c .inputs .ensures .2),
+    let g = c .before .before in
+    let e = c .empty .ensures in (
+      following-starts (g .args .n) (g .args .k) (c .empty .result) (g .args .start) (g .args .work .now) (g .pre .0 .3) (ap (λ (s : Sheet). s .count) (e .0))
+          (e .1)
+          (g .pre .1 .0) (g .pre .1 .1) (g .pre .1 .2),
       refl,
     )
 
@@ -50,8 +50,8 @@ slice-aggregate-find c = let q = c .before .before .before .before .loop in sym 
 find-requires : tie.Need-find-requires Inv-loop μ-loop
 find-requires c κs =
     let q = c .before .before .before .before .loop in
-    let g = c .before .before .before .before .before .before .before .before in
-    (q .inv .0 .listed .few, half-bits (q .work) (q .inv .0 .long) (q .signals .count) (q .inv .0 .listed .few), omega (arith, g .pre .3))
+    let g = c .before .before .before .before .before .before .before in
+    (q .inv .0 .listed .few, half-bits (q .work) (q .inv .0 .long) (q .signals .count) (q .inv .0 .listed .few), omega (arith, g .pre .0 .2))
 
 same-length : tie.Need-same-length Inv-loop μ-loop
 same-length c = c .before .before .before .before .before .before .before .before .loop .inv .1
@@ -61,11 +61,13 @@ returns c =
     let f = c .before .before .before in
     let i = f .before .before .before in
     let q = i .before .before .loop in
-    let g = i .before .before .before .before .before .before in (
-      sym (following-stops (g .args .n) (g .args .k) _ (q .sheet) (q .signals) (q .next) (q .work) (q .inv .0) (i .if1 .taken) (sym (f .find .ensures) ∙ ap answerOf (c .before .enum-told .given .1))),
-      omega (arith, ap (λ (s : Sheet). s .count) (c .empty2 .ensures .0)),
-      subst (AtMost largestCell) (sym (c .empty2 .ensures .1)) tt,
-    )
+    let g = i .before .before .before .before .before in
+    record {
+      chain = sym (following-stops (g .args .n) (g .args .k) _ (q .sheet) (q .signals) (q .next) (q .work) (q .inv .0) (i .if1 .taken)
+          (sym (f .find .ensures) ∙ ap answerOf (c .before .enum-told .given .1)));
+      few = omega (arith, ap (λ (s : Sheet). s .count) (c .empty2 .ensures .0));
+      fit = subst (AtMost largestCell) (sym (c .empty2 .ensures .1)) tt;
+    }
 
 -- the split that was found
 module _ (c : tie.After-known-told Inv-loop μ-loop) where
@@ -75,19 +77,24 @@ module _ (c : tie.After-known-told Inv-loop μ-loop) where
   abbrev shared : ℕ
   shared = c .before .found .given .0 .1 .0
 
-  found-split : best (c .before .before .before .before .before .before .before .before .loop .signals .count) 1 (atHand (c .before .before .before .before .before .before .before .before .loop .work)) (c .before .before .before .before .before .before .before .before .before .before .before .before .args .k) ≡ split own shared
+  found-split : best (c .before .before .before .before .before .before .before .before .loop .signals .count) 1
+      (atHand (c .before .before .before .before .before .before .before .before .loop .work))
+      (c .before .before .before .before .before .before .before .before .before .before .before .args .k) ≡ split own shared
   found-split = sym (c .before .before .before .find .ensures) ∙ ap answerOf (c .before .found .given .1)
 
 of-requires : tie.Need-of-requires Inv-loop μ-loop
 of-requires c κs =
     let q = c .before .before .before .before .before .before .before .before .loop in
-    let g = c .before .before .before .before .before .before .before .before .before .before .before .before in
+    let g = c .before .before .before .before .before .before .before .before .before .before .before in
     let b = best-split (q .signals .count) 1 (atHand (q .work)) (g .args .k) (own c) (shared c) (found-split c) in
     (q .inv .0 .listed .few, b .candidate .belowA, b .candidate .belowB, b .candidate .apart)
 
 -- the same, of the split that the code made of it
 made-split : (c : tie.After-of Inv-loop μ-loop)
-    → best (c .before .before .before .before .before .before .before .before .before .loop .signals .count) 1 (atHand (c .before .before .before .before .before .before .before .before .before .loop .work)) (c .before .before .before .before .before .before .before .before .before .before .before .before .before .args .k) ≡ split (c .of .result .own) (c .of .result .shared)
+    → best (c .before .before .before .before .before .before .before .before .before .loop .signals .count) 1
+    (atHand (c .before .before .before .before .before .before .before .before .before .loop .work))
+    (c .before .before .before .before .before .before .before .before .before .before .before .before .args .k) ≡ split (c .of .result .own)
+    (c .of .result .shared)
 made-split c = found-split (c .before) ∙ ap₂ split (sym (c .of .ensures .2)) (sym (c .of .ensures .3))
 
 step-requires : tie.Need-step-requires Inv-loop μ-loop
@@ -95,17 +102,17 @@ step-requires c κs =
     let o = c .before in
     let i = o .before .before .before .before .before .before .before in
     let q = i .before .before .loop in
-    let g = i .before .before .before .before .before .before in
+    let g = i .before .before .before .before .before in
     let e = o .of .ensures in (
-      (e .0, q .inv .0 .listed, e .1, omega (arith, q .inv .0 .room, g .pre .1, g .pre .2, i .if1 .taken), q .inv .0 .long),
-      split-fits (o .of .result) (q .signals .count) (g .args .k) (atHand (q .work)) (e .1) (g .pre .3) (made-split o),
+      (e .0, q .inv .0 .listed, e .1, omega (arith, q .inv .0 .room, g .pre .0 .0, g .pre .0 .1, i .if1 .taken), q .inv .0 .long),
+      split-fits (o .of .result) (q .signals .count) (g .args .k) (atHand (q .work)) (e .1) (g .pre .0 .2) (made-split o),
     )
 
 add-next : tie.Need-add-next Inv-loop μ-loop
 add-next c =
     let q = c .before .before .before .before .before .before .before .before .before .before .before .before .before .before .before .loop in
-    let g = c .before .before .before .before .before .before .before .before .before .before .before .before .before .before .before .before .before .before .before in
-    omega (arith, q .inv .0 .at, q .inv .0 .room, g .pre .1)
+    let g = c .before .before .before .before .before .before .before .before .before .before .before .before .before .before .before .before .before .before in
+    omega (arith, q .inv .0 .at, q .inv .0 .room, g .pre .0 .0)
 
 loop-less : tie.Need-loop-less Inv-loop μ-loop
 loop-less c =
@@ -113,8 +120,9 @@ loop-less c =
     let o = w .before .before in
     let i = o .before .before .before .before .before .before .before in
     let q = i .before .before .loop in
-    let g = i .before .before .before .before .before .before in
-    following-shrinks (g .args .n) (g .args .k) _ (q .sheet) (q .signals) (q .next) (q .work) (q .inv .0) (o .of .result) (o .of .ensures .0) (o .of .ensures .1) (i .if1 .taken) (made-split o) (w .step .result) _ (w .step .ensures)
+    let g = i .before .before .before .before .before in
+    following-shrinks (g .args .n) (g .args .k) _ (q .sheet) (q .signals) (q .next) (q .work) (q .inv .0) (o .of .result) (o .of .ensures .0)
+    (o .of .ensures .1) (i .if1 .taken) (made-split o) (w .step .result) _ (w .step .ensures)
 
 loop-again : tie.Need-loop-again Inv-loop μ-loop
 loop-again c =
@@ -122,31 +130,35 @@ loop-again c =
     let o = w .before .before in
     let i = o .before .before .before .before .before .before .before in
     let q = i .before .before .loop in
-    let g = i .before .before .before .before .before .before in (
-      following-goes (g .args .n) (g .args .k) _ (q .sheet) (q .signals) (q .next) (q .work) (q .inv .0) (o .of .result) (o .of .ensures .0) (o .of .ensures .1) (i .if1 .taken) (made-split o) (w .step .result) _ (w .step .ensures),
+    let g = i .before .before .before .before .before in (
+      following-goes (g .args .n) (g .args .k) _ (q .sheet) (q .signals) (q .next) (q .work) (q .inv .0) (o .of .result) (o .of .ensures .0) (o .of .ensures .1)
+          (i .if1 .taken) (made-split o) (w .step .result) _ (w .step .ensures),
       w .step .ensures .table .long ∙ q .inv .1,
     )
+
+slice-reshare-prefix-cell-table : tie.Need-slice-reshare-prefix-cell-table Inv-loop μ-loop
+slice-reshare-prefix-cell-table c = omega (arith, c .before .before .loop .inv .0 .long)
 
 slice-aggregate-cell-table : tie.Need-slice-aggregate-cell-table Inv-loop μ-loop
 slice-aggregate-cell-table c = let q = c .before .before .before .loop in sym (half-whole (q .work) (q .inv .0 .long))
 
 cell-table-requires : tie.Need-cell-table-requires Inv-loop μ-loop
 cell-table-requires c κs =
+    let g = c .before .before .before .before .before .before in
     let q = c .before .before .before .loop in
-    let g = c .before .before .before .before .before .before .before in
-    (omega (arith, g .pre .3, c .before .if1 .left), half-bits (q .work) (q .inv .0 .long) (q .signals .count) (q .inv .0 .listed .few))
+    (omega (arith, g .pre .0 .2, c .before .if1 .left), half-bits (q .work) (q .inv .0 .long) (q .signals .count) (q .inv .0 .listed .few))
 
 cell-requires : tie.Need-cell-requires Inv-loop μ-loop
 cell-requires c κs =
     let q = c .before .before .before .before .loop in
-    let g = c .before .before .before .before .before .before .before .before in
-    (q .inv .0 .listed, omega (arith, g .pre .3, c .before .before .if1 .left))
+    let g = c .before .before .before .before .before .before .before in
+    (q .inv .0 .listed, omega (arith, g .pre .0 .2, c .before .before .if1 .left))
 
 with-cell-requires : tie.Need-with-cell-requires Inv-loop μ-loop
 with-cell-requires c κs =
     let q = c .before .before .before .before .before .loop in
-    let g = c .before .before .before .before .before .before .before .before .before in
-    ⊎-elim (λ e. omega (arith, e)) (λ h. omega (arith, h, q .inv .0 .room, g .pre .1)) (q .inv .0 .spare)
+    let g = c .before .before .before .before .before .before .before .before in
+    ⊎-elim (λ e. omega (arith, e)) (λ h. omega (arith, h, q .inv .0 .room, g .pre .0 .0)) (q .inv .0 .spare)
 
 same-length-2 : tie.Need-same-length-2 Inv-loop μ-loop
 same-length-2 c = c .before .before .before .before .before .before .loop .inv .1
@@ -155,19 +167,21 @@ returns-2 : tie.Need-returns-2 Inv-loop μ-loop
 returns-2 c =
     let n = c .before .before in
     let q = n .before .before .before .before .loop in
-    let g = n .before .before .before .before .before .before .before .before in
+    let g = n .before .before .before .before .before .before .before in
     let w = c .with-cell .ensures in
-    let whole = following-ends (g .args .n) (g .args .k) _ (q .sheet) (q .signals) (q .next) (q .work) (q .inv .0) (n .before .before .if1 .left) (c .before .cell .result)
-    (c .before .cell .ensures .0 ∙ ap (lastCell (signalsOf (q .signals))) (n .cell-table .ensures)) (c .with-cell .result) w in (
-      sym whole,
-      ⊎-elim (λ e. omega (arith, e, w .count)) (λ h. omega (arith, h, w .count, q .inv .0 .room, g .pre .1)) (q .inv .0 .spare),
-      made-fits largestCell (g .args .n) (g .args .k) (atHand (g .args .work .now)) (cellsOf (c .with-cell .result)) (g .pre .3) whole,
-    )
+    let whole = following-ends (g .args .n) (g .args .k) _ (q .sheet) (q .signals) (q .next) (q .work) (q .inv .0) (n .before .before .if1 .left)
+    (c .before .cell .result)
+    (c .before .cell .ensures .0 ∙ ap (lastCell (signalsOf (q .signals))) (n .cell-table .ensures)) (c .with-cell .result) w in
+    record {
+      chain = sym whole;
+      few = ⊎-elim (λ e. omega (arith, e, w .count)) (λ h. omega (arith, h, w .count, q .inv .0 .room, g .pre .0 .0)) (q .inv .0 .spare);
+      fit = chain-fits (g .args .n) (g .args .k) _ _ (cellsOf (c .with-cell .result)) (g .pre .0 .2) whole;
+    }
 
 pub follow-spec : {M : Type 1} → statement M
 follow-spec =
-    tie.close (tie.spec Inv-loop μ-loop (λ c κs. search needs) (λ c κs. search needs) (λ c. search needs) loop-holds
-    cast-m slice-reshare-prefix-find slice-aggregate-find find-requires (λ c. search needs) (λ c. search needs)
+    tie.close (tie.spec Inv-loop μ-loop (λ c κs. search needs) (λ c. search needs) loop-holds cast-m
+    slice-reshare-prefix-find slice-aggregate-find find-requires (λ c. search needs) (λ c. search needs)
     (λ c κs. search needs) same-length returns of-requires step-requires add-next loop-less loop-again
-    (λ c. omega (arith, c .before .before .loop .inv .0 .long)) slice-aggregate-cell-table cell-table-requires
-    cell-requires with-cell-requires same-length-2 returns-2)
+    slice-reshare-prefix-cell-table slice-aggregate-cell-table cell-table-requires cell-requires with-cell-requires
+    same-length-2 returns-2)

@@ -42,15 +42,17 @@ pick-requires c κs = c .before .before .before .before .before .before .pre .0 
 
 -- the signals that are left, and how many
 module _ (c : tie.After-pick) where
-  left-count : c .pick .result .count ≡ size (c .before .before .before .before .before .before .before .args .s .n) (readsH (bit (c .before .before .before .before .before .before .before .args .s .own)) (bit (c .before .before .before .before .before .before .before .args .s .shared)))
-  left-count =
-      let g = c .before .before .before .before .before .before .before in
+  left-count : c .pick .result .count ≡ size (c .before .before .before .before .before .before .before .args .s .n)
+      (readsH (bit (c .before .before .before .before .before .before .before .args .s .own))
+      (bit (c .before .before .before .before .before .before .before .args .s .shared)))
+  left-count = let g = c .before .before .before .before .before .before .before in
       let s = g .args .s in
-      picked-count (s .n) (s .shared + s .free) (readsH (bit (s .own)) (bit (s .shared))) (beside-mask s (g .pre .0 .0)) (g .args .stage .signals .count) (g .pre .0 .2) (signalsOf (g .args .stage .signals)) (c .pick .result) (c .pick .ensures .1)
+      picked-count (s .n) (s .shared + s .free) (readsH (bit (s .own)) (bit (s .shared))) (beside-mask s (g .pre .0 .0)) (g .args .stage .signals .count)
+      (g .pre .0 .2) (signalsOf (g .args .stage .signals)) (c .pick .result) (c .pick .ensures .1)
 
-  left-few : c .pick .result .count + size (c .before .before .before .before .before .before .before .args .s .n) (bit (c .before .before .before .before .before .before .before .args .s .own)) ≡ c .before .before .before .before .before .before .before .args .s .n
-  left-few =
-      let g = c .before .before .before .before .before .before .before in
+  left-few : c .pick .result .count + size (c .before .before .before .before .before .before .before .args .s .n)
+      (bit (c .before .before .before .before .before .before .before .args .s .own)) ≡ c .before .before .before .before .before .before .before .args .s .n
+  left-few = let g = c .before .before .before .before .before .before .before in
       let s = g .args .s in
       omega (arith, left-count, reads-H (s .n) (bit (s .own)) (bit (s .shared)) (g .pre .0 .0 .apart))
 
@@ -58,6 +60,9 @@ with-requires : tie.Need-with-requires
 with-requires c κs =
     let g = c .before .before .before .before .before .before .before in
     (c .pick .ensures .0, omega (arith, left-few c, g .pre .1 .0, g .pre .0 .0 .most))
+
+cast-next-table : tie.Need-cast-next-table
+cast-next-table c = omega (arith, c .before .before .with .ensures .0 .few)
 
 next-table-requires : tie.Need-next-table-requires
 next-table-requires c κs =
@@ -86,12 +91,12 @@ returns c =
       cells = c .with-cell .ensures .cells ∙ ap (λ (d : Cell). cellsOf (g .args .stage .sheet) ++ (d ∷ [])) (f .first-cell .ensures);
       listed = w .with .ensures .0;
       signals = w .with .ensures .1 ∙ ap (λ (l : List ℕ). l ++ (g .args .next ∷ []))
-          (picked-set (s .n) (s .shared + s .free) (readsH (bit (s .own)) (bit (s .shared))) (beside-mask s (g .pre .0 .0)) (g .args .stage .signals .count) (g .pre .0 .2) (signalsOf (g .args .stage .signals)) (p .pick .result) (p .pick .ensures .1));
+          (picked-set (s .n) (s .shared + s .free) (readsH (bit (s .own)) (bit (s .shared))) (beside-mask s (g .pre .0 .0)) (g .args .stage .signals .count)
+          (g .pre .0 .2) (signalsOf (g .args .stage .signals)) (p .pick .result) (p .pick .ensures .1));
       table = t .next-table .ensures;
     }
 
 pub step-spec : {M : Type 1} → statement M
 step-spec =
     tie.close (tie.spec (λ c. search needs) slice-aggregate-first-cell first-cell-requires add-pick pick-requires
-    with-requires (λ c. omega (arith, c .before .before .with .ensures .0 .few)) next-table-requires
-    with-cell-requires same-length returns)
+    with-requires cast-next-table next-table-requires with-cell-requires same-length returns)

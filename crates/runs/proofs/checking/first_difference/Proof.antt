@@ -7,7 +7,6 @@ use native.Mathlib.Nat.{not-suc-le-zero}
 use native.Mathlib.Omega.{arith}
 use lib.Pow.{pow-mono}
 use borrow.Author.Needs.{needs}
-use Rattle.bits.specs.Below.{least}
 use Rattle.bits.proofs.Least.{least-of}
 use Rattle.bits.proofs.Machine.{shl-one}
 use Rattle.tables.specs.Table.{mostInputs}
