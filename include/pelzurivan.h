@@ -22,7 +22,8 @@
  *   10  a record breaks the record rules; index is the first that does
  *   11  assignment 2^n or more
  *   12  the sheet doesn't give the table's bit everywhere; place is the least assignment at which it doesn't
- * After a refusal every other value is 0 (but for what 10 and 12 name) and no result byte is touched.
+ * After a refusal every other value is 0 (but for what 8 of a named split, 10 and 12 name), and no result byte is
+ * touched.
  */
 #ifndef PELZURIVAN_H
 #define PELZURIVAN_H
@@ -36,14 +37,16 @@ extern "C" {
 
 enum { PELZURIVAN_RECORD = 16, PELZURIVAN_SHEET = 240, PELZURIVAN_WORK = 16384 };
 
-typedef struct { uint64_t number, d; } pelzurivan_tried;
+typedef struct { uint64_t number, d, b, columns; } pelzurivan_tried;
 typedef struct { uint64_t number, own, shared; } pelzurivan_sought;
 typedef struct { uint64_t number, count; } pelzurivan_made;
 typedef struct { uint64_t number, bit, index; } pelzurivan_ran;
 typedef struct { uint64_t number, index; } pelzurivan_rebuilt;
 typedef struct { uint64_t number, place; } pelzurivan_checked;
 
-/* Tries a named split: D in d, H in the first bytes of room, the bytes after its table stay. 1 to 6, 8. */
+/* Tries a named split: D in d, H in the first bytes of room, the bytes after its table stay. 1 to 6, 8: b is then the
+ * least assignment of shared (its members in increasing position, lowest as bit 0) with more than two different
+ * columns, and columns is how many it has. */
 pelzurivan_tried pelzurivan_try(uint64_t n, uint64_t k, uint64_t own, uint64_t shared, const uint8_t *table,
                                 size_t table_length, uint8_t *room, size_t room_length);
 

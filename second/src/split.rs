@@ -1,6 +1,8 @@
 //! A split: own set, shared set, the columns that decide it, and the one pair
 //! of tables that answers it.
 
+use std::collections::BTreeSet;
+
 use crate::sets::{all, assignments, size};
 use crate::table::Table;
 
@@ -51,6 +53,26 @@ pub fn possible(table: &Table, split: Split) -> bool {
     let own = assignments(split.own);
     let free = assignments(split.free(table.inputs));
     assignments(split.shared).iter().all(|&b| two_colours(table, &own, b, &free))
+}
+
+/// Where a split breaks: the least b with more than two different columns, as
+/// its members in increasing position number it, and how many it has.
+#[derive(Clone, Copy, Debug, PartialEq, Eq)]
+pub struct Break {
+    pub b: usize,
+    pub columns: usize,
+}
+
+/// Collects the different columns of each b; nothing if no b breaks the split.
+pub fn first_break(table: &Table, split: Split) -> Option<Break> {
+    let own = assignments(split.own);
+    let free = assignments(split.free(table.inputs));
+    let count = |b: usize| {
+        let columns = own.iter().map(|a| column(table, a | b, &free));
+        columns.collect::<BTreeSet<_>>().len()
+    };
+    let counts = assignments(split.shared).into_iter().map(count);
+    counts.enumerate().map(|(b, columns)| Break { b, columns }).find(|at| at.columns > 2)
 }
 
 /// The one fixed pair (D, H) that document 01 names, if the split is possible.

@@ -6,11 +6,12 @@ use second::carry::{Networks, Reads, Wiring};
 use second::case::{answer, PRESET};
 use second::cell::{read_sheet, write_sheet};
 use second::chain::chain;
+use second::fresh::breaks::{self, Broken};
 use second::fresh::{every_rule, networks, sheets, tables};
 use second::network::{rebuild, run};
 use second::random::Random;
 use second::sets::{all, assignments, gather, size};
-use second::split::{pair, possible, Split};
+use second::split::{first_break, pair, possible, Split};
 use second::table::Table;
 
 fn every_table(n: usize) -> impl Iterator<Item = Table> {
@@ -43,6 +44,31 @@ fn two_colours_agree_with_the_definition() {
         let table = tables::compose(&mut random, 4, 2, 1).table;
         for &split in candidates(4, 3) {
             assert_eq!(possible(&table, split), possible_by_definition(&table, split));
+        }
+    }
+}
+
+#[test]
+fn a_split_is_possible_exactly_if_nothing_breaks_it() {
+    let mut random = Random::new(14);
+    let mut broken = 0;
+    for i in 0..200 {
+        let table = tables::KINDS[i % tables::KINDS.len()].draw(&mut random, 5).table;
+        for &split in candidates(table.inputs, 4) {
+            let at = first_break(&table, split);
+            assert_eq!(possible(&table, split), at.is_none());
+            broken += usize::from(at.is_some());
+        }
+    }
+    assert!(broken > 1000, "{broken}");
+}
+
+#[test]
+fn a_split_breaks_where_it_was_broken() {
+    let mut random = Random::new(15);
+    for _ in 0..5 {
+        for Broken { table, split, at } in breaks::splits(&mut random) {
+            assert_eq!(first_break(&table, split), Some(at));
         }
     }
 }

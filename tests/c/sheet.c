@@ -58,6 +58,7 @@ static void find_and_try(void) {
     expect(sought.number == 0 && sought.own == 3 && sought.shared == 0, "find: own 3, shared 0");
     pelzurivan_tried tried = pelzurivan_try(3, 3, 3, 4, select, 1, room, sizeof room);
     expect(tried.number == 0 && tried.d == 0xCA, "try: D of example 5");
+    expect(tried.b == 0 && tried.columns == 0, "try: no b is named where the split is possible");
     expect(room[0] == 0x0C && room[1] == PRESET && room[2] == PRESET, "try: H of example 5");
 }
 
@@ -99,6 +100,15 @@ static void check_a_suppliers_sheet(void) {
     expect(bad.number == 10 && bad.place == 3, "check: 10, record 3");
 }
 
+/* XOR of three where input 3 is 0, else their majority: with input 3 shared it breaks only where that is 1. */
+static void where_a_split_breaks(void) {
+    const uint8_t table[] = {0x96, 0xE8};
+    uint8_t room[] = {PRESET, PRESET};
+    pelzurivan_tried tried = pelzurivan_try(4, 3, 3, 8, table, sizeof table, room, sizeof room);
+    expect(tried.number == 8 && tried.d == 0 && room[0] == PRESET, "try: 8 leaves the room");
+    expect(tried.b == 1 && tried.columns == 3, "try: 8, three columns at b = 1");
+}
+
 /* Masks are whole numbers: 65,539 names a position from n up, whatever its low 16 bits say. */
 static void masks_above_16_bits(void) {
     static uint8_t table[8192], room[4096];
@@ -138,6 +148,7 @@ int main(void) {
     find_and_try();
     unused_inputs();
     check_a_suppliers_sheet();
+    where_a_split_breaks();
     masks_above_16_bits();
     refusals();
     printf("tests/c: %d of %d checks hold\n", checks - faults, checks);

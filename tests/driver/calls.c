@@ -13,6 +13,8 @@ static void try_split(void) {
     stop();
     put(1, a.number);
     put(8, a.d);
+    put(2, a.b);
+    put(2, a.columns);
     put_area(room);
 }
 

@@ -9,7 +9,7 @@ use Rattle.bits.specs.Numbers.{bit}
 use Rattle.bits.specs.Sets.{disjoint, size}
 use Rattle.tables.specs.Table.{mostInputs, tableLength, tableBit, spareClear}
 use Rattle.tables.specs.Counting.{support}
-use Rattle.splits.specs.Columns.{fewColumns}
+use Rattle.splits.specs.Columns.{fewColumns, firstBroken}
 use Rattle.splits.specs.Pair.{inputsH}
 use Rattle.best.specs.Search.{Answer, none, split}
 use Rattle.sheets.specs.declared.kinds.Edition.{Edition}
@@ -58,9 +58,10 @@ shortSheet e sheet work = line 6 (ltb (length sheet) (e .size * mostRecords) || 
 abbrev pub nothingToSplit : ℕ → ℕ → List ℕ → Line
 nothingToSplit n K t = line 7 (leb (size n (bit (support n (tableBit t)))) K)
 
--- 8: the named split isn't possible: some b has more than two columns
+-- 8: the named split isn't possible: some b has more than two columns; the least such is named
 abbrev pub notPossible : ℕ → ℕ → ℕ → List ℕ → Line
-notPossible n A B t = line 8 (not (fewColumns n (tableBit t) (bit A) (bit B) 2))
+notPossible n A B t = naming 8 (firstBroken n (tableBit t) (bit A) (bit B) 2)
+    (not (fewColumns n (tableBit t) (bit A) (bit B) 2))
 
 -- whether there is no split
 abbrev pub isNone : Answer → Bool

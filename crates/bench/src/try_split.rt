@@ -4,9 +4,10 @@ use crate::form;
 use crate::refusals::Refusal;
 use crate::refusals::Verdict;
 use crate::refusals::refuse;
+use crate::refusals::refuse_at;
 use bits::sets::members;
 use sheets::kinds::Edition;
-use splits::columns::few_columns;
+use splits::columns::break_of;
 use splits::pair;
 use splits::split::Split;
 ghost use mathlib.Core.Path.{_≡_};
@@ -23,10 +24,12 @@ ghost use Rattle.bench.specs.Lines.{verdict, reply};
 ghost use Rattle.bench.specs.Refusals.{badSets, notPossible};
 ghost use Rattle.bench.specs.TrySplit.{tryForm, tryDone, tryNot, tryOutcome};
 
-// D, if nothing is wrong; H is in the lent room.
+// D, if nothing is wrong; H is in the lent room. After 8, which names where the split breaks, how many different
+// columns there are.
 pub struct TryAnswer {
     pub verdict: Verdict,
     pub d: u64,
+    pub columns: usize,
 }
 
 // Line 5: A or B names a position from n up; they overlap; A below 2; A and B together above K.
@@ -95,19 +98,23 @@ fn pair_of(t: &[u8], s: Split, room: &mut [u8]) -> TryAnswer
     ensures { λ r. ⌜
         record { answer = r; room = now (room .exit) }
         ≡ reply (verdict (notPossible (s .n) (s .own) (s .shared) (now (t .entry)) ∷ []))
-        (tryDone (s .n) (s .own) (s .shared) (now (t .entry)) (now (room .entry))) (tryNot (now (room .entry)))
+        (tryDone (s .n) (s .own) (s .shared) (now (t .entry)) (now (room .entry)))
+        (tryNot (s .n) (s .own) (s .shared) (now (t .entry)) (now (room .entry)))
         ⌝ }
 {
-    if !few_columns(t, s, 2) {
+    let broken = break_of(t, s, 2);
+    if 0 < broken.columns {
         return TryAnswer {
-            verdict: refuse(Refusal::SPLIT),
+            verdict: refuse_at(Refusal::SPLIT, broken.b as u64),
             d: 0,
+            columns: broken.columns,
         };
     }
     filling::put_h(t, s, bytes_of_h(s.n, s.own), room);
     TryAnswer {
         verdict: Verdict::Fine,
         d: pair::d_table(t, s),
+        columns: 0,
     }
 }
 
@@ -132,6 +139,7 @@ pub fn try_in(
         return TryAnswer {
             verdict: form,
             d: 0,
+            columns: 0,
         };
     };
     pair_of(t, Split::of(n as u32, own as u16, shared as u16), room)

@@ -1,5 +1,5 @@
 -- The starred examples of documents 01 and 02: one listing, one claim, shown of the definitions by computation. Assumes nothing.
--- An answer is the number; then D and the room for H (try), A and B (find), the count and the records (make), the bit and the index (run), or the
+-- An answer is the number; then D, where the split broke, how many columns there are and the room for H (try), A and B (find), the count and the records (make), the bit and the index (run), or the
 -- index and the table (rebuild). Of the bench program it is all that it writes.
 use mathlib.Core.Path.{_≡_, refl}
 use mathlib.Core.List.{List, [], _∷_}
@@ -10,7 +10,7 @@ use Rattle.bits.specs.Below.{least}
 use Rattle.bits.specs.Sets.{size, disjoint, gather, spread}
 use Rattle.tables.specs.Table.{spareClear, tableOf}
 use Rattle.tables.specs.Counting.{counts, support, kept, tableOver}
-use Rattle.splits.specs.Columns.{firsts, assign, column, columns, fewColumns}
+use Rattle.splits.specs.Columns.{firsts, assign, column, columns, fewColumns, firstBroken}
 use Rattle.splits.specs.Pair.{code, codeAt, tableD, bitH, tableH, bytesH}
 use Rattle.best.specs.Search.{first, tryB, tryA, best}
 use Rattle.best.specs.Counting.{bestCounting}
@@ -65,12 +65,13 @@ listing =
     -- 4: majority
     ∷ finding 3 2 (0xE8 ∷ []) gets (8 ∷ 0 ∷ 0 ∷ [])
     ∷ making 3 2 (0xE8 ∷ []) gets (8 ∷ 0 ∷ [])
+    ∷ trying 3 2 3 0 (0xE8 ∷ []) (0xAA ∷ 0xAA ∷ []) gets (8 ∷ 0 ∷ 0 ∷ 3 ∷ 0xAA ∷ 0xAA ∷ [])
     ∷ finding 3 3 (0xE8 ∷ []) gets (7 ∷ 0 ∷ 0 ∷ [])
     ∷ making 3 3 (0xE8 ∷ []) gets (0 ∷ 1 ∷ 0x03 ∷ 0 ∷ 1 ∷ 2 ∷ 0xFF ∷ 0xFF ∷ 0xFF ∷ 0 ∷ 0xE8 ∷ 0 ∷ 0 ∷ 0 ∷ 0 ∷ 0 ∷ 0 ∷ 0 ∷ [])
     -- 5: input 2 picks; the room's second byte stays
     ∷ finding 3 2 (0xCA ∷ []) gets (8 ∷ 0 ∷ 0 ∷ [])
     ∷ making 3 2 (0xCA ∷ []) gets (8 ∷ 0 ∷ [])
-    ∷ trying 3 3 3 4 (0xCA ∷ []) (0xAA ∷ 0xAA ∷ []) gets (0 ∷ 0xCA ∷ 0x0C ∷ 0xAA ∷ [])
+    ∷ trying 3 3 3 4 (0xCA ∷ []) (0xAA ∷ 0xAA ∷ []) gets (0 ∷ 0xCA ∷ 0 ∷ 0 ∷ 0x0C ∷ 0xAA ∷ [])
     -- 6: constants
     ∷ making 3 2 (0x00 ∷ []) gets (0 ∷ 1 ∷ one 0x00)
     ∷ making 3 2 (0xFF ∷ []) gets (0 ∷ 1 ∷ one 0x03)
@@ -78,38 +79,38 @@ listing =
     ∷ finding 6 4 selector gets (0 ∷ 21 ∷ 32 ∷ [])
     ∷ making 6 4 selector gets (0 ∷ 2 ∷ four 0 2 4 5 0xCA 0xF0 (four 1 3 5 6 0xA0 0xCF []))
     -- 10: n = 0 and n = 17
-    ∷ trying 0 2 3 0 (0x80 ∷ []) (0xAA ∷ []) gets (1 ∷ 0 ∷ 0xAA ∷ [])
+    ∷ trying 0 2 3 0 (0x80 ∷ []) (0xAA ∷ []) gets (1 ∷ 0 ∷ 0 ∷ 0 ∷ 0xAA ∷ [])
     ∷ finding 0 2 (0x80 ∷ []) gets (1 ∷ 0 ∷ 0 ∷ [])
     ∷ making 0 2 (0x80 ∷ []) gets (1 ∷ 0 ∷ [])
     ∷ running 0 and3 0 gets (1 ∷ 0 ∷ 0 ∷ [])
     ∷ rebuilding 0 and3 (0xAA ∷ []) gets (1 ∷ 0 ∷ 0xAA ∷ [])
-    ∷ trying 17 2 3 0 (0x80 ∷ []) (0xAA ∷ []) gets (1 ∷ 0 ∷ 0xAA ∷ [])
+    ∷ trying 17 2 3 0 (0x80 ∷ []) (0xAA ∷ []) gets (1 ∷ 0 ∷ 0 ∷ 0 ∷ 0xAA ∷ [])
     ∷ finding 17 2 (0x80 ∷ []) gets (1 ∷ 0 ∷ 0 ∷ [])
     ∷ making 17 2 (0x80 ∷ []) gets (1 ∷ 0 ∷ [])
     ∷ running 17 and3 0 gets (1 ∷ 0 ∷ 0 ∷ [])
     ∷ rebuilding 17 and3 (0xAA ∷ []) gets (1 ∷ 0 ∷ 0xAA ∷ [])
     -- 10: K = 1 and K = 7; two bytes for n = 3
-    ∷ trying 3 1 3 0 (0x80 ∷ []) (0xAA ∷ []) gets (2 ∷ 0 ∷ 0xAA ∷ [])
+    ∷ trying 3 1 3 0 (0x80 ∷ []) (0xAA ∷ []) gets (2 ∷ 0 ∷ 0 ∷ 0 ∷ 0xAA ∷ [])
     ∷ finding 3 1 (0x80 ∷ []) gets (2 ∷ 0 ∷ 0 ∷ [])
     ∷ making 3 1 (0x80 ∷ []) gets (2 ∷ 0 ∷ [])
-    ∷ trying 3 7 3 0 (0x80 ∷ []) (0xAA ∷ []) gets (2 ∷ 0 ∷ 0xAA ∷ [])
+    ∷ trying 3 7 3 0 (0x80 ∷ []) (0xAA ∷ []) gets (2 ∷ 0 ∷ 0 ∷ 0 ∷ 0xAA ∷ [])
     ∷ finding 3 7 (0x80 ∷ []) gets (2 ∷ 0 ∷ 0 ∷ [])
     ∷ making 3 7 (0x80 ∷ []) gets (2 ∷ 0 ∷ [])
-    ∷ trying 3 2 3 0 (0x80 ∷ 0 ∷ []) (0xAA ∷ []) gets (3 ∷ 0 ∷ 0xAA ∷ [])
+    ∷ trying 3 2 3 0 (0x80 ∷ 0 ∷ []) (0xAA ∷ []) gets (3 ∷ 0 ∷ 0 ∷ 0 ∷ 0xAA ∷ [])
     ∷ finding 3 2 (0x80 ∷ 0 ∷ []) gets (3 ∷ 0 ∷ 0 ∷ [])
     ∷ making 3 2 (0x80 ∷ 0 ∷ []) gets (3 ∷ 0 ∷ [])
     ∷ rebuilding 3 and3 (0xAA ∷ 0xAA ∷ []) gets (3 ∷ 0 ∷ 0xAA ∷ 0xAA ∷ [])
     -- 10: n = 2, spare bits: table 10 has one, table 0F none
-    ∷ trying 2 2 3 0 (0x10 ∷ []) (0xAA ∷ []) gets (4 ∷ 0 ∷ 0xAA ∷ [])
+    ∷ trying 2 2 3 0 (0x10 ∷ []) (0xAA ∷ []) gets (4 ∷ 0 ∷ 0 ∷ 0 ∷ 0xAA ∷ [])
     ∷ finding 2 2 (0x10 ∷ []) gets (4 ∷ 0 ∷ 0 ∷ [])
     ∷ making 2 2 (0x10 ∷ []) gets (4 ∷ 0 ∷ [])
-    ∷ trying 2 2 3 0 (0x0F ∷ []) (0xAA ∷ []) gets (0 ∷ 0 ∷ 0x03 ∷ [])
+    ∷ trying 2 2 3 0 (0x0F ∷ []) (0xAA ∷ []) gets (0 ∷ 0 ∷ 0 ∷ 0 ∷ 0x03 ∷ [])
     ∷ finding 2 2 (0x0F ∷ []) gets (7 ∷ 0 ∷ 0 ∷ [])
     ∷ making 2 2 (0x0F ∷ []) gets (0 ∷ 1 ∷ one 0x03)
     -- 11: sets
-    ∷ trying 3 3 1 0 (0x80 ∷ []) (0xAA ∷ []) gets (5 ∷ 0 ∷ 0xAA ∷ [])
-    ∷ trying 3 3 3 1 (0x80 ∷ []) (0xAA ∷ []) gets (5 ∷ 0 ∷ 0xAA ∷ [])
-    ∷ trying 3 2 7 0 (0x80 ∷ []) (0xAA ∷ []) gets (5 ∷ 0 ∷ 0xAA ∷ [])
+    ∷ trying 3 3 1 0 (0x80 ∷ []) (0xAA ∷ []) gets (5 ∷ 0 ∷ 0 ∷ 0 ∷ 0xAA ∷ [])
+    ∷ trying 3 3 3 1 (0x80 ∷ []) (0xAA ∷ []) gets (5 ∷ 0 ∷ 0 ∷ 0 ∷ 0xAA ∷ [])
+    ∷ trying 3 2 7 0 (0x80 ∷ []) (0xAA ∷ []) gets (5 ∷ 0 ∷ 0 ∷ 0 ∷ 0xAA ∷ [])
     -- 11: sheets of 0, 17 and 256 bytes
     ∷ running 3 [] 0 gets (9 ∷ 0 ∷ 0 ∷ [])
     ∷ running 3 (replicate 17 0) 0 gets (9 ∷ 0 ∷ 0 ∷ [])
@@ -123,5 +124,5 @@ listing =
     ∷ []
 
 pub examples : answers listing ≡ expected listing
-unfolding listing asked tryOutcome findOutcome makeOutcome runOutcome rebuildOutcome sheetAside chainAside turn keptSignals keptTable kept support counts tableOver bestCounting pick listOf best first tryA tryB disjoint fewColumns tableD tableH bytesH codeAt code bitH columns column assign firsts number size gather spread least spareClear tableOf output run cellOf spareOk byteOk keeps cellsFrom sheetBit rebuilt recordByte encode
+unfolding listing asked tryOutcome findOutcome makeOutcome runOutcome rebuildOutcome sheetAside chainAside turn keptSignals keptTable kept support counts tableOver bestCounting pick listOf best first tryA tryB disjoint fewColumns firstBroken tableD tableH bytesH codeAt code bitH columns column assign firsts number size gather spread least spareClear tableOf output run cellOf spareOk byteOk keeps cellsFrom sheetBit rebuilt recordByte encode
 examples = refl

@@ -38,9 +38,10 @@ lentSheet = replicate (recordSize * mostRecords) 0xAA
 abbrev pub lentWork : List ℕ
 lentWork = replicate workLength 0xAA
 
--- the number, D, the room
+-- the number, D, where it broke and how many columns there are, the room
 abbrev pub sayTry : TryOutcome → List ℕ
-sayTry o = numberOf (o .answer .verdict) ∷ o .answer .d ∷ o .room
+sayTry o =
+    numberOf (o .answer .verdict) ∷ o .answer .d ∷ placeOf (o .answer .verdict) ∷ o .answer .columns ∷ o .room
 
 -- the number and the masks
 abbrev pub sayFind : FindOutcome → List ℕ

@@ -1,9 +1,12 @@
 -- Words that the claims use.
 use mathlib.Core.Path.{_≡_}
 use mathlib.Core.Logic.{_↔_, _⊎_}
+use mathlib.Core.Bool.{Bool}
 use mathlib.Core.List.{List}
-use Prim.Native.Nat.{ℕ, _+_, _*_, _<_}
+use Prim.Native.Nat.{ℕ, _+_, _*_, _^_, _<_, _≤_}
 use lib.ListN.{length, getD, take}
+use Rattle.bits.specs.Sets.{size}
+use Rattle.splits.specs.Columns.{columns}
 use Rattle.sheets.specs.declared.kinds.Edition.{Edition}
 use Rattle.sheets.specs.Network.{Cell}
 use Rattle.sheets.specs.Record.{Keeps}
@@ -40,3 +43,10 @@ pub record FirstBad (e : Edition) (d n : ℕ) (s : List ℕ) (i : ℕ) : Type 0 
   pub within : i < records e s
   pub breaks : Keeps e d (n + i) (recordAt e s i) → ⊥
   pub before : (j : ℕ) → j < i → Keeps e d (n + j) (recordAt e s j)
+
+-- b is the least assignment of B with more than m different columns, and has k of them
+pub record Breaks (n : ℕ) (F : ℕ → Bool) (A B : ℕ → Bool) (m b k : ℕ) : Type 0 where
+  pub within : b < 2 ^ size n B
+  pub count : k ≡ length (columns n F A B b)
+  pub more : m < length (columns n F A B b)
+  pub before : (b′ : ℕ) → b′ < b → length (columns n F A B b′) ≤ m

@@ -1,8 +1,13 @@
 -- A named split tried, for C.
-use Rattle.bench.specs.Lines.{numberOf}
+use Rattle.bench.specs.Lines.{numberOf, placeOf}
 use Rattle.bench.specs.TrySplit.{TryOutcome}
 use Rattle.pelzurivan.specs.declared.try_split.TriedC.{TriedC}
 
--- the number, and D
+-- the number, D, and what 8 tells
 abbrev pub triedC : TryOutcome → TriedC
-triedC o = record { number = numberOf (o .answer .verdict); d = o .answer .d }
+triedC o = record {
+  number = numberOf (o .answer .verdict);
+  d = o .answer .d;
+  b = placeOf (o .answer .verdict);
+  columns = o .answer .columns;
+}

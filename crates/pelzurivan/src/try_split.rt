@@ -1,16 +1,19 @@
 // Trying a named split, for C.
 use bench::refusals::number_of;
+use bench::refusals::place_of;
 use bench::try_split::try_split;
 ghost use mathlib.Core.Path.{_≡_};
 ghost use Rattle.sheets.specs.Edition.{firstEdition};
 ghost use Rattle.bench.specs.TrySplit.{tryOutcome};
 ghost use Rattle.pelzurivan.specs.TrySplit.{triedC};
 
-// The number, D.
+// The number, D, and after 8 where the split breaks and how many different columns there are.
 #[repr(C)]
 pub struct TriedC {
     pub number: u64,
     pub d: u64,
+    pub b: u64,
+    pub columns: u64,
 }
 
 // Tries a named split: D, and H into the lent room.
@@ -33,5 +36,7 @@ pub extern "C" fn pelzurivan_try(
     TriedC {
         number: number_of(verdict) as u64,
         d: answer.d,
+        b: place_of(verdict),
+        columns: answer.columns as u64,
     }
 }

@@ -1,4 +1,4 @@
-//! Try a named split: D as a number, H into a lent table.
+//! Try a named split: D as a number, H into a lent table; where it breaks, if it does.
 
 use crate::case::{Call, Case, Field, Part, TABLE_BUFFER};
 use crate::fresh::gate::{self, Ask};
@@ -6,7 +6,7 @@ use crate::fresh::Fresh;
 use crate::random::Random;
 use crate::refusals::{gate, DONE, NO_ROOM, NO_SETS, NO_SPLIT};
 use crate::sets::{all, size};
-use crate::split::{pair, Split};
+use crate::split::{first_break, pair, Break, Split};
 use crate::table::Table;
 
 pub static CALL: Call = Call {
@@ -20,7 +20,13 @@ pub static CALL: Call = Call {
         Field::Bytes("table", TABLE_BUFFER),
         Field::Lent("room for H", TABLE_BUFFER),
     ],
-    answers: &[Part::Number("number", 1), Part::Number("D", 8), Part::Lent(0)],
+    answers: &[
+        Part::Number("number", 1),
+        Part::Number("D", 8),
+        Part::Number("b", 2),
+        Part::Number("columns", 2),
+        Part::Lent(0),
+    ],
     gives: &[0, 1, 2, 3, 4, 5, 6, 8],
     answer,
     fresh,
@@ -31,24 +37,39 @@ pub fn case(n: u64, k: u64, split: Split, table: Vec<u8>, room: usize) -> Case {
     Case { call: &CALL, numbers, bytes: vec![table], lent: vec![room] }
 }
 
+/// A refusal: its number, and where the split breaks if it is 8.
+struct No {
+    number: u8,
+    at: Break,
+}
+
+impl From<u8> for No {
+    fn from(number: u8) -> No {
+        No { number, at: Break { b: 0, columns: 0 } }
+    }
+}
+
 fn try_split(
     n: u64,
     k: u64,
     split: Split,
     table: &[u8],
     room: usize,
-) -> Result<(Table, Table), u8> {
+) -> Result<(Table, Table), No> {
     let (gate, k) = gate(n, k, table)?;
     let Split { own, shared } = split;
     let outside = (own | shared) & !all(gate.inputs) != 0;
     let overlap = own & shared != 0;
     if outside || overlap || size(own) < 2 || size(own) + size(shared) > k {
-        return Err(NO_SETS);
+        return Err(NO_SETS.into());
     }
     if room < Table::byte_length(split.inputs_of_h(gate.inputs)) {
-        return Err(NO_ROOM);
+        return Err(NO_ROOM.into());
     }
-    pair(&gate, split).ok_or(NO_SPLIT)
+    match first_break(&gate, split) {
+        Some(at) => Err(No { number: NO_SPLIT, at }),
+        None => Ok(pair(&gate, split).expect("a split that nothing breaks")),
+    }
 }
 
 fn answer(case: &Case, lent: &mut [Vec<u8>]) -> Vec<u64> {
@@ -58,9 +79,9 @@ fn answer(case: &Case, lent: &mut [Vec<u8>]) -> Vec<u64> {
         Ok((d, h)) => {
             let h = h.to_bytes();
             lent[0][..h.len()].copy_from_slice(&h);
-            vec![u64::from(DONE), d.to_number()]
+            vec![u64::from(DONE), d.to_number(), 0, 0]
         }
-        Err(number) => vec![u64::from(number), 0],
+        Err(No { number, at }) => vec![u64::from(number), 0, at.b as u64, at.columns as u64],
     }
 }
 

@@ -100,8 +100,11 @@ const SHEET_OF_8: &str = "06 00 01 02 03 04 05 00 00 00 00 00 00 00 00 80
                           06 0C 0D 0E 0F 10 11 00 00 00 00 00 00 00 00 80";
 
 fn examples_1_to_5() -> Vec<Example> {
-    let pick =
-        example("5", name_sets(3, 3, 3, 4, "CA"), unhex("00 CA 00 00 00 00 00 00 00 0C AA AA"));
+    let pick = example(
+        "5",
+        name_sets(3, 3, 3, 4, "CA"),
+        unhex("00 CA 00 00 00 00 00 00 00 00 00 00 00 0C AA AA"),
+    );
     vec![
         sheet("1", make(1, 2, "02"), SHEET_OF_1),
         sheet("2", make(3, 2, "80"), SHEET_OF_2),

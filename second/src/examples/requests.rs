@@ -57,6 +57,23 @@ fn unused_inputs() -> Vec<Example> {
     ]
 }
 
+/// Where a named split breaks. The majority has three columns over inputs 0 and 1
+/// (never, input 2, always). XOR where input 3 is 0, else the majority: with
+/// input 3 shared b = 1 breaks it. The selector over a, c, x and y: never,
+/// always, b and d.
+fn where_a_split_breaks() -> Vec<Example> {
+    let at = |case: Case, b: u8, columns: u8| {
+        let numbers = [8, 0, 0, 0, 0, 0, 0, 0, 0, b, 0, columns, 0];
+        example("E4", case, [&numbers[..], &[PRESET; 3]].concat())
+    };
+    vec![
+        at(name_sets(3, 2, 3, 0, "E8"), 0, 3),
+        at(name_sets(4, 3, 3, 8, "96 E8"), 1, 3),
+        at(name_sets(4, 3, 3, 8, "E8 96"), 0, 3),
+        at(name_sets(6, 4, 53, 0, SELECTOR), 0, 4),
+    ]
+}
+
 pub fn all() -> Vec<Example> {
-    [check_a_sheet(), unused_inputs()].into_iter().flatten().collect()
+    [check_a_sheet(), unused_inputs(), where_a_split_breaks()].into_iter().flatten().collect()
 }

@@ -1,6 +1,7 @@
 //! Fresh cases for every call, sound and damaged.
 
 mod bad;
+pub mod breaks;
 pub mod damage;
 pub mod every_bit;
 pub mod every_rule;
@@ -22,12 +23,13 @@ pub struct Fresh {
     pub tags: Vec<String>,
 }
 
-/// So many fresh cases, the calls in turn; besides, a few large ones, tables that
-/// ignore inputs in every place, every rule of the records broken, and every bit
-/// of some sheets flipped.
+/// So many fresh cases, the calls in turn; besides, a few large ones, splits that
+/// break at a known place, tables that ignore inputs in every place, every rule
+/// of the records broken, and every bit of some sheets flipped.
 pub fn cases(random: &mut Random, count: usize) -> Vec<Fresh> {
     let mut list: Vec<Fresh> = (0..count).map(|i| (TABLE[i % TABLE.len()].fresh)(random)).collect();
     list.extend(large::cases(random));
+    list.extend(breaks::cases(random));
     list.extend(ignored::cases(random));
     list.extend(every_rule::cases(random));
     list.extend(every_bit::cases(random));

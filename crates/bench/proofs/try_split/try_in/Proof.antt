@@ -1,24 +1,27 @@
 -- `try_in` meets its contract: what form and room refuse, else the fixed pair. Assumes nothing.
 use mathlib.Core.Path.{_≡_, refl, sym, ap, _∙_, subst}
+use mathlib.Core.Bool.{Bool, cond}
 use mathlib.Core.List.{List, [], _∷_}
 use Prim.Native.Nat.{ℕ, _+_, _-_, _≤_}
 use native.Mathlib.Omega.{arith}
 use lib.ListN.{length}
 use lib.Pow.{pow-mono}
 use borrow.Author.Needs.{needs}
-use borrow.Author.Tests.{ltb-false}
+use borrow.Author.Tests.{ltb-false, ne-eqb}
 use Rattle.bits.specs.Numbers.{bit}
 use Rattle.bits.specs.Sets.{size}
 use Rattle.tables.specs.Table.{mostInputs, tableLength, tableBit}
+use Rattle.splits.specs.Columns.{columns}
 use Rattle.best.specs.Best.{Candidate}
 use Rattle.sheets.specs.declared.kinds.Edition.{Edition}
 use Rattle.sheets.specs.Edition.{largestCell}
+use Rattle.bench.specs.declared.refusals.Refusal.{Refusal}
 use Rattle.bench.specs.declared.refusals.Verdict.{Verdict}
-use Rattle.bench.specs.declared.refusals.Verdict.the-variants.{Fine}
+use Rattle.bench.specs.declared.refusals.Verdict.the-variants.{Fine, Refused}
 use Rattle.bench.specs.Lines.{verdict, reply}
 use Rattle.bench.specs.Refusals.{badSets, shortRoom, notPossible}
-use Rattle.bench.specs.TrySplit.{tryForm, tryDone, tryNot, tryOutcome}
-use Rattle.bench.proofs.Lines.{in-order, refused-by, left-to}
+use Rattle.bench.specs.TrySplit.{tryForm, columnsNamed, tryDone, tryNot, tryOutcome}
+use Rattle.bench.proofs.Lines.{in-order, refused-by, left-to, another}
 use Rattle.bench.proofs.Tests.{Sound, sound-before}
 use Rattle.bench.proofs.Sets.{candidate, carried, bytes-H}
 use Rattle.bench.proofs.try_split.try_in.Statement.{statement}
@@ -37,15 +40,24 @@ through e n K A B t room most h =
     let s = candidate n K A B (w .0) largestCell (omega (arith, g .largest)) in
     record { gate = g; sets = s; long = subst (λ (m : ℕ). m ≤ length room) (sym (bytes-H s (tableBit t))) (ltb-false (length room) _ (w .1 .0)) }
 
+-- no line of form and room is 8, so no columns are counted
+no-columns : (e : Edition) (n K A B : ℕ) (t room : List ℕ) (r : Refusal) → verdict (tryForm e n K A B t room) ≡ Refused r → columnsNamed n A B t r ≡ 0
+no-columns e n K A B t room r h =
+    ap (λ (b : Bool). cond b (length (columns n (tableBit t) (bit A) (bit B) (r .place))) 0)
+    (ne-eqb (r .number) 8 (another (tryForm e n K A B t room) 8 r refl h))
+
 returns : tie.Need-returns
 unfolding tryOutcome
 returns c =
     let f = c .before .before in
     let a = f .before .before .before .before .args in
+    let r = c .enum-told2 .given .0 .0 in
     let e = c .enum-told2 .given .1 in
-    ap (λ (v : Verdict). record { answer = record { verdict = v; d = 0 }; room = a .room .now }) e
+    ap (λ (v : Verdict). record { answer = record { verdict = v; d = 0; columns = 0 }; room = a .room .now }) e
+    ∙ ap (λ (k : ℕ). record { answer = record { verdict = Refused r; d = 0; columns = k }; room = a .room .now })
+    (sym (no-columns (a .e) (a .n) (a .k) (a .own) (a .shared) (a .t .now) (a .room .now) r (sym (f .try-form .ensures) ∙ e)))
     ∙ refused-by (tryForm (a .e) (a .n) (a .k) (a .own) (a .shared) (a .t .now) (a .room .now)) (notPossible (a .n) (a .own) (a .shared) (a .t .now) ∷ [])
-    (tryDone (a .n) (a .own) (a .shared) (a .t .now) (a .room .now)) (tryNot (a .room .now)) (f .try-form .result) (c .enum-told2 .given .0 .0) (f .try-form .ensures) e
+    (tryDone (a .n) (a .own) (a .shared) (a .t .now) (a .room .now)) (tryNot (a .n) (a .own) (a .shared) (a .t .now) (a .room .now)) (f .try-form .result) r (f .try-form .ensures) e
 
 of-requires : tie.Need-of-requires
 of-requires c κs =
@@ -84,10 +96,10 @@ returns-2 c =
     carried
     (λ (n A B : ℕ).
     record { answer = r .pair-of .result; room = r .pair-of .last .1 .1 .0 }
-    ≡ reply (verdict (notPossible n A B (a .t .now) ∷ [])) (tryDone n A B (a .t .now) (a .room .now)) (tryNot (a .room .now)))
+    ≡ reply (verdict (notPossible n A B (a .t .now) ∷ [])) (tryDone n A B (a .t .now) (a .room .now)) (tryNot n A B (a .t .now) (a .room .now)))
     (o .1) (o .2) (o .3) (r .pair-of .ensures)
     ∙ left-to (tryForm (a .e) (a .n) (a .k) (a .own) (a .shared) (a .t .now) (a .room .now)) (notPossible (a .n) (a .own) (a .shared) (a .t .now) ∷ [])
-    (tryDone (a .n) (a .own) (a .shared) (a .t .now) (a .room .now)) (tryNot (a .room .now)) (f .try-form .result) (f .try-form .ensures) (i .enum-told .given .1)
+    (tryDone (a .n) (a .own) (a .shared) (a .t .now) (a .room .now)) (tryNot (a .n) (a .own) (a .shared) (a .t .now) (a .room .now)) (f .try-form .result) (f .try-form .ensures) (i .enum-told .given .1)
 
 pub try-in-spec : {M : Type 1} → statement M
 try-in-spec =
