@@ -22,6 +22,10 @@
  *   10  a record breaks the record rules; index is the first that does
  *   11  assignment 2^n or more
  *   12  the sheet doesn't give the table's bit everywhere; place is the least assignment at which it doesn't
+ *   13  the delay or a time of the n inputs is not a number, outside 0 to 4,096 or crossed, or missing for an input
+ *       that some cell reads
+ *   14  the delay or a time of the n inputs isn't a whole number of sixteenths, or the deadline is outside
+ *       -1,048,576 to 1,048,576
  * After a refusal every other value is 0 (but for what 8 of a named split, 10 and 12 name), and no result byte is
  * touched.
  */
@@ -43,6 +47,12 @@ typedef struct { uint64_t number, count; } pelzurivan_made;
 typedef struct { uint64_t number, bit, index; } pelzurivan_ran;
 typedef struct { uint64_t number, index; } pelzurivan_rebuilt;
 typedef struct { uint64_t number, place; } pelzurivan_checked;
+
+/* The inputs' times, in nanoseconds. kind 1 is one arrival (first), 2 an earliest (first) and a latest (second), any
+ * other is not read. Only those of the n inputs are looked at, and of those only what their kind says. */
+typedef struct { uint8_t kind[16]; double first[16], second[16]; } pelzurivan_times;
+typedef struct { uint64_t number, index; double earliest, latest; } pelzurivan_settled;
+typedef struct { uint64_t number, index; int64_t slack; } pelzurivan_slack_answer;
 
 /* Tries a named split: D in d, H in the first bytes of room, the bytes after its table stay. 1 to 6, 8: b is then the
  * least assignment of shared (its members in increasing position, lowest as bit 0) with more than two different
@@ -71,6 +81,15 @@ pelzurivan_rebuilt pelzurivan_rebuild(uint64_t n, const uint8_t *sheet, size_t s
  * the two differ (12). 1, 3, 4, 9, 10, 12. */
 pelzurivan_checked pelzurivan_check(uint64_t n, const uint8_t *table, size_t table_length, const uint8_t *sheet,
                                     size_t sheet_length);
+
+/* When the output settles: its earliest and latest time, where each cell takes the same delay. 1, 9, 10, 13. */
+pelzurivan_settled pelzurivan_settle(uint64_t n, const uint8_t *sheet, size_t sheet_length, double delay,
+                                     pelzurivan_times times);
+
+/* The slack: a deadline in sixteenths of a nanosecond less the output's latest time; below zero is an answer.
+ * 1, 9, 10, 13, 14. */
+pelzurivan_slack_answer pelzurivan_slack(uint64_t n, const uint8_t *sheet, size_t sheet_length, double delay,
+                                         pelzurivan_times times, int64_t deadline);
 
 #ifdef __cplusplus
 }

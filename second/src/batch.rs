@@ -40,6 +40,7 @@ impl<'a> Reader<'a> {
                     let length = self.length(*buffer)?;
                     case.bytes.push(self.bytes(length)?.to_vec());
                 }
+                Field::Fixed(_, length, _) => case.bytes.push(self.bytes(*length)?.to_vec()),
             }
         }
         Some(case)
@@ -105,6 +106,7 @@ pub fn case_bytes(case: &Case) -> Vec<u8> {
                 output.extend(&number.to_le_bytes()[..*width]);
             }
             Field::Lent(..) => output.extend(length(*lent.next().expect("a length"))),
+            Field::Fixed(..) => output.extend(bytes.next().expect("bytes for each field")),
             Field::Bytes(..) => {
                 let bytes = bytes.next().expect("bytes for each field");
                 output.extend(length(bytes.len()));

@@ -20,6 +20,8 @@ pub enum Field {
     Number(&'static str, usize),
     /// A length and so many bytes to be read, at most as many as the buffer holds.
     Bytes(&'static str, usize),
+    /// So many bytes to be read, with no length before them, and how to say them in words.
+    Fixed(&'static str, usize, fn(&[u8]) -> String),
     /// The length of a lent area, at most as long as the buffer.
     Lent(&'static str, usize),
 }

@@ -23,7 +23,10 @@ pub fn case_text(case: &Case) -> String {
     let mut bytes = case.bytes.iter();
     let mut lent = case.lent.iter();
     let fields = case.call.asks.iter().map(|field| match field {
-        Field::Number(name, _) => format!(" {name} {}", shown(numbers.next())),
+        Field::Number(name, _) => format!(" {name} {}", in_words(name, numbers.next().copied())),
+        Field::Fixed(name, _, shown) => {
+            format!(" {name} {}", bytes.next().map_or_else(missing, |b| shown(b)))
+        }
         Field::Bytes(name, _) => {
             format!(" {name} {}", bytes.next().map_or_else(missing, |b| hex(b)))
         }
@@ -34,6 +37,15 @@ pub fn case_text(case: &Case) -> String {
 
 fn shown<T: ToString>(value: Option<&T>) -> String {
     value.map_or_else(missing, T::to_string)
+}
+
+/// A number in words: some are the eight bytes of an f64, some are signed.
+fn in_words(name: &str, number: Option<u64>) -> String {
+    match (name, number) {
+        ("delay" | "earliest" | "latest", Some(number)) => format!("{:?}", f64::from_bits(number)),
+        ("deadline" | "slack", Some(number)) => (number as i64).to_string(),
+        _ => shown(number.as_ref()),
+    }
 }
 
 fn missing() -> String {
@@ -50,7 +62,7 @@ pub fn answer_text(case: &Case, answer: &[u8]) -> String {
     };
     let parts = case.call.answers.iter().map(|part| match part {
         Part::Number(name, width) => {
-            format!("{name} {}", shown(field(*width).map(number_of).as_ref()))
+            format!("{name} {}", in_words(name, field(*width).map(number_of)))
         }
         Part::Lent(area) => format!("room {}", field(case.lent[*area]).map_or_else(missing, hex)),
         Part::Mark(_) => format!("W {}", shown(field(1).map(number_of).as_ref())),

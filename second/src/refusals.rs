@@ -19,6 +19,8 @@ pub const NO_SHEET: u8 = 9;
 pub const NO_RECORD: u8 = 10;
 pub const NO_ASSIGNMENT: u8 = 11;
 pub const NO_MATCH: u8 = 12;
+pub const NO_TIME: u8 = 13;
+pub const NO_SLACK: u8 = 14;
 
 /// A refusal: its number and what it names (a record's index, an assignment), else 0.
 #[derive(Clone, Copy, Debug, PartialEq, Eq)]

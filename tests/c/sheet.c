@@ -109,6 +109,22 @@ static void where_a_split_breaks(void) {
     expect(tried.b == 1 && tried.columns == 3, "try: 8, three columns at b = 1");
 }
 
+/* The sheet of example 2 with inputs 0 and 1 at 1 and from 1/2 to 2, input 2 at 3 1/4, and 1/4 a cell: the first cell
+ * settles from 3/4 to 2 1/4, the second from 1 to 3 1/2. */
+static void settle_and_slack(void) {
+    pelzurivan_times times = {.kind = {1, 2, 1}, .first = {1, 0.5, 3.25}, .second = {-1, 2, -1}};
+    pelzurivan_settled settled = pelzurivan_settle(3, EXAMPLE_2, sizeof EXAMPLE_2, 0.25, times);
+    expect(settled.number == 0 && settled.index == 0, "settle: done");
+    expect(settled.earliest == 1 && settled.latest == 3.5, "settle: from 1 to 3 1/2");
+    pelzurivan_slack_answer slack = pelzurivan_slack(3, EXAMPLE_2, sizeof EXAMPLE_2, 0.25, times, 48);
+    expect(slack.number == 0 && slack.index == 0 && slack.slack == -8, "slack: half a nanosecond too late");
+    slack = pelzurivan_slack(3, EXAMPLE_2, sizeof EXAMPLE_2, 0.3, times, 48);
+    expect(slack.number == 14 && slack.slack == 0, "slack: 14, the delay isn't in sixteenths");
+    times.kind[2] = 0;
+    settled = pelzurivan_settle(3, EXAMPLE_2, sizeof EXAMPLE_2, 0.25, times);
+    expect(settled.number == 13 && settled.earliest == 0 && settled.latest == 0, "settle: 13, a missing time");
+}
+
 /* Masks are whole numbers: 65,539 names a position from n up, whatever its low 16 bits say. */
 static void masks_above_16_bits(void) {
     static uint8_t table[8192], room[4096];
@@ -149,6 +165,7 @@ int main(void) {
     unused_inputs();
     check_a_suppliers_sheet();
     where_a_split_breaks();
+    settle_and_slack();
     masks_above_16_bits();
     refusals();
     printf("tests/c: %d of %d checks hold\n", checks - faults, checks);

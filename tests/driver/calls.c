@@ -80,8 +80,49 @@ static void check(void) {
     put(8, a.place);
 }
 
+static pelzurivan_times input_times(void) {
+    pelzurivan_times times;
+    for (size_t i = 0; i < sizeof times.kind; i++) {
+        times.kind[i] = (uint8_t)number(1);
+        times.first[i] = time_number();
+        times.second[i] = time_number();
+    }
+    return times;
+}
+
+static void settle(void) {
+    uint64_t n = number(8);
+    area sheet = handed(SHEET);
+    double delay = time_number();
+    pelzurivan_times times = input_times();
+    if (!whole()) return;
+    start();
+    pelzurivan_settled a = pelzurivan_settle(n, sheet.bytes, sheet.length, delay, times);
+    stop();
+    put(1, a.number);
+    put(1, a.index);
+    put_time(a.earliest);
+    put_time(a.latest);
+}
+
+static void slack(void) {
+    uint64_t n = number(8);
+    area sheet = handed(SHEET);
+    double delay = time_number();
+    pelzurivan_times times = input_times();
+    int64_t deadline = (int64_t)number(8);
+    if (!whole()) return;
+    start();
+    pelzurivan_slack_answer a = pelzurivan_slack(n, sheet.bytes, sheet.length, delay, times, deadline);
+    stop();
+    put(1, a.number);
+    put(1, a.index);
+    put(8, (uint64_t)a.slack);
+}
+
 static const call CALLS[] = {
-    {0x01, try_split}, {0x02, find}, {0x03, make}, {0x04, run}, {0x05, rebuild}, {0x06, check},
+    {0x01, try_split}, {0x02, find},  {0x03, make},   {0x04, run},
+    {0x05, rebuild},   {0x06, check}, {0x07, settle}, {0x08, slack},
 };
 
 const call *call_of(int code) {

@@ -41,6 +41,13 @@ uint64_t number(size_t width) {
     return value;
 }
 
+double time_number(void) {
+    uint64_t bits = number(8);
+    double value;
+    memcpy(&value, &bits, sizeof value);
+    return value;
+}
+
 /* Bytes that differ from place to place, so that no one value can be written over them unseen. */
 static void guard(void) {
     for (size_t i = 0; i < GUARD; i++) pool[used + i] = (uint8_t)(0xC3 ^ (37 * i));
@@ -98,6 +105,12 @@ uint64_t nanoseconds(void) {
 void put(size_t width, uint64_t value) {
     for (size_t i = 0; i < width; i++) putchar((int)(value >> (8 * i) & 0xFF));
     if (width < 8 && value >> (8 * width) != 0) broken("a value does not fit its field");
+}
+
+void put_time(double value) {
+    uint64_t bits;
+    memcpy(&bits, &value, sizeof bits);
+    put(8, bits);
 }
 
 void put_area(area a) { fwrite(a.bytes, 1, a.length, stdout); }

@@ -22,6 +22,7 @@ int next_code(void);
 
 /* The next field of the case. Once one can't be had, all that follow are 0 or empty: ask whole() before the call. */
 uint64_t number(size_t width);
+double time_number(void); /* the eight bytes of an f64 */
 area handed(size_t most); /* bytes to be read */
 area lent(size_t most);   /* bytes to be written, preset */
 bool whole(void);
@@ -34,6 +35,7 @@ uint64_t nanoseconds(void); /* of the last call */
 
 /* The next field of the answer. */
 void put(size_t width, uint64_t value);
+void put_time(double value);
 void put_area(area a);
 void put_mark(area a); /* W of a work area */
 

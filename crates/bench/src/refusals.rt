@@ -34,6 +34,10 @@ impl Refusal {
     pub const ASSIGNMENT: u8 = 11;
     // the sheet doesn't give the table's bit: the least such assignment
     pub const DIFFERS: u8 = 12;
+    // the delay or a time is no number, out of range, crossed or missing
+    pub const TIME: u8 = 13;
+    // a time isn't in sixteenths, or the deadline is out of range
+    pub const SLACK: u8 = 14;
 }
 
 // What looking at a call's lines comes to.

@@ -9,6 +9,8 @@ pub mod RebuildTable
 pub mod Made
 pub mod MakeSheet
 pub mod CheckSheet
+pub mod Settle
+pub mod Slack
 pub mod Fewest
 pub mod BenchProgram
 pub mod Tries

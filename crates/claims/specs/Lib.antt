@@ -2,3 +2,4 @@
 pub mod Words
 pub mod Questions
 pub mod Before
+pub mod Times

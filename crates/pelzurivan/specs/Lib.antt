@@ -5,3 +5,6 @@ pub mod MakeSheet
 pub mod RunSheet
 pub mod RebuildTable
 pub mod CheckSheet
+pub mod InputTimes
+pub mod Settle
+pub mod Slack

@@ -2,7 +2,10 @@
 // The header is include/pelzurivan.h.
 pub mod check_sheet;
 pub mod find_best;
+pub mod input_times;
 pub mod make_sheet;
 pub mod rebuild_table;
 pub mod run_sheet;
+pub mod settle;
+pub mod slack;
 pub mod try_split;

@@ -5,13 +5,23 @@ pub mod find;
 pub mod make;
 pub mod rebuild;
 pub mod run;
+pub mod settle;
+pub mod slack;
 pub mod try_split;
 
 use crate::case::Call;
 
 /// The calls that are answered today, by code.
-pub static TABLE: [&Call; 6] =
-    [&try_split::CALL, &find::CALL, &make::CALL, &run::CALL, &rebuild::CALL, &check::CALL];
+pub static TABLE: [&Call; 8] = [
+    &try_split::CALL,
+    &find::CALL,
+    &make::CALL,
+    &run::CALL,
+    &rebuild::CALL,
+    &check::CALL,
+    &settle::CALL,
+    &slack::CALL,
+];
 
 pub fn call_of(code: u8) -> Option<&'static Call> {
     TABLE.iter().copied().find(|call| call.code == code)

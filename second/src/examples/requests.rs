@@ -1,6 +1,8 @@
 //! Some examples for the requests of document 02, their answers worked out by hand.
 
 use super::*;
+use crate::table::MOST_INPUTS;
+use crate::times::Time;
 
 /// The majority of three out of cells of two, (a AND b) OR (c AND (a OR b)): a
 /// and b are read twice, so no chain of splits has this shape.
@@ -74,6 +76,57 @@ fn where_a_split_breaks() -> Vec<Example> {
     ]
 }
 
+/// An earliest and a latest for each input, the other times not read.
+fn times(inputs: &[(f64, f64)]) -> Vec<Time> {
+    let mut list = vec![Time { kind: 0, first: f64::NAN, second: f64::NAN }; MOST_INPUTS];
+    for (time, &(first, second)) in list.iter_mut().zip(inputs) {
+        *time = Time { kind: 2, first, second };
+    }
+    list
+}
+
+/// The sheet of example 2. Inputs 0 and 1 at 1 and from 1/2 to 2, input 2 at
+/// 3 1/4, and 1/4 a cell: the first cell settles from 3/4 to 2 1/4, the second
+/// from 1 to 3 1/2. With a delay of 0.1 and all inputs at 0.7 each sum is rounded
+/// once: 0.7 and 0.1 give 0.7999999999999999 (earliest, from input 2), and 0.1
+/// more 0.8999999999999999.
+fn settle_and_slack() -> Vec<Example> {
+    let and = || unhex(SHEET_OF_2);
+    let known = times(&[(1.0, 1.0), (0.5, 2.0), (3.25, 3.25)]);
+    let all_at = times(&[(0.7, 0.7); 3]);
+    let settled = |delay: f64, times: &[Time], number: u8, [earliest, latest]: [f64; 2]| {
+        let case = calls::settle::case(3, and(), delay, times);
+        let numbers = [number, 0];
+        let times = [earliest.to_le_bytes(), latest.to_le_bytes()].concat();
+        example("E5", case, [&numbers[..], &times].concat())
+    };
+    let slack = |delay: f64, deadline: i64, number: u8, slack: i64| {
+        let case = calls::slack::case(3, and(), delay, &known, deadline);
+        example("E5", case, [&[number, 0][..], &slack.to_le_bytes()].concat())
+    };
+    vec![
+        settled(0.25, &known, 0, [1.0, 3.5]),
+        settled(-0.0, &known, 0, [0.5, 3.25]),
+        settled(-0.0, &times(&[(-0.0, -0.0); 3]), 0, [0.0; 2]),
+        settled(-0.0, &times(&[(-0.0, f64::from_bits(1)); 3]), 0, [0.0, f64::from_bits(1)]),
+        settled(4096.0, &known, 0, [4099.25, 8194.0]),
+        settled(0.1, &all_at, 0, [0.7999999999999999, 0.8999999999999999]),
+        settled(0.25, &times(&[(1.0, 1.0), (0.5, 2.0)]), 13, [0.0; 2]),
+        settled(0.25, &times(&[(1.0, 1.0), (2.0, 0.5), (1.0, 1.0)]), 13, [0.0; 2]),
+        settled(f64::NAN, &known, 13, [0.0; 2]),
+        settled(4096.0625, &known, 13, [0.0; 2]),
+        slack(0.25, 48, 0, -8),
+        slack(0.25, 1_048_576, 0, 1_048_520),
+        slack(0.25, -1_048_576, 0, -1_048_632),
+        slack(0.25, 1_048_577, 14, 0),
+        slack(0.1, 48, 14, 0),
+        slack(-0.25, 1_048_577, 13, 0),
+    ]
+}
+
 pub fn all() -> Vec<Example> {
-    [check_a_sheet(), unused_inputs(), where_a_split_breaks()].into_iter().flatten().collect()
+    [check_a_sheet(), unused_inputs(), where_a_split_breaks(), settle_and_slack()]
+        .into_iter()
+        .flatten()
+        .collect()
 }

@@ -12,6 +12,7 @@ pub mod networks;
 pub mod sheet;
 pub mod sheets;
 pub mod tables;
+pub mod timing;
 
 use crate::calls::TABLE;
 use crate::case::{Case, Field};

@@ -8,6 +8,7 @@ use crate::cell::{read_sheet, RECORD_BYTES, SHEET_BYTES};
 use crate::network::rebuild;
 use crate::random::Random;
 use crate::table::Table;
+use crate::times::Time;
 
 /// What may be asked about a sheet, sound at first and then perhaps spoiled.
 pub struct Ask {
@@ -17,6 +18,10 @@ pub struct Ask {
     pub table: Vec<u8>,
     pub sheet: Vec<u8>,
     pub room: usize,
+    /// The inputs' times, for a call that takes them.
+    pub delay: f64,
+    pub times: Vec<Time>,
+    pub deadline: i64,
     pub tags: Vec<String>,
 }
 
@@ -51,8 +56,17 @@ pub fn walked_inputs(random: &mut Random) -> usize {
 pub fn draw(random: &mut Random, n: usize) -> Ask {
     let kind = random.pick(&KINDS);
     let sheet = kind.draw(random, n);
-    let tags = vec![format!("sheet: {}", kind.name())];
-    Ask { n: n as u64, x: 0, table: Vec::new(), sheet, room: Table::byte_length(n), tags }
+    Ask {
+        n: n as u64,
+        x: 0,
+        table: Vec::new(),
+        sheet,
+        room: Table::byte_length(n),
+        delay: 0.0,
+        times: Vec::new(),
+        deadline: 0,
+        tags: vec![format!("sheet: {}", kind.name())],
+    }
 }
 
 /// The same, with the table that the sheet carries.

@@ -15,6 +15,7 @@ fn case_with(call: &'static Call, length: impl Fn(usize, usize) -> usize) -> Cas
         match field {
             Field::Number(..) => case.numbers.push(3),
             Field::Bytes(_, buffer) => case.bytes.push(vec![0x80; length(at, *buffer)]),
+            Field::Fixed(_, length, _) => case.bytes.push(vec![0; *length]),
             Field::Lent(_, buffer) => case.lent.push(length(at, *buffer)),
         }
     }
@@ -30,7 +31,7 @@ fn batches(random: &mut Random) -> Vec<(String, Vec<u8>)> {
         for (field, asked) in call.asks.iter().enumerate() {
             let name = match asked {
                 Field::Bytes(name, _) | Field::Lent(name, _) => name,
-                Field::Number(..) => continue,
+                Field::Number(..) | Field::Fixed(..) => continue,
             };
             let long = case_with(call, |at, buffer| buffer + usize::from(at == field));
             let name = format!("{}, {name} one byte too long", call.name);

@@ -1,0 +1,33 @@
+// The slack, for C.
+use crate::input_times::TimesC;
+use crate::input_times::input_times;
+use bench::refusals::number_of;
+use bench::refusals::place_of;
+use times::slack::slack;
+ghost use mathlib.Core.Path.{_≡_};
+ghost use Rattle.sheets.specs.Edition.{firstEdition};
+ghost use Rattle.times.specs.Slack.{slackOutcome};
+ghost use Rattle.pelzurivan.specs.InputTimes.{inputTimes};
+ghost use Rattle.pelzurivan.specs.Slack.{slackC};
+
+// The number, the first bad record, the slack in sixteenths.
+#[repr(C)]
+pub struct SlackC {
+    pub number: u64,
+    pub index: u64,
+    pub slack: i64,
+}
+
+// A deadline in sixteenths less the output's latest time.
+#[no_mangle]
+pub extern "C" fn pelzurivan_slack(n: u64, s: &[u8], delay: f64, c: TimesC, deadline: i64) -> SlackC
+    ensures { λ r. ⌜ r ≡ slackC (slackOutcome firstEdition 0 n (now (s .entry)) delay (inputTimes c) deadline) ⌝ }
+{
+    let answer = slack(n, s, delay, input_times(c), deadline);
+    let verdict = answer.verdict;
+    SlackC {
+        number: number_of(verdict) as u64,
+        index: place_of(verdict),
+        slack: answer.slack,
+    }
+}

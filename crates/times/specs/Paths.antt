@@ -1,0 +1,48 @@
+-- Paths through a network, from an input to the output, and the time along one.
+use mathlib.Core.Path.{_≡_}
+use mathlib.Core.Bool.{Bool, true, false}
+use mathlib.Core.List.{List, []}
+use Prim.Native.Nat.{ℕ, zero, suc, _+_, _-_, _<_, _≤_}
+use lib.Dec.{T}
+use lib.Ieee.{Float, le}
+use lib.ListN.{length, getD}
+use Rattle.sheets.specs.Network.{Cell}
+
+-- the signals that cell i reads
+abbrev pub readBy : List Cell → ℕ → List ℕ
+readBy cs i = getD cs i (record { signals = []; table = 0 }) .signals
+
+-- from input j over k cells to signal t: it begins at an input, and goes on from a signal to a cell that reads it;
+-- cell i gives signal n + i
+pub data Leads (n : ℕ) (cs : List Cell) (j : ℕ) : ℕ → ℕ → Type 0 where
+  begins : j < n → Leads n cs j j 0
+  goes : (t k i p : ℕ) → Leads n cs j t k → i < length cs → p < length (readBy cs i) → getD (readBy cs i) p 0 ≡ t
+      → Leads n cs j (n + i) (suc k)
+
+-- a path from input j over k cells to the output, which the last cell gives
+abbrev pub Path : ℕ → List Cell → ℕ → ℕ → Type 0
+Path n cs j k = Leads n cs j (n + (length cs - 1)) k
+
+-- the time along a path of k cells that begins at x
+unfoldable pub along : {A : Type 0} → (A → A) → ℕ → A → A
+along after zero x = x
+along after (suc k) x = after (along after k x)
+
+-- of whole numbers: i is at least j (late), or at most
+abbrev pub Beyond : Bool → ℕ → ℕ → Type 0
+Beyond true i j = j ≤ i
+Beyond false i j = i ≤ j
+
+-- of f64: x is at least y (late), or at most
+abbrev pub BeyondTime : Bool → Float → Float → Type 0
+BeyondTime true x y = T (le y x)
+BeyondTime false x y = T (le x y)
+
+-- o is the best of the times along all paths: it is at least as good as each, and it is that along one of them
+pub record BestPath {A : Type 0} (asGood : A → A → Type 0) (after : A → A) (n : ℕ) (cs : List Cell) (v : ℕ → A) (o : A)
+    : Type 0 where
+  pub bound : (j k : ℕ) → Path n cs j k → asGood o (along after k (v j))
+  pub input : ℕ
+  pub cells : ℕ
+  pub path : Path n cs input cells
+  pub reached : o ≡ along after cells (v input)
