@@ -26,7 +26,8 @@
  *       that some cell reads
  *   14  the delay or a time of the n inputs isn't a whole number of sixteenths, or the deadline is outside
  *       -1,048,576 to 1,048,576
- * After a refusal every other value is 0 (but for what 8 of a named split, 10 and 12 name), and no result byte is
+ *   15  some record but the last is read by no later record; index (or place) is the first such
+ * After a refusal every other value is 0 (but for what 8 of a named split, 10, 12 and 15 name), and no result byte is
  * touched.
  */
 #ifndef PELZURIVAN_H
@@ -70,15 +71,15 @@ pelzurivan_sought pelzurivan_find(uint64_t n, uint64_t k, const uint8_t *table, 
 pelzurivan_made pelzurivan_make(uint64_t n, uint64_t k, const uint8_t *table, size_t table_length, uint8_t *sheet,
                                 size_t sheet_length, uint8_t *work, size_t work_length);
 
-/* Runs a sheet at the assignment x: the bit. 1, 9, 10, 11. */
+/* Runs a sheet at the assignment x: the bit. 1, 9, 10, 11, 15. */
 pelzurivan_ran pelzurivan_run(uint64_t n, const uint8_t *sheet, size_t sheet_length, uint64_t x);
 
-/* Rebuilds a gate's table from a sheet, written whole, spare bits zero. 1, 3, 9, 10. */
+/* Rebuilds a gate's table from a sheet, written whole, spare bits zero. 1, 3, 9, 10, 15. */
 pelzurivan_rebuilt pelzurivan_rebuild(uint64_t n, const uint8_t *sheet, size_t sheet_length, uint8_t *table,
                                       size_t table_length);
 
-/* Checks anyone's sheet against a gate's table: place is a bad record's index (10) or the least assignment at which
- * the two differ (12). 1, 3, 4, 9, 10, 12. */
+/* Checks anyone's sheet against a gate's table: place is a record's index (10, 15) or the least assignment at which
+ * the two differ (12). 1, 3, 4, 9, 10, 12, 15. */
 pelzurivan_checked pelzurivan_check(uint64_t n, const uint8_t *table, size_t table_length, const uint8_t *sheet,
                                     size_t sheet_length);
 

@@ -18,6 +18,12 @@ pub fn run(n: usize, cells: &[Cell], x: usize) -> bool {
     signals.last().copied().unwrap_or(false)
 }
 
+/// The first record but the last that no later record reads.
+pub fn first_unread(n: usize, cells: &[Cell]) -> Option<usize> {
+    let read = |i: usize| cells[i + 1..].iter().any(|later| later.reads.contains(&(n + i)));
+    (0..cells.len().saturating_sub(1)).find(|&i| !read(i))
+}
+
 /// The whole table, one assignment after the other.
 pub fn rebuild(n: usize, cells: &[Cell]) -> Table {
     Table::from_rule(n, |x| run(n, cells, x))

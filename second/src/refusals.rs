@@ -4,6 +4,7 @@
 //! numbers, so that the lowest number that applies is the one given.
 
 use crate::cell::{read_sheet, Cell, MOST_READS, RECORD_BYTES, SHEET_BYTES};
+use crate::network::first_unread;
 use crate::table::{Table, MOST_INPUTS};
 
 pub const DONE: u8 = 0;
@@ -21,6 +22,7 @@ pub const NO_ASSIGNMENT: u8 = 11;
 pub const NO_MATCH: u8 = 12;
 pub const NO_TIME: u8 = 13;
 pub const NO_SLACK: u8 = 14;
+pub const NO_READER: u8 = 15;
 
 /// A refusal: its number and what it names (a record's index, an assignment), else 0.
 #[derive(Clone, Copy, Debug, PartialEq, Eq)]
@@ -80,6 +82,14 @@ pub fn cells(n: usize, sheet: &[u8]) -> Result<Vec<Cell>, Refusal> {
         return Err(NO_SHEET.into());
     }
     read_sheet(n, sheet).map_err(|place| Refusal { number: NO_RECORD, place })
+}
+
+/// Line 15: each record but the last is read by a later one.
+pub fn each_read(n: usize, cells: &[Cell]) -> Result<(), Refusal> {
+    match first_unread(n, cells) {
+        Some(place) => Err(Refusal { number: NO_READER, place }),
+        None => Ok(()),
+    }
 }
 
 /// The work area afterwards: 1 to 7 leave it as found, 0 and 8 leave zeros.

@@ -3,13 +3,14 @@
 use second::calls::check::check;
 use second::cell::{read_sheet, write_sheet, RECORD_BYTES};
 use second::chain::chain;
-use second::examples::requests::HAND_WIRED;
+use second::examples::requests::{HAND_WIRED, PADDED_AT_1};
 use second::examples::{unhex, SHEET_OF_2};
+use second::fresh::unread::{self, Padded};
 use second::fresh::{every_bit, sheets, tables};
 use second::inspect::inspect;
-use second::network::rebuild;
+use second::network::{first_unread, rebuild};
 use second::random::Random;
-use second::refusals::{Refusal, NO_MATCH, NO_RECORD};
+use second::refusals::{Refusal, NO_MATCH, NO_READER, NO_RECORD};
 use second::table::Table;
 
 fn told(table: &Table, sheet: &[u8]) -> Result<(), Refusal> {
@@ -17,17 +18,33 @@ fn told(table: &Table, sheet: &[u8]) -> Result<(), Refusal> {
 }
 
 #[test]
-fn a_sheet_is_accepted_exactly_if_it_rebuilds_the_table() {
+fn a_sheet_is_accepted_exactly_if_it_rebuilds_the_table_and_each_cell_is_read() {
     let mut random = Random::new(21);
+    let mut unread = 0;
     for i in 0..400 {
         let n = 1 + i % 8;
         let sheet = sheets::KINDS[i % sheets::KINDS.len()].draw(&mut random, n);
-        let carried = rebuild(n, &read_sheet(n, &sheet).expect("a sound sheet"));
-        assert_eq!(told(&carried, &sheet), Ok(()));
+        let cells = read_sheet(n, &sheet).expect("a sound sheet");
+        let carried = rebuild(n, &cells);
+        let no = first_unread(n, &cells).map(|place| Refusal { number: NO_READER, place });
+        assert_eq!(told(&carried, &sheet).err(), no);
+        unread += usize::from(no.is_some());
         let mut other = carried.clone();
         let x = random.below(1 << n);
         other.bits[x] = !other.bits[x];
         assert_eq!(told(&other, &sheet), Err(Refusal { number: NO_MATCH, place: x }));
+    }
+    assert!(unread > 50, "{unread}");
+}
+
+/// A cell that nobody reads hides no other gate: what the sheet gives stays.
+#[test]
+fn a_padded_sheet_is_refused_at_its_first_unread_cell_and_gives_the_same_table() {
+    let mut random = Random::new(24);
+    for Padded { table, cells, first, .. } in unread::sheets(&mut random) {
+        assert_eq!(rebuild(table.inputs, &cells), table);
+        let no = Refusal { number: NO_READER, place: first };
+        assert_eq!(told(&table, &write_sheet(&cells)), Err(no));
     }
 }
 
@@ -89,6 +106,8 @@ fn of_several_refusals_the_lowest_is_given() {
     assert_eq!(number(3, &[0x17], &bad.repeat(8)), Err(9));
     assert_eq!(number(3, &[0x17], &bad), Err(10));
     assert_eq!(number(3, &[0x17], &and), Err(12));
+    assert_eq!(number(3, &[0x17], &unhex(PADDED_AT_1)), Err(12));
+    assert_eq!(number(3, &[0x80], &unhex(PADDED_AT_1)), Err(15));
     assert_eq!(number(3, &[0x80], &and), Ok(()));
 }
 

@@ -125,6 +125,23 @@ static void settle_and_slack(void) {
     expect(settled.number == 13 && settled.earliest == 0 && settled.latest == 0, "settle: 13, a missing time");
 }
 
+/* The sheet of example 2 padded with a cell that nobody reads, as record 1. */
+static void a_cell_that_nobody_reads(void) {
+    static const uint8_t padded[] = {
+        2, 0, 1, 255, 255, 255, 255, 0, 8, 0, 0, 0, 0, 0, 0, 0,
+        1, 0, 255, 255, 255, 255, 255, 0, 2, 0, 0, 0, 0, 0, 0, 0,
+        2, 2, 3, 255, 255, 255, 255, 0, 8, 0, 0, 0, 0, 0, 0, 0,
+    };
+    uint8_t table[] = {PRESET};
+    pelzurivan_ran ran = pelzurivan_run(3, padded, sizeof padded, 7);
+    expect(ran.number == 15 && ran.bit == 0 && ran.index == 1, "run: 15, record 1");
+    expect(pelzurivan_run(3, padded, sizeof padded, 8).number == 11, "run: 11 comes before 15");
+    pelzurivan_rebuilt rebuilt = pelzurivan_rebuild(3, padded, sizeof padded, table, 1);
+    expect(rebuilt.number == 15 && rebuilt.index == 1 && table[0] == PRESET, "rebuild: 15, record 1");
+    pelzurivan_checked checked = pelzurivan_check(3, AND_OF_3, 1, padded, sizeof padded);
+    expect(checked.number == 15 && checked.place == 1, "check: 15, record 1");
+}
+
 /* Masks are whole numbers: 65,539 names a position from n up, whatever its low 16 bits say. */
 static void masks_above_16_bits(void) {
     static uint8_t table[8192], room[4096];
@@ -166,6 +183,7 @@ int main(void) {
     check_a_suppliers_sheet();
     where_a_split_breaks();
     settle_and_slack();
+    a_cell_that_nobody_reads();
     masks_above_16_bits();
     refusals();
     printf("tests/c: %d of %d checks hold\n", checks - faults, checks);

@@ -44,6 +44,12 @@ stops (l ∷ ls) ms r e = go (l .holds) e (stops ls ms r)
     go true q ih = q
     go false q ih = ih q
 
+-- where those that follow are in order, it decides
+pub lapses : (ls ms : List Line) → InOrder ms → verdict (ls ++ ms) ≡ verdict ls
+unfolding pick
+lapses [] ms s = sym (ap verdict (append-nil ms)) ∙ passes ms [] s
+lapses (l ∷ ls) ms s = ap (λ (v : Verdict). pick l v (l .holds)) (lapses ls ms s)
+
 -- where it is fine it is in order
 pub in-order : (ls : List Line) → verdict ls ≡ Fine → InOrder ls
 unfolding pick

@@ -1,5 +1,5 @@
 -- Rebuild a table from a sheet, into a lent one.
-use mathlib.Core.List.{List, _∷_}
+use mathlib.Core.List.{List, [], _∷_, _++_}
 use Prim.Native.Nat.{ℕ}
 use Rattle.sheets.specs.declared.kinds.Edition.{Edition}
 use Rattle.sheets.specs.Sheet.{records, rebuilt}
@@ -7,11 +7,15 @@ use Rattle.bench.specs.declared.refusals.Refusal.{Refusal}
 use Rattle.bench.specs.declared.refusals.Verdict.{Verdict}
 use Rattle.bench.specs.declared.refusals.Verdict.the-variants.{Fine, Refused}
 use Rattle.bench.specs.Lines.{Line, verdict, reply}
-use Rattle.bench.specs.Refusals.{badInputs, badTable, sheetLines}
+use Rattle.bench.specs.Refusals.{badInputs, badTable, sheetLines, unreadRecord}
 
--- 1, 3, 9 and 10
+-- form: 1, 3, 9 and 10
+abbrev pub rebuildForm : Edition → ℕ → ℕ → List ℕ → List ℕ → List Line
+rebuildForm e d n s table = badInputs n ∷ badTable n table ∷ sheetLines e d n s
+
+-- and 15
 abbrev pub rebuildLines : Edition → ℕ → ℕ → List ℕ → List ℕ → List Line
-rebuildLines e d n s table = badInputs n ∷ badTable n table ∷ sheetLines e d n s
+rebuildLines e d n s table = rebuildForm e d n s table ++ (unreadRecord e n s ∷ [])
 
 -- the verdict, and the lent table afterwards
 pub record RebuildOutcome : Type 0 where

@@ -3,7 +3,7 @@
 -- times (times, Refusals).
 use mathlib.Core.Bool.{Bool, true, false, not, _&&_, _||_}
 use mathlib.Core.List.{List, [], _∷_}
-use Prim.Native.Nat.{ℕ, _+_, _*_, _^_}
+use Prim.Native.Nat.{ℕ, _+_, _-_, _*_, _^_}
 use lib.Dec.{leb, ltb, eqb}
 use lib.ListN.{length}
 use Rattle.bits.specs.Numbers.{bit}
@@ -16,6 +16,7 @@ use Rattle.best.specs.Search.{Answer, none, split}
 use Rattle.sheets.specs.declared.kinds.Edition.{Edition}
 use Rattle.sheets.specs.Edition.{mostRecords}
 use Rattle.sheets.specs.Sheet.{badLength, records, firstBad}
+use Rattle.sheets.specs.Reading.{firstUnread}
 use Rattle.runs.specs.Checking.{firstDifference}
 use Rattle.chains.specs.Area.{workLength}
 use Rattle.chains.specs.Chain.{Made, stuck, made}
@@ -98,6 +99,11 @@ badAssignment n x = line 11 (leb (2 ^ n) x)
 abbrev pub tableDiffers : Edition → ℕ → List ℕ → List ℕ → Line
 tableDiffers e n t s = naming 12 (firstDifference e n s (records e s) t)
     (ltb (firstDifference e n s (records e s) t) (2 ^ n))
+
+-- 15: some record but the last is read by no later record; the first such is named
+abbrev pub unreadRecord : Edition → ℕ → List ℕ → Line
+unreadRecord e n s = naming 15 (firstUnread e n s (records e s))
+    (ltb (firstUnread e n s (records e s)) (records e s - 1))
 
 -- ---- lines that several calls share
 

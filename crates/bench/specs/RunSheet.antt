@@ -8,11 +8,15 @@ use Rattle.bench.specs.declared.refusals.Refusal.{Refusal}
 use Rattle.bench.specs.declared.refusals.Verdict.the-variants.{Fine, Refused}
 use Rattle.bench.specs.declared.run_sheet.RunAnswer.{RunAnswer}
 use Rattle.bench.specs.Lines.{Line, verdict, reply}
-use Rattle.bench.specs.Refusals.{badInputs, sheetLines, badAssignment}
+use Rattle.bench.specs.Refusals.{badInputs, sheetLines, badAssignment, unreadRecord}
 
--- 1, 9, 10 and 11
+-- form: 1, 9, 10 and 11
+abbrev pub runForm : Edition → ℕ → ℕ → List ℕ → ℕ → List Line
+runForm e d n s x = badInputs n ∷ (sheetLines e d n s ++ (badAssignment n x ∷ []))
+
+-- and 15
 abbrev pub runLines : Edition → ℕ → ℕ → List ℕ → ℕ → List Line
-runLines e d n s x = badInputs n ∷ (sheetLines e d n s ++ (badAssignment n x ∷ []))
+runLines e d n s x = runForm e d n s x ++ (unreadRecord e n s ∷ [])
 
 -- done: the bit that the network of the sheet gives
 abbrev pub runDone : Edition → ℕ → List ℕ → ℕ → RunAnswer

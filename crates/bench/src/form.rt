@@ -1,19 +1,21 @@
-// Lines that several calls share: 1 to 4 of a gate, 9 and 10 of a sheet.
+// Lines that several calls share: 1 to 4 of a gate, 9, 10 and 15 of a sheet.
 use crate::refusals::Refusal;
 use crate::refusals::Verdict;
 use crate::refusals::refuse;
 use crate::refusals::refuse_at;
 use sheets::kinds::Edition;
+use sheets::reading::first_unread;
 use sheets::rules;
 use sheets::rules::Looked;
 ghost use mathlib.Core.Path.{_≡_};
 ghost use mathlib.Core.Bool.{not, _&&_};
+ghost use mathlib.Core.List.{[], _∷_};
 ghost use Prim.Native.Nat.{_≤_};
 ghost use lib.Dec.{leb};
 ghost use Rattle.tables.specs.Table.{mostInputs};
 ghost use Rattle.sheets.specs.Edition.{IsEdition};
-ghost use Rattle.bench.specs.Lines.{verdict};
-ghost use Rattle.bench.specs.Refusals.{badInputs, badCell, badTable, gateLines, sheetLines};
+ghost use Rattle.bench.specs.Lines.{verdict, InOrder};
+ghost use Rattle.bench.specs.Refusals.{badInputs, badCell, badTable, gateLines, sheetLines, unreadRecord};
 
 fn outside(low: u64, x: u64, high: u64) -> bool
     ensures { λ r. ⌜ r ≡ not (leb low x && leb x high) ⌝ }
@@ -77,4 +79,17 @@ pub fn sheet(e: Edition, d: u8, n: u32, s: &[u8]) -> Verdict
         Looked::BadAt(i) => refuse_at(Refusal::RECORD, i as u64),
         Looked::Fine(_) => Verdict::Fine,
     }
+}
+
+// Line 15, of a sheet that lines 9 and 10 let through.
+pub fn all_read(e: Edition, d: u8, n: u32, s: &[u8]) -> Verdict
+    requires { ⌜ IsEdition e × (n ≤ mostInputs) × InOrder (sheetLines e d n (now s)) ⌝ }
+    ensures { λ r. ⌜ r ≡ verdict (unreadRecord e n (now (s .entry)) ∷ []) ⌝ }
+{
+    let m = s.len() / e.size;
+    let i = first_unread(e, n, s, m);
+    if i < m - 1 {
+        return refuse_at(Refusal::UNREAD, i as u64);
+    }
+    Verdict::Fine
 }

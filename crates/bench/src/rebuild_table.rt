@@ -10,7 +10,7 @@ ghost use Rattle.sheets.specs.Edition.{IsEdition, firstEdition};
 ghost use Rattle.bench.specs.Lines.{verdict};
 ghost use Rattle.bench.specs.RebuildTable.{rebuildLines, rebuildOutcome};
 
-// Lines 1, 3, 9 and 10.
+// Lines 1, 3, 9, 10 and 15.
 fn rebuild_form<'a>(e: Edition, d: u8, n: u64, s: &'a [u8], table: &'a [u8]) -> Verdict
     requires { ⌜ IsEdition e ⌝ }
     ensures { λ r. ⌜ r ≡ verdict (rebuildLines e d n (now (s .entry)) (now (table .entry))) ⌝ }
@@ -22,7 +22,11 @@ fn rebuild_form<'a>(e: Edition, d: u8, n: u64, s: &'a [u8], table: &'a [u8]) -> 
     if form::bad_table(inputs, table) {
         return refuse(Refusal::TABLE);
     }
-    form::sheet(e, d, inputs, s)
+    let seen = form::sheet(e, d, inputs, s);
+    let Verdict::Fine = seen else {
+        return seen;
+    };
+    form::all_read(e, d, inputs, s)
 }
 
 // Rebuilds the table of a sheet of an edition, the desk's byte being d, into a lent one, which is written whole.

@@ -38,6 +38,8 @@ impl Refusal {
     pub const TIME: u8 = 13;
     // a time isn't in sixteenths, or the deadline is out of range
     pub const SLACK: u8 = 14;
+    // a record but the last is read by no later record: its index
+    pub const UNREAD: u8 = 15;
 }
 
 // What looking at a call's lines comes to.

@@ -16,7 +16,7 @@ pub struct RunAnswer {
     pub bit: bool,
 }
 
-// Lines 1, 9, 10 and 11.
+// Lines 1, 9, 10, 11 and 15.
 fn run_form(e: Edition, d: u8, n: u64, s: &[u8], x: u64) -> Verdict
     requires { ⌜ IsEdition e ⌝ }
     ensures { λ r. ⌜ r ≡ verdict (runLines e d n (now (s .entry)) x) ⌝ }
@@ -24,14 +24,15 @@ fn run_form(e: Edition, d: u8, n: u64, s: &[u8], x: u64) -> Verdict
     if form::bad_inputs(n) {
         return refuse(Refusal::INPUTS);
     }
-    let seen = form::sheet(e, d, n as u32, s);
+    let inputs = n as u32;
+    let seen = form::sheet(e, d, inputs, s);
     let Verdict::Fine = seen else {
         return seen;
     };
     if 1 << n <= x {
         return refuse(Refusal::ASSIGNMENT);
     }
-    Verdict::Fine
+    form::all_read(e, d, inputs, s)
 }
 
 // Runs a sheet of an edition, the desk's byte being d, at the assignment x.

@@ -14,29 +14,33 @@ use Rattle.bits.proofs.Least.{is-least, least-of}
 use Rattle.tables.specs.Table.{mostInputs, tableLength, tableBit, spareClear}
 use Rattle.sheets.specs.declared.kinds.Edition.{Edition}
 use Rattle.sheets.specs.Edition.{IsEdition}
-use Rattle.sheets.specs.Network.{Carries}
+use Rattle.sheets.specs.Network.{Gives, Carries}
 use Rattle.sheets.specs.Sheet.{records, sheetBit, sheetCells, rebuilt, Good}
+use Rattle.sheets.specs.Reading.{EachRead, IsFirstUnread, without}
 use Rattle.runs.specs.Checking.{differs, firstDifference}
 use Rattle.sheets.proofs.Wholes.{rebuilt-bit}
+use Rattle.sheets.proofs.Unread.{not-read}
+use Rattle.sheets.proofs.Without.{sheet-without}
 use Rattle.sheets.proofs.Wiring.{cells-length, good-wired}
 use Rattle.bench.specs.declared.refusals.Verdict.{Verdict}
 use Rattle.bench.specs.declared.refusals.Verdict.the-variants.{Fine, Refused}
 use Rattle.bench.specs.declared.run_sheet.RunAnswer.{RunAnswer}
 use Rattle.bench.specs.Lines.{refusal, InOrder, verdict, numberOf, placeOf}
-use Rattle.bench.specs.Refusals.{badSheet, sheetLines, tableDiffers}
+use Rattle.bench.specs.Refusals.{badSheet, sheetLines, tableDiffers, unreadRecord}
 use Rattle.bench.specs.RebuildTable.{RebuildOutcome, rebuildOutcome}
 use Rattle.bench.specs.MakeSheet.{makeOutcome}
-use Rattle.bench.proofs.Lines.{in-order, passes, held, names-nothing}
+use Rattle.bench.proofs.Lines.{lapses, in-order, passes, held, names-nothing}
 use Rattle.bench.proofs.Tests.{Sound, inside, right-table, spare-line}
-use Rattle.bench.proofs.Sheets.{good-sheet, sheet-fine, counted}
-use Rattle.inspection.specs.CheckSheet.{tableLines, checkLines, checkOutcome, Accepted, FirstDifferent}
+use Rattle.bench.proofs.Sheets.{good-sheet, sheet-fine, counted, all-read, read-fine}
+use Rattle.inspection.specs.CheckSheet.{tableLines, againstLines, checkLines, checkOutcome, Accepted, FirstDifferent}
 use Rattle.claims.specs.Words.{ByLines, AllBytes, FirstBad, recordsOf}
+use Rattle.claims.specs.Before.{checkBefore}
 use Rattle.claims.proofs.Verdicts.{by-lines}
 use Rattle.claims.proofs.Tables.{table-back}
-use Rattle.claims.proofs.Sheets.{index-first, good-run, good-rebuild}
+use Rattle.claims.proofs.Sheets.{index-first, good-run, good-rebuild, unread-exactly, read-never}
 use Rattle.claims.proofs.RebuildTable.{rebuilt-good}
 use Rattle.claims.proofs.Made.{is-made, made-records, made-good}
-use Rattle.claims.proofs.MakeSheet.{made-runs}
+use Rattle.claims.proofs.MakeSheet.{made-runs, records-read}
 
 -- a gate that is sound has its table in order
 table-fine : (e : Edition) (n K : ℕ) (t : List ℕ) → Sound e n K t → InOrder (tableLines n t)
@@ -50,18 +54,28 @@ module _ (e : Edition) (d n : ℕ) (t s : List ℕ) where
   unfolding checkOutcome
   says = refl
 
-  -- the verdict is that of lines 1, 3, 4, 9, 10 and 12
+  -- the verdict is that of lines 1, 3, 4, 9, 10, 12 and 15
   pub check-lines : ByLines (checkOutcome e d n t s) (checkLines e d n t s)
   check-lines = by-lines (checkLines e d n t s) refl (checkOutcome e d n t s) says
 
-  -- nothing is named but for 10 and 12
-  pub check-no-place : (eqb (numberOf (checkOutcome e d n t s)) 10 || eqb (numberOf (checkOutcome e d n t s)) 12) ≡ false → placeOf (checkOutcome e d n t s) ≡ 0
+  -- nothing is named but for 10, 12 and 15
+  pub check-no-place : (eqb (numberOf (checkOutcome e d n t s)) 10 || (eqb (numberOf (checkOutcome e d n t s)) 12 || eqb (numberOf (checkOutcome e d n t s)) 15)) ≡ false
+      → placeOf (checkOutcome e d n t s) ≡ 0
   unfolding checkOutcome
-  check-no-place h = names-nothing (λ k. eqb k 10 || eqb k 12) (checkLines e d n t s) refl h
+  check-no-place h = names-nothing (λ k. eqb k 10 || (eqb k 12 || eqb k 15)) (checkLines e d n t s) refl h
 
   -- 10 names the first bad record
   pub check-index : IsEdition e → numberOf (checkOutcome e d n t s) ≡ 10 → FirstBad e d n s (placeOf (checkOutcome e d n t s))
-  check-index ok h = index-first e ok d n s (tableLines n t ++ (badSheet e s ∷ [])) (tableDiffers e n t s ∷ []) refl refl (checkOutcome e d n t s) says h
+  check-index ok h = index-first e ok d n s (tableLines n t ++ (badSheet e s ∷ [])) (tableDiffers e n t s ∷ unreadRecord e n s ∷ []) refl refl (checkOutcome e d n t s) says h
+
+  -- 15 is given exactly where the other lines are in order and some record but the last isn't read, and names the first such
+  pub check-unread : (i : ℕ) → (checkOutcome e d n t s ≡ Refused (refusal 15 i)) ↔ (InOrder (tableLines n t ++ againstLines e d n t s) × IsFirstUnread e n s (records e s) i)
+  check-unread = unread-exactly e n s (tableLines n t ++ againstLines e d n t s) refl (checkOutcome e d n t s) says
+
+  -- where each record but the last is read, every answer is as before
+  pub check-as-before : EachRead e n s (records e s) → checkOutcome e d n t s ≡ checkBefore e d n t s
+  unfolding checkOutcome
+  check-as-before r = lapses (tableLines n t ++ againstLines e d n t s) (unreadRecord e n s ∷ []) (read-fine e n s r, tt)
 
   -- two answers that keep the promise are equal
   pub check-once : (v v′ : Verdict) → v ≡ checkOutcome e d n t s → v′ ≡ checkOutcome e d n t s → v ≡ v′
@@ -78,7 +92,7 @@ module _ (e : Edition) (d n : ℕ) (t s : List ℕ) where
   pub check-least : numberOf (checkOutcome e d n t s) ≡ 12 → FirstDifferent e n t s (placeOf (checkOutcome e d n t s))
   unfolding checkOutcome
   check-least h =
-      let w = held (tableLines n t ++ sheetLines e d n s) (tableDiffers e n t s) [] 12 refl refl (λ z. omega arith) h in
+      let w = held (tableLines n t ++ sheetLines e d n s) (tableDiffers e n t s) (unreadRecord e n s ∷ []) 12 refl refl (λ z. omega arith) h in
       let x = firstDifference e n s (records e s) t in
       let i = is-least (2 ^ n) (differs e n s (records e s) t) in
       let l = ltb-true x (2 ^ n) (w .0) in
@@ -86,9 +100,9 @@ module _ (e : Edition) (d n : ℕ) (t s : List ℕ) where
       (record { within = l; differ = λ q. clash (i .here l) (no-differ x q); before = λ y g. not-differs y (i .before y g) })
 
   module _ (form : InOrder (tableLines n t ++ sheetLines e d n s)) where
-    by-bits : checkOutcome e d n t s ≡ verdict (tableDiffers e n t s ∷ [])
+    by-bits : checkOutcome e d n t s ≡ verdict (tableDiffers e n t s ∷ unreadRecord e n s ∷ [])
     unfolding checkOutcome
-    by-bits = passes (tableLines n t ++ sheetLines e d n s) (tableDiffers e n t s ∷ []) form
+    by-bits = passes (tableLines n t ++ sheetLines e d n s) (tableDiffers e n t s ∷ unreadRecord e n s ∷ []) form
 
     pub least-check : (x : ℕ) → FirstDifferent e n t s x → checkOutcome e d n t s ≡ Refused (refusal 12 x)
     least-check x f =
@@ -102,17 +116,17 @@ module _ (e : Edition) (d n : ℕ) (t s : List ℕ) where
         not-same : (sheetBit e n s (records e s) x ≡ tableBit t x → ⊥) → differs e n s (records e s) t x ≡ true
         not-same h = ap not (false-of (Bool·beq (sheetBit e n s (records e s) x) (tableBit t x)) (λ q. h (beq-same (sheetBit e n s (records e s) x) (tableBit t x) q)))
 
-    same-accepted : ((x : ℕ) → x < 2 ^ n → sheetBit e n s (records e s) x ≡ tableBit t x) → checkOutcome e d n t s ≡ Fine
-    same-accepted h =
+    same-accepted : ((x : ℕ) → x < 2 ^ n → sheetBit e n s (records e s) x ≡ tableBit t x) → EachRead e n s (records e s) → checkOutcome e d n t s ≡ Fine
+    same-accepted h r =
         let is = least-of (2 ^ n) (differs e n s (records e s) t) (2 ^ n) (record {
           within = omega arith;
           before = λ y g. no-differ y (h y g);
           here = λ g. absurd (omega arith);
         }) in
-        by-bits ∙ rw (is, le-ltb (2 ^ n) (2 ^ n) (omega arith)) refl
+        by-bits ∙ rw (is, le-ltb (2 ^ n) (2 ^ n) (omega arith), read-fine e n s r) refl
 
   module _ (ok : IsEdition e) where
-    -- an accepted sheet keeps the record rules and gives the table's bit at every assignment
+    -- an accepted sheet keeps the record rules and gives the table's bit at every assignment, and each record but the last is read
     pub check-accepted : checkOutcome e d n t s ≡ Fine → Accepted e d n t s
     unfolding checkOutcome
     check-accepted h =
@@ -120,6 +134,7 @@ module _ (e : Edition) (d n : ℕ) (t s : List ℕ) where
         let i = is-least (2 ^ n) (differs e n s (records e s) t) in record {
           rules = good-sheet e d n s ok (w .0, (w .1 .0, tt));
           gives = λ x l. not-differs x (i .before x (all x l (w .1 .1 .0)));
+          read = all-read e n s (w .1 .1 .1 .0);
         }
       where
         all : (x : ℕ) → x < 2 ^ n → tableDiffers e n t s .holds ≡ false → x < firstDifference e n s (records e s) t
@@ -132,7 +147,7 @@ module _ (e : Edition) (d n : ℕ) (t s : List ℕ) where
         check-accepted,
         λ a.
             let f = sheet-fine e d n s ok (records e s) (a .rules) in
-            same-accepted (table .0, (table .1 .0, (table .1 .1 .0, f))) (a .gives),
+            same-accepted (table .0, (table .1 .0, (table .1 .1 .0, f))) (a .gives) (a .read),
       )
 
       -- and exactly when rebuilding it, into any lent table of the right length, gives the table back
@@ -142,10 +157,10 @@ module _ (e : Edition) (d n : ℕ) (t s : List ℕ) where
       accepted-rebuilds bytes room h = (
         λ q.
             let a = check-accepted q in
-            good-rebuild e ok d n s (records e s) (r .0) (r .1) (a .rules) room h ∙ ap (λ (l : List ℕ). record { verdict = Fine; table = l }) (back a),
+            good-rebuild e ok d n s (records e s) (r .0) (r .1) (a .rules) (a .read) room h ∙ ap (λ (l : List ℕ). record { verdict = Fine; table = l }) (back a),
         λ q.
             let g = rebuilt-good e d n s room ok (ap (λ o. o .verdict) q) in
-            accepted-exactly .1 (record { rules = g .3; gives = λ x l. same q (g .3) x l }),
+            accepted-exactly .1 (record { rules = g .3; gives = λ x l. same q (g .3) (g .4) x l; read = g .4 }),
       )
         where
           r : (1 ≤ n) × (n ≤ mostInputs)
@@ -155,10 +170,26 @@ module _ (e : Edition) (d n : ℕ) (t s : List ℕ) where
           back a =
               table-back n (sheetBit e n s (records e s)) t bytes (right-table n t (table .1 .0)) (not-false (spareClear n t) (sym (spare-line n t) ∙ table .1 .1 .0)) (a .gives)
 
-          same : rebuildOutcome e d n s room ≡ record { verdict = Fine; table = t } → Good e d n s (records e s) → (x : ℕ) → x < 2 ^ n → sheetBit e n s (records e s) x ≡ tableBit t x
-          same q g x l =
+          same : rebuildOutcome e d n s room ≡ record { verdict = Fine; table = t } → Good e d n s (records e s) → EachRead e n s (records e s) → (x : ℕ) → x < 2 ^ n
+              → sheetBit e n s (records e s) x ≡ tableBit t x
+          same q g u x l =
               sym (rebuilt-bit e n s (records e s) x l)
-              ∙ ap (λ (o : RebuildOutcome). tableBit (o .table) x) (sym (good-rebuild e ok d n s (records e s) (r .0) (r .1) g room h) ∙ q)
+              ∙ ap (λ (o : RebuildOutcome). tableBit (o .table) x) (sym (good-rebuild e ok d n s (records e s) (r .0) (r .1) g u room h) ∙ q)
+
+    -- 15 never hides another gate: without that record the others, renumbered, give the table (`sheet-without`, sheets)
+    pub check-without : (i : ℕ) → checkOutcome e d n t s ≡ Refused (refusal 15 i) → Gives n (e .most) (tableBit t) (without n i (sheetCells e s (records e s)))
+    check-without i h =
+        let w = check-unread i .0 h in
+        let f = w .0 .1 .1 .1 in
+        let u = w .1 in
+        let least = is-least (2 ^ n) (differs e n s (records e s) t) in
+        let g = good-sheet e d n s ok (f .0, (f .1 .0, tt)) in
+        let N = sheet-without e ok d n s (records e s) i (g .rules) (u .within) (not-read e s n (records e s) i (omega (arith, u .within)) (u .alone)) in
+        record {
+          some = N .some;
+          wired = N .wired;
+          gives = λ x l. N .gives x l ∙ not-differs x (least .before x (omega (arith, ltb-false (firstDifference e n s (records e s) t) (2 ^ n) (f .1 .1 .0))));
+        }
 
     -- an accepted sheet is a network that carries the table
     pub accepted-carries : checkOutcome e d n t s ≡ Fine → Carries n (e .most) (records e s) (tableBit t)
@@ -181,6 +212,14 @@ made-accepted e ok d n K t sheet work done =
     let s = recordsOf e (makeOutcome e d n K t sheet work) in
     let good = subst (λ (l : List ℕ). Good e d n l (length (w .cells))) (sym (made-records e d n K t sheet work w)) (made-good e d n K t sheet work w ok) in
     let m = counted e d n s ok (length (w .cells)) good in
+    let read = records-read e d n K t sheet work ok done in
     let run : (x : ℕ) → x < 2 ^ n → _≡_ {A = RunAnswer} (record { verdict = Fine; bit = sheetBit e n s (records e s) x }) (record { verdict = Fine; bit = tableBit t x }) =
-    λ x h. sym (good-run e ok d n s (records e s) (w .gate .some) (w .gate .most) (subst (Good e d n s) (sym m) good) x h) ∙ made-runs e d n K t sheet work ok done x h in
-    accepted-exactly e d n t s ok (table-fine e n K t (w .gate)) .1 (record { rules = subst (Good e d n s) (sym m) good; gives = λ x h. ap (λ a. a .bit) (run x h) })
+    λ x h. sym (good-run e ok d n s (records e s) (w .gate .some) (w .gate .most) (subst (Good e d n s) (sym m) good) read x h) ∙ made-runs e d n K t sheet work ok done x h in
+    accepted-exactly e d n t s ok (table-fine e n K t (w .gate)) .1 (record { rules = subst (Good e d n s) (sym m) good; gives = λ x h. ap (λ a. a .bit) (run x h); read = read })
+
+-- nor is it refused as 15 against any other table
+pub check-never-unread : (e : Edition) → IsEdition e → (d n K : ℕ) (t sheet work : List ℕ) → makeOutcome e d n K t sheet work .answer .verdict ≡ Fine
+    → (t′ : List ℕ) → numberOf (checkOutcome e d n t′ (recordsOf e (makeOutcome e d n K t sheet work))) ≡ 15 → ⊥
+check-never-unread e ok d n K t sheet work done t′ =
+    let s = recordsOf e (makeOutcome e d n K t sheet work) in
+    read-never e n s (tableLines n t′ ++ againstLines e d n t′ s) refl (checkOutcome e d n t′ s) (says e d n t′ s) (records-read e d n K t sheet work ok done)

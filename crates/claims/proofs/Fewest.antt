@@ -16,7 +16,8 @@ use Rattle.sheets.specs.Edition.{IsEdition}
 use Rattle.sheets.specs.Network.{Cell, Carries}
 use Rattle.chains.specs.Chain.{made}
 use Rattle.chains.specs.Aside.{sheetAside}
-use Rattle.chains.specs.Fewest.{Fewest, reads, Filled}
+use Rattle.sheets.specs.Reading.{reads}
+use Rattle.chains.specs.Fewest.{Fewest, Filled}
 use Rattle.chains.specs.Joining.{Joining, joined, joinTable}
 use Rattle.chains.proofs.Reach.{reach}
 use Rattle.chains.proofs.Enough.{filled-fewest}

@@ -13,9 +13,12 @@ use Rattle.sheets.specs.Edition.{IsEdition}
 use Rattle.sheets.specs.Network.{Cell, Gives}
 use Rattle.sheets.specs.Sheet.{sheetCells, Good}
 use Rattle.sheets.specs.Writing.{FitsFrom, sheetBytes}
+use Rattle.sheets.specs.Reading.{EachRead}
 use Rattle.sheets.proofs.Wholes.{length-sheet, cells-back}
+use Rattle.sheets.proofs.Unread.{written-read}
 use Rattle.chains.specs.Chain.{Made, stuck, made}
 use Rattle.chains.proofs.Aside.{table-gives, table-fits, table-records}
+use Rattle.chains.proofs.Read.{table-read}
 use Rattle.chains.proofs.Written.{written-good}
 use Rattle.bench.specs.declared.refusals.Verdict.{Verdict}
 use Rattle.bench.specs.declared.refusals.Verdict.the-variants.{Fine}
@@ -102,6 +105,10 @@ module _ (e : Edition) (d n K : ℕ) (t sheet work : List ℕ) where
       made-good =
           written-good e ok d n K (tableBit t) (w .cells) made-fits cells-give
           (table-records n K (tableBit t) (w .gate .some) one (w .cells) (w .chain) (omega (arith, w .gate .most, w .gate .two)))
+
+      -- each record but the last is read
+      pub made-read : EachRead e n (sheetBytes e d (w .cells)) (length (w .cells))
+      made-read = written-read e ok d n (w .cells) made-fits (table-read n K (tableBit t) (w .gate .some) one (w .cells) (w .chain))
 
       -- read as a network, they are the cells
       pub made-network : networkOf e (makeOutcome e d n K t sheet work) ≡ w .cells

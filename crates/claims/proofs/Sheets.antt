@@ -1,5 +1,7 @@
--- A good sheet is answered by run and by rebuild, and what lines 9 and 10 name is the first bad record. Assumes nothing.
-use mathlib.Core.Path.{_≡_, sym, ap, _∙_}
+-- A good sheet in which each record but the last is read is answered by run and by rebuild; line 10 names the first bad
+-- record, and line 15 the first unread one. Assumes nothing.
+use mathlib.Core.Path.{_≡_, refl, sym, ap, _∙_, subst}
+use mathlib.Core.Logic.{_↔_}
 use mathlib.Core.Bool.{true, false, not}
 use mathlib.Core.List.{List, [], _∷_, _++_}
 use Prim.Native.Nat.{ℕ, _+_, _^_, _≤_, _<_}
@@ -13,15 +15,17 @@ use Rattle.sheets.specs.declared.kinds.Edition.{Edition}
 use Rattle.sheets.specs.Edition.{IsEdition}
 use Rattle.sheets.specs.Record.{keeps}
 use Rattle.sheets.specs.Sheet.{records, recordAt, bad, firstBad, sheetBit, rebuilt, Good}
+use Rattle.sheets.specs.Reading.{EachRead, IsFirstUnread, firstUnread}
 use Rattle.sheets.proofs.Keeping.{rules, kept}
+use Rattle.sheets.proofs.Unread.{unread-first}
 use Rattle.bench.specs.declared.refusals.Verdict.{Verdict}
-use Rattle.bench.specs.declared.refusals.Verdict.the-variants.{Fine}
-use Rattle.bench.specs.Lines.{Line, verdict, numberOf, placeOf, reply}
-use Rattle.bench.specs.Refusals.{badInputs, badRecord}
+use Rattle.bench.specs.declared.refusals.Verdict.the-variants.{Fine, Refused}
+use Rattle.bench.specs.Lines.{Line, refusal, InOrder, verdict, numberOf, placeOf, reply}
+use Rattle.bench.specs.Refusals.{badInputs, badRecord, unreadRecord}
 use Rattle.bench.specs.RunSheet.{runLines, runDone, runNot, runOutcome}
 use Rattle.bench.specs.RebuildTable.{rebuildLines, rebuildDone, rebuildNot, rebuildOutcome}
-use Rattle.bench.proofs.Lines.{others, passes, held}
-use Rattle.bench.proofs.Sheets.{counted, sheet-fine}
+use Rattle.bench.proofs.Lines.{others, passes, passed, held}
+use Rattle.bench.proofs.Sheets.{counted, sheet-fine, read-fine, unread-named, named-unread}
 use Rattle.claims.specs.Words.{FirstBad}
 
 module _ (e : Edition) (ok : IsEdition e) (d n : ℕ) (s : List ℕ) where
@@ -38,7 +42,11 @@ module _ (e : Edition) (ok : IsEdition e) (d n : ℕ) (s : List ℕ) where
         before = λ j g. rules e ok d (n + j) (recordAt e s j) (not-false (keeps e d (n + j) (recordAt e s j)) (w .before j g));
       }
 
-  module _ (m : ℕ) (some : 1 ≤ n) (most : n ≤ mostInputs) (g : Good e d n s m) where
+  module _ (m : ℕ) (some : 1 ≤ n) (most : n ≤ mostInputs) (g : Good e d n s m) (r : EachRead e n s m) where
+    -- line 15 lets it through
+    line-fine : unreadRecord e n s .holds ≡ false
+    line-fine = read-fine e n s (subst (EachRead e n s) (sym (counted e d n s ok m g)) r)
+
     inputs-fine : badInputs n .holds ≡ false
     inputs-fine = rw (le-leb 1 n some, le-leb n mostInputs most)
 
@@ -46,14 +54,15 @@ module _ (e : Edition) (ok : IsEdition e) (d n : ℕ) (s : List ℕ) where
     unfolding runOutcome
     good-run x h =
         let f = sheet-fine e d n s ok m g in
-        ap (λ (v : Verdict). reply v (runDone e n s x) runNot) (passes (runLines e d n s x) [] (inputs-fine, (f .0, (f .1 .0, (lt-leb (2 ^ n) x h, tt)))))
+        ap (λ (v : Verdict). reply v (runDone e n s x) runNot) (passes (runLines e d n s x) [] (inputs-fine, (f .0, (f .1 .0, (lt-leb (2 ^ n) x h, (line-fine, tt))))))
         ∙ ap (λ (k : ℕ). record { verdict = Fine; bit = sheetBit e n s k x }) (counted e d n s ok m g)
 
     pub good-rebuild : (table : List ℕ) → length table ≡ tableLength n → rebuildOutcome e d n s table ≡ record { verdict = Fine; table = rebuilt e n s m }
     unfolding rebuildOutcome
     good-rebuild table h =
+        let f = sheet-fine e d n s ok m g in
         ap (λ (v : Verdict). reply v (rebuildDone e n s) (rebuildNot table))
-        (passes (rebuildLines e d n s table) [] (inputs-fine, (ap not (eq-eqb (length table) (tableLength n) h), sheet-fine e d n s ok m g)))
+        (passes (rebuildLines e d n s table) [] (inputs-fine, (ap not (eq-eqb (length table) (tableLength n) h), (f .0, (f .1 .0, (line-fine, tt))))))
         ∙ ap (λ (k : ℕ). record { verdict = Fine; table = rebuilt e n s k }) (counted e d n s ok m g)
 
 -- a call whose lines have line 10 among them: 10 names the first bad record
@@ -62,3 +71,26 @@ pub index-first : (e : Edition) → IsEdition e → (d n : ℕ) (s : List ℕ) (
 index-first e ok d n s ls ms o p v q h =
     let w = held ls (badRecord e d n s) ms 10 o p (λ z. omega arith) (ap numberOf (sym q) ∙ h) in
     rw (q, w .1) (names-first e ok d n s (w .0))
+
+-- a call whose last line is 15, and whose other lines are ls
+module _ (e : Edition) (n : ℕ) (s : List ℕ) (ls : List Line) (o : others 15 ls ≡ true) (v : Verdict) (is : v ≡ verdict (ls ++ (unreadRecord e n s ∷ []))) where
+  line-holds : numberOf v ≡ 15 → (unreadRecord e n s .holds ≡ true) × (v ≡ Refused (unreadRecord e n s .gives))
+  line-holds h =
+      let w = held ls (unreadRecord e n s) [] 15 o refl (λ z. omega arith) (ap numberOf (sym is) ∙ h) in
+      (w .0, is ∙ w .1)
+
+  -- it is refused as 15 at i exactly where the other lines are in order and record i is the first unread one, the last aside
+  pub unread-exactly : (i : ℕ) → (v ≡ Refused (refusal 15 i)) ↔ (InOrder ls × IsFirstUnread e n s (records e s) i)
+  unread-exactly i = (
+    λ q.
+        let w = line-holds (ap numberOf q) in
+        let at : firstUnread e n s (records e s) ≡ i = ap placeOf (sym (w .1) ∙ q) in
+        (passed ls (unreadRecord e n s ∷ []) 15 o (ap numberOf (sym is ∙ q)) .0, subst (IsFirstUnread e n s (records e s)) at (unread-named e n s (w .0))),
+    λ w.
+        let at = unread-first e s n (records e s) i (w .1) in
+        is ∙ passes ls (unreadRecord e n s ∷ []) (w .0) ∙ rw (named-unread e n s i (w .1)) (ap (λ (j : ℕ). Refused (refusal 15 j)) at),
+  )
+
+  -- and never, where each record but the last is read
+  pub read-never : EachRead e n s (records e s) → numberOf v ≡ 15 → ⊥
+  read-never r h = clash (line-holds h .0) (read-fine e n s r)

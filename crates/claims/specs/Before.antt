@@ -1,5 +1,5 @@
--- What find and make answered before inputs that do not count were set aside: document 01's own words, kept to say
--- where nothing has changed.
+-- What find and make answered before inputs that do not count were set aside, and run, rebuild and check before a
+-- record had to be read: kept to say where nothing has changed.
 use mathlib.Core.List.{List, [], _∷_, _++_}
 use Prim.Native.Nat.{ℕ, _^_}
 use lib.Dec.{leb}
@@ -11,7 +11,12 @@ use Rattle.chains.specs.Chain.{sheetOf}
 use Rattle.bench.specs.Lines.{line, verdict, reply}
 use Rattle.bench.specs.Refusals.{noneBest, chainStuck}
 use Rattle.bench.specs.FindBest.{FindOutcome, findForm, findDone, findNot}
+use Rattle.bench.specs.declared.refusals.Verdict.{Verdict}
+use Rattle.bench.specs.declared.run_sheet.RunAnswer.{RunAnswer}
 use Rattle.bench.specs.MakeSheet.{MakeOutcome, cellsIn, makeForm, makeDone, makeNot}
+use Rattle.bench.specs.RunSheet.{runForm, runDone, runNot}
+use Rattle.bench.specs.RebuildTable.{RebuildOutcome, rebuildForm, rebuildDone, rebuildNot}
+use Rattle.inspection.specs.CheckSheet.{tableLines, againstLines}
 
 -- 7 where n is at most K, and the best split of the whole table
 abbrev pub findBefore : Edition → ℕ → ℕ → List ℕ → List ℕ → FindOutcome
@@ -25,3 +30,15 @@ makeBefore e d n K t sheet work =
     let c = sheetOf n K (number (2 ^ n) (tableBit t)) in
     reply (verdict (makeForm e n K t sheet work ++ (chainStuck c ∷ []))) (makeDone e d (cellsIn c) sheet work)
     (makeNot sheet work)
+
+-- by 1, 9, 10 and 11 alone
+abbrev pub runBefore : Edition → ℕ → ℕ → List ℕ → ℕ → RunAnswer
+runBefore e d n s x = reply (verdict (runForm e d n s x)) (runDone e n s x) runNot
+
+-- by 1, 3, 9 and 10 alone
+abbrev pub rebuildBefore : Edition → ℕ → ℕ → List ℕ → List ℕ → RebuildOutcome
+rebuildBefore e d n s table = reply (verdict (rebuildForm e d n s table)) (rebuildDone e n s) (rebuildNot table)
+
+-- by 1, 3, 4, 9, 10 and 12 alone
+abbrev pub checkBefore : Edition → ℕ → ℕ → List ℕ → List ℕ → Verdict
+checkBefore e d n t s = verdict (tableLines n t ++ againstLines e d n t s)

@@ -5,27 +5,33 @@ use Prim.Native.Nat.{ℕ, _^_, _<_}
 use Rattle.tables.specs.Table.{tableBit}
 use Rattle.sheets.specs.declared.kinds.Edition.{Edition}
 use Rattle.sheets.specs.Sheet.{records, sheetBit, Good}
+use Rattle.sheets.specs.Reading.{EachRead}
 use Rattle.bench.specs.declared.refusals.Verdict.{Verdict}
 use Rattle.bench.specs.Lines.{Line, verdict}
-use Rattle.bench.specs.Refusals.{badInputs, badTable, badSpare, sheetLines, tableDiffers}
+use Rattle.bench.specs.Refusals.{badInputs, badTable, badSpare, sheetLines, tableDiffers, unreadRecord}
 
 -- the gate's table: 1, 3 and 4
 abbrev pub tableLines : ℕ → List ℕ → List Line
 tableLines n t = badInputs n ∷ badTable n t ∷ badSpare n t ∷ []
 
--- then 9, 10 and 12
+-- the sheet against it: 9, 10 and 12
+abbrev pub againstLines : Edition → ℕ → ℕ → List ℕ → List ℕ → List Line
+againstLines e d n t s = sheetLines e d n s ++ (tableDiffers e n t s ∷ [])
+
+-- both, then 15
 abbrev pub checkLines : Edition → ℕ → ℕ → List ℕ → List ℕ → List Line
-checkLines e d n t s = tableLines n t ++ (sheetLines e d n s ++ (tableDiffers e n t s ∷ []))
+checkLines e d n t s = (tableLines n t ++ againstLines e d n t s) ++ (unreadRecord e n s ∷ [])
 
 -- what check is to answer, whatever is handed over: `Fine` says that the sheet is accepted
 unfoldable pub checkOutcome : Edition → ℕ → ℕ → List ℕ → List ℕ → Verdict
 checkOutcome e d n t s = verdict (checkLines e d n t s)
 
--- in words, of a gate whose table is in order: the sheet keeps the record rules, and at every assignment it gives the
--- table's bit
+-- in words, of a gate whose table is in order: the sheet keeps the record rules, at every assignment it gives the
+-- table's bit, and each record but the last is read
 pub record Accepted (e : Edition) (d n : ℕ) (t s : List ℕ) : Type 0 where
   pub rules : Good e d n s (records e s)
   pub gives : (x : ℕ) → x < 2 ^ n → sheetBit e n s (records e s) x ≡ tableBit t x
+  pub read : EachRead e n s (records e s)
 
 -- x is the least assignment at which the sheet doesn't give the table's bit
 pub record FirstDifferent (e : Edition) (n : ℕ) (t s : List ℕ) (x : ℕ) : Type 0 where

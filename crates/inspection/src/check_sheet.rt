@@ -46,7 +46,7 @@ pub fn check_in<'a>(e: Edition, d: u8, n: u64, t: &'a [u8], s: &'a [u8]) -> Verd
     if x < 1 << inputs {
         return refuse_at(Refusal::DIFFERS, x as u64);
     }
-    Verdict::Fine
+    form::all_read(e, d, inputs, s)
 }
 
 // Checks a sheet against a table: accepted, or why not.

@@ -3,6 +3,6 @@ use Rattle.bench.specs.Lines.{numberOf, placeOf}
 use Rattle.bench.specs.RebuildTable.{RebuildOutcome}
 use Rattle.pelzurivan.specs.declared.rebuild_table.RebuiltC.{RebuiltC}
 
--- the number, and the first bad record
+-- the number, and the first bad or unread record
 abbrev pub rebuiltC : RebuildOutcome → RebuiltC
 rebuiltC o = record { number = numberOf (o .verdict); index = placeOf (o .verdict) }

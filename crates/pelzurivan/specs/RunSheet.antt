@@ -4,6 +4,6 @@ use Rattle.bench.specs.declared.run_sheet.RunAnswer.{RunAnswer}
 use Rattle.bench.specs.Lines.{numberOf, placeOf}
 use Rattle.pelzurivan.specs.declared.run_sheet.RanC.{RanC}
 
--- the number, the bit, and the first bad record
+-- the number, the bit, and the first bad or unread record
 abbrev pub ranC : RunAnswer → RanC
 ranC a = record { number = numberOf (a .verdict); bit = val (a .bit); index = placeOf (a .verdict) }

@@ -7,7 +7,7 @@ ghost use Rattle.sheets.specs.Edition.{firstEdition};
 ghost use Rattle.inspection.specs.CheckSheet.{checkOutcome};
 ghost use Rattle.pelzurivan.specs.CheckSheet.{checkedC};
 
-// The number; the record's index (10) or the least differing assignment (12).
+// The number; the record's index (10, 15) or the least differing assignment (12).
 #[repr(C)]
 pub struct CheckedC {
     pub number: u64,

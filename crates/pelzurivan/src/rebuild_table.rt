@@ -7,7 +7,7 @@ ghost use Rattle.sheets.specs.Edition.{firstEdition};
 ghost use Rattle.bench.specs.RebuildTable.{rebuildOutcome};
 ghost use Rattle.pelzurivan.specs.RebuildTable.{rebuiltC};
 
-// The number, the first bad record.
+// The number, the index of a bad record (10) or of an unread one (15).
 #[repr(C)]
 pub struct RebuiltC {
     pub number: u64,

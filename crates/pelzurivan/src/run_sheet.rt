@@ -7,7 +7,7 @@ ghost use Rattle.sheets.specs.Edition.{firstEdition};
 ghost use Rattle.bench.specs.RunSheet.{runOutcome};
 ghost use Rattle.pelzurivan.specs.RunSheet.{ranC};
 
-// The number, the bit, the first bad record.
+// The number, the bit, the index of a bad record (10) or of an unread one (15).
 #[repr(C)]
 pub struct RanC {
     pub number: u64,

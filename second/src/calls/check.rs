@@ -5,7 +5,7 @@ use crate::fresh::sheet::{self, Ask};
 use crate::fresh::Fresh;
 use crate::network;
 use crate::random::Random;
-use crate::refusals::{cells, inputs, table_of, Refusal, DONE, NO_MATCH};
+use crate::refusals::{cells, each_read, inputs, table_of, Refusal, DONE, NO_MATCH};
 
 pub static CALL: Call = Call {
     code: 0x06,
@@ -16,13 +16,14 @@ pub static CALL: Call = Call {
         Field::Bytes("sheet", SHEET_BUFFER),
     ],
     answers: &[Part::Number("number", 1), Part::Number("place", 8)],
-    gives: &[0, 1, 3, 4, 9, 10, 12],
+    gives: &[0, 1, 3, 4, 9, 10, 12, 15],
     answer,
     fresh,
 };
 
-const FAULTS: [sheet::Fault; 8] = [
+const FAULTS: [sheet::Fault; 9] = [
     sheet::SPARE,
+    sheet::PADDED,
     sheet::DIFFERENCE,
     sheet::DIFFERENCE,
     sheet::RECORD,
@@ -43,7 +44,7 @@ pub fn check(n: u64, table: &[u8], sheet: &[u8]) -> Result<(), Refusal> {
     let cells = cells(n, sheet)?;
     match (0..1 << n).find(|&x| network::run(n, &cells, x) != table.bits[x]) {
         Some(place) => Err(Refusal { number: NO_MATCH, place }),
-        None => Ok(()),
+        None => each_read(n, &cells),
     }
 }
 

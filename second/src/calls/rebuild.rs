@@ -5,7 +5,7 @@ use crate::fresh::sheet::{self, Ask};
 use crate::fresh::Fresh;
 use crate::network;
 use crate::random::Random;
-use crate::refusals::{cells, inputs, Refusal, DONE, NO_LENGTH};
+use crate::refusals::{cells, each_read, inputs, Refusal, DONE, NO_LENGTH};
 use crate::table::Table;
 
 pub static CALL: Call = Call {
@@ -17,7 +17,7 @@ pub static CALL: Call = Call {
         Field::Lent("room for the table", TABLE_BUFFER),
     ],
     answers: &[Part::Number("number", 1), Part::Number("index", 1), Part::Lent(0)],
-    gives: &[0, 1, 3, 9, 10],
+    gives: &[0, 1, 3, 9, 10, 15],
     answer,
     fresh,
 };
@@ -32,6 +32,7 @@ fn rebuild(n: u64, sheet: &[u8], room: usize) -> Result<Table, Refusal> {
         return Err(NO_LENGTH.into());
     }
     let cells = cells(n, sheet)?;
+    each_read(n, &cells)?;
     Ok(network::rebuild(n, &cells))
 }
 
@@ -50,7 +51,7 @@ fn fresh(random: &mut Random) -> Fresh {
     let n = sheet::walked_inputs(random);
     let mut ask = sheet::draw(random, n);
     let record = sheet::RECORD;
-    let faults = [record, record, record, sheet::LENGTH, sheet::ROOM, sheet::INPUTS];
+    let faults = [sheet::PADDED, record, record, record, sheet::LENGTH, sheet::ROOM, sheet::INPUTS];
     sheet::spoil(random, &mut ask, &faults);
     let Ask { n, sheet, room, tags, .. } = ask;
     Fresh { case: case(n, sheet, room), tags }

@@ -5,14 +5,14 @@ use crate::fresh::sheet::{self, Ask};
 use crate::fresh::Fresh;
 use crate::network;
 use crate::random::Random;
-use crate::refusals::{cells, inputs, Refusal, DONE, NO_ASSIGNMENT};
+use crate::refusals::{cells, each_read, inputs, Refusal, DONE, NO_ASSIGNMENT};
 
 pub static CALL: Call = Call {
     code: 0x04,
     name: "run",
     asks: &[Field::Number("n", 8), Field::Number("x", 8), Field::Bytes("sheet", SHEET_BUFFER)],
     answers: &[Part::Number("number", 1), Part::Number("bit", 1), Part::Number("index", 1)],
-    gives: &[0, 1, 9, 10, 11],
+    gives: &[0, 1, 9, 10, 11, 15],
     answer,
     fresh,
 };
@@ -27,6 +27,7 @@ fn run(n: u64, x: u64, sheet: &[u8]) -> Result<bool, Refusal> {
     if x >= 1 << n {
         return Err(NO_ASSIGNMENT.into());
     }
+    each_read(n, &cells)?;
     Ok(network::run(n, &cells, x as usize))
 }
 
@@ -48,7 +49,8 @@ fn fresh(random: &mut Random) -> Fresh {
         _ => random.bits() & last,
     };
     let record = sheet::RECORD;
-    let faults = [record, record, record, sheet::LENGTH, sheet::ASSIGNMENT, sheet::INPUTS];
+    let faults =
+        [sheet::PADDED, record, record, record, sheet::LENGTH, sheet::ASSIGNMENT, sheet::INPUTS];
     sheet::spoil(random, &mut ask, &faults);
     let Ask { n, x, sheet, tags, .. } = ask;
     Fresh { case: case(n, x, sheet), tags }

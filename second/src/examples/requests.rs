@@ -124,9 +124,43 @@ fn settle_and_slack() -> Vec<Example> {
     ]
 }
 
+/// The sheet of example 2 with a cell more that nobody reads: as record 0, as
+/// record 1, and as record 1 with record 0 read by it alone.
+const PADDED_AT_0: &str = "01 01 FF FF FF FF FF 00 01 00 00 00 00 00 00 00
+                           02 00 01 FF FF FF FF 00 08 00 00 00 00 00 00 00
+                           02 02 04 FF FF FF FF 00 08 00 00 00 00 00 00 00";
+pub const PADDED_AT_1: &str = "02 00 01 FF FF FF FF 00 08 00 00 00 00 00 00 00
+                               01 00 FF FF FF FF FF 00 02 00 00 00 00 00 00 00
+                               02 02 03 FF FF FF FF 00 08 00 00 00 00 00 00 00";
+const PADDED_TWICE: &str = "01 01 FF FF FF FF FF 00 01 00 00 00 00 00 00 00
+                            01 03 FF FF FF FF FF 00 01 00 00 00 00 00 00 00
+                            02 00 01 FF FF FF FF 00 08 00 00 00 00 00 00 00
+                            02 02 05 FF FF FF FF 00 08 00 00 00 00 00 00 00";
+
+fn cells_that_nobody_reads() -> Vec<Example> {
+    let mut list = Vec::new();
+    for (sheet, index) in [(PADDED_AT_0, 0), (PADDED_AT_1, 1), (PADDED_TWICE, 1)] {
+        let sheet = unhex(sheet);
+        let rebuilt = vec![15, index, PRESET];
+        let checked = |table: &str, number: u8, place: u8| {
+            example("E6", check(3, table, &sheet), vec![number, place, 0, 0, 0, 0, 0, 0, 0])
+        };
+        list.push(example("E6", run(3, 7, &sheet), vec![15, 0, index]));
+        list.push(refusal("E6", run(3, 8, &sheet), 11));
+        list.push(example("E6", rebuild(3, &sheet), rebuilt));
+        list.push(checked("80", 15, index));
+        list.push(checked("E8", 12, 3));
+    }
+    list
+}
+
 pub fn all() -> Vec<Example> {
-    [check_a_sheet(), unused_inputs(), where_a_split_breaks(), settle_and_slack()]
-        .into_iter()
-        .flatten()
-        .collect()
+    let parts = [
+        check_a_sheet(),
+        unused_inputs(),
+        where_a_split_breaks(),
+        settle_and_slack(),
+        cells_that_nobody_reads(),
+    ];
+    parts.into_iter().flatten().collect()
 }

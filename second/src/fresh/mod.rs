@@ -13,6 +13,7 @@ pub mod sheet;
 pub mod sheets;
 pub mod tables;
 pub mod timing;
+pub mod unread;
 
 use crate::calls::TABLE;
 use crate::case::{Case, Field};
@@ -26,7 +27,8 @@ pub struct Fresh {
 
 /// So many fresh cases, the calls in turn; besides, a few large ones, splits that
 /// break at a known place, tables that ignore inputs in every place, every rule
-/// of the records broken, and every bit of some sheets flipped.
+/// of the records broken, every bit of some sheets flipped, and cells that nobody
+/// reads at every place.
 pub fn cases(random: &mut Random, count: usize) -> Vec<Fresh> {
     let mut list: Vec<Fresh> = (0..count).map(|i| (TABLE[i % TABLE.len()].fresh)(random)).collect();
     list.extend(large::cases(random));
@@ -34,6 +36,7 @@ pub fn cases(random: &mut Random, count: usize) -> Vec<Fresh> {
     list.extend(ignored::cases(random));
     list.extend(every_rule::cases(random));
     list.extend(every_bit::cases(random));
+    list.extend(unread::cases(random));
     for fresh in &mut list {
         fresh.tags.extend(size_tag(&fresh.case));
     }

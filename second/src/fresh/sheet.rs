@@ -1,11 +1,11 @@
 //! What the calls that take a sheet can be asked, and the ways to spoil it.
 
-use super::sheets::KINDS;
+use super::sheets::{padded, KINDS};
 use super::Tagged;
 use super::{bad, damage};
 use crate::case::{SHEET_BUFFER, TABLE_BUFFER};
-use crate::cell::{read_sheet, RECORD_BYTES, SHEET_BYTES};
-use crate::network::rebuild;
+use crate::cell::{read_sheet, write_sheet, MOST_RECORDS, RECORD_BYTES, SHEET_BYTES};
+use crate::network::{first_unread, rebuild};
 use crate::random::Random;
 use crate::table::Table;
 use crate::times::Time;
@@ -35,6 +35,7 @@ pub type Fault = super::Fault<Ask>;
 
 // The spare bit comes first because it changes n, n itself comes last.
 pub const SPARE: Fault = ("spare bit", spare_bit);
+pub const PADDED: Fault = ("a cell that nobody reads", pad);
 pub const DIFFERENCE: Fault = ("another bit in the table", difference);
 pub const RECORD: Fault = ("a record", bad_record);
 pub const LENGTH: Fault = ("sheet length", bad_sheet_length);
@@ -56,6 +57,9 @@ pub fn walked_inputs(random: &mut Random) -> usize {
 pub fn draw(random: &mut Random, n: usize) -> Ask {
     let kind = random.pick(&KINDS);
     let sheet = kind.draw(random, n);
+    let cells = read_sheet(n, &sheet).expect("a sound sheet");
+    let read = if first_unread(n, &cells).is_none() { "each read" } else { "not each read" };
+    let tags = vec![format!("sheet: {}", kind.name()), format!("cells: {read}")];
     Ask {
         n: n as u64,
         x: 0,
@@ -65,7 +69,7 @@ pub fn draw(random: &mut Random, n: usize) -> Ask {
         delay: 0.0,
         times: Vec::new(),
         deadline: 0,
-        tags: vec![format!("sheet: {}", kind.name())],
+        tags,
     }
 }
 
@@ -93,6 +97,19 @@ fn bad_record(random: &mut Random, ask: &mut Ask) {
     let name = damage::apply(random, kind, &mut ask.sheet, ask.n as usize, index);
     ask.tags.push(format!("damage: {name}"));
     ask.tags.push(format!("damage at {place}"));
+}
+
+/// One cell more, or as many as there is room for.
+fn pad(random: &mut Random, ask: &mut Ask) {
+    let n = ask.n as usize;
+    let mut cells = read_sheet(n, &ask.sheet).expect("a sound sheet");
+    let most = MOST_RECORDS - cells.len();
+    let more = if random.coin() { most.min(1) } else { most };
+    for _ in 0..more {
+        let at = random.below(cells.len());
+        cells = padded(random, n, &cells, at);
+    }
+    ask.sheet = write_sheet(&cells);
 }
 
 fn bad_sheet_length(random: &mut Random, ask: &mut Ask) {

@@ -44,10 +44,25 @@ impl Kind {
         }
     }
 
-    /// A sound sheet of this kind for a gate of n inputs.
+    /// A sheet of this kind for a gate of n inputs that keeps the record rules,
+    /// mostly with each cell read.
     pub fn draw(self, random: &mut Random, n: usize) -> Vec<u8> {
+        if self == Kind::Dead || random.one_in(5) {
+            return write_sheet(&self.cells(random, n));
+        }
+        self.draw_read(random, n)
+    }
+
+    /// The same with each cell but the last read by a later one.
+    pub fn draw_read(self, random: &mut Random, n: usize) -> Vec<u8> {
+        let mut cells = self.cells(random, n);
+        read_each(random, n, &mut cells, if self == Kind::OneInput { 1 } else { MOST_READS });
+        write_sheet(&cells)
+    }
+
+    fn cells(self, random: &mut Random, n: usize) -> Vec<Cell> {
         let records = random.between(1, MOST_RECORDS);
-        let cells = match self {
+        match self {
             Kind::Made => made(random, n),
             Kind::Handmade => handmade(random, n, records),
             Kind::Dead => dead(random, n, records),
@@ -55,9 +70,45 @@ impl Kind {
             Kind::Constants => constants(random, n, records),
             Kind::Wide => (0..records).map(|i| cell(random, n + i, MOST_READS)).collect(),
             Kind::Longest => handmade(random, n, MOST_RECORDS),
-        };
-        write_sheet(&cells)
+        }
     }
+}
+
+/// Has each cell but the last read by a later one, from the last but one down:
+/// any later cell with a place left, or else the next, in place of what it reads
+/// otherwise (which stands further down, and has its turn yet).
+fn read_each(random: &mut Random, n: usize, cells: &mut [Cell], places: usize) {
+    while let Some(i) = last_unread(n, cells) {
+        let any = random.between(i + 1, cells.len() - 1);
+        if cells[any].reads.len() < places {
+            cells[any].reads.push(n + i);
+            cells[any].table = random.bits() & full(cells[any].reads.len());
+            cells[any].reads.sort();
+        } else {
+            let reads = &mut cells[i + 1].reads;
+            let place = random.below(reads.len());
+            reads[place] = n + i;
+            reads.sort();
+        }
+    }
+}
+
+fn last_unread(n: usize, cells: &[Cell]) -> Option<usize> {
+    let read = |i: usize| cells[i + 1..].iter().any(|later| later.reads.contains(&(n + i)));
+    (0..cells.len() - 1).rev().find(|&i| !read(i))
+}
+
+/// The sheet with one more cell before the one with this index, which nobody
+/// reads: the signals of those behind it move up.
+pub fn padded(random: &mut Random, n: usize, cells: &[Cell], at: usize) -> Vec<Cell> {
+    let moved = |signal: usize| if signal < n + at { signal } else { signal + 1 };
+    let behind = cells[at..].iter().map(|cell| Cell {
+        reads: cell.reads.iter().map(|&signal| moved(signal)).collect(),
+        table: cell.table,
+    });
+    let places = random.between(1, MOST_READS);
+    let more = cell(random, n + at, places);
+    cells[..at].iter().cloned().chain([more]).chain(behind).collect()
 }
 
 /// A random cell with at most so many places that reads signals below the limit.

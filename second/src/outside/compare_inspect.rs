@@ -2,7 +2,7 @@
 
 use super::programs::{Program, Run};
 use crate::calls::check;
-use crate::examples::requests::HAND_WIRED;
+use crate::examples::requests::{HAND_WIRED, PADDED_AT_1};
 use crate::examples::{unhex, SHEET_OF_2};
 use crate::inspect::inspect;
 use crate::random::Random;
@@ -43,6 +43,8 @@ fn documented() -> Vec<Run> {
         says(input(&[3, 0x80], &bad), "10 1"),
         // The AND is 0 at assignments 3, 5 and 6, the majority is 1 there.
         says(input(&[3, 0xE8], &and), "12 3"),
+        says(input(&[3, 0x80], &unhex(PADDED_AT_1)), "15 1"),
+        says(input(&[3, 0xE8], &unhex(PADDED_AT_1)), "12 3"),
         // More than a pipe holds: whoever writes it must not be cut off.
         says(long(16, 300_000), "9 0"),
         says(long(17, 300_000), "1 0"),

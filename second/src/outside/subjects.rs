@@ -136,19 +136,19 @@ fn make(table: Table, k: usize) -> Case {
 }
 
 fn run_longest(random: &mut Random, n: usize) -> Case {
-    let sheet = sheets::Kind::Longest.draw(random, n);
+    let sheet = sheets::Kind::Longest.draw_read(random, n);
     let x = random.below(1 << n) as u64;
     calls::run::case(n as u64, x, sheet)
 }
 
 fn rebuild_longest(random: &mut Random, n: usize) -> Case {
-    let sheet = sheets::Kind::Longest.draw(random, n);
+    let sheet = sheets::Kind::Longest.draw_read(random, n);
     calls::rebuild::case(n as u64, sheet, Table::byte_length(n))
 }
 
 /// The same sheets as in the rows of rebuild, each with the table it carries.
 fn check_longest(random: &mut Random, n: usize) -> Case {
-    let sheet = sheets::Kind::Longest.draw(random, n);
+    let sheet = sheets::Kind::Longest.draw_read(random, n);
     let cells = read_sheet(n, &sheet).expect("a sound sheet");
     calls::check::case(n as u64, rebuild(n, &cells).to_bytes(), sheet)
 }

@@ -42,7 +42,7 @@ rebuild-requires c κs =
     let a = s .args in
     let w = in-order (rebuildLines (a .e) (a .d) (a .n) (a .s .now) (a .table .now)) (sym (f .rebuild-form .ensures) ∙ c .before .before .enum-told .given .1) in (
       runnable (a .e) (a .d) (a .n) (a .s .now) (s .pre) (records (a .e) (a .s .now)) (inside 1 (a .n) mostInputs (w .0) .1)
-          (good-sheet (a .e) (a .d) (a .n) (a .s .now) (s .pre) (w .1 .1)),
+          (good-sheet (a .e) (a .d) (a .n) (a .s .now) (s .pre) (w .1 .1 .0, (w .1 .1 .1 .0, tt))),
       right-table (a .n) (a .table .now) (w .1 .0),
     )
 

@@ -15,8 +15,8 @@ use Rattle.runs.specs.Checking.{firstDifference}
 use Rattle.bench.specs.declared.refusals.Verdict.{Verdict}
 use Rattle.bench.specs.declared.refusals.Verdict.the-variants.{Fine, Refused}
 use Rattle.bench.specs.Lines.{refusal, verdict}
-use Rattle.bench.specs.Refusals.{sheetLines, tableDiffers}
-use Rattle.bench.proofs.Lines.{fine, here, later, in-order, passes, stopped, decided}
+use Rattle.bench.specs.Refusals.{sheetLines, tableDiffers, unreadRecord}
+use Rattle.bench.proofs.Lines.{here, in-order, passes, stopped, decided}
 use Rattle.bench.proofs.Tests.{inside, right-table, spare-line}
 use Rattle.bench.proofs.Sheets.{good-sheet, runnable}
 use Rattle.inspection.specs.CheckSheet.{tableLines, checkOutcome}
@@ -38,16 +38,16 @@ looked n t v p q = let w = in-order (tableLines n t) (sym p ∙ q) in record {
 
 -- the lines behind those decide
 behind : (e : Edition) (d n : ℕ) (t s : List ℕ) (v : Verdict) → v ≡ verdict (tableLines n t) → v ≡ Fine
-    → verdict (sheetLines e d n s ++ (tableDiffers e n t s ∷ [])) ≡ checkOutcome e d n t s
+    → verdict (sheetLines e d n s ++ (tableDiffers e n t s ∷ unreadRecord e n s ∷ [])) ≡ checkOutcome e d n t s
 unfolding checkOutcome
-behind e d n t s v p q = sym (passes (tableLines n t) (sheetLines e d n s ++ (tableDiffers e n t s ∷ [])) (in-order (tableLines n t) (sym p ∙ q)))
+behind e d n t s v p q = sym (passes (tableLines n t) (sheetLines e d n s ++ (tableDiffers e n t s ∷ unreadRecord e n s ∷ [])) (in-order (tableLines n t) (sym p ∙ q)))
 
 returns : tie.Need-returns
 unfolding checkOutcome
 returns c =
     let f = c .before .before in
     let a = f .before .before .before .args in
-    stopped (tableLines (a .n) (a .t .now)) (sheetLines (a .e) (a .d) (a .n) (a .s .now) ++ (tableDiffers (a .e) (a .n) (a .t .now) (a .s .now) ∷ [])) _ (f .table-form .ensures)
+    stopped (tableLines (a .n) (a .t .now)) (sheetLines (a .e) (a .d) (a .n) (a .s .now) ++ (tableDiffers (a .e) (a .n) (a .t .now) (a .s .now) ∷ unreadRecord (a .e) (a .n) (a .s .now) ∷ [])) _ (f .table-form .ensures)
     (c .enum-told2 .given .0 .0) (c .enum-told2 .given .1)
 
 sheet-requires : tie.Need-sheet-requires
@@ -67,7 +67,7 @@ returns-2 c =
     let l = c .before .before in
     let f = l .before .before .before in
     let a = f .before .before .before .args in
-    stopped (sheetLines (a .e) (a .d) (a .n) (a .s .now)) (tableDiffers (a .e) (a .n) (a .t .now) (a .s .now) ∷ []) _ (l .sheet .ensures) (c .enum-told4 .given .0 .0) (c .enum-told4 .given .1)
+    stopped (sheetLines (a .e) (a .d) (a .n) (a .s .now)) (tableDiffers (a .e) (a .n) (a .t .now) (a .s .now) ∷ unreadRecord (a .e) (a .n) (a .s .now) ∷ []) _ (l .sheet .ensures) (c .enum-told4 .given .0 .0) (c .enum-told4 .given .1)
     ∙ behind (a .e) (a .d) (a .n) (a .t .now) (a .s .now) _ (f .table-form .ensures) (l .before .enum-told .given .1)
 
 div-first-difference : tie.Need-div-first-difference
@@ -101,25 +101,40 @@ returns-3 c =
     let p = shl-one 32 (a .n) (omega (arith, w .most)) in
     let near : firstDifference (a .e) (a .n) (a .s .now) (records (a .e) (a .s .now)) (a .t .now) < 2 ^ a .n = omega (arith, p, x .first-difference .ensures, c .before .if1 .taken) in
     c .refuse-at .ensures ∙ ap (λ (k : ℕ). Refused (refusal 12 k)) (x .first-difference .ensures)
-    ∙ decided (sheetLines (a .e) (a .d) (a .n) (a .s .now)) (tableDiffers (a .e) (a .n) (a .t .now) (a .s .now) ∷ []) _ (l .sheet .ensures) (x .before .before .enum-told3 .given .1)
+    ∙ decided (sheetLines (a .e) (a .d) (a .n) (a .s .now)) (tableDiffers (a .e) (a .n) (a .t .now) (a .s .now) ∷ unreadRecord (a .e) (a .n) (a .s .now) ∷ []) _ (l .sheet .ensures) (x .before .before .enum-told3 .given .1)
     (here (lt-ltb _ (2 ^ a .n) near))
     ∙ behind (a .e) (a .d) (a .n) (a .t .now) (a .s .now) _ (f .table-form .ensures) (l .before .enum-told .given .1)
 
+all-read-requires : tie.Need-all-read-requires
+all-read-requires c κs =
+    let x = c .before in
+    let l = x .before .before .before .before in
+    let f = l .before .before .before in
+    let s = f .before .before .before in
+    let a = s .args in (
+      s .pre,
+      looked (a .n) (a .t .now) _ (f .table-form .ensures) (l .before .enum-told .given .1) .most,
+      in-order (sheetLines (a .e) (a .d) (a .n) (a .s .now)) (sym (l .sheet .ensures) ∙ x .before .before .enum-told3 .given .1),
+    )
+
 returns-4 : tie.Need-returns-4
 returns-4 c =
-    let x = c .before in
+    let x = c .before .before in
     let l = x .before .before .before .before in
     let f = l .before .before .before in
     let a = f .before .before .before .args in
     let w = looked (a .n) (a .t .now) _ (f .table-form .ensures) (l .before .enum-told .given .1) in
     let p = shl-one 32 (a .n) (omega (arith, w .most)) in
-    let far : 2 ^ a .n ≤ firstDifference (a .e) (a .n) (a .s .now) (records (a .e) (a .s .now)) (a .t .now) = omega (arith, p, x .first-difference .ensures, c .if1 .left) in
-    decided (sheetLines (a .e) (a .d) (a .n) (a .s .now)) (tableDiffers (a .e) (a .n) (a .t .now) (a .s .now) ∷ []) _ (l .sheet .ensures) (x .before .before .enum-told3 .given .1)
-    (later (le-ltb _ (2 ^ a .n) far) fine)
+    let far : 2 ^ a .n ≤ firstDifference (a .e) (a .n) (a .s .now) (records (a .e) (a .s .now)) (a .t .now) = omega (arith, p, x .first-difference .ensures, c .before .if1 .left) in
+    let ls = sheetLines (a .e) (a .d) (a .n) (a .s .now) in
+    let differ = tableDiffers (a .e) (a .n) (a .t .now) (a .s .now) in
+    let ms = unreadRecord (a .e) (a .n) (a .s .now) ∷ [] in
+    c .all-read .ensures
+    ∙ sym (passes ls (differ ∷ ms) (in-order ls (sym (l .sheet .ensures) ∙ x .before .before .enum-told3 .given .1)) ∙ passes (differ ∷ []) ms (le-ltb _ (2 ^ a .n) far, tt))
     ∙ behind (a .e) (a .d) (a .n) (a .t .now) (a .s .now) _ (f .table-form .ensures) (l .before .enum-told .given .1)
 
 pub check-in-spec : {M : Type 1} → statement M
 check-in-spec =
     tie.close (tie.spec (λ c κs. search needs) (λ c. search needs) (λ c. search needs) returns cast-inputs
     sheet-requires (λ c. search needs) (λ c. search needs) returns-2 div-first-difference first-difference-requires
-    shl-if1 (λ c. search needs) (λ c κs. search needs) returns-3 returns-4)
+    shl-if1 (λ c. search needs) (λ c κs. search needs) returns-3 all-read-requires returns-4)
