@@ -54,6 +54,7 @@ typedef struct { uint64_t number, place; } pelzurivan_checked;
 typedef struct { uint8_t kind[16]; double first[16], second[16]; } pelzurivan_times;
 typedef struct { uint64_t number, index; double earliest, latest; } pelzurivan_settled;
 typedef struct { uint64_t number, index; int64_t slack; } pelzurivan_slack_answer;
+typedef struct { uint64_t which, length, number; } pelzurivan_shorter_answer;
 
 /* Tries a named split: D in d, H in the first bytes of room, the bytes after its table stay. 1 to 6, 8: b is then the
  * least assignment of shared (its members in increasing position, lowest as bit 0) with more than two different
@@ -91,6 +92,13 @@ pelzurivan_settled pelzurivan_settle(uint64_t n, const uint8_t *sheet, size_t sh
  * 1, 9, 10, 13, 14. */
 pelzurivan_slack_answer pelzurivan_slack(uint64_t n, const uint8_t *sheet, size_t sheet_length, double delay,
                                          pelzurivan_times times, int64_t deadline);
+
+/* The shorter of two sheets for one table: of those that check accepts the one with fewer records, the first on a tie.
+ * which is 1 or 2, and the sheet is the first length bytes of that one, where it lies; both are 0 if neither is
+ * accepted, and number is then the refusal of the first: 1, 3, 4, 9, 10, 12, 15. The two sheets may overlap. */
+pelzurivan_shorter_answer pelzurivan_shorter(uint64_t n, const uint8_t *table, size_t table_length,
+                                             const uint8_t *first, size_t first_length, const uint8_t *second,
+                                             size_t second_length);
 
 #ifdef __cplusplus
 }

@@ -126,20 +126,39 @@ static void settle_and_slack(void) {
 }
 
 /* The sheet of example 2 padded with a cell that nobody reads, as record 1. */
+static const uint8_t PADDED[] = {
+    2, 0, 1, 255, 255, 255, 255, 0, 8, 0, 0, 0, 0, 0, 0, 0,
+    1, 0, 255, 255, 255, 255, 255, 0, 2, 0, 0, 0, 0, 0, 0, 0,
+    2, 2, 3, 255, 255, 255, 255, 0, 8, 0, 0, 0, 0, 0, 0, 0,
+};
+
 static void a_cell_that_nobody_reads(void) {
-    static const uint8_t padded[] = {
-        2, 0, 1, 255, 255, 255, 255, 0, 8, 0, 0, 0, 0, 0, 0, 0,
-        1, 0, 255, 255, 255, 255, 255, 0, 2, 0, 0, 0, 0, 0, 0, 0,
-        2, 2, 3, 255, 255, 255, 255, 0, 8, 0, 0, 0, 0, 0, 0, 0,
-    };
     uint8_t table[] = {PRESET};
-    pelzurivan_ran ran = pelzurivan_run(3, padded, sizeof padded, 7);
+    pelzurivan_ran ran = pelzurivan_run(3, PADDED, sizeof PADDED, 7);
     expect(ran.number == 15 && ran.bit == 0 && ran.index == 1, "run: 15, record 1");
-    expect(pelzurivan_run(3, padded, sizeof padded, 8).number == 11, "run: 11 comes before 15");
-    pelzurivan_rebuilt rebuilt = pelzurivan_rebuild(3, padded, sizeof padded, table, 1);
+    expect(pelzurivan_run(3, PADDED, sizeof PADDED, 8).number == 11, "run: 11 comes before 15");
+    pelzurivan_rebuilt rebuilt = pelzurivan_rebuild(3, PADDED, sizeof PADDED, table, 1);
     expect(rebuilt.number == 15 && rebuilt.index == 1 && table[0] == PRESET, "rebuild: 15, record 1");
-    pelzurivan_checked checked = pelzurivan_check(3, AND_OF_3, 1, padded, sizeof padded);
+    pelzurivan_checked checked = pelzurivan_check(3, AND_OF_3, 1, PADDED, sizeof PADDED);
     expect(checked.number == 15 && checked.place == 1, "check: 15, record 1");
+}
+
+static pelzurivan_shorter_answer shorter_for_and(const uint8_t *first, size_t first_length, const uint8_t *second,
+                                                 size_t second_length) {
+    return pelzurivan_shorter(3, AND_OF_3, 1, first, first_length, second, second_length);
+}
+
+/* The AND of three in one cell of three, in two of two, and padded. */
+static void the_shorter_sheet(void) {
+    static const uint8_t one_cell[PELZURIVAN_RECORD] = {3, 0, 1, 2, 255, 255, 255, 0, 0x80};
+    pelzurivan_shorter_answer a = shorter_for_and(EXAMPLE_2, sizeof EXAMPLE_2, one_cell, sizeof one_cell);
+    expect(a.which == 2 && a.length == sizeof one_cell && a.number == 0, "shorter: the second has fewer records");
+    a = shorter_for_and(EXAMPLE_2, sizeof EXAMPLE_2, EXAMPLE_2, sizeof EXAMPLE_2);
+    expect(a.which == 1 && a.length == sizeof EXAMPLE_2 && a.number == 0, "shorter: the first on a tie");
+    a = shorter_for_and(one_cell, 1, EXAMPLE_2, sizeof EXAMPLE_2);
+    expect(a.which == 2 && a.length == sizeof EXAMPLE_2 && a.number == 0, "shorter: only the second is accepted");
+    a = shorter_for_and(PADDED, sizeof PADDED, EXAMPLE_2, PELZURIVAN_RECORD);
+    expect(a.which == 0 && a.length == 0 && a.number == 15, "shorter: neither, and the first's refusal");
 }
 
 /* Masks are whole numbers: 65,539 names a position from n up, whatever its low 16 bits say. */
@@ -184,6 +203,7 @@ int main(void) {
     where_a_split_breaks();
     settle_and_slack();
     a_cell_that_nobody_reads();
+    the_shorter_sheet();
     masks_above_16_bits();
     refusals();
     printf("tests/c: %d of %d checks hold\n", checks - faults, checks);

@@ -120,9 +120,22 @@ static void slack(void) {
     put(8, (uint64_t)a.slack);
 }
 
+static void shorter(void) {
+    uint64_t n = number(8);
+    area table = handed(TABLE), first = handed(SHEET), second = handed(SHEET);
+    if (!whole()) return;
+    start();
+    pelzurivan_shorter_answer a = pelzurivan_shorter(n, table.bytes, table.length, first.bytes, first.length,
+                                                     second.bytes, second.length);
+    stop();
+    put(1, a.which);
+    put(2, a.length);
+    put(1, a.number);
+}
+
 static const call CALLS[] = {
-    {0x01, try_split}, {0x02, find},  {0x03, make},   {0x04, run},
-    {0x05, rebuild},   {0x06, check}, {0x07, settle}, {0x08, slack},
+    {0x01, try_split}, {0x02, find},   {0x03, make},  {0x04, run},     {0x05, rebuild},
+    {0x06, check},     {0x07, settle}, {0x08, slack}, {0x09, shorter},
 };
 
 const call *call_of(int code) {

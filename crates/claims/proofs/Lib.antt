@@ -9,6 +9,7 @@ pub mod RebuildTable
 pub mod Made
 pub mod MakeSheet
 pub mod CheckSheet
+pub mod Shorter
 pub mod Settle
 pub mod Slack
 pub mod Fewest

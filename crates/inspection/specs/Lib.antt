@@ -1,3 +1,4 @@
 -- Looking over sheets that anyone made.
 pub mod CheckSheet
+pub mod Shorter
 pub mod InspectProgram

@@ -2,3 +2,4 @@
 // The inspecting program but for its reading and writing is `inspect_program`: it asks for the length of its room.
 pub mod check_sheet;
 pub mod inspect_program;
+pub mod shorter;

@@ -5,6 +5,7 @@ pub mod MakeSheet
 pub mod RunSheet
 pub mod RebuildTable
 pub mod CheckSheet
+pub mod Shorter
 pub mod InputTimes
 pub mod Settle
 pub mod Slack

@@ -7,5 +7,6 @@ pub mod make_sheet;
 pub mod rebuild_table;
 pub mod run_sheet;
 pub mod settle;
+pub mod shorter;
 pub mod slack;
 pub mod try_split;

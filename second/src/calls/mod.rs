@@ -6,13 +6,14 @@ pub mod make;
 pub mod rebuild;
 pub mod run;
 pub mod settle;
+pub mod shorter;
 pub mod slack;
 pub mod try_split;
 
 use crate::case::Call;
 
 /// The calls that are answered today, by code.
-pub static TABLE: [&Call; 8] = [
+pub static TABLE: [&Call; 9] = [
     &try_split::CALL,
     &find::CALL,
     &make::CALL,
@@ -21,6 +22,7 @@ pub static TABLE: [&Call; 8] = [
     &check::CALL,
     &settle::CALL,
     &slack::CALL,
+    &shorter::CALL,
 ];
 
 pub fn call_of(code: u8) -> Option<&'static Call> {

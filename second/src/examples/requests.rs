@@ -154,6 +154,34 @@ fn cells_that_nobody_reads() -> Vec<Example> {
     list
 }
 
+/// The AND of three in one cell of three, in two of two, padded, and cut short;
+/// the majority.
+fn the_shorter_of_two() -> Vec<Example> {
+    let one = unhex("03 00 01 02 FF FF FF 00 80 00 00 00 00 00 00 00");
+    let two = unhex(SHEET_OF_2);
+    let padded = unhex(PADDED_AT_1);
+    let majority = unhex(HAND_WIRED);
+    let told = |n: u64, [first, second]: [&[u8]; 2], answer: [u8; 3]| {
+        let case = calls::shorter::case(n, unhex("80"), first.to_vec(), second.to_vec());
+        let [which, length, number] = answer;
+        example("E7", case, vec![which, length, 0, number])
+    };
+    vec![
+        told(3, [&one, &two], [1, 16, 0]),
+        told(3, [&two, &one], [2, 16, 0]),
+        told(3, [&two, &two], [1, 32, 0]),
+        told(3, [&padded, &two], [2, 32, 0]),
+        told(3, [&one[..15], &two], [2, 32, 0]),
+        told(3, [&two, &majority[..16]], [1, 32, 0]),
+        told(3, [&padded, &majority], [0, 0, 15]),
+        told(3, [&majority, &padded], [0, 0, 12]),
+        told(3, [&[], &majority], [0, 0, 9]),
+        told(17, [&two, &two], [0, 0, 1]),
+        told(4, [&two, &two], [0, 0, 3]),
+        told(2, [&two, &two], [0, 0, 4]),
+    ]
+}
+
 pub fn all() -> Vec<Example> {
     let parts = [
         check_a_sheet(),
@@ -161,6 +189,7 @@ pub fn all() -> Vec<Example> {
         where_a_split_breaks(),
         settle_and_slack(),
         cells_that_nobody_reads(),
+        the_shorter_of_two(),
     ];
     parts.into_iter().flatten().collect()
 }

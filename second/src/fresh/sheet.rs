@@ -11,6 +11,7 @@ use crate::table::Table;
 use crate::times::Time;
 
 /// What may be asked about a sheet, sound at first and then perhaps spoiled.
+#[derive(Clone)]
 pub struct Ask {
     pub n: u64,
     pub x: u64,

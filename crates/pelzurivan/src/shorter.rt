@@ -1,0 +1,39 @@
+// The shorter of two sheets, for C.
+use bench::refusals::number_of;
+use inspection::shorter::keep_shorter;
+use inspection::shorter::part_of;
+ghost use mathlib.Core.Path.{_≡_};
+ghost use Rattle.sheets.specs.Edition.{firstEdition};
+ghost use Rattle.inspection.specs.Shorter.{keptOutcome};
+ghost use Rattle.pelzurivan.specs.Shorter.{shorterC};
+
+// Which of the two (0 none), its length in bytes, and the number of the call beside.
+#[repr(C)]
+pub struct ShorterC {
+    pub which: u64,
+    pub length: u64,
+    pub number: u64,
+}
+
+// Keeps the shorter of two sheets for one table: C has the sheet already, and is told which it is.
+#[no_mangle]
+pub extern "C" fn pelzurivan_shorter<'a>(
+    n: u64,
+    t: &'a [u8],
+    first: &'a [u8],
+    second: &'a [u8],
+) -> ShorterC
+    ensures { λ r. ⌜
+        r ≡ shorterC (keptOutcome firstEdition 0 n (now (t .entry)) (now (first .entry)) (now (second .entry)))
+        (now (first .entry)) (now (second .entry))
+        ⌝ }
+{
+    let kept = keep_shorter(n, t, first, second);
+    let verdict = kept.verdict;
+    let part = part_of(kept.which, first, second);
+    ShorterC {
+        which: kept.which,
+        length: part.len() as u64,
+        number: number_of(verdict) as u64,
+    }
+}
