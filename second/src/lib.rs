@@ -25,3 +25,4 @@ pub mod examples;
 pub mod fresh;
 pub mod outside;
 pub mod random;
+pub mod trees;

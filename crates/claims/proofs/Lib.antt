@@ -13,6 +13,7 @@ pub mod Shorter
 pub mod Settle
 pub mod Slack
 pub mod Fewest
+pub mod Trees
 pub mod BenchProgram
 pub mod Tries
 pub mod Examples

@@ -45,19 +45,22 @@ module _ (n : ℕ) (F : ℕ → Bool) (A B : ℕ → Bool) (apart : Apart n A B)
         possible-few n F A B apart r P (gather n B x),
       )
 
-  code-sees : (x y : ℕ) → Agree n (readsD A B) x y → code x ≡ code y
+  pub code-sees : (x y : ℕ) → Agree n (readsD A B) x y → code x ≡ code y
   unfolding code
   code-sees x y h = ap (codeAt n F A B) (gather-ext n (readsD A B) x y h)
 
-  gives : (x : ℕ) → x < 2 ^ n → F x ≡ H (inputH n A B x (code x))
+  pub gives : (x : ℕ) → x < 2 ^ n → F x ≡ H (inputH n A B x (code x))
   unfolding code
   gives x h = pair-gives n F A B x h
 
   -- ---- H's input: a shared or free input at its place, and behind them the code
-  input-lt : (x d : ℕ) → d < 2 ^ r → inputH n A B x d < 2 ^ (k + r)
+  pub input-lt : (x d : ℕ) → d < 2 ^ r → inputH n A B x d < 2 ^ (k + r)
   input-lt x d h = omega (arith, gather-lt n (readsH A B) x, mul-le-mul-right (2 ^ k) h, suc-mul d (2 ^ k), pow-add 2 k r, mul-comm (2 ^ k) (2 ^ r))
 
-  input-high : (x d t : ℕ) → bit (inputH n A B x d) (k + t) ≡ bit d t
+  pub input-low : (x d q : ℕ) → q < k → (w : Place n (readsH A B) q) → bit (inputH n A B x d) q ≡ bit x (w .at)
+  input-low x d q g w = bit-below (gather n (readsH A B) x) d k q g ∙ gather-place n (readsH A B) x q w
+
+  pub input-high : (x d t : ℕ) → bit (inputH n A B x d) (k + t) ≡ bit d t
   input-high x d t =
       sym (bit-shr (inputH n A B x d) k t)
       ∙ ap (λ (m : ℕ). bit m t) (ap (λ (m : ℕ). m / 2 ^ k) (add-comm (gather n (readsH A B) x) (d * 2 ^ k)) ∙ high d k (gather-lt n (readsH A B) x))
@@ -71,9 +74,9 @@ module _ (n : ℕ) (F : ℕ → Bool) (A B : ℕ → Bool) (apart : Apart n A B)
     where
       low : i < k → Place n (readsH A B) i → bit (inputH n A B x d) i ≡ bit (inputH n A B y d) i
       low g w =
-          bit-below (gather n (readsH A B) x) d k i g ∙ gather-place n (readsH A B) x i w
+          input-low x d i g w
           ∙ alike (w .at) (w .below) (λ e. ne (sym (w .rank) ∙ ap (λ (p : ℕ). size p (readsH A B)) e))
-          ∙ sym (bit-below (gather n (readsH A B) y) d k i g ∙ gather-place n (readsH A B) y i w)
+          ∙ sym (input-low y d i g w)
 
   -- ---- a free input
   pub free-counts : (j : ℕ) → readsD A B j ≡ false → DependsOn n F j → DependsOn (k + r) H (size j (readsH A B))

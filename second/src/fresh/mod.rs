@@ -13,6 +13,7 @@ pub mod sheet;
 pub mod sheets;
 pub mod tables;
 pub mod timing;
+pub mod trees;
 pub mod two_sheets;
 pub mod unread;
 

@@ -2,19 +2,18 @@
 //! The sheets are then handed back to the command, which must accept each.
 
 use super::arguments::Arguments;
-use super::command;
+use super::asking::{ask, carried_count, make_case, next_answer, nothing_left};
 use super::parallel::each_of;
-use crate::batch::{answer_length, case_bytes};
-use crate::calls::{check, make};
+use crate::batch::case_bytes;
+use crate::calls::check;
 use crate::carry::Networks;
 use crate::case::Case;
-use crate::cell::{read_sheet, MOST_READS, RECORD_BYTES, SHEET_BYTES};
+use crate::cell::{MOST_READS, RECORD_BYTES};
 use crate::describe::{answer_text, case_text, hex};
 use crate::fresh::networks;
 use crate::fresh::tables::{any, flip_bits, spread, KINDS};
-use crate::network::rebuild;
 use crate::random::Random;
-use crate::refusals::{DONE, NO_SPLIT, WORK_BYTES};
+use crate::refusals::{DONE, NO_SPLIT};
 use crate::sets::all;
 use crate::table::Table;
 
@@ -68,15 +67,6 @@ pub fn fewest(arguments: &Arguments) -> Result<(), String> {
     accepted(wanted, &made)
 }
 
-fn ask(wanted: &[String], batch: &[u8]) -> Result<Vec<u8>, String> {
-    let ran = command::run(wanted, &[], batch)?;
-    println!("the command: {:.1} s", ran.seconds);
-    if !ran.status.success() {
-        return Err(format!("the command ended with {}\n{}", ran.status, ran.said));
-    }
-    Ok(ran.output)
-}
-
 /// Each sheet that make wrote must be accepted: number 0, place 0.
 fn accepted(wanted: &[String], made: &[Case]) -> Result<(), String> {
     let batch: Vec<u8> = made.iter().flat_map(case_bytes).collect();
@@ -92,24 +82,6 @@ fn accepted(wanted: &[String], made: &[Case]) -> Result<(), String> {
     nothing_left(left)?;
     println!("each of the {} sheets is accepted by check", made.len());
     Ok(())
-}
-
-/// The answer to a case, taken off the front of the output.
-fn next_answer<'a>(case: &Case, left: &mut &'a [u8]) -> Result<&'a [u8], String> {
-    let length = answer_length(case);
-    if left.len() < length {
-        return Err("the output ends early".to_string());
-    }
-    let (answer, rest) = left.split_at(length);
-    *left = rest;
-    Ok(answer)
-}
-
-fn nothing_left(left: &[u8]) -> Result<(), String> {
-    match left.len() {
-        0 => Ok(()),
-        many => Err(format!("the output is {many} bytes too long")),
-    }
 }
 
 fn all_tables(n: usize) -> Vec<Asked> {
@@ -160,13 +132,8 @@ fn sampled_over_all(random: &mut Random, n: usize, k: usize, i: usize) -> Asked 
     Asked { table: if taken { structured } else { any(random, n) }, made_of_two: false }
 }
 
-fn make_case(group: &Group, asked: &Asked) -> Case {
-    let table = asked.table.to_bytes();
-    make::case(group.n as u64, group.k as u64, table, SHEET_BYTES, WORK_BYTES)
-}
-
 fn group_bytes(group: &Group) -> Vec<u8> {
-    group.tables.iter().flat_map(|asked| case_bytes(&make_case(group, asked))).collect()
+    group.tables.iter().flat_map(|asked| case_bytes(&make_case(group.k, &asked.table))).collect()
 }
 
 /// Judges the answers to a group; its sheets go to those to be checked.
@@ -175,9 +142,9 @@ fn judge_group(group: &Group, left: &mut &[u8], sheets: &mut Vec<Case>) -> Resul
     let fewest = each_of(&group.tables, |asked| networks.fewest(&asked.table));
     let mut counts = Counts::default();
     for (asked, fewest) in group.tables.iter().zip(fewest) {
-        let answer = next_answer(&make_case(group, asked), left)?;
+        let answer = next_answer(&make_case(group.k, &asked.table), left)?;
         let table = asked.table.to_bytes();
-        judge_one(group, asked, fewest, answer, &mut counts).map_err(|what| {
+        judge_one(asked, fewest, answer, &mut counts).map_err(|what| {
             let (n, k, table) = (group.n, group.k, hex(&table));
             format!("n={n} K={k} table {table}: {what}\n  make answered {}", hex(answer))
         })?;
@@ -193,7 +160,6 @@ fn judge_group(group: &Group, left: &mut &[u8], sheets: &mut Vec<Case>) -> Resul
 /// give two. Where neither do it may give three, which are then the fewest, or
 /// more, or refuse.
 fn judge_one(
-    group: &Group,
     asked: &Asked,
     fewest: Option<usize>,
     answer: &[u8],
@@ -203,7 +169,7 @@ fn judge_one(
         return Err("made of two cells, and the second program itself says more".to_string());
     }
     let made = match (answer[0], answer[1] as usize) {
-        (DONE, count) => Some(carried_count(group.n, &asked.table, count, &answer[2..])?),
+        (DONE, count) => Some(carried_count(&asked.table, count, &answer[2..])?),
         (NO_SPLIT, 0) => None,
         (number, count) => return Err(format!("number {number}, count {count}")),
     };
@@ -216,14 +182,4 @@ fn judge_one(
         _ => return Err(format!("fewest by networks {fewest:?}, by make {made:?}")),
     }
     Ok(())
-}
-
-/// The count, once the sheet is known to carry the table.
-fn carried_count(n: usize, table: &Table, count: usize, room: &[u8]) -> Result<usize, String> {
-    let sheet = room.get(..count * RECORD_BYTES).ok_or("more records than room")?;
-    let cells = read_sheet(n, sheet).map_err(|index| format!("record {index} is bad"))?;
-    if cells.is_empty() || rebuild(n, &cells) != *table {
-        return Err("the sheet does not carry the table".to_string());
-    }
-    Ok(count)
 }

@@ -1,6 +1,7 @@
 //! Questioning another program from outside.
 
 pub mod arguments;
+mod asking;
 mod broken;
 pub mod command;
 pub mod compare;
@@ -12,3 +13,4 @@ mod parallel;
 pub mod programs;
 mod subjects;
 pub mod tally;
+pub mod trees;

@@ -1,0 +1,1 @@
+// Trees of two-input nodes: a theorem alone. Nothing here runs.
