@@ -1,12 +1,12 @@
 // When the output settles, for C.
 use crate::input_times::TimesC;
 use crate::input_times::input_times;
-use bench::refusals::number_of;
-use bench::refusals::place_of;
-use times::settle::settle;
+use refusals::verdicts::number_of;
+use refusals::verdicts::place_of;
+use settling::settle::settle;
 ghost use mathlib.Core.Path.{_≡_};
 ghost use Rattle.sheets.specs.Edition.{firstEdition};
-ghost use Rattle.times.specs.Settle.{settleOutcome};
+ghost use Rattle.settling.specs.Settle.{settleOutcome};
 ghost use Rattle.pelzurivan.specs.InputTimes.{inputTimes};
 ghost use Rattle.pelzurivan.specs.Settle.{settledC};
 

@@ -1,12 +1,12 @@
 // The slack, for C.
 use crate::input_times::TimesC;
 use crate::input_times::input_times;
-use bench::refusals::number_of;
-use bench::refusals::place_of;
-use times::slack::slack;
+use refusals::verdicts::number_of;
+use refusals::verdicts::place_of;
+use settling::slack::slack;
 ghost use mathlib.Core.Path.{_≡_};
 ghost use Rattle.sheets.specs.Edition.{firstEdition};
-ghost use Rattle.times.specs.Slack.{slackOutcome};
+ghost use Rattle.settling.specs.Slack.{slackOutcome};
 ghost use Rattle.pelzurivan.specs.InputTimes.{inputTimes};
 ghost use Rattle.pelzurivan.specs.Slack.{slackC};
 
