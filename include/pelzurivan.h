@@ -15,7 +15,8 @@
  *    3  table, read or to be rebuilt, has a wrong length
  *    4  n below 3 and a spare bit set
  *    5  own or shared names a position from n up; they overlap; own below 2; both together above k
- *    6  room for H shorter than its table, room for the sheet under 240 bytes, or a work area under 16,384 bytes
+ *    6  room for H shorter than its table, room for the sheet under 240 bytes, a work area under 16,384 bytes, or room
+ *       for a text under 1,024 bytes
  *    7  at most k inputs count, so nothing to split
  *    8  the split isn't possible; none is; a table in the chain has none
  *    9  sheet empty, not a multiple of 16, or over 240 bytes
@@ -27,8 +28,11 @@
  *   14  the delay or a time of the n inputs isn't a whole number of sixteenths, or the deadline is outside
  *       -1,048,576 to 1,048,576
  *   15  some record but the last is read by no later record; index (or place) is the first such
- * After a refusal every other value is 0 (but for what 8 of a named split, 10, 12 and 15 name), and no result byte is
- * touched.
+ *   16  text is no formula of n inputs; place is the first byte at which it can't be continued (a letter beyond n and
+ *       a 33rd level are such bytes), its length if it ends too soon or is over 1,024 bytes; or no formula is printed
+ *       for the sheet: place is 0
+ * After a refusal every other value is 0 (but for what 8 of a named split, 10, 12, 15 and 16 name), and no result byte
+ * is touched.
  */
 #ifndef PELZURIVAN_H
 #define PELZURIVAN_H
@@ -40,7 +44,7 @@
 extern "C" {
 #endif
 
-enum { PELZURIVAN_RECORD = 16, PELZURIVAN_SHEET = 240, PELZURIVAN_WORK = 16384 };
+enum { PELZURIVAN_RECORD = 16, PELZURIVAN_SHEET = 240, PELZURIVAN_WORK = 16384, PELZURIVAN_TEXT = 1024 };
 
 typedef struct { uint64_t number, d, b, columns; } pelzurivan_tried;
 typedef struct { uint64_t number, own, shared; } pelzurivan_sought;
@@ -48,6 +52,8 @@ typedef struct { uint64_t number, count; } pelzurivan_made;
 typedef struct { uint64_t number, bit, index; } pelzurivan_ran;
 typedef struct { uint64_t number, index; } pelzurivan_rebuilt;
 typedef struct { uint64_t number, place; } pelzurivan_checked;
+typedef struct { uint64_t number, place; } pelzurivan_formula_read;
+typedef struct { uint64_t number, place, length; } pelzurivan_formula_written;
 
 /* The inputs' times, in nanoseconds. kind 1 is one arrival (first), 2 an earliest (first) and a latest (second), any
  * other is not read. Only those of the n inputs are looked at, and of those only what their kind says. */
@@ -99,6 +105,18 @@ pelzurivan_slack_answer pelzurivan_slack(uint64_t n, const uint8_t *sheet, size_
 pelzurivan_shorter_answer pelzurivan_shorter(uint64_t n, const uint8_t *table, size_t table_length,
                                              const uint8_t *first, size_t first_length, const uint8_t *second,
                                              size_t second_length);
+
+/* Reads a formula of n inputs, letters a to p, into a table, written whole, spare bits zero. A sum is terms joined by |,
+ * a term parts by ^, a part factors by &; a factor is a letter, 0, 1, ! before a factor, or a sum in parentheses. 1, 3,
+ * 16. */
+pelzurivan_formula_read pelzurivan_read_formula(uint64_t n, const uint8_t *text, size_t text_length, uint8_t *table,
+                                                size_t table_length);
+
+/* Writes a sheet as a formula: length bytes of room, the bytes after them stay. Printed is every sheet whose records
+ * read one or two signals, whose two-signal tables depend on both, and whose records but the last are each read once;
+ * so is every sheet made with k = 2. place is the index of a bad record (10). 1, 6, 9, 10, 16. */
+pelzurivan_formula_written pelzurivan_write_formula(uint64_t n, const uint8_t *sheet, size_t sheet_length, uint8_t *room,
+                                                    size_t room_length);
 
 #ifdef __cplusplus
 }

@@ -8,10 +8,12 @@ pub mod calls;
 pub mod cell;
 pub mod chain;
 pub mod network;
+pub mod printing;
 pub mod refusals;
 pub mod sets;
 pub mod split;
 pub mod table;
+pub mod text;
 pub mod times;
 
 pub mod batch;

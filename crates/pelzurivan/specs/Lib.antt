@@ -9,3 +9,5 @@ pub mod Shorter
 pub mod InputTimes
 pub mod Settle
 pub mod Slack
+pub mod ReadFormula
+pub mod WriteFormula
