@@ -50,6 +50,31 @@ static void make_and_run(void) {
     expect(table[0] == 0x80 && table[1] == PRESET, "rebuild: the table");
 }
 
+/* The same gate for a desk: byte 7 of each record is the desk, and every reader takes the sheet. */
+static void a_sheet_for_a_desk(void) {
+    uint8_t sheet[PELZURIVAN_SHEET], work[PELZURIVAN_WORK], expected[sizeof EXAMPLE_2];
+    for (uint64_t desk = 0; desk <= 5; desk++) {
+        memset(sheet, PRESET, sizeof sheet);
+        pelzurivan_made made =
+            pelzurivan_make_for_desk(3, 2, desk, AND_OF_3, 1, sheet, sizeof sheet, work, sizeof work);
+        if (desk == 5) {
+            expect(made.number == 5 && made.count == 0 && all_are(PRESET, sheet, sizeof sheet), "make: 5 for desk 5");
+            break;
+        }
+        memcpy(expected, EXAMPLE_2, sizeof expected);
+        expected[7] = expected[PELZURIVAN_RECORD + 7] = (uint8_t)desk;
+        expect(made.number == 0 && made.count == 2, "make for a desk: done, two cells");
+        expect(memcmp(sheet, expected, sizeof expected) == 0, "make for a desk: byte 7 is the desk");
+        pelzurivan_ran ran = pelzurivan_run(3, sheet, sizeof expected, 7);
+        expect(ran.number == 0 && ran.bit == 1, "run: a sheet for a desk");
+        pelzurivan_checked checked = pelzurivan_check(3, AND_OF_3, 1, sheet, sizeof expected);
+        expect(checked.number == 0, "check: a sheet for a desk is accepted");
+        sheet[7] = (uint8_t)(desk + 1);
+        checked = pelzurivan_check(3, AND_OF_3, 1, sheet, sizeof expected);
+        expect(checked.number == 10 && checked.place == (desk < 4), "check: 10 at the first record of another desk");
+    }
+}
+
 static void find_and_try(void) {
     uint8_t work[PELZURIVAN_WORK], room[] = {PRESET, PRESET, PRESET};
     const uint8_t select[] = {0xCA};
@@ -161,6 +186,48 @@ static void the_shorter_sheet(void) {
     expect(a.which == 0 && a.length == 0 && a.number == 15, "shorter: neither, and the first's refusal");
 }
 
+/* The sheet of example 2, for a desk. */
+static void for_desk(uint8_t desk, uint8_t sheet[sizeof EXAMPLE_2]) {
+    memcpy(sheet, EXAMPLE_2, sizeof EXAMPLE_2);
+    sheet[7] = sheet[PELZURIVAN_RECORD + 7] = desk;
+}
+
+/* Desk 2 is loaded, cut before its last store, and finished; then desks 1 and 3 store by store in turns. */
+static void four_desks(void) {
+    enum { STORES = 257 };
+    uint8_t card[PELZURIVAN_CARD], other[PELZURIVAN_CARD], one[sizeof EXAMPLE_2], two[sizeof EXAMPLE_2];
+    memset(card, PRESET, sizeof card);
+    for_desk(2, two);
+    pelzurivan_loaded loaded = pelzurivan_load_cut(card, sizeof card, 2, 3, two, sizeof two, STORES - 1);
+    expect(loaded.number == 0 && pelzurivan_run_desk(card, sizeof card, 2, 7).number == 18, "a cut load: 18");
+    loaded = pelzurivan_load(card, sizeof card, 2, 3, two, sizeof two);
+    expect(loaded.number == 0 && loaded.index == 0, "load: done");
+    for (uint64_t x = 0; x < 8; x++) {
+        pelzurivan_ran ran = pelzurivan_run_desk(card, sizeof card, 2, x);
+        expect(ran.number == 0 && ran.bit == (x == 7) && ran.index == 0, "run a desk: the AND of three");
+    }
+    expect(all_are(PRESET, card, 256) && all_are(PRESET, card + 512, 512), "load: the other desks' bytes stay");
+
+    memcpy(other, card, sizeof card);
+    for_desk(1, one);
+    for_desk(3, two);
+    for (uint64_t i = 0; i <= STORES; i++) {
+        pelzurivan_load_store(card, sizeof card, 1, 3, one, sizeof one, i);
+        pelzurivan_load_store(card, sizeof card, 3, 3, two, sizeof two, i);
+    }
+    pelzurivan_load(other, sizeof other, 3, 3, two, sizeof two);
+    pelzurivan_load(other, sizeof other, 1, 3, one, sizeof one);
+    expect(memcmp(card, other, sizeof card) == 0, "two loads at once: the card of one after the other");
+
+    expect(pelzurivan_load(card, sizeof card, 1, 3, two, sizeof two).number == 19, "load: 19, another desk's sheet");
+    expect(pelzurivan_run_desk(card, sizeof card, 5, 0).number == 19, "run a desk: 19");
+    expect(pelzurivan_run_desk(card, sizeof card - 1, 5, 0).number == 20, "run a desk: 20 comes before 19");
+    two[PELZURIVAN_RECORD + 7] = 0;
+    loaded = pelzurivan_load(card, sizeof card, 3, 3, two, sizeof two);
+    expect(loaded.number == 10 && loaded.index == 1, "load: 10, record 1");
+    expect(memcmp(card, other, sizeof card) == 0, "load: a refusal leaves the card");
+}
+
 /* The sheet of example 2 prints (c&(a&b)), which reads as its table. */
 static void formulas_both_ways(void) {
     static const char text[] = "(c&(a&b))";
@@ -217,6 +284,7 @@ static void refusals(void) {
 
 int main(void) {
     make_and_run();
+    a_sheet_for_a_desk();
     find_and_try();
     unused_inputs();
     check_a_suppliers_sheet();
@@ -224,6 +292,7 @@ int main(void) {
     settle_and_slack();
     a_cell_that_nobody_reads();
     the_shorter_sheet();
+    four_desks();
     formulas_both_ways();
     masks_above_16_bits();
     refusals();

@@ -15,6 +15,10 @@ pub mod Slack
 pub mod ReadFormula
 pub mod WriteFormula
 pub mod Formulas
+pub mod Desks
+pub mod CardsLoad
+pub mod CardsRun
+pub mod Cards
 pub mod Fewest
 pub mod Trees
 pub mod BenchProgram

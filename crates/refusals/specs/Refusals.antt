@@ -1,6 +1,6 @@
 -- The table of refusals: each line under its number, with its words and what it names besides (nothing, where nothing
--- is said). The code has the numbers in src/verdicts.rt. Number 17 is given by nobody yet; 13 and 14 stand with the
--- times (settling, Refusals).
+-- is said). The code has the numbers in src/verdicts.rt. 13 and 14 stand with the times (settling, Refusals), 16
+-- with texts (formulas, Refusals; printing, Printable), 18 to 20 with the cards (cards, Refusals); 17 is free.
 use mathlib.Core.Bool.{Bool, true, false, not, _&&_, _||_}
 use mathlib.Core.List.{List, [], _∷_}
 use Prim.Native.Nat.{ℕ, _+_, _-_, _*_, _^_}
@@ -14,7 +14,7 @@ use Rattle.splits.specs.Columns.{fewColumns, firstBroken}
 use Rattle.splits.specs.Pair.{inputsH}
 use Rattle.best.specs.Search.{Answer, none, split}
 use Rattle.sheets.specs.declared.kinds.Edition.{Edition}
-use Rattle.sheets.specs.Edition.{mostRecords}
+use Rattle.sheets.specs.Edition.{mostRecords, mostDesk}
 use Rattle.sheets.specs.Sheet.{badLength, records, firstBad}
 use Rattle.sheets.specs.Reading.{firstUnread}
 use Rattle.runs.specs.Checking.{firstDifference}
@@ -43,6 +43,10 @@ abbrev pub badSets : ℕ → ℕ → ℕ → ℕ → Line
 badSets n K A B =
     line 5 (leb (2 ^ n) A || (leb (2 ^ n) B ||
     (not (disjoint n (bit A) (bit B)) || (ltb (size n (bit A)) 2 || ltb K (size n (bit A) + size n (bit B))))))
+
+-- 5: a desk above 4
+abbrev pub badDesk : ℕ → Line
+badDesk d = line 5 (ltb mostDesk d)
 
 -- 6: room for H shorter than its table
 abbrev pub shortRoom : ℕ → ℕ → ℕ → List ℕ → List ℕ → Line
