@@ -1,0 +1,3 @@
+-- Witnesses: a few bits of a table that rule out every split of one kind.
+pub mod Witness
+pub mod Points
