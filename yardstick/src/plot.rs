@@ -3,7 +3,7 @@
 
 use std::fmt::Write;
 
-const WIDTH: f64 = 760.0;
+const WIDTH: f64 = 780.0;
 const HEIGHT: f64 = 470.0;
 const LEFT: f64 = 80.0;
 const RIGHT: f64 = 560.0;
@@ -115,7 +115,7 @@ pub fn drawing(lines: &str) -> String {
         );
         let _ = writeln!(out, r#"<text x="{}" y="{y}">{kind}</text>"#, RIGHT + 36.0);
     }
-    for (at, words) in ["dashed: the plain search, in Rust", "full: ours"].iter().enumerate() {
+    for (at, words) in ["full: ours", "dashed: the plain search in Rust"].iter().enumerate() {
         let y = TOP + 130.0 + 20.0 * at as f64;
         let _ = writeln!(out, r#"<text x="{}" y="{y}">{words}</text>"#, RIGHT + 15.0);
     }
