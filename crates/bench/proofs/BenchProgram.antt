@@ -13,10 +13,10 @@ use Rattle.sheets.specs.Network.{Cell}
 use Rattle.sheets.specs.Writing.{sheetBytes}
 use Rattle.sheets.proofs.Wholes.{length-sheet}
 use Rattle.chains.specs.Area.{workLength}
-use Rattle.bench.specs.declared.refusals.Verdict.{Verdict}
-use Rattle.bench.specs.declared.refusals.Verdict.the-variants.{Fine, Refused}
+use Rattle.refusals.specs.declared.verdicts.Verdict.{Verdict}
+use Rattle.refusals.specs.declared.verdicts.Verdict.the-variants.{Fine, Refused}
+use Rattle.refusals.specs.Lines.{verdict, numberOf, reply}
 use Rattle.bench.specs.declared.make_sheet.MakeAnswer.{MakeAnswer}
-use Rattle.bench.specs.Lines.{verdict, numberOf, reply}
 use Rattle.bench.specs.MakeSheet.{MakeOutcome, sheetFor, cellsIn, makeLines, makeDone, makeNot, makeOutcome}
 use Rattle.bench.specs.BenchProgram.{mostWritten, asked, ProgramOutcome, shown, programOutcome}
 

@@ -1,7 +1,2 @@
--- The laws of the table of refusals, and its tests as the code asks them.
-pub mod Lines
-pub mod Lent
-pub mod Tests
-pub mod Sheets
-pub mod Sets
+-- The laws of the bench program.
 pub mod BenchProgram

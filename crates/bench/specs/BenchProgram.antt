@@ -5,7 +5,7 @@ use lib.ListN.{getD, take, drop, replicate}
 use Rattle.tables.specs.Table.{mostInputs, tableLength}
 use Rattle.sheets.specs.Edition.{recordSize, mostRecords, firstEdition}
 use Rattle.chains.specs.Area.{workLength}
-use Rattle.bench.specs.Lines.{numberOf}
+use Rattle.refusals.specs.Lines.{numberOf}
 use Rattle.bench.specs.MakeSheet.{MakeOutcome, makeOutcome}
 
 -- n, K, the longest table and one byte more are read; what follows changes nothing

@@ -9,12 +9,12 @@ use Rattle.sheets.specs.Network.{Cell}
 use Rattle.sheets.specs.Writing.{sheetBytes}
 use Rattle.chains.specs.Chain.{Made, stuck, made}
 use Rattle.chains.specs.Aside.{sheetAside}
-use Rattle.bench.specs.declared.refusals.Refusal.{Refusal}
-use Rattle.bench.specs.declared.refusals.Verdict.the-variants.{Fine, Refused}
+use Rattle.refusals.specs.declared.verdicts.Refusal.{Refusal}
+use Rattle.refusals.specs.declared.verdicts.Verdict.the-variants.{Fine, Refused}
+use Rattle.refusals.specs.Lines.{Line, verdict, reply}
+use Rattle.refusals.specs.Refusals.{gateLines, shortSheet, chainStuck}
+use Rattle.refusals.specs.Lent.{into, workAfter}
 use Rattle.bench.specs.declared.make_sheet.MakeAnswer.{MakeAnswer}
-use Rattle.bench.specs.Lines.{Line, verdict, reply}
-use Rattle.bench.specs.Refusals.{gateLines, shortSheet, chainStuck}
-use Rattle.bench.specs.Lent.{into, workAfter}
 
 -- the chain of a gate's table, as a number, with what does not count set aside
 abbrev pub sheetFor : ℕ → ℕ → List ℕ → Made

@@ -1,8 +1,8 @@
 // The bench program but for its reading and writing: n, K and the table come in as bytes, and the answer number and
 // the sheet go out.
 use crate::make_sheet::make_sheet;
-use crate::refusals::number_of;
 use chains::area::HALF;
+use refusals::verdicts::number_of;
 use sheets::kinds::Sheet;
 use tables::clear;
 ghost use mathlib.Core.Path.{_≡_};

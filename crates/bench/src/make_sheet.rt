@@ -1,10 +1,10 @@
 // Making a sheet of best splits.
-use crate::form;
-use crate::refusals::Refusal;
-use crate::refusals::Verdict;
-use crate::refusals::refuse;
 use chains::area::WORK;
 use chains::chaining::chain_of;
+use refusals::form;
+use refusals::verdicts::Refusal;
+use refusals::verdicts::Verdict;
+use refusals::verdicts::refuse;
 use sheets::kinds::Edition;
 use sheets::kinds::Sheet;
 use sheets::writing::put_all;
@@ -15,8 +15,8 @@ ghost use lib.ListN.{length};
 ghost use Rattle.tables.specs.Table.{mostInputs, tableLength};
 ghost use Rattle.sheets.specs.Edition.{IsEdition, largestCell, mostRecords, firstEdition};
 ghost use Rattle.chains.specs.Area.{workLength};
-ghost use Rattle.bench.specs.Lines.{verdict, reply};
-ghost use Rattle.bench.specs.Refusals.{chainStuck};
+ghost use Rattle.refusals.specs.Lines.{verdict, reply};
+ghost use Rattle.refusals.specs.Refusals.{chainStuck};
 ghost use Rattle.bench.specs.MakeSheet.{sheetFor, cellsIn, makeForm, makeDone, makeNot, makeOutcome};
 
 // How many cells, if nothing is wrong.

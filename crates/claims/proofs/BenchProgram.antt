@@ -14,16 +14,16 @@ use Rattle.sheets.specs.Edition.{recordSize, mostRecords, firstEdition}
 use Rattle.sheets.specs.Network.{Carries}
 use Rattle.sheets.proofs.Keeping.{first-edition}
 use Rattle.chains.specs.Area.{workLength}
-use Rattle.bench.specs.declared.refusals.Verdict.the-variants.{Fine}
-use Rattle.bench.specs.Lines.{InOrder, verdict, numberOf}
-use Rattle.bench.specs.Refusals.{badInputs, badCell, gateLines, shortSheet, chainStuck}
-use Rattle.bench.specs.RunSheet.{runOutcome}
-use Rattle.bench.specs.RebuildTable.{rebuildOutcome}
+use Rattle.refusals.specs.declared.verdicts.Verdict.the-variants.{Fine}
+use Rattle.refusals.specs.Lines.{InOrder, verdict, numberOf}
+use Rattle.refusals.specs.Refusals.{badInputs, badCell, gateLines, shortSheet, chainStuck}
+use Rattle.refusals.proofs.Lines.{here, later, decides, held}
+use Rattle.refusals.proofs.Lent.{both-long}
+use Rattle.refusals.proofs.Tests.{inside}
+use Rattle.running.specs.RunSheet.{runOutcome}
+use Rattle.running.specs.RebuildTable.{rebuildOutcome}
 use Rattle.bench.specs.MakeSheet.{sheetFor, makeLines}
 use Rattle.bench.specs.BenchProgram.{asked, programOutcome, written}
-use Rattle.bench.proofs.Lines.{here, later, decides, held}
-use Rattle.bench.proofs.Lent.{both-long}
-use Rattle.bench.proofs.Tests.{inside}
 use Rattle.claims.specs.Words.{AllBytes, recordsOf}
 use Rattle.claims.proofs.Made.{make-says}
 use Rattle.claims.proofs.MakeSheet.{made-runs, made-rebuilds, made-fewest}

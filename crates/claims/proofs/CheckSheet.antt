@@ -17,21 +17,21 @@ use Rattle.sheets.specs.Edition.{IsEdition}
 use Rattle.sheets.specs.Network.{Gives, Carries}
 use Rattle.sheets.specs.Sheet.{records, sheetBit, sheetCells, rebuilt, Good}
 use Rattle.sheets.specs.Reading.{EachRead, IsFirstUnread, without}
-use Rattle.runs.specs.Checking.{differs, firstDifference}
 use Rattle.sheets.proofs.Wholes.{rebuilt-bit}
 use Rattle.sheets.proofs.Unread.{not-read}
 use Rattle.sheets.proofs.Without.{sheet-without}
 use Rattle.sheets.proofs.Wiring.{cells-length, good-wired}
-use Rattle.bench.specs.declared.refusals.Verdict.{Verdict}
-use Rattle.bench.specs.declared.refusals.Verdict.the-variants.{Fine, Refused}
-use Rattle.bench.specs.declared.run_sheet.RunAnswer.{RunAnswer}
-use Rattle.bench.specs.Lines.{refusal, InOrder, verdict, numberOf, placeOf}
-use Rattle.bench.specs.Refusals.{badSheet, sheetLines, tableDiffers, unreadRecord}
-use Rattle.bench.specs.RebuildTable.{RebuildOutcome, rebuildOutcome}
+use Rattle.runs.specs.Checking.{differs, firstDifference}
+use Rattle.refusals.specs.declared.verdicts.Verdict.{Verdict}
+use Rattle.refusals.specs.declared.verdicts.Verdict.the-variants.{Fine, Refused}
+use Rattle.refusals.specs.Lines.{refusal, InOrder, verdict, numberOf, placeOf}
+use Rattle.refusals.specs.Refusals.{badSheet, sheetLines, tableDiffers, unreadRecord}
+use Rattle.refusals.proofs.Lines.{lapses, in-order, passes, held, names-nothing}
+use Rattle.refusals.proofs.Tests.{Sound, inside, right-table, spare-line}
+use Rattle.refusals.proofs.Sheets.{good-sheet, sheet-fine, counted, all-read, read-fine}
+use Rattle.running.specs.declared.run_sheet.RunAnswer.{RunAnswer}
+use Rattle.running.specs.RebuildTable.{RebuildOutcome, rebuildOutcome}
 use Rattle.bench.specs.MakeSheet.{makeOutcome}
-use Rattle.bench.proofs.Lines.{lapses, in-order, passes, held, names-nothing}
-use Rattle.bench.proofs.Tests.{Sound, inside, right-table, spare-line}
-use Rattle.bench.proofs.Sheets.{good-sheet, sheet-fine, counted, all-read, read-fine}
 use Rattle.inspection.specs.CheckSheet.{tableLines, againstLines, checkLines, checkOutcome, Accepted, FirstDifferent}
 use Rattle.claims.specs.Words.{ByLines, AllBytes, FirstBad, recordsOf}
 use Rattle.claims.specs.Before.{checkBefore}

@@ -8,6 +8,7 @@ use lib.ListN.{replicate}
 use Rattle.bits.specs.Numbers.{number}
 use Rattle.bits.specs.Below.{least}
 use Rattle.bits.specs.Sets.{size, disjoint, gather, spread}
+use Rattle.bits.specs.Lists.{listOf}
 use Rattle.tables.specs.Table.{spareClear, tableOf}
 use Rattle.tables.specs.Counting.{counts, support, kept, tableOver}
 use Rattle.splits.specs.Columns.{firsts, assign, column, columns, fewColumns, firstBroken}
@@ -15,17 +16,16 @@ use Rattle.splits.specs.Pair.{code, codeAt, tableD, bitH, tableH, bytesH}
 use Rattle.best.specs.Search.{first, tryB, tryA, best}
 use Rattle.best.specs.Counting.{bestCounting}
 use Rattle.sheets.specs.Network.{output, run}
-use Rattle.bits.specs.Lists.{listOf}
 use Rattle.sheets.specs.Record.{cellOf, spareOk, byteOk, keeps}
 use Rattle.sheets.specs.Sheet.{cellsFrom, sheetBit, rebuilt}
 use Rattle.sheets.specs.Writing.{recordByte, encode}
 use Rattle.chains.specs.Chain.{pick, turn}
 use Rattle.chains.specs.Aside.{keptSignals, keptTable, chainAside, sheetAside}
-use Rattle.bench.specs.TrySplit.{tryOutcome}
-use Rattle.bench.specs.FindBest.{findOutcome}
+use Rattle.splitting.specs.TrySplit.{tryOutcome}
+use Rattle.splitting.specs.FindBest.{findOutcome}
+use Rattle.running.specs.RunSheet.{runOutcome}
+use Rattle.running.specs.RebuildTable.{rebuildOutcome}
 use Rattle.bench.specs.MakeSheet.{makeOutcome}
-use Rattle.bench.specs.RunSheet.{runOutcome}
-use Rattle.bench.specs.RebuildTable.{rebuildOutcome}
 use Rattle.bench.specs.BenchProgram.{asked}
 use Rattle.claims.specs.Questions.{Question, trying, finding, making, running, rebuilding, reading, Example, answers, expected}
 

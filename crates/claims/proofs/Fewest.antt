@@ -14,17 +14,17 @@ use Rattle.tables.specs.Counting.{AllCount, support}
 use Rattle.sheets.specs.declared.kinds.Edition.{Edition}
 use Rattle.sheets.specs.Edition.{IsEdition}
 use Rattle.sheets.specs.Network.{Cell, Carries}
+use Rattle.sheets.specs.Reading.{reads}
 use Rattle.chains.specs.Chain.{made}
 use Rattle.chains.specs.Aside.{sheetAside}
-use Rattle.sheets.specs.Reading.{reads}
 use Rattle.chains.specs.Fewest.{Fewest, Filled}
 use Rattle.chains.specs.Joining.{Joining, joined, joinTable}
 use Rattle.chains.proofs.Reach.{reach}
 use Rattle.chains.proofs.Enough.{filled-fewest}
 use Rattle.chains.proofs.Fewest.{table-three, table-enough, pairs-fewest}
 use Rattle.chains.proofs.Joining.{joining-fewest}
-use Rattle.bench.specs.declared.refusals.Verdict.the-variants.{Fine}
-use Rattle.bench.specs.Lines.{InOrder}
+use Rattle.refusals.specs.declared.verdicts.Verdict.the-variants.{Fine}
+use Rattle.refusals.specs.Lines.{InOrder}
 use Rattle.bench.specs.MakeSheet.{sheetFor, makeForm, makeOutcome}
 use Rattle.claims.specs.Words.{networkOf}
 use Rattle.claims.proofs.Made.{IsMade, make-sound, is-made, not-stuck, made-network}

@@ -22,16 +22,16 @@ use Rattle.best.specs.Search.{Answer, none, split}
 use Rattle.best.specs.Counting.{BestCounting}
 use Rattle.best.proofs.Counting.{counting-split, counting-none, counting-plain}
 use Rattle.sheets.specs.declared.kinds.Edition.{Edition}
-use Rattle.bench.specs.declared.refusals.Refusal.{Refusal}
-use Rattle.bench.specs.declared.refusals.Verdict.{Verdict}
-use Rattle.bench.specs.declared.refusals.Verdict.the-variants.{Fine, Refused}
-use Rattle.bench.specs.declared.find_best.FindAnswer.{FindAnswer}
-use Rattle.bench.specs.Lines.{line, InOrder, verdict, numberOf, reply}
-use Rattle.bench.specs.Refusals.{nothingToSplit, noneBest, isNone}
-use Rattle.bench.specs.Lent.{workAfter}
-use Rattle.bench.specs.FindBest.{FindOutcome, bestFor, ownOf, sharedOf, findForm, findSays, findLines, findDone, findNot, findOutcome}
-use Rattle.bench.proofs.Lines.{in-order, passes, held}
-use Rattle.bench.proofs.Lent.{work-found}
+use Rattle.refusals.specs.declared.verdicts.Refusal.{Refusal}
+use Rattle.refusals.specs.declared.verdicts.Verdict.{Verdict}
+use Rattle.refusals.specs.declared.verdicts.Verdict.the-variants.{Fine, Refused}
+use Rattle.refusals.specs.Lines.{line, InOrder, verdict, numberOf, reply}
+use Rattle.refusals.specs.Refusals.{nothingToSplit, noneBest, isNone}
+use Rattle.refusals.specs.Lent.{workAfter}
+use Rattle.refusals.proofs.Lines.{in-order, passes, held}
+use Rattle.refusals.proofs.Lent.{work-found}
+use Rattle.splitting.specs.declared.find_best.FindAnswer.{FindAnswer}
+use Rattle.splitting.specs.FindBest.{FindOutcome, bestFor, ownOf, sharedOf, findForm, findSays, findLines, findDone, findNot, findOutcome}
 use Rattle.claims.specs.Words.{ByLines}
 use Rattle.claims.specs.Before.{findBefore}
 use Rattle.claims.proofs.Verdicts.{says-verdict, is-done, is-refused, by-lines, work-cleared}

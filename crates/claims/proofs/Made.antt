@@ -20,13 +20,13 @@ use Rattle.chains.specs.Chain.{Made, stuck, made}
 use Rattle.chains.proofs.Aside.{table-gives, table-fits, table-records}
 use Rattle.chains.proofs.Read.{table-read}
 use Rattle.chains.proofs.Written.{written-good}
-use Rattle.bench.specs.declared.refusals.Verdict.{Verdict}
-use Rattle.bench.specs.declared.refusals.Verdict.the-variants.{Fine}
-use Rattle.bench.specs.Lines.{InOrder, verdict, reply}
-use Rattle.bench.specs.Refusals.{chainStuck, isStuck}
+use Rattle.refusals.specs.declared.verdicts.Verdict.{Verdict}
+use Rattle.refusals.specs.declared.verdicts.Verdict.the-variants.{Fine}
+use Rattle.refusals.specs.Lines.{InOrder, verdict, reply}
+use Rattle.refusals.specs.Refusals.{chainStuck, isStuck}
+use Rattle.refusals.proofs.Lines.{in-order, passes}
+use Rattle.refusals.proofs.Tests.{Sound, sound}
 use Rattle.bench.specs.MakeSheet.{MakeOutcome, sheetFor, cellsIn, makeForm, makeLines, makeDone, makeNot, makeOutcome}
-use Rattle.bench.proofs.Lines.{in-order, passes}
-use Rattle.bench.proofs.Tests.{Sound, sound}
 use Rattle.claims.specs.Words.{recordsOf, networkOf}
 use Rattle.claims.proofs.Verdicts.{says-verdict, is-done}
 

@@ -26,20 +26,20 @@ use Rattle.chains.proofs.Aside.{sheet-stuck, sheet-plain}
 use Rattle.chains.proofs.Fewest.{table-fewest}
 use Rattle.chains.proofs.Picked.{first-reads, sheet-constant}
 use Rattle.chains.proofs.Written.{written-bit, written-table}
-use Rattle.bench.specs.declared.refusals.Refusal.{Refusal}
-use Rattle.bench.specs.declared.refusals.Verdict.{Verdict}
-use Rattle.bench.specs.declared.refusals.Verdict.the-variants.{Fine, Refused}
+use Rattle.refusals.specs.declared.verdicts.Refusal.{Refusal}
+use Rattle.refusals.specs.declared.verdicts.Verdict.{Verdict}
+use Rattle.refusals.specs.declared.verdicts.Verdict.the-variants.{Fine, Refused}
+use Rattle.refusals.specs.Lines.{InOrder, verdict, numberOf, reply}
+use Rattle.refusals.specs.Refusals.{chainStuck, isStuck}
+use Rattle.refusals.specs.Lent.{workAfter}
+use Rattle.refusals.proofs.Lines.{passed, passes, held}
+use Rattle.refusals.proofs.Lent.{work-found}
+use Rattle.refusals.proofs.Sheets.{counted}
+use Rattle.splitting.specs.FindBest.{findOutcome}
+use Rattle.running.specs.RunSheet.{runForm, runOutcome}
+use Rattle.running.specs.RebuildTable.{rebuildForm, rebuildOutcome}
 use Rattle.bench.specs.declared.make_sheet.MakeAnswer.{MakeAnswer}
-use Rattle.bench.specs.Lines.{InOrder, verdict, numberOf, reply}
-use Rattle.bench.specs.Refusals.{chainStuck, isStuck}
-use Rattle.bench.specs.Lent.{workAfter}
-use Rattle.bench.specs.FindBest.{findOutcome}
 use Rattle.bench.specs.MakeSheet.{MakeOutcome, sheetFor, cellsIn, makeForm, makeLines, makeDone, makeNot, makeOutcome}
-use Rattle.bench.specs.RunSheet.{runForm, runOutcome}
-use Rattle.bench.specs.RebuildTable.{rebuildForm, rebuildOutcome}
-use Rattle.bench.proofs.Lines.{passed, passes, held}
-use Rattle.bench.proofs.Lent.{work-found}
-use Rattle.bench.proofs.Sheets.{counted}
 use Rattle.claims.specs.Words.{ByLines, AllBytes, recordsOf, networkOf}
 use Rattle.claims.specs.Before.{makeBefore}
 use Rattle.claims.proofs.Verdicts.{is-refused, by-lines, work-cleared}

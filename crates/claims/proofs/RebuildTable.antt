@@ -13,16 +13,16 @@ use Rattle.sheets.specs.Edition.{IsEdition}
 use Rattle.sheets.specs.Sheet.{records, sheetBit, rebuilt, Good}
 use Rattle.sheets.specs.Reading.{EachRead, IsFirstUnread}
 use Rattle.sheets.proofs.Wholes.{rebuilt-bit}
-use Rattle.bench.specs.declared.refusals.Refusal.{Refusal}
-use Rattle.bench.specs.declared.refusals.Verdict.{Verdict}
-use Rattle.bench.specs.declared.refusals.Verdict.the-variants.{Fine, Refused}
-use Rattle.bench.specs.Lines.{refusal, InOrder, verdict, numberOf, placeOf, reply}
-use Rattle.bench.specs.Refusals.{badInputs, badTable, badSheet, unreadRecord}
-use Rattle.bench.specs.RunSheet.{runOutcome}
-use Rattle.bench.specs.RebuildTable.{RebuildOutcome, rebuildForm, rebuildLines, rebuildDone, rebuildNot, rebuildOutcome}
-use Rattle.bench.proofs.Lines.{lapses, in-order, names-nothing}
-use Rattle.bench.proofs.Tests.{inside, right-table}
-use Rattle.bench.proofs.Sheets.{good-sheet, all-read, read-fine}
+use Rattle.refusals.specs.declared.verdicts.Refusal.{Refusal}
+use Rattle.refusals.specs.declared.verdicts.Verdict.{Verdict}
+use Rattle.refusals.specs.declared.verdicts.Verdict.the-variants.{Fine, Refused}
+use Rattle.refusals.specs.Lines.{refusal, InOrder, verdict, numberOf, placeOf, reply}
+use Rattle.refusals.specs.Refusals.{badInputs, badTable, badSheet, unreadRecord}
+use Rattle.refusals.proofs.Lines.{lapses, in-order, names-nothing}
+use Rattle.refusals.proofs.Tests.{inside, right-table}
+use Rattle.refusals.proofs.Sheets.{good-sheet, all-read, read-fine}
+use Rattle.running.specs.RunSheet.{runOutcome}
+use Rattle.running.specs.RebuildTable.{RebuildOutcome, rebuildForm, rebuildLines, rebuildDone, rebuildNot, rebuildOutcome}
 use Rattle.claims.specs.Words.{ByLines, FirstBad}
 use Rattle.claims.specs.Before.{rebuildBefore}
 use Rattle.claims.proofs.Verdicts.{says-verdict, is-done, is-refused, by-lines}

@@ -13,15 +13,15 @@ use Rattle.sheets.specs.Sheet.{records, sheetBit, sheetCells}
 use Rattle.sheets.specs.Reading.{EachRead, IsFirstUnread, without}
 use Rattle.sheets.proofs.Unread.{not-read}
 use Rattle.sheets.proofs.Without.{sheet-without}
-use Rattle.bench.specs.declared.refusals.Refusal.{Refusal}
-use Rattle.bench.specs.declared.refusals.Verdict.{Verdict}
-use Rattle.bench.specs.declared.refusals.Verdict.the-variants.{Refused}
-use Rattle.bench.specs.declared.run_sheet.RunAnswer.{RunAnswer}
-use Rattle.bench.specs.Lines.{refusal, InOrder, verdict, numberOf, placeOf, reply}
-use Rattle.bench.specs.Refusals.{badInputs, badSheet, badAssignment, unreadRecord}
-use Rattle.bench.specs.RunSheet.{runForm, runLines, runDone, runNot, runOutcome}
-use Rattle.bench.proofs.Lines.{lapses, names-nothing}
-use Rattle.bench.proofs.Sheets.{good-sheet, read-fine}
+use Rattle.refusals.specs.declared.verdicts.Refusal.{Refusal}
+use Rattle.refusals.specs.declared.verdicts.Verdict.{Verdict}
+use Rattle.refusals.specs.declared.verdicts.Verdict.the-variants.{Refused}
+use Rattle.refusals.specs.Lines.{refusal, InOrder, verdict, numberOf, placeOf, reply}
+use Rattle.refusals.specs.Refusals.{badInputs, badSheet, badAssignment, unreadRecord}
+use Rattle.refusals.proofs.Lines.{lapses, names-nothing}
+use Rattle.refusals.proofs.Sheets.{good-sheet, read-fine}
+use Rattle.running.specs.declared.run_sheet.RunAnswer.{RunAnswer}
+use Rattle.running.specs.RunSheet.{runForm, runLines, runDone, runNot, runOutcome}
 use Rattle.claims.specs.Words.{ByLines, FirstBad}
 use Rattle.claims.specs.Before.{runBefore}
 use Rattle.claims.proofs.Verdicts.{says-verdict, is-refused, by-lines}

@@ -13,11 +13,11 @@ use Rattle.bits.proofs.Bools.{and-left, and-right, clash}
 use Rattle.sheets.specs.declared.kinds.Edition.{Edition}
 use Rattle.sheets.specs.Edition.{IsEdition}
 use Rattle.sheets.specs.Sheet.{recordAt, records, sheetCells}
-use Rattle.bench.specs.declared.refusals.Refusal.{Refusal}
-use Rattle.bench.specs.declared.refusals.Verdict.the-variants.{Fine, Refused}
-use Rattle.bench.specs.Lines.{InOrder, line, verdict, numberOf, placeOf, reply}
-use Rattle.bench.specs.Refusals.{badInputs, badSheet, sheetLines}
-use Rattle.bench.proofs.Lines.{in-order, passes, names-nothing}
+use Rattle.refusals.specs.declared.verdicts.Refusal.{Refusal}
+use Rattle.refusals.specs.declared.verdicts.Verdict.the-variants.{Fine, Refused}
+use Rattle.refusals.specs.Lines.{InOrder, line, verdict, numberOf, placeOf, reply}
+use Rattle.refusals.specs.Refusals.{badInputs, badSheet, sheetLines}
+use Rattle.refusals.proofs.Lines.{in-order, passes, names-nothing}
 use Rattle.times.specs.declared.input_time.InputTime.{InputTime}
 use Rattle.times.specs.declared.settle.SettleAnswer.{SettleAnswer}
 use Rattle.times.specs.InputTimes.{zeroTime, plainZero, inRange, soundTime, given, timeOf, timeAt, inputTimes}

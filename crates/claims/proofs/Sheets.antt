@@ -18,14 +18,14 @@ use Rattle.sheets.specs.Sheet.{records, recordAt, bad, firstBad, sheetBit, rebu
 use Rattle.sheets.specs.Reading.{EachRead, IsFirstUnread, firstUnread}
 use Rattle.sheets.proofs.Keeping.{rules, kept}
 use Rattle.sheets.proofs.Unread.{unread-first}
-use Rattle.bench.specs.declared.refusals.Verdict.{Verdict}
-use Rattle.bench.specs.declared.refusals.Verdict.the-variants.{Fine, Refused}
-use Rattle.bench.specs.Lines.{Line, refusal, InOrder, verdict, numberOf, placeOf, reply}
-use Rattle.bench.specs.Refusals.{badInputs, badRecord, unreadRecord}
-use Rattle.bench.specs.RunSheet.{runLines, runDone, runNot, runOutcome}
-use Rattle.bench.specs.RebuildTable.{rebuildLines, rebuildDone, rebuildNot, rebuildOutcome}
-use Rattle.bench.proofs.Lines.{others, passes, passed, held}
-use Rattle.bench.proofs.Sheets.{counted, sheet-fine, read-fine, unread-named, named-unread}
+use Rattle.refusals.specs.declared.verdicts.Verdict.{Verdict}
+use Rattle.refusals.specs.declared.verdicts.Verdict.the-variants.{Fine, Refused}
+use Rattle.refusals.specs.Lines.{Line, refusal, InOrder, verdict, numberOf, placeOf, reply}
+use Rattle.refusals.specs.Refusals.{badInputs, badRecord, unreadRecord}
+use Rattle.refusals.proofs.Lines.{others, passes, passed, held}
+use Rattle.refusals.proofs.Sheets.{counted, sheet-fine, read-fine, unread-named, named-unread}
+use Rattle.running.specs.RunSheet.{runLines, runDone, runNot, runOutcome}
+use Rattle.running.specs.RebuildTable.{rebuildLines, rebuildDone, rebuildNot, rebuildOutcome}
 use Rattle.claims.specs.Words.{FirstBad}
 
 module _ (e : Edition) (ok : IsEdition e) (d n : ℕ) (s : List ℕ) where

@@ -9,11 +9,11 @@ use lib.Dec.{leb}
 use borrow.Author.Tests.{leb-true, leb-false}
 use Rattle.sheets.specs.declared.kinds.Edition.{Edition}
 use Rattle.sheets.specs.Sheet.{records}
-use Rattle.bench.specs.declared.refusals.Refusal.{Refusal}
-use Rattle.bench.specs.declared.refusals.Verdict.{Verdict}
-use Rattle.bench.specs.declared.refusals.Verdict.the-variants.{Fine, Refused}
-use Rattle.bench.specs.Lines.{numberOf}
-use Rattle.bench.proofs.Lines.{not-fine, another}
+use Rattle.refusals.specs.declared.verdicts.Refusal.{Refusal}
+use Rattle.refusals.specs.declared.verdicts.Verdict.{Verdict}
+use Rattle.refusals.specs.declared.verdicts.Verdict.the-variants.{Fine, Refused}
+use Rattle.refusals.specs.Lines.{numberOf}
+use Rattle.refusals.proofs.Lines.{not-fine, another}
 use Rattle.inspection.specs.declared.shorter.Kept.{Kept}
 use Rattle.inspection.specs.CheckSheet.{checkLines, checkOutcome}
 use Rattle.inspection.specs.Shorter.{kept, keptOutcome, partOf, shorterOutcome, Shortest}

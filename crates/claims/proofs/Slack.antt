@@ -10,11 +10,11 @@ use borrow.Author.Tests.{ne-eqb}
 use Rattle.sheets.specs.declared.kinds.Edition.{Edition}
 use Rattle.sheets.specs.Edition.{IsEdition}
 use Rattle.sheets.specs.Sheet.{records, sheetCells}
-use Rattle.bench.specs.declared.refusals.Refusal.{Refusal}
-use Rattle.bench.specs.declared.refusals.Verdict.the-variants.{Fine, Refused}
-use Rattle.bench.specs.Lines.{InOrder, verdict, numberOf, placeOf}
-use Rattle.bench.specs.Refusals.{badInputs, badSheet}
-use Rattle.bench.proofs.Lines.{in-order, names-nothing}
+use Rattle.refusals.specs.declared.verdicts.Refusal.{Refusal}
+use Rattle.refusals.specs.declared.verdicts.Verdict.the-variants.{Fine, Refused}
+use Rattle.refusals.specs.Lines.{InOrder, verdict, numberOf, placeOf}
+use Rattle.refusals.specs.Refusals.{badInputs, badSheet}
+use Rattle.refusals.proofs.Lines.{in-order, names-nothing}
 use Rattle.times.specs.declared.input_time.InputTime.{InputTime}
 use Rattle.times.specs.declared.slack.SlackAnswer.{SlackAnswer}
 use Rattle.times.specs.InputTimes.{inputTimes}

@@ -17,8 +17,8 @@ use Rattle.trees.specs.Tree.{Tree, constant, input, flipped, value, uses, TreeO
 use Rattle.trees.proofs.Prune.{pruned}
 use Rattle.trees.proofs.Small.{constant-tree, input-tree}
 use Rattle.trees.proofs.Trees.{made-tree, tree-made, stuck-treeless}
-use Rattle.bench.specs.declared.refusals.Verdict.the-variants.{Fine}
-use Rattle.bench.specs.Lines.{InOrder, numberOf}
+use Rattle.refusals.specs.declared.verdicts.Verdict.the-variants.{Fine}
+use Rattle.refusals.specs.Lines.{InOrder, numberOf}
 use Rattle.bench.specs.MakeSheet.{sheetFor, makeForm, makeOutcome}
 use Rattle.claims.proofs.Made.{make-sound, is-made, not-stuck}
 use Rattle.claims.proofs.MakeSheet.{made-blocked, blocked-refused}

@@ -24,14 +24,14 @@ use Rattle.chains.specs.Chain.{made, pick, inputs, lastCell}
 use Rattle.chains.specs.Words.{Makes, ends}
 use Rattle.chains.proofs.Lists.{pick-length}
 use Rattle.chains.proofs.Aside.{sheet-made, table-most}
-use Rattle.bench.specs.declared.refusals.Refusal.{Refusal}
-use Rattle.bench.specs.declared.refusals.Verdict.the-variants.{Fine, Refused}
-use Rattle.bench.specs.Lines.{InOrder}
-use Rattle.bench.specs.Lent.{into}
+use Rattle.refusals.specs.declared.verdicts.Refusal.{Refusal}
+use Rattle.refusals.specs.declared.verdicts.Verdict.the-variants.{Fine, Refused}
+use Rattle.refusals.specs.Lines.{InOrder}
+use Rattle.refusals.specs.Lent.{into}
+use Rattle.refusals.proofs.Lines.{not-fine}
+use Rattle.refusals.proofs.Sheets.{counted}
+use Rattle.running.specs.RebuildTable.{rebuildOutcome}
 use Rattle.bench.specs.MakeSheet.{sheetFor, cellsIn, makeForm, makeOutcome}
-use Rattle.bench.specs.RebuildTable.{rebuildOutcome}
-use Rattle.bench.proofs.Lines.{not-fine}
-use Rattle.bench.proofs.Sheets.{counted}
 use Rattle.claims.specs.Words.{AllBytes, recordsOf, networkOf}
 use Rattle.claims.proofs.Made.{IsMade, make-sound, is-made, not-stuck, made-records, made-good, made-network}
 use Rattle.claims.proofs.MakeSheet.{made-rebuilds, made-gives}

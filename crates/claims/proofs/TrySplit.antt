@@ -22,15 +22,15 @@ use Rattle.splits.specs.Broken.{Several}
 use Rattle.splits.proofs.Possible.{possible-iff}
 use Rattle.splits.proofs.Breaking.{broken-before, broken-there, broken-within, columns-several}
 use Rattle.sheets.specs.declared.kinds.Edition.{Edition}
-use Rattle.bench.specs.declared.refusals.Refusal.{Refusal}
-use Rattle.bench.specs.declared.refusals.Verdict.{Verdict}
-use Rattle.bench.specs.declared.refusals.Verdict.the-variants.{Fine, Refused}
-use Rattle.bench.specs.declared.try_split.TryAnswer.{TryAnswer}
-use Rattle.bench.specs.Lines.{InOrder, naming, verdict, numberOf, placeOf, reply}
-use Rattle.bench.specs.Refusals.{notPossible}
-use Rattle.bench.specs.TrySplit.{TryOutcome, tryForm, tryLines, tryDone, tryNot, tryOutcome}
-use Rattle.bench.proofs.Lines.{in-order, passes, held, names-nothing}
-use Rattle.bench.proofs.Sets.{candidate}
+use Rattle.refusals.specs.declared.verdicts.Refusal.{Refusal}
+use Rattle.refusals.specs.declared.verdicts.Verdict.{Verdict}
+use Rattle.refusals.specs.declared.verdicts.Verdict.the-variants.{Fine, Refused}
+use Rattle.refusals.specs.Lines.{InOrder, naming, verdict, numberOf, placeOf, reply}
+use Rattle.refusals.specs.Refusals.{notPossible}
+use Rattle.refusals.proofs.Lines.{in-order, passes, held, names-nothing}
+use Rattle.splitting.specs.declared.try_split.TryAnswer.{TryAnswer}
+use Rattle.splitting.specs.TrySplit.{TryOutcome, tryForm, tryLines, tryDone, tryNot, tryOutcome}
+use Rattle.splitting.proofs.Sets.{candidate}
 use Rattle.claims.specs.Words.{ByLines, Breaks}
 use Rattle.claims.proofs.Verdicts.{says-verdict, is-done, is-refused, by-lines}
 use Rattle.claims.proofs.Tables.{spare-zero, pair-works}

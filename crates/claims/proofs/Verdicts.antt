@@ -6,12 +6,12 @@ use mathlib.Core.Bool.{true}
 use mathlib.Core.List.{List}
 use Prim.Native.Nat.{ℕ}
 use lib.ListN.{length, replicate}
-use Rattle.bench.specs.declared.refusals.Refusal.{Refusal}
-use Rattle.bench.specs.declared.refusals.Verdict.{Verdict}
-use Rattle.bench.specs.declared.refusals.Verdict.the-variants.{Fine, Refused}
-use Rattle.bench.specs.Lines.{Line, verdict, numberOf, reply, Given}
-use Rattle.bench.specs.Lent.{workAfter}
-use Rattle.bench.proofs.Lines.{others, given, done, another}
+use Rattle.refusals.specs.declared.verdicts.Refusal.{Refusal}
+use Rattle.refusals.specs.declared.verdicts.Verdict.{Verdict}
+use Rattle.refusals.specs.declared.verdicts.Verdict.the-variants.{Fine, Refused}
+use Rattle.refusals.specs.Lines.{Line, verdict, numberOf, reply, Given}
+use Rattle.refusals.specs.Lent.{workAfter}
+use Rattle.refusals.proofs.Lines.{others, given, done, another}
 use Rattle.claims.specs.Words.{ByLines}
 
 -- a call's verdict is that of its lines

@@ -8,14 +8,14 @@ use Rattle.tables.specs.Table.{tableBit}
 use Rattle.best.specs.Search.{best}
 use Rattle.sheets.specs.declared.kinds.Edition.{Edition}
 use Rattle.chains.specs.Chain.{sheetOf}
-use Rattle.bench.specs.Lines.{line, verdict, reply}
-use Rattle.bench.specs.Refusals.{noneBest, chainStuck}
-use Rattle.bench.specs.FindBest.{FindOutcome, findForm, findDone, findNot}
-use Rattle.bench.specs.declared.refusals.Verdict.{Verdict}
-use Rattle.bench.specs.declared.run_sheet.RunAnswer.{RunAnswer}
+use Rattle.refusals.specs.Lines.{line, verdict, reply}
+use Rattle.refusals.specs.Refusals.{noneBest, chainStuck}
+use Rattle.refusals.specs.declared.verdicts.Verdict.{Verdict}
+use Rattle.splitting.specs.FindBest.{FindOutcome, findForm, findDone, findNot}
+use Rattle.running.specs.declared.run_sheet.RunAnswer.{RunAnswer}
+use Rattle.running.specs.RunSheet.{runForm, runDone, runNot}
+use Rattle.running.specs.RebuildTable.{RebuildOutcome, rebuildForm, rebuildDone, rebuildNot}
 use Rattle.bench.specs.MakeSheet.{MakeOutcome, cellsIn, makeForm, makeDone, makeNot}
-use Rattle.bench.specs.RunSheet.{runForm, runDone, runNot}
-use Rattle.bench.specs.RebuildTable.{RebuildOutcome, rebuildForm, rebuildDone, rebuildNot}
 use Rattle.inspection.specs.CheckSheet.{tableLines, againstLines}
 
 -- 7 where n is at most K, and the best split of the whole table

@@ -6,13 +6,13 @@ use lib.ListN.{replicate}
 use Rattle.bits.specs.Numbers.{val}
 use Rattle.sheets.specs.Edition.{recordSize, mostRecords, firstEdition}
 use Rattle.chains.specs.Area.{workLength}
-use Rattle.bench.specs.declared.run_sheet.RunAnswer.{RunAnswer}
-use Rattle.bench.specs.Lines.{numberOf, placeOf}
-use Rattle.bench.specs.TrySplit.{TryOutcome, tryOutcome}
-use Rattle.bench.specs.FindBest.{FindOutcome, findOutcome}
+use Rattle.refusals.specs.Lines.{numberOf, placeOf}
+use Rattle.splitting.specs.TrySplit.{TryOutcome, tryOutcome}
+use Rattle.splitting.specs.FindBest.{FindOutcome, findOutcome}
+use Rattle.running.specs.declared.run_sheet.RunAnswer.{RunAnswer}
+use Rattle.running.specs.RunSheet.{runOutcome}
+use Rattle.running.specs.RebuildTable.{RebuildOutcome, rebuildOutcome}
 use Rattle.bench.specs.MakeSheet.{MakeOutcome, makeOutcome}
-use Rattle.bench.specs.RunSheet.{runOutcome}
-use Rattle.bench.specs.RebuildTable.{RebuildOutcome, rebuildOutcome}
 use Rattle.bench.specs.BenchProgram.{written}
 use Rattle.claims.specs.Words.{recordsOf}
 

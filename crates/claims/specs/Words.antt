@@ -11,9 +11,9 @@ use Rattle.sheets.specs.declared.kinds.Edition.{Edition}
 use Rattle.sheets.specs.Network.{Cell}
 use Rattle.sheets.specs.Record.{Keeps}
 use Rattle.sheets.specs.Sheet.{recordAt, records, sheetCells}
-use Rattle.bench.specs.declared.refusals.Verdict.{Verdict}
-use Rattle.bench.specs.declared.refusals.Verdict.the-variants.{Fine}
-use Rattle.bench.specs.Lines.{Line, InOrder, Given, numberOf}
+use Rattle.refusals.specs.declared.verdicts.Verdict.{Verdict}
+use Rattle.refusals.specs.declared.verdicts.Verdict.the-variants.{Fine}
+use Rattle.refusals.specs.Lines.{Line, InOrder, Given, numberOf}
 use Rattle.bench.specs.MakeSheet.{MakeOutcome}
 
 -- a verdict is the one that a call's lines ask for

@@ -13,11 +13,11 @@ use borrow.Author.Tests.{lt-ltb, le-ltb}
 use borrow.Rule.Slice.PartMut.{putMid, midOf}
 use Rattle.tables.specs.Table.{mostInputs, tableLength}
 use Rattle.sheets.specs.Edition.{firstEdition}
-use Rattle.bench.specs.declared.refusals.Verdict.{Verdict}
-use Rattle.bench.specs.declared.refusals.Verdict.the-variants.{Refused}
-use Rattle.bench.specs.Lines.{refusal, numberOf, placeOf}
-use Rattle.bench.proofs.Lines.{here, decides}
-use Rattle.bench.proofs.Tests.{over as outside}
+use Rattle.refusals.specs.declared.verdicts.Verdict.{Verdict}
+use Rattle.refusals.specs.declared.verdicts.Verdict.the-variants.{Refused}
+use Rattle.refusals.specs.Lines.{refusal, numberOf, placeOf}
+use Rattle.refusals.proofs.Lines.{here, decides}
+use Rattle.refusals.proofs.Tests.{over as outside}
 use Rattle.bench.proofs.BenchProgram.{rest}
 use Rattle.inspection.specs.CheckSheet.{checkLines, checkOutcome}
 use Rattle.inspection.specs.InspectProgram.{digits, decimal, inspected, shown, written, mostWritten, ProgramOutcome, programOutcome}

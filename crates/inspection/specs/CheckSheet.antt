@@ -6,9 +6,9 @@ use Rattle.tables.specs.Table.{tableBit}
 use Rattle.sheets.specs.declared.kinds.Edition.{Edition}
 use Rattle.sheets.specs.Sheet.{records, sheetBit, Good}
 use Rattle.sheets.specs.Reading.{EachRead}
-use Rattle.bench.specs.declared.refusals.Verdict.{Verdict}
-use Rattle.bench.specs.Lines.{Line, verdict}
-use Rattle.bench.specs.Refusals.{badInputs, badTable, badSpare, sheetLines, tableDiffers, unreadRecord}
+use Rattle.refusals.specs.declared.verdicts.Verdict.{Verdict}
+use Rattle.refusals.specs.Lines.{Line, verdict}
+use Rattle.refusals.specs.Refusals.{badInputs, badTable, badSpare, sheetLines, tableDiffers, unreadRecord}
 
 -- the gate's table: 1, 3 and 4
 abbrev pub tableLines : ℕ → List ℕ → List Line

@@ -6,8 +6,8 @@ use lib.Dec.{ltb}
 use lib.ListN.{length, getD, take, drop, replicate}
 use Rattle.tables.specs.Table.{mostInputs, tableLength}
 use Rattle.sheets.specs.Edition.{recordSize, mostRecords, firstEdition}
-use Rattle.bench.specs.declared.refusals.Verdict.{Verdict}
-use Rattle.bench.specs.Lines.{numberOf, placeOf}
+use Rattle.refusals.specs.declared.verdicts.Verdict.{Verdict}
+use Rattle.refusals.specs.Lines.{numberOf, placeOf}
 use Rattle.inspection.specs.CheckSheet.{checkOutcome}
 
 -- n, the longest table, the longest sheet and one byte more are read; what follows changes nothing

@@ -1,14 +1,14 @@
 // Checking a sheet, whoever made it, against a gate's table.
-use bench::form;
-use bench::refusals::Refusal;
-use bench::refusals::Verdict;
-use bench::refusals::refuse;
-use bench::refusals::refuse_at;
+use refusals::form;
+use refusals::verdicts::Refusal;
+use refusals::verdicts::Verdict;
+use refusals::verdicts::refuse;
+use refusals::verdicts::refuse_at;
 use runs::checking::first_difference;
 use sheets::kinds::Edition;
 ghost use mathlib.Core.Path.{_≡_};
 ghost use Rattle.sheets.specs.Edition.{IsEdition, firstEdition};
-ghost use Rattle.bench.specs.Lines.{verdict};
+ghost use Rattle.refusals.specs.Lines.{verdict};
 ghost use Rattle.inspection.specs.CheckSheet.{tableLines, checkOutcome};
 
 // Lines 1, 3 and 4.

@@ -3,9 +3,9 @@
 use crate::check_sheet::check_sheet;
 use bench::bench_program::byte_or_zero;
 use bench::bench_program::cut_at;
-use bench::refusals::Verdict;
-use bench::refusals::number_of;
-use bench::refusals::place_of;
+use refusals::verdicts::Verdict;
+use refusals::verdicts::number_of;
+use refusals::verdicts::place_of;
 use sheets::kinds::Sheet;
 use tables::clear;
 ghost use mathlib.Core.Path.{_≡_};

@@ -1,4 +1,4 @@
-// Looking over sheets that anyone made. A call has one file, as on the bench.
+// Looking over sheets that anyone made. A call has one file.
 // The inspecting program but for its reading and writing is `inspect_program`: it asks for the length of its room.
 pub mod check_sheet;
 pub mod inspect_program;

@@ -1,6 +1,6 @@
 // Keeping the shorter of two sheets for one table: a part of what the caller lent, where it lies.
 use crate::check_sheet::check_in;
-use bench::refusals::Verdict;
+use refusals::verdicts::Verdict;
 use sheets::kinds::Edition;
 ghost use mathlib.Core.Path.{_≡_};
 ghost use Rattle.sheets.specs.Edition.{IsEdition, firstEdition};

@@ -1,6 +1,6 @@
 -- A sheet checked, for C.
-use Rattle.bench.specs.declared.refusals.Verdict.{Verdict}
-use Rattle.bench.specs.Lines.{numberOf, placeOf}
+use Rattle.refusals.specs.declared.verdicts.Verdict.{Verdict}
+use Rattle.refusals.specs.Lines.{numberOf, placeOf}
 use Rattle.pelzurivan.specs.declared.check_sheet.CheckedC.{CheckedC}
 
 -- the number, and what it names

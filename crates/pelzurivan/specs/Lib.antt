@@ -1,4 +1,4 @@
--- What C gets of each call's outcome: the paper's number, then the values. One file for each call, as in the bench.
+-- What C gets of each call's outcome: the paper's number, then the values. One file for each call.
 pub mod TrySplit
 pub mod FindBest
 pub mod MakeSheet

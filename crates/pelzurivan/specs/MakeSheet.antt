@@ -1,5 +1,5 @@
 -- A sheet made, for C.
-use Rattle.bench.specs.Lines.{numberOf}
+use Rattle.refusals.specs.Lines.{numberOf}
 use Rattle.bench.specs.MakeSheet.{MakeOutcome}
 use Rattle.pelzurivan.specs.declared.make_sheet.MadeC.{MadeC}
 

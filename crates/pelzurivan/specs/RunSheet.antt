@@ -1,7 +1,7 @@
 -- A sheet run, for C.
 use Rattle.bits.specs.Numbers.{val}
-use Rattle.bench.specs.declared.run_sheet.RunAnswer.{RunAnswer}
-use Rattle.bench.specs.Lines.{numberOf, placeOf}
+use Rattle.refusals.specs.Lines.{numberOf, placeOf}
+use Rattle.running.specs.declared.run_sheet.RunAnswer.{RunAnswer}
 use Rattle.pelzurivan.specs.declared.run_sheet.RanC.{RanC}
 
 -- the number, the bit, and the first bad or unread record

@@ -1,5 +1,5 @@
 -- When the output settles, for C.
-use Rattle.bench.specs.Lines.{numberOf, placeOf}
+use Rattle.refusals.specs.Lines.{numberOf, placeOf}
 use Rattle.times.specs.declared.settle.SettleAnswer.{SettleAnswer}
 use Rattle.pelzurivan.specs.declared.settle.SettledC.{SettledC}
 

@@ -2,7 +2,7 @@
 use mathlib.Core.List.{List}
 use Prim.Native.Nat.{ℕ}
 use lib.ListN.{length}
-use Rattle.bench.specs.Lines.{numberOf}
+use Rattle.refusals.specs.Lines.{numberOf}
 use Rattle.inspection.specs.declared.shorter.Kept.{Kept}
 use Rattle.inspection.specs.Shorter.{partOf}
 use Rattle.pelzurivan.specs.declared.shorter.ShorterC.{ShorterC}

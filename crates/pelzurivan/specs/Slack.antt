@@ -1,5 +1,5 @@
 -- The slack, for C.
-use Rattle.bench.specs.Lines.{numberOf, placeOf}
+use Rattle.refusals.specs.Lines.{numberOf, placeOf}
 use Rattle.times.specs.declared.slack.SlackAnswer.{SlackAnswer}
 use Rattle.pelzurivan.specs.declared.slack.SlackC.{SlackC}
 

@@ -1,6 +1,6 @@
 -- A named split tried, for C.
-use Rattle.bench.specs.Lines.{numberOf, placeOf}
-use Rattle.bench.specs.TrySplit.{TryOutcome}
+use Rattle.refusals.specs.Lines.{numberOf, placeOf}
+use Rattle.splitting.specs.TrySplit.{TryOutcome}
 use Rattle.pelzurivan.specs.declared.try_split.TriedC.{TriedC}
 
 -- the number, D, and what 8 tells

@@ -1,7 +1,7 @@
 // Checking a sheet against a table, for C.
-use bench::refusals::number_of;
-use bench::refusals::place_of;
 use inspection::check_sheet::check_sheet;
+use refusals::verdicts::number_of;
+use refusals::verdicts::place_of;
 ghost use mathlib.Core.Path.{_≡_};
 ghost use Rattle.sheets.specs.Edition.{firstEdition};
 ghost use Rattle.inspection.specs.CheckSheet.{checkOutcome};

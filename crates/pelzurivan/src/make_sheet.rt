@@ -1,6 +1,6 @@
 // Making a sheet, for C.
 use bench::make_sheet::make_sheet;
-use bench::refusals::number_of;
+use refusals::verdicts::number_of;
 ghost use mathlib.Core.Path.{_≡_};
 ghost use Rattle.sheets.specs.Edition.{firstEdition};
 ghost use Rattle.bench.specs.MakeSheet.{makeOutcome};

@@ -1,10 +1,10 @@
 // Running a sheet, for C.
-use bench::refusals::number_of;
-use bench::refusals::place_of;
-use bench::run_sheet::run_sheet;
+use refusals::verdicts::number_of;
+use refusals::verdicts::place_of;
+use running::run_sheet::run_sheet;
 ghost use mathlib.Core.Path.{_≡_};
 ghost use Rattle.sheets.specs.Edition.{firstEdition};
-ghost use Rattle.bench.specs.RunSheet.{runOutcome};
+ghost use Rattle.running.specs.RunSheet.{runOutcome};
 ghost use Rattle.pelzurivan.specs.RunSheet.{ranC};
 
 // The number, the bit, the index of a bad record (10) or of an unread one (15).

@@ -1,7 +1,7 @@
 // The shorter of two sheets, for C.
-use bench::refusals::number_of;
 use inspection::shorter::keep_shorter;
 use inspection::shorter::part_of;
+use refusals::verdicts::number_of;
 ghost use mathlib.Core.Path.{_≡_};
 ghost use Rattle.sheets.specs.Edition.{firstEdition};
 ghost use Rattle.inspection.specs.Shorter.{keptOutcome};

@@ -1,8 +1,8 @@
 // The slack, for C.
 use crate::input_times::TimesC;
 use crate::input_times::input_times;
-use bench::refusals::number_of;
-use bench::refusals::place_of;
+use refusals::verdicts::number_of;
+use refusals::verdicts::place_of;
 use times::slack::slack;
 ghost use mathlib.Core.Path.{_≡_};
 ghost use Rattle.sheets.specs.Edition.{firstEdition};

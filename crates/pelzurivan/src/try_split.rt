@@ -1,10 +1,10 @@
 // Trying a named split, for C.
-use bench::refusals::number_of;
-use bench::refusals::place_of;
-use bench::try_split::try_split;
+use refusals::verdicts::number_of;
+use refusals::verdicts::place_of;
+use splitting::try_split::try_split;
 ghost use mathlib.Core.Path.{_≡_};
 ghost use Rattle.sheets.specs.Edition.{firstEdition};
-ghost use Rattle.bench.specs.TrySplit.{tryOutcome};
+ghost use Rattle.splitting.specs.TrySplit.{tryOutcome};
 ghost use Rattle.pelzurivan.specs.TrySplit.{triedC};
 
 // The number, D, and after 8 where the split breaks and how many different columns there are.

@@ -17,9 +17,9 @@ use Rattle.sheets.specs.Edition.{IsEdition}
 use Rattle.sheets.specs.Sheet.{records, Good}
 use Rattle.sheets.proofs.Looks.{record-keeps}
 use Rattle.sheets.proofs.Places.{record-within, record-length}
-use Rattle.bench.specs.Lines.{InOrder}
-use Rattle.bench.proofs.Sheets.{good-sheet}
-use Rattle.bench.proofs.Tests.{inside}
+use Rattle.refusals.specs.Lines.{InOrder}
+use Rattle.refusals.proofs.Sheets.{good-sheet}
+use Rattle.refusals.proofs.Tests.{inside}
 use Rattle.times.specs.declared.input_time.InputTime.{InputTime}
 use Rattle.times.specs.InputTimes.{inRange, soundTime, timeAt}
 use Rattle.times.specs.Reading.{Timed}

@@ -16,7 +16,7 @@ use Rattle.bits.proofs.Bools.{and-left, and-right}
 use Rattle.sheets.specs.declared.kinds.Edition.{Edition}
 use Rattle.sheets.specs.Sheet.{records, sheetCells}
 use Rattle.sheets.proofs.Wiring.{cells-length}
-use Rattle.bench.specs.Lines.{InOrder}
+use Rattle.refusals.specs.Lines.{InOrder}
 use Rattle.times.specs.declared.input_time.InputTime.{InputTime}
 use Rattle.times.specs.declared.input_time.InputTime.the-variants.{NotRead, Arrival, Between}
 use Rattle.times.specs.InputTimes.{zeroTime, plainZero, inRange, soundTime, timeOf, timeAt, inputTimes}

@@ -1,4 +1,4 @@
--- The lines on times of the table of refusals. The code has their numbers with the others (bench, src/refusals.rt).
+-- The lines on times of the table of refusals. The code has their numbers with the others (refusals, src/verdicts.rt).
 use mathlib.Core.Bool.{Bool, not, _&&_, _||_}
 use mathlib.Core.List.{List}
 use Prim.Native.Nat.{ℕ, _+_}
@@ -8,7 +8,7 @@ use lib.Ieee.{Float}
 use Rattle.bits.specs.Below.{every}
 use Rattle.sheets.specs.declared.kinds.Edition.{Edition}
 use Rattle.sheets.specs.Sheet.{recordAt, records}
-use Rattle.bench.specs.Lines.{Line, line}
+use Rattle.refusals.specs.Lines.{Line, line}
 use Rattle.times.specs.declared.input_time.InputTime.{InputTime}
 use Rattle.times.specs.InputTimes.{inRange, soundTime, given, timeAt}
 use Rattle.times.specs.Sixteenths.{inSixteenths, timeInSixteenths, deadlineOk}

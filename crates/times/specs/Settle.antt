@@ -4,10 +4,10 @@ use mathlib.Core.List.{List, [], _∷_, _++_}
 use Prim.Native.Nat.{ℕ}
 use lib.Ieee.{Float}
 use Rattle.sheets.specs.declared.kinds.Edition.{Edition}
-use Rattle.bench.specs.declared.refusals.Refusal.{Refusal}
-use Rattle.bench.specs.declared.refusals.Verdict.the-variants.{Fine, Refused}
-use Rattle.bench.specs.Lines.{Line, verdict, reply}
-use Rattle.bench.specs.Refusals.{badInputs, sheetLines}
+use Rattle.refusals.specs.declared.verdicts.Refusal.{Refusal}
+use Rattle.refusals.specs.declared.verdicts.Verdict.the-variants.{Fine, Refused}
+use Rattle.refusals.specs.Lines.{Line, verdict, reply}
+use Rattle.refusals.specs.Refusals.{badInputs, sheetLines}
 use Rattle.times.specs.declared.input_time.InputTime.{InputTime}
 use Rattle.times.specs.declared.settle.SettleAnswer.{SettleAnswer}
 use Rattle.times.specs.InputTimes.{zeroTime}

@@ -10,9 +10,9 @@ use borrow.Author.Tests.{lt-ltb}
 use Rattle.bits.proofs.Bools.{or-left, or-right}
 use Rattle.sheets.specs.Edition.{mostRecords}
 use Rattle.chains.specs.Area.{workLength}
-use Rattle.bench.specs.Refusals.{gateLines, shortSheet}
-use Rattle.bench.proofs.Lines.{fine, here, later, stopped, decided}
-use Rattle.bench.proofs.Lent.{both-long}
+use Rattle.refusals.specs.Refusals.{gateLines, shortSheet}
+use Rattle.refusals.proofs.Lines.{fine, here, later, stopped, decided}
+use Rattle.refusals.proofs.Lent.{both-long}
 use Rattle.bench.proofs.make_sheet.make_form.Statement.{statement}
 use Rattle.bench.proofs.make_sheet.make_form.Tie as tie
 

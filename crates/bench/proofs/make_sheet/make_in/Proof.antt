@@ -4,13 +4,13 @@ use mathlib.Core.List.{List, [], _∷_}
 use Prim.Native.Nat.{ℕ}
 use native.Mathlib.Omega.{arith}
 use borrow.Author.Needs.{needs}
-use Rattle.bench.specs.declared.refusals.Verdict.{Verdict}
-use Rattle.bench.specs.declared.refusals.Verdict.the-variants.{Refused}
-use Rattle.bench.specs.Refusals.{shortSheet, chainStuck}
+use Rattle.refusals.specs.declared.verdicts.Verdict.{Verdict}
+use Rattle.refusals.specs.declared.verdicts.Verdict.the-variants.{Refused}
+use Rattle.refusals.specs.Refusals.{shortSheet, chainStuck}
+use Rattle.refusals.proofs.Lines.{in-order, refused-by, left-to}
+use Rattle.refusals.proofs.Lent.{form-leaves, long-both}
+use Rattle.refusals.proofs.Tests.{sound-before}
 use Rattle.bench.specs.MakeSheet.{sheetFor, cellsIn, makeForm, makeDone, makeNot, makeOutcome}
-use Rattle.bench.proofs.Lines.{in-order, refused-by, left-to}
-use Rattle.bench.proofs.Lent.{form-leaves, long-both}
-use Rattle.bench.proofs.Tests.{sound-before}
 use Rattle.bench.proofs.make_sheet.make_in.Statement.{statement}
 use Rattle.bench.proofs.make_sheet.make_in.Tie as tie
 

@@ -17,10 +17,10 @@ use Rattle.sheets.specs.Held.{cellsOf}
 use Rattle.sheets.proofs.Wholes.{length-sheet}
 use Rattle.chains.specs.Chain.{Made, stuck, made}
 use Rattle.chains.proofs.Aside.{table-few}
-use Rattle.bench.specs.declared.refusals.Verdict.{Verdict}
-use Rattle.bench.specs.declared.refusals.Verdict.the-variants.{Fine}
-use Rattle.bench.specs.Lines.{verdict, reply}
-use Rattle.bench.specs.Refusals.{chainStuck}
+use Rattle.refusals.specs.declared.verdicts.Verdict.{Verdict}
+use Rattle.refusals.specs.declared.verdicts.Verdict.the-variants.{Fine}
+use Rattle.refusals.specs.Lines.{verdict, reply}
+use Rattle.refusals.specs.Refusals.{chainStuck}
 use Rattle.bench.specs.MakeSheet.{MakeOutcome, cellsIn, makeDone, makeNot}
 use Rattle.bench.proofs.make_sheet.write_chain.Statement.{statement}
 use Rattle.bench.proofs.make_sheet.write_chain.Tie as tie

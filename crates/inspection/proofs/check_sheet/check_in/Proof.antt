@@ -12,13 +12,13 @@ use Rattle.tables.specs.Table.{mostInputs, tableLength, spareClear}
 use Rattle.sheets.specs.declared.kinds.Edition.{Edition}
 use Rattle.sheets.specs.Sheet.{records}
 use Rattle.runs.specs.Checking.{firstDifference}
-use Rattle.bench.specs.declared.refusals.Verdict.{Verdict}
-use Rattle.bench.specs.declared.refusals.Verdict.the-variants.{Fine, Refused}
-use Rattle.bench.specs.Lines.{refusal, verdict}
-use Rattle.bench.specs.Refusals.{sheetLines, tableDiffers, unreadRecord}
-use Rattle.bench.proofs.Lines.{here, in-order, passes, stopped, decided}
-use Rattle.bench.proofs.Tests.{inside, right-table, spare-line}
-use Rattle.bench.proofs.Sheets.{good-sheet, runnable}
+use Rattle.refusals.specs.declared.verdicts.Verdict.{Verdict}
+use Rattle.refusals.specs.declared.verdicts.Verdict.the-variants.{Fine, Refused}
+use Rattle.refusals.specs.Lines.{refusal, verdict}
+use Rattle.refusals.specs.Refusals.{sheetLines, tableDiffers, unreadRecord}
+use Rattle.refusals.proofs.Lines.{here, in-order, passes, stopped, decided}
+use Rattle.refusals.proofs.Tests.{inside, right-table, spare-line}
+use Rattle.refusals.proofs.Sheets.{good-sheet, runnable}
 use Rattle.inspection.specs.CheckSheet.{tableLines, checkOutcome}
 use Rattle.inspection.proofs.check_sheet.check_in.Statement.{statement}
 use Rattle.inspection.proofs.check_sheet.check_in.Tie as tie

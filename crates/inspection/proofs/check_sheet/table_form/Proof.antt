@@ -4,8 +4,8 @@ use mathlib.Core.Bool.{not}
 use native.Mathlib.Omega.{arith}
 use borrow.Author.Needs.{needs}
 use Rattle.tables.specs.Table.{mostInputs}
-use Rattle.bench.proofs.Lines.{fine, here, later, decides}
-use Rattle.bench.proofs.Tests.{inside, right-table, spare-line}
+use Rattle.refusals.proofs.Lines.{fine, here, later, decides}
+use Rattle.refusals.proofs.Tests.{inside, right-table, spare-line}
 use Rattle.inspection.specs.CheckSheet.{tableLines}
 use Rattle.inspection.proofs.check_sheet.table_form.Statement.{statement}
 use Rattle.inspection.proofs.check_sheet.table_form.Tie as tie

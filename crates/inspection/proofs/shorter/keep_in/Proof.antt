@@ -2,7 +2,7 @@
 use mathlib.Core.Path.{ap₂, _∙_}
 use borrow.Author.Needs.{needs}
 use Rattle.sheets.specs.Sheet.{records}
-use Rattle.bench.specs.declared.refusals.Verdict.{Verdict}
+use Rattle.refusals.specs.declared.verdicts.Verdict.{Verdict}
 use Rattle.inspection.specs.Shorter.{kept, keptOutcome}
 use Rattle.inspection.proofs.shorter.keep_in.Statement.{statement}
 use Rattle.inspection.proofs.shorter.keep_in.Tie as tie

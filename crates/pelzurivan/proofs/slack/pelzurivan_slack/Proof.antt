@@ -5,7 +5,7 @@ use lib.IntN.{ℤ}
 use mir.Facts.{toZ-ofZ}
 use borrow.Author.Needs.{needs}
 use Rattle.sheets.specs.Edition.{firstEdition}
-use Rattle.bench.specs.Lines.{numberOf, placeOf}
+use Rattle.refusals.specs.Lines.{numberOf, placeOf}
 use Rattle.times.specs.declared.slack.SlackAnswer.{SlackAnswer}
 use Rattle.times.specs.Slack.{slackOutcome}
 use Rattle.pelzurivan.specs.Slack.{slackC}

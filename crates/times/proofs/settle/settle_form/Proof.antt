@@ -10,13 +10,13 @@ use borrow.Author.Tests.{not-true, not-false}
 use Rattle.tables.specs.Table.{mostInputs}
 use Rattle.sheets.specs.declared.kinds.Edition.{Edition}
 use Rattle.sheets.specs.Sheet.{records}
-use Rattle.bench.specs.declared.refusals.Verdict.{Verdict}
-use Rattle.bench.specs.declared.refusals.Verdict.the-variants.{Fine}
-use Rattle.bench.specs.Lines.{verdict}
-use Rattle.bench.specs.Refusals.{badInputs, sheetLines}
-use Rattle.bench.proofs.Lines.{First, fine, here, later, decides, in-order, passes, stops}
-use Rattle.bench.proofs.Sheets.{good-sheet}
-use Rattle.bench.proofs.Tests.{inside}
+use Rattle.refusals.specs.declared.verdicts.Verdict.{Verdict}
+use Rattle.refusals.specs.declared.verdicts.Verdict.the-variants.{Fine}
+use Rattle.refusals.specs.Lines.{verdict}
+use Rattle.refusals.specs.Refusals.{badInputs, sheetLines}
+use Rattle.refusals.proofs.Lines.{First, fine, here, later, decides, in-order, passes, stops}
+use Rattle.refusals.proofs.Sheets.{good-sheet}
+use Rattle.refusals.proofs.Tests.{inside}
 use Rattle.times.specs.declared.input_time.InputTime.{InputTime}
 use Rattle.times.specs.Refusals.{badTimes}
 use Rattle.times.specs.Settle.{settleLines}

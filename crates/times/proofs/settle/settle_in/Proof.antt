@@ -4,10 +4,10 @@ use native.Mathlib.Omega.{arith}
 use lib.Ieee.{Float, ofBits}
 use borrow.Author.Needs.{needs}
 use Rattle.sheets.specs.Sheet.{records}
-use Rattle.bench.specs.declared.refusals.Verdict.{Verdict}
-use Rattle.bench.specs.declared.refusals.Verdict.the-variants.{Fine}
-use Rattle.bench.specs.Lines.{verdict, reply}
-use Rattle.bench.proofs.Lines.{in-order}
+use Rattle.refusals.specs.declared.verdicts.Verdict.{Verdict}
+use Rattle.refusals.specs.declared.verdicts.Verdict.the-variants.{Fine}
+use Rattle.refusals.specs.Lines.{verdict, reply}
+use Rattle.refusals.proofs.Lines.{in-order}
 use Rattle.times.specs.InputTimes.{zeroTime}
 use Rattle.times.specs.Settle.{settleLines, settleDone, settleNot, settleOutcome}
 use Rattle.times.proofs.Kept.{Leaves, leaves, good-timed}

@@ -14,11 +14,11 @@ use borrow.Author.Needs.{needs}
 use Rattle.sheets.specs.declared.kinds.Edition.{Edition}
 use Rattle.sheets.specs.Edition.{IsEdition}
 use Rattle.sheets.specs.Sheet.{records}
-use Rattle.bench.specs.declared.refusals.Refusal.{Refusal}
-use Rattle.bench.specs.declared.refusals.Verdict.{Verdict}
-use Rattle.bench.specs.declared.refusals.Verdict.the-variants.{Fine, Refused}
-use Rattle.bench.specs.Lines.{verdict, reply}
-use Rattle.bench.proofs.Lines.{not-fine, in-order, refused-by, left-to}
+use Rattle.refusals.specs.declared.verdicts.Refusal.{Refusal}
+use Rattle.refusals.specs.declared.verdicts.Verdict.{Verdict}
+use Rattle.refusals.specs.declared.verdicts.Verdict.the-variants.{Fine, Refused}
+use Rattle.refusals.specs.Lines.{verdict, reply}
+use Rattle.refusals.proofs.Lines.{not-fine, in-order, refused-by, left-to}
 use Rattle.times.specs.declared.input_time.InputTime.{InputTime}
 use Rattle.times.specs.declared.settle.SettleAnswer.{SettleAnswer}
 use Rattle.times.specs.Settling.{settled}

@@ -1,0 +1,116 @@
+-- The table of refusals: each line under its number, with its words and what it names besides (nothing, where nothing
+-- is said). The code has the numbers in src/verdicts.rt. Number 17 is given by nobody yet; 13 and 14 stand with the
+-- times (settling, Refusals).
+use mathlib.Core.Bool.{Bool, true, false, not, _&&_, _||_}
+use mathlib.Core.List.{List, [], _∷_}
+use Prim.Native.Nat.{ℕ, _+_, _-_, _*_, _^_}
+use lib.Dec.{leb, ltb, eqb}
+use lib.ListN.{length}
+use Rattle.bits.specs.Numbers.{bit}
+use Rattle.bits.specs.Sets.{disjoint, size}
+use Rattle.tables.specs.Table.{mostInputs, tableLength, tableBit, spareClear}
+use Rattle.tables.specs.Counting.{support}
+use Rattle.splits.specs.Columns.{fewColumns, firstBroken}
+use Rattle.splits.specs.Pair.{inputsH}
+use Rattle.best.specs.Search.{Answer, none, split}
+use Rattle.sheets.specs.declared.kinds.Edition.{Edition}
+use Rattle.sheets.specs.Edition.{mostRecords}
+use Rattle.sheets.specs.Sheet.{badLength, records, firstBad}
+use Rattle.sheets.specs.Reading.{firstUnread}
+use Rattle.runs.specs.Checking.{firstDifference}
+use Rattle.chains.specs.Area.{workLength}
+use Rattle.chains.specs.Chain.{Made, stuck, made}
+use Rattle.refusals.specs.Lines.{Line, line, naming}
+
+-- 1: n outside 1 to 16
+abbrev pub badInputs : ℕ → Line
+badInputs n = line 1 (not (leb 1 n && leb n mostInputs))
+
+-- 2: K outside 2 to the edition's largest cell
+abbrev pub badCell : Edition → ℕ → Line
+badCell e K = line 2 (not (leb 2 K && leb K (e .most)))
+
+-- 3: the table, read or to be rebuilt, has a wrong length
+abbrev pub badTable : ℕ → List ℕ → Line
+badTable n t = line 3 (not (eqb (length t) (tableLength n)))
+
+-- 4: n below 3 and a spare bit set
+abbrev pub badSpare : ℕ → List ℕ → Line
+badSpare n t = line 4 (ltb n 3 && not (spareClear n t))
+
+-- 5: A or B names a position from n up; they overlap; A below 2; A and B together above K
+abbrev pub badSets : ℕ → ℕ → ℕ → ℕ → Line
+badSets n K A B =
+    line 5 (leb (2 ^ n) A || (leb (2 ^ n) B ||
+    (not (disjoint n (bit A) (bit B)) || (ltb (size n (bit A)) 2 || ltb K (size n (bit A) + size n (bit B))))))
+
+-- 6: room for H shorter than its table
+abbrev pub shortRoom : ℕ → ℕ → ℕ → List ℕ → List ℕ → Line
+shortRoom n A B t room = line 6 (ltb (length room) (tableLength (inputsH n (tableBit t) (bit A) (bit B) 1)))
+
+-- 6: a lent work area under 16,384 bytes
+abbrev pub shortWork : List ℕ → Line
+shortWork work = line 6 (ltb (length work) workLength)
+
+-- 6: room for the sheet under the bytes of the most records, or such a work area
+abbrev pub shortSheet : Edition → List ℕ → List ℕ → Line
+shortSheet e sheet work = line 6 (ltb (length sheet) (e .size * mostRecords) || ltb (length work) workLength)
+
+-- 7: at most K inputs count, so nothing to split
+abbrev pub nothingToSplit : ℕ → ℕ → List ℕ → Line
+nothingToSplit n K t = line 7 (leb (size n (bit (support n (tableBit t)))) K)
+
+-- 8: the named split isn't possible: some b has more than two columns; the least such is named
+abbrev pub notPossible : ℕ → ℕ → ℕ → List ℕ → Line
+notPossible n A B t = naming 8 (firstBroken n (tableBit t) (bit A) (bit B) 2)
+    (not (fewColumns n (tableBit t) (bit A) (bit B) 2))
+
+-- whether there is no split
+abbrev pub isNone : Answer → Bool
+isNone none = true
+isNone (split A B) = false
+
+-- 8: none is possible
+abbrev pub noneBest : Answer → Line
+noneBest a = line 8 (isNone a)
+
+-- whether the chain is stuck
+abbrev pub isStuck : Made → Bool
+isStuck stuck = true
+isStuck (made cs) = false
+
+-- 8: a table in the chain with more than K inputs has none
+abbrev pub chainStuck : Made → Line
+chainStuck c = line 8 (isStuck c)
+
+-- 9: sheet empty, not a multiple of the record size, or over the bytes of the most records
+abbrev pub badSheet : Edition → List ℕ → Line
+badSheet e s = line 9 (badLength e s)
+
+-- 10: a record breaks the record rules, the desk's byte being d; the first such is named
+abbrev pub badRecord : Edition → ℕ → ℕ → List ℕ → Line
+badRecord e d n s = naming 10 (firstBad e d n s (records e s)) (ltb (firstBad e d n s (records e s)) (records e s))
+
+-- 11: assignment 2 ^ n or more
+abbrev pub badAssignment : ℕ → ℕ → Line
+badAssignment n x = line 11 (leb (2 ^ n) x)
+
+-- 12: the sheet doesn't give the table's bit at some assignment; the least such is named
+abbrev pub tableDiffers : Edition → ℕ → List ℕ → List ℕ → Line
+tableDiffers e n t s = naming 12 (firstDifference e n s (records e s) t)
+    (ltb (firstDifference e n s (records e s) t) (2 ^ n))
+
+-- 15: some record but the last is read by no later record; the first such is named
+abbrev pub unreadRecord : Edition → ℕ → List ℕ → Line
+unreadRecord e n s = naming 15 (firstUnread e n s (records e s))
+    (ltb (firstUnread e n s (records e s)) (records e s - 1))
+
+-- ---- lines that several calls share
+
+-- a gate: 1 to 4, on n, K and the table
+abbrev pub gateLines : Edition → ℕ → ℕ → List ℕ → List Line
+gateLines e n K t = badInputs n ∷ badCell e K ∷ badTable n t ∷ badSpare n t ∷ []
+
+-- a sheet: 9 and 10
+abbrev pub sheetLines : Edition → ℕ → ℕ → List ℕ → List Line
+sheetLines e d n s = badSheet e s ∷ badRecord e d n s ∷ []

@@ -1,0 +1,95 @@
+// Lines that several calls share: 1 to 4 of a gate, 9, 10 and 15 of a sheet.
+use crate::verdicts::Refusal;
+use crate::verdicts::Verdict;
+use crate::verdicts::refuse;
+use crate::verdicts::refuse_at;
+use sheets::kinds::Edition;
+use sheets::reading::first_unread;
+use sheets::rules;
+use sheets::rules::Looked;
+ghost use mathlib.Core.Path.{_≡_};
+ghost use mathlib.Core.Bool.{not, _&&_};
+ghost use mathlib.Core.List.{[], _∷_};
+ghost use Prim.Native.Nat.{_≤_};
+ghost use lib.Dec.{leb};
+ghost use Rattle.tables.specs.Table.{mostInputs};
+ghost use Rattle.sheets.specs.Edition.{IsEdition};
+ghost use Rattle.refusals.specs.Lines.{verdict, InOrder};
+ghost use Rattle.refusals.specs.Refusals.{badInputs, badCell, badTable, gateLines, sheetLines, unreadRecord};
+
+fn outside(low: u64, x: u64, high: u64) -> bool
+    ensures { λ r. ⌜ r ≡ not (leb low x && leb x high) ⌝ }
+{
+    if x < low {
+        return true;
+    }
+    high < x
+}
+
+// Line 1: n outside 1 to 16.
+pub fn bad_inputs(n: u64) -> bool
+    ensures { λ r. ⌜ r ≡ badInputs n .holds ⌝ }
+{
+    outside(1, n, tables::MOST_INPUTS as u64)
+}
+
+// Line 2: K outside 2 to the largest cell.
+fn bad_cell(e: Edition, k: u64) -> bool
+    ensures { λ r. ⌜ r ≡ badCell e k .holds ⌝ }
+{
+    outside(2, k, e.most as u64)
+}
+
+// Line 3: a wrong length.
+pub fn bad_table(n: u32, t: &[u8]) -> bool
+    requires { ⌜ n ≤ mostInputs ⌝ }
+    ensures { λ r. ⌜ r ≡ badTable n (now (t .entry)) .holds ⌝ }
+{
+    t.len() != tables::length_for(n)
+}
+
+// Lines 1 to 4; a table of three inputs or more has no spare bits.
+pub fn gate(e: Edition, n: u64, k: u64, t: &[u8]) -> Verdict
+    ensures { λ r. ⌜ r ≡ verdict (gateLines e n k (now (t .entry))) ⌝ }
+{
+    if bad_inputs(n) {
+        return refuse(Refusal::INPUTS);
+    }
+    if bad_cell(e, k) {
+        return refuse(Refusal::CELL);
+    }
+    let inputs = n as u32;
+    if bad_table(inputs, t) {
+        return refuse(Refusal::TABLE);
+    }
+    if !tables::spare_clear(inputs, t) {
+        return refuse(Refusal::SPARE);
+    }
+    Verdict::Fine
+}
+
+// Lines 9 and 10.
+pub fn sheet(e: Edition, d: u8, n: u32, s: &[u8]) -> Verdict
+    requires { ⌜ IsEdition e × (n ≤ mostInputs) ⌝ }
+    ensures { λ r. ⌜ r ≡ verdict (sheetLines e d n (now (s .entry))) ⌝ }
+{
+    let seen = rules::look(e, d, n, s);
+    match seen {
+        Looked::Length => refuse(Refusal::SHEET),
+        Looked::BadAt(i) => refuse_at(Refusal::RECORD, i as u64),
+        Looked::Fine(_) => Verdict::Fine,
+    }
+}
+
+// Line 15, of a sheet that lines 9 and 10 let through.
+pub fn all_read(e: Edition, d: u8, n: u32, s: &[u8]) -> Verdict
+    requires { ⌜ IsEdition e × (n ≤ mostInputs) × InOrder (sheetLines e d n (now s)) ⌝ }
+    ensures { λ r. ⌜ r ≡ verdict (unreadRecord e n (now (s .entry)) ∷ []) ⌝ }
+{
+    let m = s.len() / e.size;
+    let i = first_unread(e, n, s, m);
+    if i < m - 1 {
+        return refuse_at(Refusal::UNREAD, i as u64);
+    }
+    Verdict::Fine
+}

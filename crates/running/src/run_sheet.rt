@@ -1,0 +1,62 @@
+// Running a sheet at an assignment.
+use refusals::form;
+use refusals::verdicts::Refusal;
+use refusals::verdicts::Verdict;
+use refusals::verdicts::refuse;
+use runs::running::bit_of;
+use sheets::kinds::Edition;
+ghost use mathlib.Core.Path.{_≡_};
+ghost use Rattle.sheets.specs.Edition.{IsEdition, firstEdition};
+ghost use Rattle.refusals.specs.Lines.{verdict};
+ghost use Rattle.running.specs.RunSheet.{runLines, runOutcome};
+
+// The bit, if nothing is wrong.
+pub struct RunAnswer {
+    pub verdict: Verdict,
+    pub bit: bool,
+}
+
+// Lines 1, 9, 10, 11 and 15.
+fn run_form(e: Edition, d: u8, n: u64, s: &[u8], x: u64) -> Verdict
+    requires { ⌜ IsEdition e ⌝ }
+    ensures { λ r. ⌜ r ≡ verdict (runLines e d n (now (s .entry)) x) ⌝ }
+{
+    if form::bad_inputs(n) {
+        return refuse(Refusal::INPUTS);
+    }
+    let inputs = n as u32;
+    let seen = form::sheet(e, d, inputs, s);
+    let Verdict::Fine = seen else {
+        return seen;
+    };
+    if 1 << n <= x {
+        return refuse(Refusal::ASSIGNMENT);
+    }
+    form::all_read(e, d, inputs, s)
+}
+
+// Runs a sheet of an edition, the desk's byte being d, at the assignment x.
+pub fn run_in(e: Edition, d: u8, n: u64, s: &[u8], x: u64) -> RunAnswer
+    requires { ⌜ IsEdition e ⌝ }
+    ensures { λ r. ⌜ r ≡ runOutcome e d n (now (s .entry)) x ⌝ }
+{
+    let form = run_form(e, d, n, s, x);
+    let Verdict::Fine = form else {
+        return RunAnswer {
+            verdict: form,
+            bit: false,
+        };
+    };
+    let m = s.len() / e.size;
+    RunAnswer {
+        verdict: Verdict::Fine,
+        bit: bit_of(e, n as u32, s, m, x as u32),
+    }
+}
+
+// Runs a sheet at the assignment x.
+pub fn run_sheet(n: u64, s: &[u8], x: u64) -> RunAnswer
+    ensures { λ r. ⌜ r ≡ runOutcome firstEdition 0 n (now (s .entry)) x ⌝ }
+{
+    run_in(Edition::first(), 0, n, s, x)
+}

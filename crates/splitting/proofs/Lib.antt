@@ -1,0 +1,2 @@
+-- The line on a named split's sets.
+pub mod Sets

@@ -1,0 +1,4 @@
+// Asking for a split: a named one tried, the best one found.
+mod filling;
+pub mod find_best;
+pub mod try_split;

@@ -1,0 +1,156 @@
+// Trying a named split.
+use crate::filling;
+use bits::sets::members;
+use refusals::form;
+use refusals::verdicts::Refusal;
+use refusals::verdicts::Verdict;
+use refusals::verdicts::refuse;
+use refusals::verdicts::refuse_at;
+use sheets::kinds::Edition;
+use splits::columns::break_of;
+use splits::pair;
+use splits::split::Split;
+ghost use mathlib.Core.Path.{_≡_};
+ghost use mathlib.Core.List.{[], _∷_};
+ghost use Prim.Native.Nat.{_+_, _-_, _^_, _<_, _≤_};
+ghost use lib.ListN.{length};
+ghost use Rattle.bits.specs.Numbers.{bit};
+ghost use Rattle.bits.specs.Sets.{size};
+ghost use Rattle.tables.specs.Table.{mostInputs, tableLength};
+ghost use Rattle.splits.specs.Reading.{Held};
+ghost use Rattle.best.specs.Best.{Candidate};
+ghost use Rattle.sheets.specs.Edition.{IsEdition, largestCell, firstEdition};
+ghost use Rattle.refusals.specs.Lines.{verdict, reply};
+ghost use Rattle.refusals.specs.Refusals.{badSets, notPossible};
+ghost use Rattle.splitting.specs.TrySplit.{tryForm, tryDone, tryNot, tryOutcome};
+
+// D, if nothing is wrong; H is in the lent room. After 8, which names where the split breaks, how many different
+// columns there are.
+pub struct TryAnswer {
+    pub verdict: Verdict,
+    pub d: u64,
+    pub columns: usize,
+}
+
+// Line 5: A or B names a position from n up; they overlap; A below 2; A and B together above K.
+fn bad_sets(n: u32, k: u32, own: u64, shared: u64) -> bool
+    requires { ⌜ n ≤ mostInputs ⌝ }
+    ensures { λ r. ⌜ r ≡ badSets n k own shared .holds ⌝ }
+{
+    let all: u64 = 1 << n;
+    if all <= own {
+        return true;
+    }
+    if all <= shared {
+        return true;
+    }
+    if own & shared != 0 {
+        return true;
+    }
+    let many = members(own as u16);
+    if many < 2 {
+        return true;
+    }
+    k < many + members(shared as u16)
+}
+
+// How many bytes H's table has: H reads all inputs but the own ones, and D.
+fn bytes_of_h(n: u32, own: u16) -> usize
+    requires { ⌜ (n ≤ mostInputs) × (own < 2 ^ n) × (1 < size n (bit own)) ⌝ }
+    ensures { λ r. ⌜ (r ≡ tableLength (n + 1 - size n (bit own))) × (r ≤ tableLength mostInputs) ⌝ }
+{
+    tables::length_for(n + 1 - members(own))
+}
+
+// Lines 1 to 6.
+fn try_form<'a>(
+    e: Edition,
+    n: u64,
+    k: u64,
+    own: u64,
+    shared: u64,
+    t: &'a [u8],
+    room: &'a [u8],
+) -> Verdict
+    requires { ⌜ IsEdition e × (e .most ≤ largestCell) ⌝ }
+    ensures { λ r. ⌜ r ≡ verdict (tryForm e n k own shared (now (t .entry)) (now (room .entry))) ⌝ }
+{
+    let gate = form::gate(e, n, k, t);
+    let Verdict::Fine = gate else {
+        return gate;
+    };
+    let inputs = n as u32;
+    if bad_sets(inputs, k as u32, own, shared) {
+        return refuse(Refusal::SETS);
+    }
+    if room.len() < bytes_of_h(inputs, own as u16) {
+        return refuse(Refusal::ROOM);
+    }
+    Verdict::Fine
+}
+
+// A split whose sets are good: D, and H into a room that is long enough, or that it isn't possible.
+fn pair_of(t: &[u8], s: Split, room: &mut [u8]) -> TryAnswer
+    requires { ⌜
+        Held s × Candidate (s .n) largestCell 1 (s .own) (s .shared) × (length (now t) ≡ tableLength (s .n))
+        ⌝ }
+    requires { ⌜ tableLength (s .n + 1 - size (s .n) (bit (s .own))) ≤ length (now room) ⌝ }
+    ensures { λ r. ⌜
+        record { answer = r; room = now (room .exit) }
+        ≡ reply (verdict (notPossible (s .n) (s .own) (s .shared) (now (t .entry)) ∷ []))
+        (tryDone (s .n) (s .own) (s .shared) (now (t .entry)) (now (room .entry)))
+        (tryNot (s .n) (s .own) (s .shared) (now (t .entry)) (now (room .entry)))
+        ⌝ }
+{
+    let broken = break_of(t, s, 2);
+    if 0 < broken.columns {
+        return TryAnswer {
+            verdict: refuse_at(Refusal::SPLIT, broken.b as u64),
+            d: 0,
+            columns: broken.columns,
+        };
+    }
+    filling::put_h(t, s, bytes_of_h(s.n, s.own), room);
+    TryAnswer {
+        verdict: Verdict::Fine,
+        d: pair::d_table(t, s),
+        columns: 0,
+    }
+}
+
+// Tries the split with the masks own and shared into cells of an edition.
+pub fn try_in(
+    e: Edition,
+    n: u64,
+    k: u64,
+    own: u64,
+    shared: u64,
+    t: &[u8],
+    room: &mut [u8],
+) -> TryAnswer
+    requires { ⌜ IsEdition e × (e .most ≤ largestCell) ⌝ }
+    ensures { λ r. ⌜
+        record { answer = r; room = now (room .exit) }
+        ≡ tryOutcome e n k own shared (now (t .entry)) (now (room .entry))
+        ⌝ }
+{
+    let form = try_form(e, n, k, own, shared, t, room);
+    let Verdict::Fine = form else {
+        return TryAnswer {
+            verdict: form,
+            d: 0,
+            columns: 0,
+        };
+    };
+    pair_of(t, Split::of(n as u32, own as u16, shared as u16), room)
+}
+
+// Tries the split with the masks own and shared: D, and H into the lent room.
+pub fn try_split(n: u64, k: u64, own: u64, shared: u64, t: &[u8], room: &mut [u8]) -> TryAnswer
+    ensures { λ r. ⌜
+        record { answer = r; room = now (room .exit) }
+        ≡ tryOutcome firstEdition n k own shared (now (t .entry)) (now (room .entry))
+        ⌝ }
+{
+    try_in(Edition::first(), n, k, own, shared, t, room)
+}
