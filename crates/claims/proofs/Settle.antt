@@ -13,24 +13,24 @@ use Rattle.bits.proofs.Bools.{and-left, and-right, clash}
 use Rattle.sheets.specs.declared.kinds.Edition.{Edition}
 use Rattle.sheets.specs.Edition.{IsEdition}
 use Rattle.sheets.specs.Sheet.{recordAt, records, sheetCells}
+use Rattle.times.specs.declared.input_time.InputTime.{InputTime}
+use Rattle.times.specs.InputTimes.{zeroTime, plainZero, inRange, soundTime, given, timeOf, timeAt, inputTimes}
+use Rattle.times.specs.Signals.{keeping, delayed, outputTime, settled}
+use Rattle.times.specs.Sixteenths.{sixteenthsOf, timeInSixteenths}
+use Rattle.times.specs.Whole.{settledWhole}
 use Rattle.refusals.specs.declared.verdicts.Refusal.{Refusal}
 use Rattle.refusals.specs.declared.verdicts.Verdict.the-variants.{Fine, Refused}
 use Rattle.refusals.specs.Lines.{InOrder, line, verdict, numberOf, placeOf, reply}
 use Rattle.refusals.specs.Refusals.{badInputs, badSheet, sheetLines}
 use Rattle.refusals.proofs.Lines.{in-order, passes, names-nothing}
-use Rattle.times.specs.declared.input_time.InputTime.{InputTime}
-use Rattle.times.specs.declared.settle.SettleAnswer.{SettleAnswer}
-use Rattle.times.specs.InputTimes.{zeroTime, plainZero, inRange, soundTime, given, timeOf, timeAt, inputTimes}
-use Rattle.times.specs.Settling.{keeping, delayed, outputTime, settled}
-use Rattle.times.specs.Sixteenths.{sixteenthsOf, timeInSixteenths}
-use Rattle.times.specs.Whole.{settledWhole}
-use Rattle.times.specs.Paths.{Beyond, BeyondTime, BestPath}
-use Rattle.times.specs.Refusals.{passesOver, unread, inputSound, badTimes}
-use Rattle.times.specs.Settle.{settleLines, settleDone, settleNot, settleOutcome}
-use Rattle.times.proofs.Kept.{Leaves, leaves}
-use Rattle.times.proofs.Slacking.{settled-exact}
-use Rattle.times.proofs.PathsWhole.{whole-path}
-use Rattle.times.proofs.PathsRounded.{rounded-path}
+use Rattle.settling.specs.declared.settle.SettleAnswer.{SettleAnswer}
+use Rattle.settling.specs.Refusals.{passesOver, unread, inputSound, badTimes}
+use Rattle.settling.specs.Settle.{settleLines, settleDone, settleNot, settleOutcome}
+use Rattle.settling.proofs.Kept.{Leaves, leaves}
+use Rattle.settling.proofs.Slacking.{settled-exact}
+use Rattle.paths.specs.Paths.{Beyond, BeyondTime, BestPath}
+use Rattle.paths.proofs.Whole.{whole-path}
+use Rattle.paths.proofs.Rounded.{rounded-path}
 use Rattle.claims.specs.Words.{ByLines, FirstBad}
 use Rattle.claims.specs.Times.{Reads, SoundTimes, WholeTimes}
 use Rattle.claims.proofs.Verdicts.{says-verdict, is-refused, is-done, by-lines}

@@ -10,22 +10,22 @@ use borrow.Author.Tests.{ne-eqb}
 use Rattle.sheets.specs.declared.kinds.Edition.{Edition}
 use Rattle.sheets.specs.Edition.{IsEdition}
 use Rattle.sheets.specs.Sheet.{records, sheetCells}
+use Rattle.times.specs.declared.input_time.InputTime.{InputTime}
+use Rattle.times.specs.InputTimes.{inputTimes}
+use Rattle.times.specs.Sixteenths.{sixteenthsOf}
+use Rattle.times.specs.Whole.{settledWhole}
 use Rattle.refusals.specs.declared.verdicts.Refusal.{Refusal}
 use Rattle.refusals.specs.declared.verdicts.Verdict.the-variants.{Fine, Refused}
 use Rattle.refusals.specs.Lines.{InOrder, verdict, numberOf, placeOf}
 use Rattle.refusals.specs.Refusals.{badInputs, badSheet}
 use Rattle.refusals.proofs.Lines.{in-order, names-nothing}
-use Rattle.times.specs.declared.input_time.InputTime.{InputTime}
-use Rattle.times.specs.declared.slack.SlackAnswer.{SlackAnswer}
-use Rattle.times.specs.InputTimes.{inputTimes}
-use Rattle.times.specs.Sixteenths.{sixteenthsOf}
-use Rattle.times.specs.Whole.{settledWhole}
-use Rattle.times.specs.Paths.{Beyond, BestPath}
-use Rattle.times.specs.Refusals.{badTimes, badSlack}
-use Rattle.times.specs.Slack.{slackLines, slackDone, slackNot, slackOutcome}
-use Rattle.times.proofs.Kept.{Leaves, leaves}
-use Rattle.times.proofs.Slacking.{counted, InWhole, in-whole}
-use Rattle.times.proofs.PathsWhole.{whole-path}
+use Rattle.settling.specs.declared.slack.SlackAnswer.{SlackAnswer}
+use Rattle.settling.specs.Refusals.{badTimes, badSlack}
+use Rattle.settling.specs.Slack.{slackLines, slackDone, slackNot, slackOutcome}
+use Rattle.settling.proofs.Kept.{Leaves, leaves}
+use Rattle.settling.proofs.Slacking.{counted, InWhole, in-whole}
+use Rattle.paths.specs.Paths.{Beyond, BestPath}
+use Rattle.paths.proofs.Whole.{whole-path}
 use Rattle.claims.specs.Words.{ByLines, FirstBad}
 use Rattle.claims.proofs.Verdicts.{says-verdict, is-refused, is-done, by-lines}
 use Rattle.claims.proofs.Sheets.{index-first}

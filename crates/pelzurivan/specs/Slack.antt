@@ -1,6 +1,6 @@
 -- The slack, for C.
 use Rattle.refusals.specs.Lines.{numberOf, placeOf}
-use Rattle.times.specs.declared.slack.SlackAnswer.{SlackAnswer}
+use Rattle.settling.specs.declared.slack.SlackAnswer.{SlackAnswer}
 use Rattle.pelzurivan.specs.declared.slack.SlackC.{SlackC}
 
 -- the number, the first bad record, and the slack

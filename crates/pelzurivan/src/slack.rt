@@ -3,10 +3,10 @@ use crate::input_times::TimesC;
 use crate::input_times::input_times;
 use refusals::verdicts::number_of;
 use refusals::verdicts::place_of;
-use times::slack::slack;
+use settling::slack::slack;
 ghost use mathlib.Core.Path.{_≡_};
 ghost use Rattle.sheets.specs.Edition.{firstEdition};
-ghost use Rattle.times.specs.Slack.{slackOutcome};
+ghost use Rattle.settling.specs.Slack.{slackOutcome};
 ghost use Rattle.pelzurivan.specs.InputTimes.{inputTimes};
 ghost use Rattle.pelzurivan.specs.Slack.{slackC};
 

@@ -15,7 +15,7 @@ use lib.Ieee.Order.{transfer}
 use lib.ListN.{length, getD}
 use borrow.Author.Tests.{lt-ltb, le-ltb}
 use Rattle.sheets.specs.Network.{Cell}
-use Rattle.times.specs.Settling.{kept, cellTime, outputTime, keeping, delayed}
+use Rattle.times.specs.Signals.{kept, cellTime, outputTime, keeping, delayed}
 use Rattle.times.specs.Whole.{keepingWhole}
 use Rattle.times.proofs.Sums.{value, add-at}
 

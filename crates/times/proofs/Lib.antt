@@ -4,9 +4,4 @@ pub mod Sums
 pub mod Counting
 pub mod Telling
 pub mod Passing
-pub mod Kept
 pub mod Exact
-pub mod Slacking
-pub mod Along
-pub mod PathsWhole
-pub mod PathsRounded

@@ -18,7 +18,7 @@ use Rattle.sheets.specs.Record.{cellOf}
 use Rattle.sheets.specs.Sheet.{recordAt, cellsFrom, sheetCells}
 use Rattle.times.specs.declared.input_time.InputTime.{InputTime}
 use Rattle.times.specs.InputTimes.{zeroTime, timeOf, timeAt, inputTimes}
-use Rattle.times.specs.Settling.{kept, cellTime, outputTime}
+use Rattle.times.specs.Signals.{kept, cellTime, outputTime}
 
 -- ---- a list of times
 

@@ -1,10 +1,6 @@
--- When a gate settles: its inputs' times, the times of its signals, and the calls.
+-- When the output of a sheet settles: its inputs' times, the times of its signals, and times in whole sixteenths.
 pub mod InputTimes
 pub mod Reading
-pub mod Settling
+pub mod Signals
 pub mod Sixteenths
 pub mod Whole
-pub mod Paths
-pub mod Refusals
-pub mod Settle
-pub mod Slack

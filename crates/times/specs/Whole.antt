@@ -8,7 +8,7 @@ use Rattle.sheets.specs.declared.kinds.Edition.{Edition}
 use Rattle.sheets.specs.Sheet.{records, sheetCells}
 use Rattle.times.specs.declared.input_time.InputTime.{InputTime}
 use Rattle.times.specs.InputTimes.{inputTimes}
-use Rattle.times.specs.Settling.{outputTime}
+use Rattle.times.specs.Signals.{outputTime}
 use Rattle.times.specs.Sixteenths.{sixteenthsOf}
 
 -- the greater of two numbers (late), or the lesser

@@ -1,7 +1,4 @@
-// When a gate settles. A call has one file, as on the bench; what both use stands beside them.
+// When the output of a sheet settles.
 pub mod input_time;
-mod reading;
-pub mod settle;
-mod signals;
-mod sixteenths;
-pub mod slack;
+pub mod signals;
+pub mod sixteenths;

@@ -11,7 +11,7 @@ ghost use Rattle.sheets.specs.Record.{byteAt, cellOf};
 ghost use Rattle.sheets.specs.Sheet.{sheetCells};
 ghost use Rattle.times.specs.InputTimes.{zeroTime, inputTimes};
 ghost use Rattle.times.specs.Reading.{Reads, Timed, mostSignals};
-ghost use Rattle.times.specs.Settling.{keeping, delayed, cellTime, outputTime};
+ghost use Rattle.times.specs.Signals.{keeping, delayed, cellTime, outputTime};
 
 // Signal j settles at the time at place j.
 pub struct SignalTimes {

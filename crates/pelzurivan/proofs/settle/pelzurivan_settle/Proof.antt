@@ -4,7 +4,7 @@ use mathlib.Core.List.{List}
 use borrow.Author.Needs.{needs}
 use Rattle.sheets.specs.Edition.{firstEdition}
 use Rattle.times.specs.declared.input_time.InputTime.{InputTime}
-use Rattle.times.specs.Settle.{settleOutcome}
+use Rattle.settling.specs.Settle.{settleOutcome}
 use Rattle.pelzurivan.specs.Settle.{settledC}
 use Rattle.pelzurivan.proofs.settle.pelzurivan_settle.Statement.{statement}
 use Rattle.pelzurivan.proofs.settle.pelzurivan_settle.Tie as tie

@@ -6,8 +6,8 @@ use mir.Facts.{toZ-ofZ}
 use borrow.Author.Needs.{needs}
 use Rattle.sheets.specs.Edition.{firstEdition}
 use Rattle.refusals.specs.Lines.{numberOf, placeOf}
-use Rattle.times.specs.declared.slack.SlackAnswer.{SlackAnswer}
-use Rattle.times.specs.Slack.{slackOutcome}
+use Rattle.settling.specs.declared.slack.SlackAnswer.{SlackAnswer}
+use Rattle.settling.specs.Slack.{slackOutcome}
 use Rattle.pelzurivan.specs.Slack.{slackC}
 use Rattle.pelzurivan.proofs.slack.pelzurivan_slack.Statement.{statement}
 use Rattle.pelzurivan.proofs.slack.pelzurivan_slack.Tie as tie

@@ -9,7 +9,7 @@ use borrow.Author.Needs.{needs}
 use Rattle.bits.proofs.Lists.{default}
 use Rattle.sheets.specs.Record.{byteAt}
 use Rattle.times.specs.InputTimes.{zeroTime}
-use Rattle.times.specs.Settling.{keeping, kept, delayed}
+use Rattle.times.specs.Signals.{keeping, kept, delayed}
 use Rattle.times.proofs.Passing.{kept-more, cell-at}
 use Rattle.times.proofs.signals.cell_time.Statement.{statement}
 use Rattle.times.proofs.signals.cell_time.Tie as tie

@@ -2,7 +2,7 @@
 use mathlib.Core.Path.{_≡_, sym, ap, _∙_}
 use mathlib.Core.Bool.{Bool, true, false, cond}
 use lib.Ieee.{Float, lt}
-use Rattle.times.specs.Settling.{keeping}
+use Rattle.times.specs.Signals.{keeping}
 use Rattle.times.proofs.signals.keep.Statement.{statement}
 use Rattle.times.proofs.signals.keep.Tie as tie
 

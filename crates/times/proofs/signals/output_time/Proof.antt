@@ -11,7 +11,7 @@ use Rattle.sheets.specs.Sheet.{sheetCells}
 use Rattle.sheets.proofs.Places.{record-within}
 use Rattle.times.specs.InputTimes.{zeroTime}
 use Rattle.times.specs.Reading.{Reads, mostSignals}
-use Rattle.times.specs.Settling.{keeping, delayed, cellTime, outputTime}
+use Rattle.times.specs.Signals.{keeping, delayed, cellTime, outputTime}
 use Rattle.times.proofs.Passing.{written-at, Passed, passed-none, passed-more, passed-all}
 use Rattle.times.proofs.signals.output_time.Statement.{statement}
 use Rattle.times.proofs.signals.output_time.Tie as tie

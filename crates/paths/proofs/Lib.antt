@@ -1,0 +1,4 @@
+-- The output's times are the least and the greatest along all paths.
+pub mod Along
+pub mod Whole
+pub mod Rounded

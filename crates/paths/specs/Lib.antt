@@ -1,0 +1,2 @@
+-- Paths through a network, and the time along one.
+pub mod Paths

@@ -1,0 +1,1 @@
+// Paths through a sheet: theorems alone. Nothing here runs.
