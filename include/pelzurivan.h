@@ -27,8 +27,10 @@
  *   14  the delay or a time of the n inputs isn't a whole number of sixteenths, or the deadline is outside
  *       -1,048,576 to 1,048,576
  *   15  some record but the last is read by no later record; index (or place) is the first such
- * After a refusal every other value is 0 (but for what 8 of a named split, 10, 12 and 15 name), and no result byte is
- * touched.
+ *   16  text is no formula of n inputs; place is the first byte at which it can't be continued (a letter beyond n and
+ *       a 33rd level are such bytes), its length if it ends too soon or is over 1,024 bytes
+ * After a refusal every other value is 0 (but for what 8 of a named split, 10, 12, 15 and 16 name), and no result byte
+ * is touched.
  */
 #ifndef PELZURIVAN_H
 #define PELZURIVAN_H
@@ -48,6 +50,7 @@ typedef struct { uint64_t number, count; } pelzurivan_made;
 typedef struct { uint64_t number, bit, index; } pelzurivan_ran;
 typedef struct { uint64_t number, index; } pelzurivan_rebuilt;
 typedef struct { uint64_t number, place; } pelzurivan_checked;
+typedef struct { uint64_t number, place; } pelzurivan_formula_read;
 
 /* The inputs' times, in nanoseconds. kind 1 is one arrival (first), 2 an earliest (first) and a latest (second), any
  * other is not read. Only those of the n inputs are looked at, and of those only what their kind says. */
@@ -99,6 +102,12 @@ pelzurivan_slack_answer pelzurivan_slack(uint64_t n, const uint8_t *sheet, size_
 pelzurivan_shorter_answer pelzurivan_shorter(uint64_t n, const uint8_t *table, size_t table_length,
                                              const uint8_t *first, size_t first_length, const uint8_t *second,
                                              size_t second_length);
+
+/* Reads a formula of n inputs, letters a to p, into a table, written whole, spare bits zero. A sum is terms joined by |,
+ * a term parts by ^, a part factors by &; a factor is a letter, 0, 1, ! before a factor, or a sum in parentheses. 1, 3,
+ * 16. */
+pelzurivan_formula_read pelzurivan_read_formula(uint64_t n, const uint8_t *text, size_t text_length, uint8_t *table,
+                                                size_t table_length);
 
 #ifdef __cplusplus
 }

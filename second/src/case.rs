@@ -4,11 +4,12 @@
 use crate::fresh::Fresh;
 use crate::random::Random;
 
-// The longest table (or room for one, or for H), work area and sheet (or room
-// for one) that a case may name.
+// The longest table (or room for one, or for H), work area, sheet (or room for
+// one) and text that a case may name.
 pub const TABLE_BUFFER: usize = 16_400;
 pub const WORK_BUFFER: usize = 20_000;
 pub const SHEET_BUFFER: usize = 1_000;
+pub const TEXT_BUFFER: usize = 2_000;
 
 /// Every lent byte holds this before a call, unless a batch says otherwise, so
 /// that one sees what was touched.

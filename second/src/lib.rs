@@ -12,6 +12,7 @@ pub mod refusals;
 pub mod sets;
 pub mod split;
 pub mod table;
+pub mod text;
 pub mod times;
 
 pub mod batch;

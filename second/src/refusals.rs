@@ -23,8 +23,10 @@ pub const NO_MATCH: u8 = 12;
 pub const NO_TIME: u8 = 13;
 pub const NO_SLACK: u8 = 14;
 pub const NO_READER: u8 = 15;
+pub const NO_TEXT: u8 = 16;
 
-/// A refusal: its number and what it names (a record's index, an assignment), else 0.
+/// A refusal: its number and what it names (a record's index, an assignment, a
+/// place in a text), else 0.
 #[derive(Clone, Copy, Debug, PartialEq, Eq)]
 pub struct Refusal {
     pub number: u8,

@@ -133,9 +133,21 @@ static void shorter(void) {
     put(1, a.number);
 }
 
+static void read_formula(void) {
+    uint64_t n = number(8);
+    area text = handed(TEXT), table = lent(TABLE);
+    if (!whole()) return;
+    start();
+    pelzurivan_formula_read a = pelzurivan_read_formula(n, text.bytes, text.length, table.bytes, table.length);
+    stop();
+    put(1, a.number);
+    put(8, a.place);
+    put_area(table);
+}
+
 static const call CALLS[] = {
     {0x01, try_split}, {0x02, find},   {0x03, make},  {0x04, run},     {0x05, rebuild},
-    {0x06, check},     {0x07, settle}, {0x08, slack}, {0x09, shorter},
+    {0x06, check},     {0x07, settle}, {0x08, slack}, {0x09, shorter}, {0x0A, read_formula},
 };
 
 const call *call_of(int code) {

@@ -7,7 +7,7 @@
 #include <stdint.h>
 
 /* The longest of each kind that a case may name; a room is as long as what it is for. */
-enum { TABLE = 16400, WORK = 20000, SHEET = 1000 };
+enum { TABLE = 16400, WORK = 20000, SHEET = 1000, TEXT = 2000 };
 
 typedef struct {
     uint8_t *bytes;

@@ -4,6 +4,7 @@ pub mod check_sheet;
 pub mod find_best;
 pub mod input_times;
 pub mod make_sheet;
+pub mod read_formula;
 pub mod rebuild_table;
 pub mod run_sheet;
 pub mod settle;

@@ -40,6 +40,8 @@ impl Refusal {
     pub const SLACK: u8 = 14;
     // a record but the last is read by no later record: its index
     pub const UNREAD: u8 = 15;
+    // the text is no formula: the first place at which it can't be continued; or no formula is printed for the sheet
+    pub const TEXT: u8 = 16;
 }
 
 // What looking at a call's lines comes to.

@@ -23,7 +23,7 @@ const SIGNALS: usize = 32;
 const PAIRS: usize = 128;
 
 // The word of input j: a pattern below 6; from there on all assignments have the same value.
-fn input_word(j: u32, w: u32) -> u64
+pub fn input_word(j: u32, w: u32) -> u64
     requires { ⌜ j < mostInputs ⌝ }
     ensures { λ r. ⌜ r ≡ inputWord j w ⌝ }
 {
@@ -145,7 +145,7 @@ fn cell_word<'a>(e: Edition, b: &'a [u8], words: &'a [u64], v: &mut [u64]) -> u6
 }
 
 // The first 2 ^ n bits of a word, the others 0.
-fn first_bits(n: u32, o: u64) -> u64
+pub fn first_bits(n: u32, o: u64) -> u64
     requires { ⌜ n ≤ mostInputs ⌝ }
     ensures { λ r. ⌜ r ≡ number 64 (λ i. ltb i (2 ^ n) && bit o i) ⌝ }
 {

@@ -3,6 +3,7 @@
 pub mod check;
 pub mod find;
 pub mod make;
+pub mod read_formula;
 pub mod rebuild;
 pub mod run;
 pub mod settle;
@@ -13,7 +14,7 @@ pub mod try_split;
 use crate::case::Call;
 
 /// The calls that are answered today, by code.
-pub static TABLE: [&Call; 9] = [
+pub static TABLE: [&Call; 10] = [
     &try_split::CALL,
     &find::CALL,
     &make::CALL,
@@ -23,6 +24,7 @@ pub static TABLE: [&Call; 9] = [
     &settle::CALL,
     &slack::CALL,
     &shorter::CALL,
+    &read_formula::CALL,
 ];
 
 pub fn call_of(code: u8) -> Option<&'static Call> {

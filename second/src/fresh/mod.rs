@@ -12,6 +12,7 @@ pub mod networks;
 pub mod sheet;
 pub mod sheets;
 pub mod tables;
+pub mod texts;
 pub mod timing;
 pub mod trees;
 pub mod two_sheets;

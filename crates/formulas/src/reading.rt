@@ -1,0 +1,151 @@
+// The readers of sum, term, part and factor, which call each other in a cycle: each call has a byte less before it, or
+// goes one step down. They work on 64 assignments at a time: bit i of a word is the value at assignment 64 w + i.
+use runs::words::input_word;
+ghost use Prim.Native.Nat.{_≤_};
+ghost use lib.ListN.{length};
+ghost use Rattle.tables.specs.Table.{mostInputs};
+ghost use Rattle.formulas.specs.Words.{Gives};
+
+// What a reader found: a word of values and the place after it, or the place at which the text can't be continued.
+pub enum Found {
+    Word(u64, usize),
+    Stuck(usize),
+}
+
+// A sum: terms joined by `|`.
+pub fn sum(t: &[u8], at: usize, left: usize, n: u32, w: u32) -> Found
+    requires { ⌜ (at ≤ length (now t)) × (n ≤ mostInputs) ⌝ }
+    ensures { λ r. ⌜ Gives (now (t .entry)) n 3 left at w r ⌝ }
+{
+    match term(t, at, left, n, w) {
+        Found::Stuck(p) => {
+            return Found::Stuck(p);
+        }
+        Found::Word(v, q) => {
+            if q < t.len() {
+                if t[q] == b'|' {
+                    match sum(t, q + 1, left, n, w) {
+                        Found::Stuck(p) => {
+                            return Found::Stuck(p);
+                        }
+                        Found::Word(x, r) => {
+                            return Found::Word(v | x, r);
+                        }
+                    }
+                }
+            }
+            return Found::Word(v, q);
+        }
+    }
+}
+
+// A term: parts joined by `^`.
+fn term(t: &[u8], at: usize, left: usize, n: u32, w: u32) -> Found
+    requires { ⌜ (at ≤ length (now t)) × (n ≤ mostInputs) ⌝ }
+    ensures { λ r. ⌜ Gives (now (t .entry)) n 2 left at w r ⌝ }
+{
+    match part(t, at, left, n, w) {
+        Found::Stuck(p) => {
+            return Found::Stuck(p);
+        }
+        Found::Word(v, q) => {
+            if q < t.len() {
+                if t[q] == b'^' {
+                    match term(t, q + 1, left, n, w) {
+                        Found::Stuck(p) => {
+                            return Found::Stuck(p);
+                        }
+                        Found::Word(x, r) => {
+                            return Found::Word(v ^ x, r);
+                        }
+                    }
+                }
+            }
+            return Found::Word(v, q);
+        }
+    }
+}
+
+// A part: factors joined by `&`.
+fn part(t: &[u8], at: usize, left: usize, n: u32, w: u32) -> Found
+    requires { ⌜ (at ≤ length (now t)) × (n ≤ mostInputs) ⌝ }
+    ensures { λ r. ⌜ Gives (now (t .entry)) n 1 left at w r ⌝ }
+{
+    match factor(t, at, left, n, w) {
+        Found::Stuck(p) => {
+            return Found::Stuck(p);
+        }
+        Found::Word(v, q) => {
+            if q < t.len() {
+                if t[q] == b'&' {
+                    match part(t, q + 1, left, n, w) {
+                        Found::Stuck(p) => {
+                            return Found::Stuck(p);
+                        }
+                        Found::Word(x, r) => {
+                            return Found::Word(v & x, r);
+                        }
+                    }
+                }
+            }
+            return Found::Word(v, q);
+        }
+    }
+}
+
+// A factor: a letter, `0`, `1`, `!` before a factor, or a sum in parentheses; the last two are one level down.
+fn factor(t: &[u8], at: usize, left: usize, n: u32, w: u32) -> Found
+    requires { ⌜ (at ≤ length (now t)) × (n ≤ mostInputs) ⌝ }
+    ensures { λ r. ⌜ Gives (now (t .entry)) n 0 left at w r ⌝ }
+{
+    if t.len() <= at {
+        return Found::Stuck(at);
+    }
+    let b = t[at];
+    if b == b'!' {
+        if left == 0 {
+            return Found::Stuck(at);
+        }
+        match factor(t, at + 1, left - 1, n, w) {
+            Found::Stuck(p) => {
+                return Found::Stuck(p);
+            }
+            Found::Word(v, q) => {
+                return Found::Word(!v, q);
+            }
+        }
+    }
+    if b == b'(' {
+        if left == 0 {
+            return Found::Stuck(at);
+        }
+        match sum(t, at + 1, left - 1, n, w) {
+            Found::Stuck(p) => {
+                return Found::Stuck(p);
+            }
+            Found::Word(v, q) => {
+                if t.len() <= q {
+                    return Found::Stuck(q);
+                }
+                if t[q] == b')' {
+                    return Found::Word(v, q + 1);
+                }
+                return Found::Stuck(q);
+            }
+        }
+    }
+    if b == b'0' {
+        return Found::Word(0, at + 1);
+    }
+    if b == b'1' {
+        return Found::Word(!0, at + 1);
+    }
+    if b < b'a' {
+        return Found::Stuck(at);
+    }
+    if b < b'a' + n as u8 {
+        let v = input_word((b - b'a') as u32, w);
+        return Found::Word(v, at + 1);
+    }
+    Found::Stuck(at)
+}
