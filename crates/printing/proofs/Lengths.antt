@@ -1,0 +1,134 @@
+-- What is printed of cells that are each read once is short: five bytes a cell, and a letter for each input that is read. Assumes nothing.
+use mathlib.Core.Path.{_≡_, refl, sym, ap, ap₂, _∙_, subst}
+use mathlib.Core.Bool.{Bool, true, false, cond}
+use mathlib.Core.List.{List, [], _∷_, _++_}
+use Prim.Native.Nat.{ℕ, zero, suc, _+_, _-_, _*_, _<_, _≤_}
+use native.Mathlib.Omega.{arith}
+use lib.Dec.{eqb, ltb}
+use lib.ListN.{length, getD, length-append}
+use borrow.Author.Tests.{eq-eqb, ne-eqb, eqb-true, eqb-false, le-ltb}
+use Rattle.bits.specs.Numbers.{val}
+use Rattle.sheets.specs.Network.{Cell, Wired}
+use Rattle.sheets.specs.Reading.{times, reads}
+use Rattle.printing.specs.Forms.{markOf, flipsLow, flipsHigh}
+use Rattle.printing.specs.Print.{inTurn, bySides, flipped, oneText, twoText, cellText, letterText, printed}
+use Rattle.printing.specs.Printable.{AllPlain, Printable}
+
+-- the bytes of what is read, each as often as it is
+abbrev bytesOf : (ℕ → List ℕ) → List ℕ → ℕ
+bytesOf v [] = 0
+bytesOf v (s ∷ l) = length (v s) + bytesOf v l
+
+abbrev bytesRead : (ℕ → List ℕ) → List Cell → ℕ
+bytesRead v [] = 0
+bytesRead v (c ∷ cs) = bytesOf v (c .signals) + bytesRead v cs
+
+-- v with t at signal i
+abbrev with : (ℕ → List ℕ) → ℕ → List ℕ → ℕ → List ℕ
+with v i t s = cond (eqb s i) t (v s)
+
+module _ (v : ℕ → List ℕ) (i : ℕ) (t : List ℕ) (none : v i ≡ []) where
+  one-more : (s : ℕ) → length (with v i t s) ≡ length (v s) + val (eqb i s) * length t
+  one-more s = go (eqb s i) refl
+    where
+      go : (b : Bool) → eqb s i ≡ b → length (cond b t (v s)) ≡ length (v s) + val (eqb i s) * length t
+      go true q =
+          let e = eqb-true s i q in
+          omega (arith, ap length (ap v e ∙ none), ap (λ (b : Bool). val b * length t) (eq-eqb i s (sym e)))
+      go false q = omega (arith, ap (λ (b : Bool). val b * length t) (ne-eqb i s (λ e. eqb-false s i q (sym e))))
+
+  list-more : (l : List ℕ) → bytesOf (with v i t) l ≡ bytesOf v l + times i l * length t
+  list-more [] = omega arith
+  list-more (s ∷ l) = let a = val (eqb i s) in let b = times i l in
+      omega (arith, one-more s, list-more l, mul-sum a b (length t))
+    where
+      mul-sum : (a b c : ℕ) → (a + b) * c ≡ a * c + b * c
+      mul-sum a b c = omega arith
+
+  cells-more : (cs : List Cell) → bytesRead (with v i t) cs ≡ bytesRead v cs + reads i cs * length t
+  cells-more [] = omega arith
+  cells-more (c ∷ cs) = omega (arith, list-more (c .signals), cells-more cs, mul-sum (times i (c .signals)) (reads i cs) (length t))
+    where
+      mul-sum : (a b c : ℕ) → (a + b) * c ≡ a * c + b * c
+      mul-sum a b c = omega arith
+
+-- ---- one cell
+
+flip-short : (f : Bool) (w : List ℕ) → length (flipped f w) ≤ 1 + length w
+flip-short true w = omega arith
+flip-short false w = omega arith
+
+one-short : (a b f : Bool) (w : List ℕ) → length (cond a (48 ∷ []) (cond b (49 ∷ []) (flipped f w))) ≤ 1 + length w
+one-short true b f w = omega arith
+one-short false true f w = omega arith
+one-short false false f w = flip-short f w
+
+two-short : (t : ℕ) (l r : List ℕ) → length (twoText t l r) ≤ 5 + (length l + length r)
+two-short t l r =
+    let a = flipped (flipsLow t) l in
+    let b = flipped (flipsHigh t) r in
+    omega (arith, length-append a (markOf t ∷ (b ++ (41 ∷ []))), length-append b (41 ∷ []), flip-short (flipsLow t) l, flip-short (flipsHigh t) r)
+
+sides-short : (l : List ℕ) (t : ℕ) (v : ℕ → List ℕ) → length (bySides [] oneText twoText l t v) ≤ 5 + bytesOf v l
+sides-short [] t v = omega arith
+sides-short (a ∷ []) t v = omega (arith, one-short (eqb t 0) (eqb t 3) (eqb t 1) (v a))
+sides-short (a ∷ b ∷ l) t v = omega (arith, two-short t (v a) (v b))
+
+-- ---- the cells in turn
+
+times-none : (l : List ℕ) (i x : ℕ) → ((j : ℕ) → j < length l → getD l j 0 < i) → i ≤ x → times x l ≡ 0
+times-none [] i x h g = refl
+times-none (s ∷ l) i x h g =
+    let k : s < i = h 0 (omega arith) in
+    omega (arith, ap val (ne-eqb x s (λ e. omega arith)), times-none l i x (λ j q. h (suc j) (omega arith)) g)
+
+-- each cell but the last is read once
+abbrev Once : ℕ → List Cell → Type 0
+Once i cs = (j : ℕ) → j + 1 < length cs → reads (i + j) cs ≡ 1
+
+module _ (K : ℕ) where
+  later-once : (c : Cell) (cs : List Cell) (i : ℕ) → Wired K i (c ∷ cs) → Once i (c ∷ cs) → Once (suc i) cs
+  later-once c cs i w o j h =
+      let q : suc i + j ≡ i + suc j = omega arith in
+      omega (arith, ap (λ (x : ℕ). reads x cs) q, times-none (c .signals) i (i + suc j) (w .1) (omega arith), o (suc j) (omega arith))
+
+  first-once : (c d : Cell) (cs : List Cell) (i : ℕ) → Wired K i (c ∷ d ∷ cs) → Once i (c ∷ d ∷ cs) → reads i (d ∷ cs) ≡ 1
+  first-once c d cs i w o =
+      let q : i ≡ i + 0 = omega arith in
+      omega (arith, ap (λ (x : ℕ). reads x (c ∷ d ∷ cs)) q, times-none (c .signals) i i (w .1) (omega arith), o 0 (omega arith))
+
+  short : (cs : List Cell) (c : Cell) (i : ℕ) (v : ℕ → List ℕ) → Wired K i (c ∷ cs) → Once i (c ∷ cs) → ((s : ℕ) → i ≤ s → v s ≡ [])
+      → length (inTurn cellText i (c ∷ cs) v (i + length cs)) ≤ 5 * (1 + length cs) + bytesRead v (c ∷ cs)
+  unfolding inTurn
+  short [] c i v w o none =
+      let q : i + 0 ≡ i = omega arith in
+      let e = ap (λ (x : ℕ). with v i (cellText c v) x) q ∙ ap (λ (b : Bool). cond b (cellText c v) (v i)) (eq-eqb i i refl) in
+      omega (arith, ap length e, sides-short (c .signals) (c .table) v)
+  short (d ∷ cs) c i v w o none =
+      let t = cellText c v in
+      let q : suc i + length cs ≡ i + suc (length cs) = omega arith in
+      let rest = short cs d (suc i) (with v i t) (w .2) (later-once c (d ∷ cs) i w o) (λ s h. ap (λ (b : Bool). cond b t (v s)) (ne-eqb s i (λ e. omega arith)) ∙ none s (omega arith)) in
+      let once = ap (λ (k : ℕ). k * length t) (first-once c d cs i w o) in
+      omega (arith, rest, ap (λ (x : ℕ). length (inTurn cellText (suc i) (d ∷ cs) (with v i t) x)) q, cells-more v i t (none i (omega arith)) (d ∷ cs), once, sides-short (c .signals) (c .table) v)
+
+-- ---- the whole text
+
+letter-short : (b : Bool) (j : ℕ) → length (cond b ((97 + j) ∷ []) []) ≤ 1
+letter-short true j = omega arith
+letter-short false j = omega arith
+
+letters-short : (n : ℕ) (l : List ℕ) → bytesOf (letterText n) l ≤ length l
+letters-short n [] = omega arith
+letters-short n (s ∷ l) = omega (arith, letter-short (ltb s n) s, letters-short n l)
+
+read-short : (n : ℕ) (cs : List Cell) → AllPlain cs → bytesRead (letterText n) cs ≤ 2 * length cs
+read-short n [] p = omega arith
+read-short n (c ∷ cs) p = omega (arith, letters-short n (c .signals), p .0 .few, read-short n cs (p .1))
+
+-- seven bytes a cell
+pub text-short : (n K : ℕ) (cs : List Cell) → 1 ≤ length cs → Wired K n cs → Printable n cs → length (printed n cs (n + (length cs - 1))) ≤ 7 * length cs
+unfolding printed
+text-short n K [] some w p = absurd (omega arith)
+text-short n K (c ∷ cs) some w p =
+    let q : n + length cs ≡ n + (suc (length cs) - 1) = omega arith in
+    omega (arith, short K cs c n (letterText n) w (p .once) (λ s h. ap (λ (b : Bool). cond b ((97 + s) ∷ []) []) (le-ltb s n h)), read-short n (c ∷ cs) (p .plain), ap (λ (x : ℕ). length (inTurn cellText n (c ∷ cs) (letterText n) x)) q)
