@@ -42,7 +42,7 @@
 extern "C" {
 #endif
 
-enum { PELZURIVAN_RECORD = 16, PELZURIVAN_SHEET = 240, PELZURIVAN_WORK = 16384 };
+enum { PELZURIVAN_RECORD = 16, PELZURIVAN_SHEET = 240, PELZURIVAN_WORK = 16384, PELZURIVAN_TEXT = 1024 };
 
 typedef struct { uint64_t number, d, b, columns; } pelzurivan_tried;
 typedef struct { uint64_t number, own, shared; } pelzurivan_sought;
@@ -51,6 +51,7 @@ typedef struct { uint64_t number, bit, index; } pelzurivan_ran;
 typedef struct { uint64_t number, index; } pelzurivan_rebuilt;
 typedef struct { uint64_t number, place; } pelzurivan_checked;
 typedef struct { uint64_t number, place; } pelzurivan_formula_read;
+typedef struct { uint64_t number, place, length; } pelzurivan_formula_written;
 
 /* The inputs' times, in nanoseconds. kind 1 is one arrival (first), 2 an earliest (first) and a latest (second), any
  * other is not read. Only those of the n inputs are looked at, and of those only what their kind says. */

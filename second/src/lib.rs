@@ -8,6 +8,7 @@ pub mod calls;
 pub mod cell;
 pub mod chain;
 pub mod network;
+pub mod printing;
 pub mod refusals;
 pub mod sets;
 pub mod split;

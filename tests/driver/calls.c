@@ -145,9 +145,23 @@ static void read_formula(void) {
     put_area(table);
 }
 
+static void write_formula(void) {
+    uint64_t n = number(8);
+    area sheet = handed(SHEET), text = lent(TEXT);
+    if (!whole()) return;
+    start();
+    pelzurivan_formula_written a = pelzurivan_write_formula(n, sheet.bytes, sheet.length, text.bytes, text.length);
+    stop();
+    put(1, a.number);
+    put(8, a.place);
+    put(2, a.length);
+    put_area(text);
+}
+
 static const call CALLS[] = {
     {0x01, try_split}, {0x02, find},   {0x03, make},  {0x04, run},     {0x05, rebuild},
     {0x06, check},     {0x07, settle}, {0x08, slack}, {0x09, shorter}, {0x0A, read_formula},
+    {0x0B, write_formula},
 };
 
 const call *call_of(int code) {

@@ -1,6 +1,6 @@
 -- The starred examples of documents 01 and 02: one listing, one claim, shown of the definitions by computation. Assumes nothing.
--- An answer is the number; then D, where the split broke, how many columns there are and the room for H (try), A and B (find), the count and the records (make), the bit and the index (run), or the
--- index and the table (rebuild). Of the bench program it is all that it writes.
+-- An answer is the number; then D, where the split broke, how many columns there are and the room for H (try), A and B (find), the count and the records (make), the bit and the index (run), the index and the table
+-- (rebuild), the place and the table (a formula read), or the place and the text (a formula written). Of the bench program it is all that it writes.
 use mathlib.Core.Path.{_≡_, refl}
 use mathlib.Core.List.{List, [], _∷_}
 use Prim.Native.Nat.{ℕ}
@@ -27,7 +27,12 @@ use Rattle.running.specs.RunSheet.{runOutcome}
 use Rattle.running.specs.RebuildTable.{rebuildOutcome}
 use Rattle.bench.specs.MakeSheet.{makeOutcome}
 use Rattle.bench.specs.BenchProgram.{asked}
-use Rattle.claims.specs.Questions.{Question, trying, finding, making, running, rebuilding, reading, Example, answers, expected}
+use Rattle.formulas.specs.Formula.{value}
+use Rattle.formulas.specs.Reading.{reads, textOf}
+use Rattle.formulas.specs.ReadFormula.{readOutcome}
+use Rattle.printing.specs.Print.{inTurn, printed}
+use Rattle.printing.specs.WriteFormula.{writeOutcome}
+use Rattle.claims.specs.Questions.{Question, trying, finding, making, running, rebuilding, parsing, printing, reading, Example, answers, expected}
 
 infix 90 _gets_
 abbrev pub _gets_ : Question → List ℕ → Example
@@ -52,6 +57,10 @@ selector = 0xAA ∷ 0xAA ∷ 0xF0 ∷ 0xF0 ∷ 0xCC ∷ 0xCC ∷ 0x00 ∷ 0xFF �
 -- the sheet of AND
 abbrev pub and3 : List ℕ
 and3 = two 0 1 0x08 (two 2 3 0x08 [])
+
+-- (c&(a&b))
+abbrev pub andText : List ℕ
+andText = 40 ∷ 99 ∷ 38 ∷ 40 ∷ 97 ∷ 38 ∷ 98 ∷ 41 ∷ 41 ∷ []
 
 pub listing : List Example
 listing =
@@ -121,8 +130,11 @@ listing =
     -- 11: an assignment too large, and the largest
     ∷ running 3 and3 8 gets (11 ∷ 0 ∷ 0 ∷ [])
     ∷ running 3 and3 7 gets (0 ∷ 1 ∷ 0 ∷ [])
+    -- E8: table 80's sheet prints (c&(a&b)), which reads as table 80
+    ∷ printing 3 and3 gets (0 ∷ 0 ∷ andText)
+    ∷ parsing 3 andText (0xAA ∷ []) gets (0 ∷ 0 ∷ 0x80 ∷ [])
     ∷ []
 
 pub examples : answers listing ≡ expected listing
-unfolding listing asked tryOutcome findOutcome makeOutcome runOutcome rebuildOutcome sheetAside chainAside turn keptSignals keptTable kept support counts tableOver bestCounting pick listOf best first tryA tryB disjoint fewColumns firstBroken tableD tableH bytesH codeAt code bitH columns column assign firsts number size gather spread least spareClear tableOf output run cellOf spareOk byteOk keeps cellsFrom sheetBit rebuilt recordByte encode
+unfolding listing asked readOutcome textOf reads value writeOutcome inTurn printed tryOutcome findOutcome makeOutcome runOutcome rebuildOutcome sheetAside chainAside turn keptSignals keptTable kept support counts tableOver bestCounting pick listOf best first tryA tryB disjoint fewColumns firstBroken tableD tableH bytesH codeAt code bitH columns column assign firsts number size gather spread least spareClear tableOf output run cellOf spareOk byteOk keeps cellsFrom sheetBit rebuilt recordByte encode
 examples = refl

@@ -13,6 +13,8 @@ pub mod Shorter
 pub mod Settle
 pub mod Slack
 pub mod ReadFormula
+pub mod WriteFormula
+pub mod Formulas
 pub mod Fewest
 pub mod Trees
 pub mod BenchProgram

@@ -94,19 +94,20 @@ module _ (n : ℕ) (s table : List ℕ) where
   -- ---- done
 
   module _ (done : readOutcome n s table .verdict ≡ Fine) where
-    whole : readOutcome n s table .table ≡ tableOf n (valueIn (textOf n s))
+    -- it is the table of the formula's values
+    pub read-whole : readOutcome n s table .table ≡ tableOf n (valueIn (textOf n s))
     unfolding readOutcome
-    whole = ap (λ o. o .table) (is-done (λ (o : ReadOutcome). o .verdict) (readDone n s) (readNot table) refl (λ q. refl) (verdict (readLines n s table)) done)
+    read-whole = ap (λ o. o .table) (is-done (λ (o : ReadOutcome). o .verdict) (readDone n s) (readNot table) refl (λ q. refl) (verdict (readLines n s table)) done)
 
     -- the table has the formula's value at every assignment
     pub read-table : (F : Formula) → ReadAs n s F → (x : ℕ) → x < 2 ^ n → tableBit (readOutcome n s table .table) x ≡ value F x
     read-table F r x h =
-        ap (λ (l : List ℕ). tableBit l x) whole ∙ table-of n (valueIn (textOf n s)) x h ∙ ap (λ (a : Answer). valueIn a x) (read-as n s F .1 r)
+        ap (λ (l : List ℕ). tableBit l x) read-whole ∙ table-of n (valueIn (textOf n s)) x h ∙ ap (λ (a : Answer). valueIn a x) (read-as n s F .1 r)
 
     -- it is written whole
     pub read-length : length (readOutcome n s table .table) ≡ tableLength n
-    read-length = ap length whole ∙ length-table n (valueIn (textOf n s))
+    read-length = ap length read-whole ∙ length-table n (valueIn (textOf n s))
 
     -- its spare bits are zero
     pub read-spare : (x : ℕ) → 2 ^ n ≤ x → x < 8 * tableLength n → tableBit (readOutcome n s table .table) x ≡ false
-    read-spare x h l = ap (λ (r : List ℕ). tableBit r x) whole ∙ spare-zero n (valueIn (textOf n s)) x h l
+    read-spare x h l = ap (λ (r : List ℕ). tableBit r x) read-whole ∙ spare-zero n (valueIn (textOf n s)) x h l

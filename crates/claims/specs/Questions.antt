@@ -2,7 +2,7 @@
 -- afterwards.
 use mathlib.Core.List.{List, [], _∷_}
 use Prim.Native.Nat.{ℕ, _*_}
-use lib.ListN.{replicate}
+use lib.ListN.{replicate, take}
 use Rattle.bits.specs.Numbers.{val}
 use Rattle.sheets.specs.Edition.{recordSize, mostRecords, firstEdition}
 use Rattle.chains.specs.Area.{workLength}
@@ -14,6 +14,9 @@ use Rattle.running.specs.RunSheet.{runOutcome}
 use Rattle.running.specs.RebuildTable.{RebuildOutcome, rebuildOutcome}
 use Rattle.bench.specs.MakeSheet.{MakeOutcome, makeOutcome}
 use Rattle.bench.specs.BenchProgram.{written}
+use Rattle.formulas.specs.Text.{mostText}
+use Rattle.formulas.specs.ReadFormula.{ReadOutcome, readOutcome}
+use Rattle.printing.specs.WriteFormula.{WriteOutcome, writeOutcome}
 use Rattle.claims.specs.Words.{recordsOf}
 
 -- what the bench can be asked
@@ -27,6 +30,10 @@ pub data Question : Type 0 where
   running : ℕ → List ℕ → ℕ → Question
   -- n, the sheet and the lent table
   rebuilding : ℕ → List ℕ → List ℕ → Question
+  -- n, the text and the lent table
+  parsing : ℕ → List ℕ → List ℕ → Question
+  -- n and the sheet
+  printing : ℕ → List ℕ → Question
   -- the bytes that the bench program reads
   reading : List ℕ → Question
 
@@ -37,6 +44,10 @@ lentSheet = replicate (recordSize * mostRecords) 0xAA
 -- the lent work area, preset to AA
 abbrev pub lentWork : List ℕ
 lentWork = replicate workLength 0xAA
+
+-- the lent room for a text, preset to AA
+abbrev pub lentText : List ℕ
+lentText = replicate mostText 0xAA
 
 -- the number, D, where it broke and how many columns there are, the room
 abbrev pub sayTry : TryOutcome → List ℕ
@@ -59,6 +70,14 @@ sayRun a = numberOf (a .verdict) ∷ val (a .bit) ∷ placeOf (a .verdict) ∷ [
 abbrev pub sayRebuild : RebuildOutcome → List ℕ
 sayRebuild o = numberOf (o .verdict) ∷ placeOf (o .verdict) ∷ o .table
 
+-- the number, the place, the table
+abbrev pub sayRead : ReadOutcome → List ℕ
+sayRead o = numberOf (o .verdict) ∷ placeOf (o .verdict) ∷ o .table
+
+-- the number and the place; of the room, the text that was written
+abbrev pub sayWrite : WriteOutcome → List ℕ
+sayWrite o = numberOf (o .answer .verdict) ∷ placeOf (o .answer .verdict) ∷ take (o .answer .length) (o .room)
+
 -- what the definitions answer, in the first edition and for the bench's own desk
 abbrev pub answer : Question → List ℕ
 answer (trying n K A B t room) = sayTry (tryOutcome firstEdition n K A B t room)
@@ -66,6 +85,8 @@ answer (finding n K t) = sayFind (findOutcome firstEdition n K t lentWork)
 answer (making n K t) = sayMake (makeOutcome firstEdition 0 n K t lentSheet lentWork)
 answer (running n s x) = sayRun (runOutcome firstEdition 0 n s x)
 answer (rebuilding n s table) = sayRebuild (rebuildOutcome firstEdition 0 n s table)
+answer (parsing n text table) = sayRead (readOutcome n text table)
+answer (printing n s) = sayWrite (writeOutcome firstEdition 0 n s lentText)
 answer (reading input) = written input
 
 -- an example: what is asked, and what is to be answered

@@ -10,3 +10,4 @@ pub mod InputTimes
 pub mod Settle
 pub mod Slack
 pub mod ReadFormula
+pub mod WriteFormula

@@ -11,3 +11,4 @@ pub mod settle;
 pub mod shorter;
 pub mod slack;
 pub mod try_split;
+pub mod write_formula;

@@ -1,8 +1,10 @@
--- What is printed of cells that are each read once is short: five bytes a cell, and a letter for each input that is read. Assumes nothing.
+-- What is measured of cells that are each read once: what each cell adds, and what the inputs that are read weigh. So the
+-- text is short: five bytes a cell, and a letter for each input that is read. Assumes nothing.
 use mathlib.Core.Path.{_≡_, refl, sym, ap, ap₂, _∙_, subst}
 use mathlib.Core.Bool.{Bool, true, false, cond}
 use mathlib.Core.List.{List, [], _∷_, _++_}
 use Prim.Native.Nat.{ℕ, zero, suc, _+_, _-_, _*_, _<_, _≤_}
+use native.Mathlib.Nat.{mul-suc}
 use native.Mathlib.Omega.{arith}
 use lib.Dec.{eqb, ltb}
 use lib.ListN.{length, getD, length-append}
@@ -14,45 +16,79 @@ use Rattle.printing.specs.Forms.{markOf, flipsLow, flipsHigh}
 use Rattle.printing.specs.Print.{inTurn, bySides, flipped, oneText, twoText, cellText, letterText, printed}
 use Rattle.printing.specs.Printable.{AllPlain, Printable}
 
--- the bytes of what is read, each as often as it is
-abbrev bytesOf : (ℕ → List ℕ) → List ℕ → ℕ
-bytesOf v [] = 0
-bytesOf v (s ∷ l) = length (v s) + bytesOf v l
+-- the weight of what is read, each as often as it is
+abbrev pub weighed : (ℕ → ℕ) → List ℕ → ℕ
+weighed m [] = 0
+weighed m (s ∷ l) = m s + weighed m l
 
-abbrev bytesRead : (ℕ → List ℕ) → List Cell → ℕ
-bytesRead v [] = 0
-bytesRead v (c ∷ cs) = bytesOf v (c .signals) + bytesRead v cs
+abbrev pub weighedIn : (ℕ → ℕ) → List Cell → ℕ
+weighedIn m [] = 0
+weighedIn m (c ∷ cs) = weighed m (c .signals) + weighedIn m cs
 
--- v with t at signal i
-abbrev with : (ℕ → List ℕ) → ℕ → List ℕ → ℕ → List ℕ
-with v i t s = cond (eqb s i) t (v s)
+mul-sum : (a b c : ℕ) → (a + b) * c ≡ a * c + b * c
+mul-sum a b c = omega arith
 
-module _ (v : ℕ → List ℕ) (i : ℕ) (t : List ℕ) (none : v i ≡ []) where
-  one-more : (s : ℕ) → length (with v i t s) ≡ length (v s) + val (eqb i s) * length t
-  one-more s = go (eqb s i) refl
-    where
-      go : (b : Bool) → eqb s i ≡ b → length (cond b t (v s)) ≡ length (v s) + val (eqb i s) * length t
-      go true q =
-          let e = eqb-true s i q in
-          omega (arith, ap length (ap v e ∙ none), ap (λ (b : Bool). val b * length t) (eq-eqb i s (sym e)))
-      go false q = omega (arith, ap (λ (b : Bool). val b * length t) (ne-eqb i s (λ e. eqb-false s i q (sym e))))
-
-  list-more : (l : List ℕ) → bytesOf (with v i t) l ≡ bytesOf v l + times i l * length t
+-- m′ is m, with w at signal i, which weighed nothing
+module _ (m m′ : ℕ → ℕ) (i w : ℕ) (same : (s : ℕ) → m′ s ≡ m s + val (eqb i s) * w) where
+  list-more : (l : List ℕ) → weighed m′ l ≡ weighed m l + times i l * w
   list-more [] = omega arith
-  list-more (s ∷ l) = let a = val (eqb i s) in let b = times i l in
-      omega (arith, one-more s, list-more l, mul-sum a b (length t))
-    where
-      mul-sum : (a b c : ℕ) → (a + b) * c ≡ a * c + b * c
-      mul-sum a b c = omega arith
+  list-more (s ∷ l) = omega (arith, same s, list-more l, mul-sum (val (eqb i s)) (times i l) w)
 
-  cells-more : (cs : List Cell) → bytesRead (with v i t) cs ≡ bytesRead v cs + reads i cs * length t
+  cells-more : (cs : List Cell) → weighedIn m′ cs ≡ weighedIn m cs + reads i cs * w
   cells-more [] = omega arith
-  cells-more (c ∷ cs) = omega (arith, list-more (c .signals), cells-more cs, mul-sum (times i (c .signals)) (reads i cs) (length t))
-    where
-      mul-sum : (a b c : ℕ) → (a + b) * c ≡ a * c + b * c
-      mul-sum a b c = omega arith
+  cells-more (c ∷ cs) = omega (arith, list-more (c .signals), cells-more cs, mul-sum (times i (c .signals)) (reads i cs) w)
 
--- ---- one cell
+-- ---- the cells in turn
+
+pub times-none : (l : List ℕ) (i x : ℕ) → ((j : ℕ) → j < length l → getD l j 0 < i) → i ≤ x → times x l ≡ 0
+times-none [] i x h g = refl
+times-none (s ∷ l) i x h g =
+    let k : s < i = h 0 (omega arith) in
+    omega (arith, ap val (ne-eqb x s (λ e. omega arith)), times-none l i x (λ j q. h (suc j) (omega arith)) g)
+
+-- each cell but the last is read once
+abbrev pub Once : ℕ → List Cell → Type 0
+Once i cs = (j : ℕ) → j + 1 < length cs → reads (i + j) cs ≡ 1
+
+module _ (K : ℕ) where
+  later-once : (c : Cell) (cs : List Cell) (i : ℕ) → Wired K i (c ∷ cs) → Once i (c ∷ cs) → Once (suc i) cs
+  later-once c cs i w o j h =
+      let q : suc i + j ≡ i + suc j = omega arith in
+      omega (arith, ap (λ (x : ℕ). reads x cs) q, times-none (c .signals) i (i + suc j) (w .1) (omega arith), o (suc j) (omega arith))
+
+  first-once : (c d : Cell) (cs : List Cell) (i : ℕ) → Wired K i (c ∷ d ∷ cs) → Once i (c ∷ d ∷ cs) → reads i (d ∷ cs) ≡ 1
+  first-once c d cs i w o =
+      let q : i ≡ i + 0 = omega arith in
+      omega (arith, ap (λ (x : ℕ). reads x (c ∷ d ∷ cs)) q, times-none (c .signals) i i (w .1) (omega arith), o 0 (omega arith))
+
+  -- a measure to which a cell adds at most k
+  module _ {A : Type 0} (makes : Cell → (ℕ → A) → A) (measure : A → ℕ) (k : ℕ)
+      (adds : (c : Cell) (v : ℕ → A) → measure (makes c v) ≤ k + weighed (λ s. measure (v s)) (c .signals)) where
+    pub measured : (cs : List Cell) (c : Cell) (i : ℕ) (v : ℕ → A) → Wired K i (c ∷ cs) → Once i (c ∷ cs) → ((s : ℕ) → i ≤ s → measure (v s) ≡ 0)
+        → measure (inTurn makes i (c ∷ cs) v (i + length cs)) ≤ k * (1 + length cs) + weighedIn (λ s. measure (v s)) (c ∷ cs)
+    unfolding inTurn
+    measured [] c i v w o none =
+        let q : i + 0 ≡ i = omega arith in
+        let e = ap (λ (x : ℕ). cond (eqb x i) (makes c v) (v x)) q ∙ ap (λ (b : Bool). cond b (makes c v) (v i)) (eq-eqb i i refl) in
+        omega (arith, ap measure e, adds c v)
+    measured (d ∷ cs) c i v w o none =
+        let t = makes c v in
+        let u : ℕ → A = λ x. cond (eqb x i) (makes c v) (v x) in
+        let q : suc i + length cs ≡ i + suc (length cs) = omega arith in
+        let rest = measured cs d (suc i) u (w .2) (later-once c (d ∷ cs) i w o) (λ s h. ap (λ (b : Bool). measure (cond b t (v s))) (ne-eqb s i (λ e. omega arith)) ∙ none s (omega arith)) in
+        omega (
+          arith, rest, ap (λ (x : ℕ). measure (inTurn makes (suc i) (d ∷ cs) u x)) q,
+          cells-more (λ s. measure (v s)) (λ s. measure (u s)) i (measure t) (λ s. one s (eqb s i) refl) (d ∷ cs),
+          ap (λ (r : ℕ). r * measure t) (first-once c d cs i w o), adds c v, mul-suc k (1 + length cs),
+        )
+      where
+        one : (s : ℕ) (b : Bool) → eqb s i ≡ b → measure (cond b (makes c v) (v s)) ≡ measure (v s) + val (eqb i s) * measure (makes c v)
+        one s true q =
+            let e = eqb-true s i q in
+            omega (arith, none s (omega arith), ap (λ (b : Bool). val b * measure (makes c v)) (eq-eqb i s (sym e)))
+        one s false q = omega (arith, ap (λ (b : Bool). val b * measure (makes c v)) (ne-eqb i s (λ e. eqb-false s i q (sym e))))
+
+-- ---- the text of one cell
 
 flip-short : (f : Bool) (w : List ℕ) → length (flipped f w) ≤ 1 + length w
 flip-short true w = omega arith
@@ -69,47 +105,10 @@ two-short t l r =
     let b = flipped (flipsHigh t) r in
     omega (arith, length-append a (markOf t ∷ (b ++ (41 ∷ []))), length-append b (41 ∷ []), flip-short (flipsLow t) l, flip-short (flipsHigh t) r)
 
-sides-short : (l : List ℕ) (t : ℕ) (v : ℕ → List ℕ) → length (bySides [] oneText twoText l t v) ≤ 5 + bytesOf v l
+sides-short : (l : List ℕ) (t : ℕ) (v : ℕ → List ℕ) → length (bySides [] oneText twoText l t v) ≤ 5 + weighed (λ s. length (v s)) l
 sides-short [] t v = omega arith
 sides-short (a ∷ []) t v = omega (arith, one-short (eqb t 0) (eqb t 3) (eqb t 1) (v a))
 sides-short (a ∷ b ∷ l) t v = omega (arith, two-short t (v a) (v b))
-
--- ---- the cells in turn
-
-times-none : (l : List ℕ) (i x : ℕ) → ((j : ℕ) → j < length l → getD l j 0 < i) → i ≤ x → times x l ≡ 0
-times-none [] i x h g = refl
-times-none (s ∷ l) i x h g =
-    let k : s < i = h 0 (omega arith) in
-    omega (arith, ap val (ne-eqb x s (λ e. omega arith)), times-none l i x (λ j q. h (suc j) (omega arith)) g)
-
--- each cell but the last is read once
-abbrev Once : ℕ → List Cell → Type 0
-Once i cs = (j : ℕ) → j + 1 < length cs → reads (i + j) cs ≡ 1
-
-module _ (K : ℕ) where
-  later-once : (c : Cell) (cs : List Cell) (i : ℕ) → Wired K i (c ∷ cs) → Once i (c ∷ cs) → Once (suc i) cs
-  later-once c cs i w o j h =
-      let q : suc i + j ≡ i + suc j = omega arith in
-      omega (arith, ap (λ (x : ℕ). reads x cs) q, times-none (c .signals) i (i + suc j) (w .1) (omega arith), o (suc j) (omega arith))
-
-  first-once : (c d : Cell) (cs : List Cell) (i : ℕ) → Wired K i (c ∷ d ∷ cs) → Once i (c ∷ d ∷ cs) → reads i (d ∷ cs) ≡ 1
-  first-once c d cs i w o =
-      let q : i ≡ i + 0 = omega arith in
-      omega (arith, ap (λ (x : ℕ). reads x (c ∷ d ∷ cs)) q, times-none (c .signals) i i (w .1) (omega arith), o 0 (omega arith))
-
-  short : (cs : List Cell) (c : Cell) (i : ℕ) (v : ℕ → List ℕ) → Wired K i (c ∷ cs) → Once i (c ∷ cs) → ((s : ℕ) → i ≤ s → v s ≡ [])
-      → length (inTurn cellText i (c ∷ cs) v (i + length cs)) ≤ 5 * (1 + length cs) + bytesRead v (c ∷ cs)
-  unfolding inTurn
-  short [] c i v w o none =
-      let q : i + 0 ≡ i = omega arith in
-      let e = ap (λ (x : ℕ). with v i (cellText c v) x) q ∙ ap (λ (b : Bool). cond b (cellText c v) (v i)) (eq-eqb i i refl) in
-      omega (arith, ap length e, sides-short (c .signals) (c .table) v)
-  short (d ∷ cs) c i v w o none =
-      let t = cellText c v in
-      let q : suc i + length cs ≡ i + suc (length cs) = omega arith in
-      let rest = short cs d (suc i) (with v i t) (w .2) (later-once c (d ∷ cs) i w o) (λ s h. ap (λ (b : Bool). cond b t (v s)) (ne-eqb s i (λ e. omega arith)) ∙ none s (omega arith)) in
-      let once = ap (λ (k : ℕ). k * length t) (first-once c d cs i w o) in
-      omega (arith, rest, ap (λ (x : ℕ). length (inTurn cellText (suc i) (d ∷ cs) (with v i t) x)) q, cells-more v i t (none i (omega arith)) (d ∷ cs), once, sides-short (c .signals) (c .table) v)
 
 -- ---- the whole text
 
@@ -117,11 +116,11 @@ letter-short : (b : Bool) (j : ℕ) → length (cond b ((97 + j) ∷ []) []) ≤
 letter-short true j = omega arith
 letter-short false j = omega arith
 
-letters-short : (n : ℕ) (l : List ℕ) → bytesOf (letterText n) l ≤ length l
+letters-short : (n : ℕ) (l : List ℕ) → weighed (λ s. length (letterText n s)) l ≤ length l
 letters-short n [] = omega arith
 letters-short n (s ∷ l) = omega (arith, letter-short (ltb s n) s, letters-short n l)
 
-read-short : (n : ℕ) (cs : List Cell) → AllPlain cs → bytesRead (letterText n) cs ≤ 2 * length cs
+read-short : (n : ℕ) (cs : List Cell) → AllPlain cs → weighedIn (λ s. length (letterText n s)) cs ≤ 2 * length cs
 read-short n [] p = omega arith
 read-short n (c ∷ cs) p = omega (arith, letters-short n (c .signals), p .0 .few, read-short n cs (p .1))
 
@@ -131,4 +130,9 @@ unfolding printed
 text-short n K [] some w p = absurd (omega arith)
 text-short n K (c ∷ cs) some w p =
     let q : n + length cs ≡ n + (suc (length cs) - 1) = omega arith in
-    omega (arith, short K cs c n (letterText n) w (p .once) (λ s h. ap (λ (b : Bool). cond b ((97 + s) ∷ []) []) (le-ltb s n h)), read-short n (c ∷ cs) (p .plain), ap (λ (x : ℕ). length (inTurn cellText n (c ∷ cs) (letterText n) x)) q)
+    omega (
+      arith,
+      measured K cellText length 5 (λ c v. sides-short (c .signals) (c .table) v) cs c n (letterText n) w (p .once)
+      (λ s h. ap (λ (b : Bool). length (cond b ((97 + s) ∷ []) [])) (le-ltb s n h)),
+      read-short n (c ∷ cs) (p .plain), ap (λ (x : ℕ). length (inTurn cellText n (c ∷ cs) (letterText n) x)) q,
+    )

@@ -10,11 +10,12 @@ pub mod settle;
 pub mod shorter;
 pub mod slack;
 pub mod try_split;
+pub mod write_formula;
 
 use crate::case::Call;
 
 /// The calls that are answered today, by code.
-pub static TABLE: [&Call; 10] = [
+pub static TABLE: [&Call; 11] = [
     &try_split::CALL,
     &find::CALL,
     &make::CALL,
@@ -25,6 +26,7 @@ pub static TABLE: [&Call; 10] = [
     &slack::CALL,
     &shorter::CALL,
     &read_formula::CALL,
+    &write_formula::CALL,
 ];
 
 pub fn call_of(code: u8) -> Option<&'static Call> {

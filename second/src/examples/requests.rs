@@ -182,6 +182,33 @@ fn the_shorter_of_two() -> Vec<Example> {
     ]
 }
 
+/// Formulas read and written. Table 80's sheet prints as document 02 says; the NANDs
+/// read one cell twice, and a cell of three signals isn't printed either.
+fn formulas() -> Vec<Example> {
+    let read = |n: u64, text: &str, number: u8, place: u8, table: &[u8]| {
+        let case = calls::read_formula::case(n, text.into(), table.len());
+        example("E8", case, [&[number, place, 0, 0, 0, 0, 0, 0, 0][..], table].concat())
+    };
+    let written = |n: u64, sheet: &str, number: u8, text: &str| {
+        let case = calls::write_formula::case(n, unhex(sheet), 1024);
+        let room: Vec<u8> = text.bytes().chain([PRESET; 1024]).take(1024).collect();
+        let numbers = [number, 0, 0, 0, 0, 0, 0, 0, 0, text.len() as u8, 0];
+        example("E8", case, [&numbers[..], &room].concat())
+    };
+    vec![
+        read(3, "(c&(a&b))", 0, 0, &[0x80]),
+        read(3, "a|b^c&!a", 0, 0, &[0xBE]),
+        read(3, "a|d", 16, 2, &[PRESET]),
+        read(3, "(a&b", 16, 4, &[PRESET]),
+        written(3, SHEET_OF_2, 0, "(c&(a&b))"),
+        written(1, "01 00 FF FF FF FF FF 00 01 00 00 00 00 00 00 00", 0, "!a"),
+        written(1, SHEET_OF_6_ONES, 0, "1"),
+        written(2, FOUR_NANDS, 16, ""),
+        written(3, PADDED_AT_1, 16, ""),
+        written(3, "03 00 01 02 FF FF FF 00 80 00 00 00 00 00 00 00", 16, ""),
+    ]
+}
+
 pub fn all() -> Vec<Example> {
     let parts = [
         check_a_sheet(),
@@ -190,6 +217,7 @@ pub fn all() -> Vec<Example> {
         settle_and_slack(),
         cells_that_nobody_reads(),
         the_shorter_of_two(),
+        formulas(),
     ];
     parts.into_iter().flatten().collect()
 }

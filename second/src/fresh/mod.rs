@@ -9,6 +9,7 @@ pub mod gate;
 pub mod ignored;
 mod large;
 pub mod networks;
+pub mod printing;
 pub mod sheet;
 pub mod sheets;
 pub mod tables;

@@ -1,0 +1,2 @@
+-- The tree that a formula is.
+pub mod TreeOf

@@ -1,0 +1,1 @@
+// Sheets made with cells of two inputs: theorems alone. Nothing here runs.
