@@ -15,7 +15,8 @@
  *    3  table, read or to be rebuilt, has a wrong length
  *    4  n below 3 and a spare bit set
  *    5  own or shared names a position from n up; they overlap; own below 2; both together above k
- *    6  room for H shorter than its table, room for the sheet under 240 bytes, or a work area under 16,384 bytes
+ *    6  room for H shorter than its table, room for the sheet under 240 bytes, a work area under 16,384 bytes, or room
+ *       for a text under 1,024 bytes
  *    7  at most k inputs count, so nothing to split
  *    8  the split isn't possible; none is; a table in the chain has none
  *    9  sheet empty, not a multiple of 16, or over 240 bytes
@@ -28,7 +29,8 @@
  *       -1,048,576 to 1,048,576
  *   15  some record but the last is read by no later record; index (or place) is the first such
  *   16  text is no formula of n inputs; place is the first byte at which it can't be continued (a letter beyond n and
- *       a 33rd level are such bytes), its length if it ends too soon or is over 1,024 bytes
+ *       a 33rd level are such bytes), its length if it ends too soon or is over 1,024 bytes; or no formula is printed
+ *       for the sheet: place is 0
  * After a refusal every other value is 0 (but for what 8 of a named split, 10, 12, 15 and 16 name), and no result byte
  * is touched.
  */
@@ -109,6 +111,12 @@ pelzurivan_shorter_answer pelzurivan_shorter(uint64_t n, const uint8_t *table, s
  * 16. */
 pelzurivan_formula_read pelzurivan_read_formula(uint64_t n, const uint8_t *text, size_t text_length, uint8_t *table,
                                                 size_t table_length);
+
+/* Writes a sheet as a formula: length bytes of room, the bytes after them stay. Printed is every sheet whose records
+ * read one or two signals, whose two-signal tables depend on both, and whose records but the last are each read once;
+ * so is every sheet made with k = 2. place is the index of a bad record (10). 1, 6, 9, 10, 16. */
+pelzurivan_formula_written pelzurivan_write_formula(uint64_t n, const uint8_t *sheet, size_t sheet_length, uint8_t *room,
+                                                    size_t room_length);
 
 #ifdef __cplusplus
 }

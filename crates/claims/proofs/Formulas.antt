@@ -2,7 +2,7 @@
 use mathlib.Core.Path.{_≡_, refl, sym, ap, ap₂, _∙_, subst, fun-ext}
 use mathlib.Core.Bool.{Bool, false, not, _&&_}
 use mathlib.Core.List.{List, [], _∷_}
-use Prim.Native.Nat.{ℕ, _≤_, _<_, _^_}
+use Prim.Native.Nat.{ℕ, _+_, _-_, _^_, _<_, _≤_}
 use native.Mathlib.Omega.{arith}
 use lib.Dec.{leb}
 use lib.ListN.{length}
@@ -25,14 +25,17 @@ use Rattle.formulas.specs.Text.{mostText, ReadAs}
 use Rattle.formulas.specs.Reading.{Answer, textOf, valueIn}
 use Rattle.formulas.specs.ReadFormula.{readOutcome}
 use Rattle.formulas.proofs.Place.{read-as}
-use Rattle.printing.specs.Print.{sheetText}
+use Rattle.printing.specs.Print.{sheetText, formulaOf}
 use Rattle.printing.specs.Printable.{Printable}
 use Rattle.printing.specs.WriteFormula.{writeForm, writeOutcome}
+use Rattle.trees.specs.Tree.{TreeOf}
+use Rattle.pairs.specs.TreeOf.{treeOf}
 use Rattle.pairs.proofs.Printed.{made-printable}
+use Rattle.pairs.proofs.Formula.{formula-tree}
 use Rattle.claims.specs.Words.{recordsOf}
 use Rattle.claims.proofs.Made.{IsMade, is-made, made-records, made-good, made-fits, cells-give}
-use Rattle.claims.proofs.ReadFormula.{read-exactly, read-whole}
-use Rattle.claims.proofs.WriteFormula.{write-back, write-exactly}
+use Rattle.claims.proofs.ReadFormula.{read-one, read-exactly, read-whole}
+use Rattle.claims.proofs.WriteFormula.{write-stands, write-back, write-exactly}
 
 rebuilt-is : (e : Edition) (n : ℕ) (s : List ℕ) → tableOf n (sheetBit e n s (records e s)) ≡ rebuilt e n s (records e s)
 unfolding rebuilt
@@ -47,18 +50,18 @@ module _ (e : Edition) (ok : IsEdition e) (d n : ℕ) (s room : List ℕ) (done 
   pub written-read : (readOutcome n (sheetText e n s) table .verdict ≡ Fine) × (readOutcome n (sheetText e n s) table .table ≡ rebuilt e n s (records e s))
   written-read = go (write-back e d n s room ok done)
     where
-      go : (F : Formula) × ReadAs n (sheetText e n s) F × ((x : ℕ) → value F x ≡ sheetBit e n s (records e s) x)
-          → (readOutcome n (sheetText e n s) table .verdict ≡ Fine) × (readOutcome n (sheetText e n s) table .table ≡ rebuilt e n s (records e s))
-      go w =
-          let fine = read-exactly n (sheetText e n s) table form .1 (w .0, w .1) in
-          (fine, read-whole n (sheetText e n s) table fine ∙ back (w .0) (w .1) (w .2))
-
       back : (F : Formula) → ReadAs n (sheetText e n s) F → ((x : ℕ) → value F x ≡ sheetBit e n s (records e s) x)
           → tableOf n (valueIn (textOf n (sheetText e n s))) ≡ rebuilt e n s (records e s)
       back F r worth = same (ap (λ (a : Answer). valueIn a) (read-as n (sheetText e n s) F .1 r) ∙ fun-ext worth)
         where
           same : valueIn (textOf n (sheetText e n s)) ≡ sheetBit e n s (records e s) → tableOf n (valueIn (textOf n (sheetText e n s))) ≡ rebuilt e n s (records e s)
           same q = ap (tableOf n) q ∙ rebuilt-is e n s
+
+      go : (F : Formula) × ReadAs n (sheetText e n s) F × ((x : ℕ) → value F x ≡ sheetBit e n s (records e s) x)
+          → (readOutcome n (sheetText e n s) table .verdict ≡ Fine) × (readOutcome n (sheetText e n s) table .table ≡ rebuilt e n s (records e s))
+      go w =
+          let fine = read-exactly n (sheetText e n s) table form .1 (w .0, w .1) in
+          (fine, read-whole n (sheetText e n s) table fine ∙ back (w .0) (w .1) (w .2))
 
 -- every sheet that make with K = 2 writes is printed
 module _ (e : Edition) (ok : IsEdition e) (d n : ℕ) (t sheet work : List ℕ) (done : makeOutcome e d n 2 t sheet work .answer .verdict ≡ Fine) where
@@ -96,3 +99,13 @@ module _ (e : Edition) (ok : IsEdition e) (d n : ℕ) (t sheet work : List ℕ) 
         ap (λ (l : List ℕ). tableBit l x) (written-read e ok d n s room made-printed table g .1) ∙ rebuilt-bit e n s (records e s) x h
         ∙ ap (λ (m : ℕ). sheetBit e n s m x) many ∙ ap (λ (r : List ℕ). sheetBit e n r (length (w .cells)) x) is
         ∙ runs-cells e d ok n (w .cells) (made-fits e d n 2 t sheet work w) x ∙ cells-give e d n 2 t sheet work w .gives x h
+
+    -- the formula that it stands for is a tree: it reads each of the inputs that count once, and computes the table
+    pub made-printed-tree : (F : Formula) → ReadAs n (sheetText e n s) F → TreeOf n (tableBit t) (treeOf F)
+    made-printed-tree F r =
+        subst (λ (G : Formula). TreeOf n (tableBit t) (treeOf G))
+        (last ∙ read-one n (sheetText e n s) (formulaOf n (sheetCells e s (records e s)) (n + (records e s - 1))) F (write-stands e d n s room ok made-printed) r)
+        (formula-tree n (tableBit t) (w .gate .some) (w .cells) (w .chain))
+      where
+        last : formulaOf n (w .cells) (n + (length (w .cells) - 1)) ≡ formulaOf n (sheetCells e s (records e s)) (n + (records e s - 1))
+        last = ap₂ (λ (cs : List Cell) (m : ℕ). formulaOf n cs (n + (m - 1))) (sym cells) (sym many)

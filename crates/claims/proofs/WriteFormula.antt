@@ -97,6 +97,10 @@ module _ (e : Edition) (d n : ℕ) (s room : List ℕ) where
     pub write-short : length (sheetText e n s) ≤ 105
     write-short = printing.short sound
 
-    -- the text stands for a formula, within 1,024 bytes and 32 levels, which has the sheet's bit at every assignment
+    -- the text stands for the formula of the last record, within 1,024 bytes and 32 levels
+    pub write-stands : ReadAs n (sheetText e n s) (formulaOf n (sheetCells e s (records e s)) (n + (records e s - 1)))
+    write-stands = printing.reads-back sound
+
+    -- which has the sheet's bit at every assignment
     pub write-back : (F : Formula) × ReadAs n (sheetText e n s) F × ((x : ℕ) → value F x ≡ sheetBit e n s (records e s) x)
-    write-back = (formulaOf n (sheetCells e s (records e s)) (n + (records e s - 1)), printing.reads-back sound, printing.worth sound)
+    write-back = (formulaOf n (sheetCells e s (records e s)) (n + (records e s - 1)), write-stands, printing.worth sound)

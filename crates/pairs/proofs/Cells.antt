@@ -108,7 +108,7 @@ makes-both (goes {i = i} {l = l} {T = T} {A = A} {B = B} h b m) all =
 
 -- ---- each signal is read at most once
 
-times-snoc : (x : ℕ) (l : List ℕ) (a : ℕ) → times x (l ++ (a ∷ [])) ≡ times x l + val (eqb x a)
+pub times-snoc : (x : ℕ) (l : List ℕ) (a : ℕ) → times x (l ++ (a ∷ [])) ≡ times x l + val (eqb x a)
 times-snoc x [] a = omega arith
 times-snoc x (b ∷ l) a = omega (arith, times-snoc x l a)
 
