@@ -4,9 +4,11 @@ use refusals::verdicts::Refusal;
 use refusals::verdicts::Verdict;
 use refusals::verdicts::refuse;
 use runs::running::rebuild;
+use sheets::desk::desk_of;
 use sheets::kinds::Edition;
 ghost use mathlib.Core.Path.{_≡_};
 ghost use Rattle.sheets.specs.Edition.{IsEdition, firstEdition};
+ghost use Rattle.sheets.specs.Desk.{deskOf};
 ghost use Rattle.refusals.specs.Lines.{verdict};
 ghost use Rattle.running.specs.RebuildTable.{rebuildLines, rebuildOutcome};
 
@@ -46,12 +48,13 @@ pub fn rebuild_in(e: Edition, d: u8, n: u64, s: &[u8], table: &mut [u8]) -> Verd
     Verdict::Fine
 }
 
-// Rebuilds the table of a sheet into a lent one.
+// Rebuilds the table of a sheet, whatever its desk, into a lent one.
 pub fn rebuild_table(n: u64, s: &[u8], table: &mut [u8]) -> Verdict
     ensures { λ r. ⌜
         record { verdict = r; table = now (table .exit) }
-        ≡ rebuildOutcome firstEdition 0 n (now (s .entry)) (now (table .entry))
+        ≡ rebuildOutcome firstEdition (deskOf firstEdition (now (s .entry))) n (now (s .entry)) (now (table .entry))
         ⌝ }
 {
-    rebuild_in(Edition::first(), 0, n, s, table)
+    let e = Edition::first();
+    rebuild_in(e, desk_of(e, s), n, s, table)
 }
