@@ -8,9 +8,8 @@ use sheets::desk::desk_of;
 use sheets::kinds::Edition;
 ghost use mathlib.Core.Path.{_≡_};
 ghost use Rattle.sheets.specs.Edition.{IsEdition, firstEdition};
-ghost use Rattle.sheets.specs.Desk.{deskOf};
 ghost use Rattle.refusals.specs.Lines.{verdict};
-ghost use Rattle.running.specs.RunSheet.{runLines, runOutcome};
+ghost use Rattle.running.specs.RunSheet.{runLines, runOutcome, runOwn};
 
 // The bit, if nothing is wrong.
 pub struct RunAnswer {
@@ -37,7 +36,7 @@ fn run_form(e: Edition, d: u8, n: u64, s: &[u8], x: u64) -> Verdict
     form::all_read(e, d, inputs, s)
 }
 
-// Runs a sheet of an edition, the desk's byte being d, at the assignment x.
+// Runs a sheet of an edition, which is to be the desk d's, at the assignment x.
 pub fn run_in(e: Edition, d: u8, n: u64, s: &[u8], x: u64) -> RunAnswer
     requires { ⌜ IsEdition e ⌝ }
     ensures { λ r. ⌜ r ≡ runOutcome e d n (now (s .entry)) x ⌝ }
@@ -58,7 +57,7 @@ pub fn run_in(e: Edition, d: u8, n: u64, s: &[u8], x: u64) -> RunAnswer
 
 // Runs a sheet, whatever its desk, at the assignment x.
 pub fn run_sheet(n: u64, s: &[u8], x: u64) -> RunAnswer
-    ensures { λ r. ⌜ r ≡ runOutcome firstEdition (deskOf firstEdition (now (s .entry))) n (now (s .entry)) x ⌝ }
+    ensures { λ r. ⌜ r ≡ runOwn firstEdition n (now (s .entry)) x ⌝ }
 {
     let e = Edition::first();
     run_in(e, desk_of(e, s), n, s, x)

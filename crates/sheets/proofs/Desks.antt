@@ -2,24 +2,28 @@
 -- and a sheet that keeps them is for that desk alone. Assumes nothing.
 use mathlib.Core.Path.{_≡_, refl, sym, ap, _∙_, subst}
 use mathlib.Core.Bool.{Bool, true, false, cond, not}
-use mathlib.Core.List.{List}
+use mathlib.Core.List.{List, [], _∷_}
 use Prim.Native.Nat.{ℕ, zero, suc, _+_, _*_, _<_, _≤_}
 use native.Mathlib.Nat.{mul-zero}
-use native.Mathlib.Decide.{decLe}
+use native.Mathlib.Decide.{decLe, decLt}
 use native.Mathlib.Omega.{arith}
-use lib.ListN.{length, getD, take, drop}
+use lib.ListN.{length, getD, take, drop, List·getD-eq-default}
 use lib.Seq.{getD-take}
-use borrow.Author.Tests.{le-leb, lt-leb, not-true, not-false}
+use borrow.Author.Tests.{le-leb, lt-leb, ne-eqb, not-true, not-false}
 use Rattle.bits.specs.Below.{IsLeast}
 use Rattle.bits.proofs.Bools.{clash}
 use Rattle.bits.proofs.Least.{is-least, least-of}
+use Rattle.bits.proofs.Lists.{length-list, list-at}
 use Rattle.sheets.specs.declared.kinds.Edition.{Edition}
 use Rattle.sheets.specs.Edition.{IsEdition, mostDesk}
-use Rattle.sheets.specs.Record.{Keeps, keeps}
+use Rattle.sheets.specs.Network.{Cell}
+use Rattle.sheets.specs.Record.{byteAt, Keeps, keeps}
 use Rattle.sheets.specs.Sheet.{recordAt, bad, firstBad, Good}
+use Rattle.sheets.specs.Writing.{recordByte, encode, sheetBytes}
 use Rattle.sheets.specs.Desk.{deskAt, Belongs, FirstAmiss, OneDesk, deskOf}
 use Rattle.sheets.proofs.Keeping.{rules, kept}
 use Rattle.sheets.proofs.Looks.{record-keeps}
+use Rattle.sheets.proofs.Wholes.{first-record, next-record}
 
 module _ (e : Edition) (s : List ℕ) where
   pub desk-said : deskAt e s 0 ≤ mostDesk → deskOf e s ≡ deskAt e s 0
@@ -99,3 +103,26 @@ module _ (e : Edition) (n : ℕ) (s : List ℕ) where
     pub good-desk : (d : ℕ) → d ≤ mostDesk → Good e d n s m → deskOf e s ≡ d
     good-desk d h g =
         let q = record-keeps e ok d n s m (g .rules) 0 (g .some) .desk in desk-said e s (omega (arith, q)) ∙ q
+
+-- ---- written for two desks, the same cells differ in the desk's byte alone
+
+module _ (e : Edition) (d d′ j : ℕ) (other : j ≡ e .most + 1 → ⊥) where
+  past : (x : ℕ) (c : Cell) → e .size ≤ j → byteAt (encode e x c) j ≡ 0
+  unfolding encode
+  past x c h = List·getD-eq-default (encode e x c) 0 (omega (arith, length-list (e .size) (recordByte e x c)))
+
+  same-byte : (c : Cell) → byteAt (encode e d c) j ≡ byteAt (encode e d′ c) j
+  unfolding encode recordByte
+  same-byte c = elim (decLt j (e .size)) [
+    | yes l ↦ list-at (e .size) (recordByte e d c) j 0 l ∙ rw (ne-eqb j (e .most + 1) other) refl ∙ sym (list-at (e .size) (recordByte e d′ c) j 0 l)
+    | no l ↦ past d c (omega arith) ∙ sym (past d′ c (omega arith))
+  ]
+
+  pub desk-alone : (cs : List Cell) (i : ℕ) → recordAt e (sheetBytes e d cs) i j ≡ recordAt e (sheetBytes e d′ cs) i j
+  desk-alone [] i = refl
+  desk-alone (c ∷ cs) zero =
+      ap (λ (l : List ℕ). byteAt l j) (first-record e d c (sheetBytes e d cs)) ∙ same-byte c
+      ∙ sym (ap (λ (l : List ℕ). byteAt l j) (first-record e d′ c (sheetBytes e d′ cs)))
+  desk-alone (c ∷ cs) (suc i) =
+      ap (λ (l : List ℕ). byteAt l j) (next-record e d c (sheetBytes e d cs) i) ∙ desk-alone cs i
+      ∙ sym (ap (λ (l : List ℕ). byteAt l j) (next-record e d′ c (sheetBytes e d′ cs) i))

@@ -4,9 +4,8 @@ use Prim.Native.Nat.{ℕ}
 use borrow.Author.Needs.{needs}
 use Rattle.sheets.specs.declared.kinds.Edition.{Edition}
 use Rattle.sheets.specs.Edition.{IsEdition}
-use Rattle.sheets.specs.Desk.{deskOf}
 use Rattle.sheets.proofs.Keeping.{first-edition}
-use Rattle.running.specs.RebuildTable.{rebuildOutcome}
+use Rattle.running.specs.RebuildTable.{rebuildOutcome, rebuildOwn}
 use Rattle.running.proofs.rebuild_table.rebuild_table.Statement.{statement}
 use Rattle.running.proofs.rebuild_table.rebuild_table.Tie as tie
 
@@ -21,7 +20,7 @@ returns c =
     let a = f .before .before .before .args in
     r .rebuild-in .ensures
     ∙ ap (λ (d : ℕ). rebuildOutcome (f .first .result) d (a .n) (a .s .now) (a .table .now)) (o .desk-of .ensures)
-    ∙ ap (λ (e : Edition). rebuildOutcome e (deskOf e (a .s .now)) (a .n) (a .s .now) (a .table .now)) (f .first .ensures)
+    ∙ ap (λ (e : Edition). rebuildOwn e (a .n) (a .s .now) (a .table .now)) (f .first .ensures)
 
 pub rebuild-table-spec : {M : Type 1} → statement M
 rebuild-table-spec =

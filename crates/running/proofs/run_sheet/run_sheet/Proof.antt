@@ -4,9 +4,8 @@ use Prim.Native.Nat.{ℕ}
 use borrow.Author.Needs.{needs}
 use Rattle.sheets.specs.declared.kinds.Edition.{Edition}
 use Rattle.sheets.specs.Edition.{IsEdition}
-use Rattle.sheets.specs.Desk.{deskOf}
 use Rattle.sheets.proofs.Keeping.{first-edition}
-use Rattle.running.specs.RunSheet.{runOutcome}
+use Rattle.running.specs.RunSheet.{runOutcome, runOwn}
 use Rattle.running.proofs.run_sheet.run_sheet.Statement.{statement}
 use Rattle.running.proofs.run_sheet.run_sheet.Tie as tie
 
@@ -16,7 +15,7 @@ returns c =
     let a = f .before .before .args in
     c .run-in .ensures
     ∙ ap (λ (d : ℕ). runOutcome (f .first .result) d (a .n) (a .s .now) (a .x)) (c .before .desk-of .ensures)
-    ∙ ap (λ (e : Edition). runOutcome e (deskOf e (a .s .now)) (a .n) (a .s .now) (a .x)) (f .first .ensures)
+    ∙ ap (λ (e : Edition). runOwn e (a .n) (a .s .now) (a .x)) (f .first .ensures)
 
 pub run-sheet-spec : {M : Type 1} → statement M
 run-sheet-spec =
