@@ -12,6 +12,7 @@ pub mod CheckSheet
 pub mod Shorter
 pub mod Settle
 pub mod Slack
+pub mod Desks
 pub mod Fewest
 pub mod Trees
 pub mod BenchProgram
