@@ -49,13 +49,7 @@ fn keep(first: Verdict, second: Verdict, i: usize, j: usize) -> Kept
 }
 
 // Looks over both sheets of an edition, each for its own desk.
-pub fn keep_in<'a>(
-    e: Edition,
-    n: u64,
-    t: &'a [u8],
-    first: &'a [u8],
-    second: &'a [u8],
-) -> Kept
+pub fn keep_in<'a>(e: Edition, n: u64, t: &'a [u8], first: &'a [u8], second: &'a [u8]) -> Kept
     requires { ⌜ IsEdition e ⌝ }
     ensures { λ r. ⌜ r ≡ keptOutcome e n (now (t .entry)) (now (first .entry)) (now (second .entry)) ⌝ }
 {
