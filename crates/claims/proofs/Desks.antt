@@ -23,22 +23,22 @@ use Rattle.times.specs.declared.input_time.InputTime.{InputTime}
 use Rattle.refusals.specs.declared.verdicts.Verdict.{Verdict}
 use Rattle.refusals.specs.declared.verdicts.Verdict.the-variants.{Fine, Refused}
 use Rattle.refusals.specs.Lines.{Line, InOrder, line, refusal, verdict, numberOf, reply}
-use Rattle.refusals.specs.Refusals.{badInputs, badTable, badDesk, badSheet, badAssignment, tableDiffers, unreadRecord, gateLines, shortSheet, chainStuck}
-use Rattle.refusals.proofs.Lines.{passes, passed, held}
+use Rattle.refusals.specs.Refusals.{badInputs, badTable, badDesk, badSheet, badAssignment, tableDiffers, unreadRecord, gateLines, sheetLines, shortSheet, chainStuck}
+use Rattle.refusals.proofs.Lines.{in-order, passes, passed, held}
 use Rattle.refusals.proofs.Sheets.{good-sheet, counted}
-use Rattle.running.specs.RunSheet.{runOutcome, runOwn}
-use Rattle.running.specs.RebuildTable.{rebuildOutcome, rebuildOwn}
-use Rattle.bench.specs.MakeSheet.{MakeOutcome, sheetFor, cellsIn, makeLines, makeDone, makeNot, makeOutcome}
+use Rattle.running.specs.RunSheet.{runLines, runOutcome, runOwn}
+use Rattle.running.specs.RebuildTable.{rebuildLines, rebuildOutcome, rebuildOwn}
+use Rattle.bench.specs.MakeSheet.{MakeOutcome, sheetFor, cellsIn, makeDone, makeNot, makeOutcome}
 use Rattle.settling.specs.Refusals.{badTimes, badSlack}
-use Rattle.settling.specs.Settle.{settleOutcome, settleOwn}
-use Rattle.settling.specs.Slack.{slackOutcome, slackOwn}
-use Rattle.inspection.specs.CheckSheet.{tableLines, checkOutcome, checkOwn, Accepted}
+use Rattle.settling.specs.Settle.{settleLines, settleOutcome, settleOwn}
+use Rattle.settling.specs.Slack.{slackLines, slackOutcome, slackOwn}
+use Rattle.inspection.specs.CheckSheet.{tableLines, checkOutcome, checkOwn}
 use Rattle.inspection.specs.Shorter.{kept, keptOutcome}
 use Rattle.claims.specs.Words.{AllBytes, recordsOf, OtherDesk}
 use Rattle.claims.specs.Before.{makeDeskless, keptDeskless}
 use Rattle.claims.proofs.Sheets.{amiss-exactly}
 use Rattle.claims.proofs.RunSheet.{run-says}
-use Rattle.claims.proofs.RebuildTable.{rebuild-says, rebuilt-good}
+use Rattle.claims.proofs.RebuildTable.{rebuild-says}
 use Rattle.claims.proofs.CheckSheet.{check-says, check-accepted, made-accepted}
 use Rattle.claims.proofs.Settle.{settle-says}
 use Rattle.claims.proofs.Slack.{slack-says}
@@ -79,11 +79,28 @@ module _ (e : Edition) (ok : IsEdition e) (n : ℕ) (s : List ℕ) (i : ℕ) whe
 -- ---- what is answered is for one desk: the records are alike in it, and it is 0 to 4
 
 module _ (e : Edition) (ok : IsEdition e) (n : ℕ) (s : List ℕ) where
+  -- lines 9 and 10 let nothing else through
+  pub sheet-desk : InOrder (sheetLines e (deskOf e s) n s) → OneDesk e s (records e s) (deskOf e s)
+  sheet-desk w = good-one-desk e n s ok (records e s) (good-sheet e (deskOf e s) n s ok w)
+
+  pub ran-desk : (x : ℕ) → runOwn e n s x .verdict ≡ Fine → OneDesk e s (records e s) (deskOf e s)
+  ran-desk x done = let w = in-order (runLines e (deskOf e s) n s x) (sym (run-says e (deskOf e s) n s x) ∙ done) in sheet-desk (w .1 .0, (w .1 .1 .0, tt))
+
   pub rebuilt-desk : (table : List ℕ) → rebuildOwn e n s table .verdict ≡ Fine → OneDesk e s (records e s) (deskOf e s)
-  rebuilt-desk table done = good-one-desk e n s ok (records e s) (rebuilt-good e (deskOf e s) n s table ok done .3)
+  rebuilt-desk table done =
+      let w = in-order (rebuildLines e (deskOf e s) n s table) (sym (rebuild-says e (deskOf e s) n s table) ∙ done) in sheet-desk (w .1 .1 .0, (w .1 .1 .1 .0, tt))
 
   pub accepted-desk : (t : List ℕ) → checkOwn e n t s ≡ Fine → OneDesk e s (records e s) (deskOf e s)
   accepted-desk t done = good-one-desk e n s ok (records e s) (check-accepted e (deskOf e s) n t s ok done .rules)
+
+  pub settled-desk : (delay : Float) (ts : List InputTime) → settleOwn e n s delay ts .verdict ≡ Fine → OneDesk e s (records e s) (deskOf e s)
+  settled-desk delay ts done =
+      let w = in-order (settleLines e (deskOf e s) n s delay ts) (sym (settle-says e (deskOf e s) n s delay ts) ∙ done) in sheet-desk (w .1 .0, (w .1 .1 .0, tt))
+
+  pub slack-desk : (delay : Float) (ts : List InputTime) (deadline : ℤ) → slackOwn e n s delay ts deadline .verdict ≡ Fine → OneDesk e s (records e s) (deskOf e s)
+  slack-desk delay ts deadline done =
+      let w = in-order (slackLines e (deskOf e s) n s delay ts deadline) (sym (slack-says e (deskOf e s) n s delay ts deadline) ∙ done) in
+      sheet-desk (w .1 .0, (w .1 .1 .0, tt))
 
 -- ---- where the first record's desk is 0 every answer is as before there were desks
 
