@@ -1,6 +1,6 @@
--- What find and make answered before inputs that do not count were set aside, run, rebuild and check before a record had
--- to be read, and make and the shorter of two before there were desks: kept to say where nothing has changed. The other
--- calls answered before there were desks as they now do for the desk 0.
+-- What find and make answered before inputs that do not count were set aside, run, rebuild and check before a record
+-- had to be read, and make and the shorter of two before there were desks: kept to say where nothing has changed. The
+-- other calls answered before there were desks as they now do for the desk 0.
 use mathlib.Core.List.{List, [], _∷_, _++_}
 use Prim.Native.Nat.{ℕ, _^_}
 use lib.Dec.{leb}
