@@ -7,20 +7,21 @@
  *
  * A gate has n inputs, 1 to 16. Its table has bit x mod 8 of byte x div 8 for each assignment x: 1 byte up to n = 3,
  * else 2^(n-3) bytes. An input counts if flipping it alone changes the table's bit at some assignment. A cell has at
- * most k inputs, 2 to 6. A sheet is records of 16 bytes, the last is the output.
+ * most k inputs, 2 to 6. A sheet is records of 16 bytes, the last is the output; byte 7 of each is the sheet's desk,
+ * 0 for bench use or 1 to 4. A call that reads a sheet takes one of any desk.
  *
  * number is 0 where the call is done, else the first of these that holds:
  *    1  n outside 1 to 16
  *    2  k outside 2 to 6
  *    3  table, read or to be rebuilt, has a wrong length
  *    4  n below 3 and a spare bit set
- *    5  own or shared names a position from n up; they overlap; own below 2; both together above k
+ *    5  own or shared names a position from n up; they overlap; own below 2; both together above k; a desk above 4
  *    6  room for H shorter than its table, room for the sheet under 240 bytes, a work area under 16,384 bytes, or room
  *       for a text under 1,024 bytes
  *    7  at most k inputs count, so nothing to split
  *    8  the split isn't possible; none is; a table in the chain has none
  *    9  sheet empty, not a multiple of 16, or over 240 bytes
- *   10  a record breaks the record rules; index is the first that does
+ *   10  a record breaks the record rules, or its desk isn't that of the first record; index is the first such
  *   11  assignment 2^n or more
  *   12  the sheet doesn't give the table's bit everywhere; place is the least assignment at which it doesn't
  *   13  the delay or a time of the n inputs is not a number, outside 0 to 4,096 or crossed, or missing for an input
@@ -74,9 +75,14 @@ pelzurivan_sought pelzurivan_find(uint64_t n, uint64_t k, const uint8_t *table, 
                                   size_t work_length);
 
 /* Makes a sheet over the inputs that count (of a constant one cell that reads signal 0): count records, the bytes
- * after them stay; the work area as in find. 1 to 4, 6, 8. */
+ * after them stay; the work area as in find. The desk is 0. 1 to 4, 6, 8. */
 pelzurivan_made pelzurivan_make(uint64_t n, uint64_t k, const uint8_t *table, size_t table_length, uint8_t *sheet,
                                 size_t sheet_length, uint8_t *work, size_t work_length);
+
+/* The same for a desk. 1 to 6, 8. */
+pelzurivan_made pelzurivan_make_for_desk(uint64_t n, uint64_t k, uint64_t desk, const uint8_t *table,
+                                         size_t table_length, uint8_t *sheet, size_t sheet_length, uint8_t *work,
+                                         size_t work_length);
 
 /* Runs a sheet at the assignment x: the bit. 1, 9, 10, 11, 15. */
 pelzurivan_ran pelzurivan_run(uint64_t n, const uint8_t *sheet, size_t sheet_length, uint64_t x);

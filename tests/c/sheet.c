@@ -50,6 +50,31 @@ static void make_and_run(void) {
     expect(table[0] == 0x80 && table[1] == PRESET, "rebuild: the table");
 }
 
+/* The same gate for a desk: byte 7 of each record is the desk, and every reader takes the sheet. */
+static void a_sheet_for_a_desk(void) {
+    uint8_t sheet[PELZURIVAN_SHEET], work[PELZURIVAN_WORK], expected[sizeof EXAMPLE_2];
+    for (uint64_t desk = 0; desk <= 5; desk++) {
+        memset(sheet, PRESET, sizeof sheet);
+        pelzurivan_made made =
+            pelzurivan_make_for_desk(3, 2, desk, AND_OF_3, 1, sheet, sizeof sheet, work, sizeof work);
+        if (desk == 5) {
+            expect(made.number == 5 && made.count == 0 && all_are(PRESET, sheet, sizeof sheet), "make: 5 for desk 5");
+            break;
+        }
+        memcpy(expected, EXAMPLE_2, sizeof expected);
+        expected[7] = expected[PELZURIVAN_RECORD + 7] = (uint8_t)desk;
+        expect(made.number == 0 && made.count == 2, "make for a desk: done, two cells");
+        expect(memcmp(sheet, expected, sizeof expected) == 0, "make for a desk: byte 7 is the desk");
+        pelzurivan_ran ran = pelzurivan_run(3, sheet, sizeof expected, 7);
+        expect(ran.number == 0 && ran.bit == 1, "run: a sheet for a desk");
+        pelzurivan_checked checked = pelzurivan_check(3, AND_OF_3, 1, sheet, sizeof expected);
+        expect(checked.number == 0, "check: a sheet for a desk is accepted");
+        sheet[7] = (uint8_t)(desk + 1);
+        checked = pelzurivan_check(3, AND_OF_3, 1, sheet, sizeof expected);
+        expect(checked.number == 10 && checked.place == (desk < 4), "check: 10 at the first record of another desk");
+    }
+}
+
 static void find_and_try(void) {
     uint8_t work[PELZURIVAN_WORK], room[] = {PRESET, PRESET, PRESET};
     const uint8_t select[] = {0xCA};
@@ -197,6 +222,7 @@ static void refusals(void) {
 
 int main(void) {
     make_and_run();
+    a_sheet_for_a_desk();
     find_and_try();
     unused_inputs();
     check_a_suppliers_sheet();

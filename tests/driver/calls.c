@@ -31,6 +31,13 @@ static void find(void) {
     put_mark(work);
 }
 
+static void put_made(pelzurivan_made a, area sheet, area work) {
+    put(1, a.number);
+    put(1, a.count);
+    put_area(sheet);
+    put_mark(work);
+}
+
 static void make(void) {
     uint64_t n = number(8), k = number(8);
     area table = handed(TABLE), sheet = lent(SHEET), work = lent(WORK);
@@ -39,10 +46,18 @@ static void make(void) {
     pelzurivan_made a = pelzurivan_make(n, k, table.bytes, table.length, sheet.bytes, sheet.length, work.bytes,
                                         work.length);
     stop();
-    put(1, a.number);
-    put(1, a.count);
-    put_area(sheet);
-    put_mark(work);
+    put_made(a, sheet, work);
+}
+
+static void make_for_desk(void) {
+    uint64_t n = number(8), k = number(8), desk = number(8);
+    area table = handed(TABLE), sheet = lent(SHEET), work = lent(WORK);
+    if (!whole()) return;
+    start();
+    pelzurivan_made a = pelzurivan_make_for_desk(n, k, desk, table.bytes, table.length, sheet.bytes, sheet.length,
+                                                 work.bytes, work.length);
+    stop();
+    put_made(a, sheet, work);
 }
 
 static void run(void) {
@@ -161,7 +176,7 @@ static void write_formula(void) {
 static const call CALLS[] = {
     {0x01, try_split}, {0x02, find},   {0x03, make},  {0x04, run},     {0x05, rebuild},
     {0x06, check},     {0x07, settle}, {0x08, slack}, {0x09, shorter}, {0x0A, read_formula},
-    {0x0B, write_formula},
+    {0x0B, write_formula}, {0x0C, make_for_desk},
 };
 
 const call *call_of(int code) {

@@ -35,7 +35,7 @@ fit e d cs sheet work (Refused r) = omega arith
 make-fits : (e : Edition) (d n K : ℕ) (t sheet work : List ℕ) → Fit e (makeOutcome e d n K t sheet work)
 unfolding makeOutcome
 make-fits e d n K t sheet work =
-    fit e d (cellsIn (sheetFor n K t)) sheet work (verdict (makeLines e n K t sheet work))
+    fit e d (cellsIn (sheetFor n K t)) sheet work (verdict (makeLines e d n K t sheet work))
 
 pub within : {count : ℕ} {out work : List ℕ} (input : List ℕ)
     → record { count = count; out = out; work = work } ≡ programOutcome input → count ≤ length out

@@ -1,4 +1,4 @@
--- Make a sheet: how many cells, and their records in a lent sheet.
+-- Make a sheet for a desk: how many cells, and their records in a lent sheet.
 use mathlib.Core.List.{List, [], _∷_, _++_}
 use Prim.Native.Nat.{ℕ, _^_}
 use lib.ListN.{length}
@@ -12,7 +12,7 @@ use Rattle.chains.specs.Aside.{sheetAside}
 use Rattle.refusals.specs.declared.verdicts.Refusal.{Refusal}
 use Rattle.refusals.specs.declared.verdicts.Verdict.the-variants.{Fine, Refused}
 use Rattle.refusals.specs.Lines.{Line, verdict, reply}
-use Rattle.refusals.specs.Refusals.{gateLines, shortSheet, chainStuck}
+use Rattle.refusals.specs.Refusals.{gateLines, badDesk, shortSheet, chainStuck}
 use Rattle.refusals.specs.Lent.{into, workAfter}
 use Rattle.bench.specs.declared.make_sheet.MakeAnswer.{MakeAnswer}
 
@@ -25,13 +25,13 @@ abbrev pub cellsIn : Made → List Cell
 cellsIn stuck = []
 cellsIn (made cs) = cs
 
--- form and room: 1 to 4, and 6 of the sheet and the work area
-abbrev pub makeForm : Edition → ℕ → ℕ → List ℕ → List ℕ → List ℕ → List Line
-makeForm e n K t sheet work = gateLines e n K t ++ (shortSheet e sheet work ∷ [])
+-- form and room: 1 to 4, 5 of the desk, and 6 of the sheet and the work area
+abbrev pub makeForm : Edition → ℕ → ℕ → ℕ → List ℕ → List ℕ → List ℕ → List Line
+makeForm e d n K t sheet work = gateLines e n K t ++ (badDesk d ∷ shortSheet e sheet work ∷ [])
 
 -- and 8
-abbrev pub makeLines : Edition → ℕ → ℕ → List ℕ → List ℕ → List ℕ → List Line
-makeLines e n K t sheet work = makeForm e n K t sheet work ++ (chainStuck (sheetFor n K t) ∷ [])
+abbrev pub makeLines : Edition → ℕ → ℕ → ℕ → List ℕ → List ℕ → List ℕ → List Line
+makeLines e d n K t sheet work = makeForm e d n K t sheet work ++ (chainStuck (sheetFor n K t) ∷ [])
 
 -- the answer; the lent sheet and the work area afterwards
 pub record MakeOutcome : Type 0 where
@@ -39,7 +39,7 @@ pub record MakeOutcome : Type 0 where
   pub sheet : List ℕ
   pub work : List ℕ
 
--- done: how many cells, and each record in its own bytes, the desk's byte being d; bytes after the last record stay
+-- done: how many cells, and each record in its own bytes, for the desk d; bytes after the last record stay
 abbrev pub makeDone : Edition → ℕ → List Cell → List ℕ → List ℕ → MakeOutcome
 makeDone e d cs sheet work = record {
   answer = record { verdict = Fine; count = length cs };
@@ -55,8 +55,8 @@ makeNot sheet work r = record {
   work = workAfter (Refused r) work;
 }
 
--- what make is to return and leave, whatever is handed over
+-- what make is to return and leave for the desk d, whatever is handed over
 unfoldable pub makeOutcome : Edition → ℕ → ℕ → ℕ → List ℕ → List ℕ → List ℕ → MakeOutcome
 makeOutcome e d n K t sheet work =
-    reply (verdict (makeLines e n K t sheet work)) (makeDone e d (cellsIn (sheetFor n K t)) sheet work)
+    reply (verdict (makeLines e d n K t sheet work)) (makeDone e d (cellsIn (sheetFor n K t)) sheet work)
     (makeNot sheet work)

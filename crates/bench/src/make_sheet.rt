@@ -25,9 +25,10 @@ pub struct MakeAnswer {
     pub count: usize,
 }
 
-// Lines 1 to 4, and 6.
+// Lines 1 to 6.
 fn make_form<'a>(
     e: Edition,
+    d: u64,
     n: u64,
     k: u64,
     t: &'a [u8],
@@ -35,12 +36,15 @@ fn make_form<'a>(
     work: &'a [u8],
 ) -> Verdict
     requires { ⌜ IsEdition e ⌝ }
-    ensures { λ r. ⌜ r ≡ verdict (makeForm e n k (now (t .entry)) (now (sheet .entry)) (now (work .entry))) ⌝ }
+    ensures { λ r. ⌜ r ≡ verdict (makeForm e d n k (now (t .entry)) (now (sheet .entry)) (now (work .entry))) ⌝ }
 {
     let gate = form::gate(e, n, k, t);
     let Verdict::Fine = gate else {
         return gate;
     };
+    if d > Sheet::DESKS as u64 {
+        return refuse(Refusal::DESK);
+    }
     if sheet.len() < e.size * Sheet::RECORDS {
         return refuse(Refusal::ROOM);
     }
@@ -88,10 +92,10 @@ fn write_chain(
     }
 }
 
-// Makes the sheet of a table in an edition's records, the desk's byte being d.
+// Makes the sheet of a table in an edition's records, for the desk d.
 pub fn make_in(
     e: Edition,
-    d: u8,
+    d: u64,
     n: u64,
     k: u64,
     t: &[u8],
@@ -104,22 +108,39 @@ pub fn make_in(
         (now (t .entry)) (now (sheet .entry)) (now (work .entry))
         ⌝ }
 {
-    let form = make_form(e, n, k, t, sheet, work);
+    let form = make_form(e, d, n, k, t, sheet, work);
     let Verdict::Fine = form else {
         return MakeAnswer {
             verdict: form,
             count: 0,
         };
     };
-    write_chain(e, d, n as u32, k as u32, t, sheet, work)
+    write_chain(e, d as u8, n as u32, k as u32, t, sheet, work)
 }
 
-// Makes the sheet of a table: how many cells.
+// Makes the sheet of a table for a desk, 0 being the bench's own: how many cells.
+pub fn make_for_desk(
+    n: u64,
+    k: u64,
+    desk: u64,
+    t: &[u8],
+    sheet: &mut [u8],
+    work: &mut [u8],
+) -> MakeAnswer
+    ensures { λ r. ⌜
+        record { answer = r; sheet = now (sheet .exit); work = now (work .exit) }
+        ≡ makeOutcome firstEdition desk n k (now (t .entry)) (now (sheet .entry)) (now (work .entry))
+        ⌝ }
+{
+    make_in(Edition::first(), desk, n, k, t, sheet, work)
+}
+
+// Makes the sheet of a table for bench use: how many cells.
 pub fn make_sheet(n: u64, k: u64, t: &[u8], sheet: &mut [u8], work: &mut [u8]) -> MakeAnswer
     ensures { λ r. ⌜
         record { answer = r; sheet = now (sheet .exit); work = now (work .exit) }
         ≡ makeOutcome firstEdition 0 n k (now (t .entry)) (now (sheet .entry)) (now (work .entry))
         ⌝ }
 {
-    make_in(Edition::first(), 0, n, k, t, sheet, work)
+    make_for_desk(n, k, 0, t, sheet, work)
 }

@@ -50,13 +50,13 @@ table-fine e n K t g = (
 )
 
 module _ (e : Edition) (d n : ℕ) (t s : List ℕ) where
-  says : checkOutcome e d n t s ≡ verdict (checkLines e d n t s)
+  pub check-says : checkOutcome e d n t s ≡ verdict (checkLines e d n t s)
   unfolding checkOutcome
-  says = refl
+  check-says = refl
 
   -- the verdict is that of lines 1, 3, 4, 9, 10, 12 and 15
   pub check-lines : ByLines (checkOutcome e d n t s) (checkLines e d n t s)
-  check-lines = by-lines (checkLines e d n t s) refl (checkOutcome e d n t s) says
+  check-lines = by-lines (checkLines e d n t s) refl (checkOutcome e d n t s) check-says
 
   -- nothing is named but for 10, 12 and 15
   pub check-no-place : (eqb (numberOf (checkOutcome e d n t s)) 10 || (eqb (numberOf (checkOutcome e d n t s)) 12 || eqb (numberOf (checkOutcome e d n t s)) 15)) ≡ false
@@ -66,11 +66,11 @@ module _ (e : Edition) (d n : ℕ) (t s : List ℕ) where
 
   -- 10 names the first bad record
   pub check-index : IsEdition e → numberOf (checkOutcome e d n t s) ≡ 10 → FirstBad e d n s (placeOf (checkOutcome e d n t s))
-  check-index ok h = index-first e ok d n s (tableLines n t ++ (badSheet e s ∷ [])) (tableDiffers e n t s ∷ unreadRecord e n s ∷ []) refl refl (checkOutcome e d n t s) says h
+  check-index ok h = index-first e ok d n s (tableLines n t ++ (badSheet e s ∷ [])) (tableDiffers e n t s ∷ unreadRecord e n s ∷ []) refl refl (checkOutcome e d n t s) check-says h
 
   -- 15 is given exactly where the other lines are in order and some record but the last isn't read, and names the first such
   pub check-unread : (i : ℕ) → (checkOutcome e d n t s ≡ Refused (refusal 15 i)) ↔ (InOrder (tableLines n t ++ againstLines e d n t s) × IsFirstUnread e n s (records e s) i)
-  check-unread = unread-exactly e n s (tableLines n t ++ againstLines e d n t s) refl (checkOutcome e d n t s) says
+  check-unread = unread-exactly e n s (tableLines n t ++ againstLines e d n t s) refl (checkOutcome e d n t s) check-says
 
   -- where each record but the last is read, every answer is as before
   pub check-as-before : EachRead e n s (records e s) → checkOutcome e d n t s ≡ checkBefore e d n t s
@@ -222,4 +222,4 @@ pub check-never-unread : (e : Edition) → IsEdition e → (d n K : ℕ) (t shee
     → (t′ : List ℕ) → numberOf (checkOutcome e d n t′ (recordsOf e (makeOutcome e d n K t sheet work))) ≡ 15 → ⊥
 check-never-unread e ok d n K t sheet work done t′ =
     let s = recordsOf e (makeOutcome e d n K t sheet work) in
-    read-never e n s (tableLines n t′ ++ againstLines e d n t′ s) refl (checkOutcome e d n t′ s) (says e d n t′ s) (records-read e d n K t sheet work ok done)
+    read-never e n s (tableLines n t′ ++ againstLines e d n t′ s) refl (checkOutcome e d n t′ s) (check-says e d n t′ s) (records-read e d n K t sheet work ok done)

@@ -23,6 +23,7 @@ use Rattle.chains.specs.Chain.{pick, turn}
 use Rattle.chains.specs.Aside.{keptSignals, keptTable, chainAside, sheetAside}
 use Rattle.splitting.specs.TrySplit.{tryOutcome}
 use Rattle.splitting.specs.FindBest.{findOutcome}
+use Rattle.sheets.specs.Desk.{deskOf}
 use Rattle.running.specs.RunSheet.{runOutcome}
 use Rattle.running.specs.RebuildTable.{rebuildOutcome}
 use Rattle.bench.specs.MakeSheet.{makeOutcome}
@@ -136,5 +137,5 @@ listing =
     ∷ []
 
 pub examples : answers listing ≡ expected listing
-unfolding listing asked readOutcome textOf reads value writeOutcome inTurn printed tryOutcome findOutcome makeOutcome runOutcome rebuildOutcome sheetAside chainAside turn keptSignals keptTable kept support counts tableOver bestCounting pick listOf best first tryA tryB disjoint fewColumns firstBroken tableD tableH bytesH codeAt code bitH columns column assign firsts number size gather spread least spareClear tableOf output run cellOf spareOk byteOk keeps cellsFrom sheetBit rebuilt recordByte encode
+unfolding listing asked deskOf readOutcome textOf reads value writeOutcome inTurn printed tryOutcome findOutcome makeOutcome runOutcome rebuildOutcome sheetAside chainAside turn keptSignals keptTable kept support counts tableOver bestCounting pick listOf best first tryA tryB disjoint fewColumns firstBroken tableD tableH bytesH codeAt code bitH columns column assign firsts number size gather spread least spareClear tableOf output run cellOf spareOk byteOk keeps cellsFrom sheetBit rebuilt recordByte encode
 examples = refl

@@ -63,7 +63,7 @@ module _ (e : Edition) (ok : IsEdition e) (d n K : ℕ) (t sheet work : List ℕ
         (pairs-fewest n (tableBit t) (w .cells) (w .gate .some) (subst (λ (k : ℕ). sheetFor n k t ≡ made (w .cells)) two (w .chain))))
 
   -- ---- AND, OR, XOR of any size, and every other table that joins its inputs by one operation: make is done, with the fewest cells (`joining-fewest`, chains)
-  pub joining-made : InOrder (makeForm e n K t sheet work) → (op : Bool → Bool → Bool) (u : Bool) → Joining op u → ((x : ℕ) → x < 2 ^ n → tableBit t x ≡ joined op u n (bit x))
+  pub joining-made : InOrder (makeForm e d n K t sheet work) → (op : Bool → Bool → Bool) (u : Bool) → Joining op u → ((x : ℕ) → x < 2 ^ n → tableBit t x ≡ joined op u n (bit x))
       → (makeOutcome e d n K t sheet work .answer .verdict ≡ Fine) × Fewest n K (tableBit t) (networkOf e (makeOutcome e d n K t sheet work))
   joining-made form op u j same = let g = make-sound e d n K t sheet work form in go (joining-fewest op u j n K (g .some) (g .two))
     where

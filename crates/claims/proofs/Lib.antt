@@ -15,6 +15,7 @@ pub mod Slack
 pub mod ReadFormula
 pub mod WriteFormula
 pub mod Formulas
+pub mod Desks
 pub mod Fewest
 pub mod Trees
 pub mod BenchProgram

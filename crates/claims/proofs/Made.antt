@@ -6,10 +6,11 @@ use Prim.Native.Nat.{ℕ, _*_, _≤_}
 use native.Mathlib.Omega.{arith}
 use lib.ListN.{length, drop}
 use lib.Seq.{take-at}
+use borrow.Author.Tests.{ltb-false}
 use Rattle.bits.proofs.Bools.{clash}
 use Rattle.tables.specs.Table.{tableBit}
 use Rattle.sheets.specs.declared.kinds.Edition.{Edition}
-use Rattle.sheets.specs.Edition.{IsEdition}
+use Rattle.sheets.specs.Edition.{IsEdition, mostDesk}
 use Rattle.sheets.specs.Network.{Cell, Gives}
 use Rattle.sheets.specs.Sheet.{sheetCells, Good}
 use Rattle.sheets.specs.Writing.{FitsFrom, sheetBytes}
@@ -31,18 +32,19 @@ use Rattle.claims.specs.Words.{recordsOf, networkOf}
 use Rattle.claims.proofs.Verdicts.{says-verdict, is-done}
 
 module _ (e : Edition) (d n K : ℕ) (t sheet work : List ℕ) where
-  pub make-says : makeOutcome e d n K t sheet work .answer .verdict ≡ verdict (makeLines e n K t sheet work)
+  pub make-says : makeOutcome e d n K t sheet work .answer .verdict ≡ verdict (makeLines e d n K t sheet work)
   unfolding makeOutcome
   make-says =
       says-verdict (λ (o : MakeOutcome). o .answer .verdict) (makeDone e d (cellsIn (sheetFor n K t)) sheet work) (makeNot sheet work) refl (λ r. refl)
-      (verdict (makeLines e n K t sheet work))
+      (verdict (makeLines e d n K t sheet work))
 
   -- form and room are in order: so is the gate
-  pub make-sound : InOrder (makeForm e n K t sheet work) → Sound e n K t
+  pub make-sound : InOrder (makeForm e d n K t sheet work) → Sound e n K t
   make-sound s = sound e n K t (s .0, (s .1 .0, (s .1 .1 .0, (s .1 .1 .1 .0, tt))))
 
   pub record IsMade : Type 0 where
     pub gate : Sound e n K t
+    pub desk : d ≤ mostDesk
     pub cells : List Cell
     pub chain : sheetFor n K t ≡ made cells
     pub outcome : makeOutcome e d n K t sheet work ≡ makeDone e d cells sheet work
@@ -50,34 +52,36 @@ module _ (e : Edition) (d n K : ℕ) (t sheet work : List ℕ) where
   -- done: the chain made cells
   pub is-made : makeOutcome e d n K t sheet work .answer .verdict ≡ Fine → IsMade
   unfolding makeOutcome
-  is-made h = go (sheetFor n K t) refl (w .1 .1 .1 .1 .1 .0)
+  is-made h = go (sheetFor n K t) refl (w .1 .1 .1 .1 .1 .1 .0)
     where
-      w : InOrder (makeLines e n K t sheet work)
-      w = in-order (makeLines e n K t sheet work) (sym make-says ∙ h)
+      w : InOrder (makeLines e d n K t sheet work)
+      w = in-order (makeLines e d n K t sheet work) (sym make-says ∙ h)
 
       go : (c : Made) → sheetFor n K t ≡ c → isStuck c ≡ false → IsMade
       go stuck q g = absurd (clash refl g)
       go (made cs) q g = record {
         gate = sound e n K t (w .0, (w .1 .0, (w .1 .1 .0, (w .1 .1 .1 .0, tt))));
+        desk = ltb-false mostDesk d (w .1 .1 .1 .1 .0);
         cells = cs;
         chain = q;
         outcome =
             is-done (λ (o : MakeOutcome). o .answer .verdict) (makeDone e d (cellsIn (sheetFor n K t)) sheet work) (makeNot sheet work) refl (λ r. refl)
-            (verdict (makeLines e n K t sheet work)) h
+            (verdict (makeLines e d n K t sheet work)) h
             ∙ ap (λ (c : Made). makeDone e d (cellsIn c) sheet work) q;
       }
 
   -- the other way: form and room are in order, and the chain made cells
-  pub not-stuck : InOrder (makeForm e n K t sheet work) → (cs : List Cell) → sheetFor n K t ≡ made cs → (w : IsMade) × (w .cells ≡ cs)
+  pub not-stuck : InOrder (makeForm e d n K t sheet work) → (cs : List Cell) → sheetFor n K t ≡ made cs → (w : IsMade) × (w .cells ≡ cs)
   unfolding makeOutcome
   not-stuck s cs q = (
     record {
       gate = make-sound s;
+      desk = ltb-false mostDesk d (s .1 .1 .1 .1 .0);
       cells = cs;
       chain = q;
       outcome =
           ap (λ (v : Verdict). reply v (makeDone e d (cellsIn (sheetFor n K t)) sheet work) (makeNot sheet work))
-          (passes (makeForm e n K t sheet work) (chainStuck (sheetFor n K t) ∷ []) s)
+          (passes (makeForm e d n K t sheet work) (chainStuck (sheetFor n K t) ∷ []) s)
           ∙ ap (λ (c : Made). reply (verdict (chainStuck c ∷ [])) (makeDone e d (cellsIn c) sheet work) (makeNot sheet work)) q;
     },
     refl,

@@ -60,15 +60,15 @@ module _ (e : Edition) (d n K : ℕ) (t sheet work : List ℕ) where
 
   left : makeOutcome e d n K t sheet work .work ≡ workAfter (makeOutcome e d n K t sheet work .answer .verdict) work
   unfolding makeOutcome
-  left = go (verdict (makeLines e n K t sheet work))
+  left = go (verdict (makeLines e d n K t sheet work))
     where
       go : (v : Verdict) → let o = reply v (makeDone e d (cellsIn (sheetFor n K t)) sheet work) (makeNot sheet work) in o .work ≡ workAfter (o .answer .verdict) work
       go Fine = refl
       go (Refused r) = refl
 
-  -- the verdict is that of lines 1 to 4, 6 and 8
-  pub make-lines : ByLines (makeOutcome e d n K t sheet work .answer .verdict) (makeLines e n K t sheet work)
-  make-lines = by-lines (makeLines e n K t sheet work) refl (makeOutcome e d n K t sheet work .answer .verdict) (make-says e d n K t sheet work)
+  -- the verdict is that of lines 1 to 6 and 8
+  pub make-lines : ByLines (makeOutcome e d n K t sheet work .answer .verdict) (makeLines e d n K t sheet work)
+  make-lines = by-lines (makeLines e d n K t sheet work) refl (makeOutcome e d n K t sheet work .answer .verdict) (make-says e d n K t sheet work)
 
   -- refused: the count is 0, and the sheet is as it was lent
   pub make-refused : (r : Refusal) → makeOutcome e d n K t sheet work .answer .verdict ≡ Refused r
@@ -76,7 +76,7 @@ module _ (e : Edition) (d n K : ℕ) (t sheet work : List ℕ) where
   unfolding makeOutcome
   make-refused r h =
       let q = is-refused (λ (o : MakeOutcome). o .answer .verdict) (makeDone e d (cellsIn (sheetFor n K t)) sheet work) (makeNot sheet work) refl (λ u. refl)
-      (verdict (makeLines e n K t sheet work)) r h in
+      (verdict (makeLines e d n K t sheet work)) r h in
       (ap (λ o. o .answer .count) q, ap (λ o. o .sheet) q)
 
   -- 1 to 7 leave the work area as found
@@ -144,20 +144,20 @@ module _ (e : Edition) (d n K : ℕ) (t sheet work : List ℕ) where
   pub made-blocked : numberOf (makeOutcome e d n K t sheet work .answer .verdict) ≡ 8 → Blocked K n keptInputs keptOf
   made-blocked h =
       let q = ap numberOf (sym (make-says e d n K t sheet work)) ∙ h in
-      let g = make-sound e d n K t sheet work (passed (makeForm e n K t sheet work) (chainStuck (sheetFor n K t) ∷ []) 8 refl q .0) in
+      let g = make-sound e d n K t sheet work (passed (makeForm e d n K t sheet work) (chainStuck (sheetFor n K t) ∷ []) 8 refl q .0) in
       sheet-stuck n K (tableBit t) (g .some) (omega (arith, g .two)) .0
-      (is-stuck (sheetFor n K t) (held (makeForm e n K t sheet work) (chainStuck (sheetFor n K t)) [] 8 refl refl (λ z. omega arith) q .0))
+      (is-stuck (sheetFor n K t) (held (makeForm e d n K t sheet work) (chainStuck (sheetFor n K t)) [] 8 refl refl (λ z. omega arith) q .0))
     where
       is-stuck : (c : Made) → isStuck c ≡ true → c ≡ stuck
       is-stuck stuck g = refl
       is-stuck (made cs) g = absurd (clash g refl)
 
-  module _ (form : InOrder (makeForm e n K t sheet work)) where
+  module _ (form : InOrder (makeForm e d n K t sheet work)) where
     -- the other way: where form and room are in order and such a table is in the chain, make is refused as 8
     pub blocked-refused : Blocked K n keptInputs keptOf → numberOf (makeOutcome e d n K t sheet work .answer .verdict) ≡ 8
     blocked-refused b =
         let g = make-sound e d n K t sheet work form in
-        ap numberOf (make-says e d n K t sheet work ∙ passes (makeForm e n K t sheet work) (chainStuck (sheetFor n K t) ∷ []) form)
+        ap numberOf (make-says e d n K t sheet work ∙ passes (makeForm e d n K t sheet work) (chainStuck (sheetFor n K t) ∷ []) form)
         ∙ ap (λ (c : Made). numberOf (verdict (chainStuck c ∷ []))) (sheet-stuck n K (tableBit t) (g .some) (omega (arith, g .two)) .1 b)
 
     -- where form and room are in order and one or two cells carry the table, wired in any way at all: make is done, the network that it wrote gives the
@@ -182,13 +182,13 @@ module _ (e : Edition) (d n K : ℕ) (t sheet work : List ℕ) where
   pub make-as-before : AllCount n (tableBit t) → makeOutcome e d n K t sheet work ≡ makeBefore e d n K t sheet work
   unfolding makeOutcome
   make-as-before all =
-      ap (λ (c : Made). reply (verdict (makeForm e n K t sheet work ++ (chainStuck c ∷ []))) (makeDone e d (cellsIn c) sheet work) (makeNot sheet work))
+      ap (λ (c : Made). reply (verdict (makeForm e d n K t sheet work ++ (chainStuck c ∷ []))) (makeDone e d (cellsIn c) sheet work) (makeNot sheet work))
       (sheet-plain n (tableBit t) K all)
 
 -- ---- a constant, and find beside make
 
 -- where no input counts, make is done with one cell that reads signal 0, and its table is 0 or 3 (`sheet-constant`, chains)
-pub constant-made : (e : Edition) → IsEdition e → (d n K : ℕ) (t sheet work : List ℕ) → InOrder (makeForm e n K t sheet work) → size n (bit (support n (tableBit t))) ≡ 0
+pub constant-made : (e : Edition) → IsEdition e → (d n K : ℕ) (t sheet work : List ℕ) → InOrder (makeForm e d n K t sheet work) → size n (bit (support n (tableBit t))) ≡ 0
     → (makeOutcome e d n K t sheet work .answer .verdict ≡ Fine)
     × (networkOf e (makeOutcome e d n K t sheet work) ≡ lastCell (0 ∷ []) (cond (tableBit t 0) 3 0) ∷ [])
 constant-made e ok d n K t sheet work form none =

@@ -37,13 +37,13 @@ use Rattle.claims.proofs.Verdicts.{says-verdict, is-refused, is-done, b
 use Rattle.claims.proofs.Sheets.{index-first}
 
 module _ (e : Edition) (d n : ℕ) (s : List ℕ) (delay : Float) (ts : List InputTime) where
-  pub says : settleOutcome e d n s delay ts .verdict ≡ verdict (settleLines e d n s delay ts)
+  pub settle-says : settleOutcome e d n s delay ts .verdict ≡ verdict (settleLines e d n s delay ts)
   unfolding settleOutcome
-  says = says-verdict (λ (a : SettleAnswer). a .verdict) (settleDone e n s delay ts) settleNot refl (λ r. refl) (verdict (settleLines e d n s delay ts))
+  settle-says = says-verdict (λ (a : SettleAnswer). a .verdict) (settleDone e n s delay ts) settleNot refl (λ r. refl) (verdict (settleLines e d n s delay ts))
 
   -- the verdict is that of lines 1, 9, 10 and 13
   pub settle-lines : ByLines (settleOutcome e d n s delay ts .verdict) (settleLines e d n s delay ts)
-  settle-lines = by-lines (settleLines e d n s delay ts) refl (settleOutcome e d n s delay ts .verdict) says
+  settle-lines = by-lines (settleLines e d n s delay ts) refl (settleOutcome e d n s delay ts .verdict) settle-says
 
   -- refused: both times are zero
   pub settle-refused : (r : Refusal) → settleOutcome e d n s delay ts .verdict ≡ Refused r
@@ -56,13 +56,13 @@ module _ (e : Edition) (d n : ℕ) (s : List ℕ) (delay : Float) (ts : List Inp
   -- nothing is named but for number 10
   pub settle-no-index : (numberOf (settleOutcome e d n s delay ts .verdict) ≡ 10 → ⊥) → placeOf (settleOutcome e d n s delay ts .verdict) ≡ 0
   settle-no-index h =
-      ap placeOf says
-      ∙ names-nothing (λ k. eqb k 10) (settleLines e d n s delay ts) refl (ne-eqb (numberOf (verdict (settleLines e d n s delay ts))) 10 (λ q. h (ap numberOf says ∙ q)))
+      ap placeOf settle-says
+      ∙ names-nothing (λ k. eqb k 10) (settleLines e d n s delay ts) refl (ne-eqb (numberOf (verdict (settleLines e d n s delay ts))) 10 (λ q. h (ap numberOf settle-says ∙ q)))
 
   -- and then it is the first bad record
   pub settle-index : IsEdition e → numberOf (settleOutcome e d n s delay ts .verdict) ≡ 10 → FirstBad e d n s (placeOf (settleOutcome e d n s delay ts .verdict))
   settle-index ok h =
-      index-first e ok d n s (badInputs n ∷ badSheet e s ∷ []) (badTimes e n s delay ts ∷ []) refl refl (settleOutcome e d n s delay ts .verdict) says h
+      index-first e ok d n s (badInputs n ∷ badSheet e s ∷ []) (badTimes e n s delay ts ∷ []) refl refl (settleOutcome e d n s delay ts .verdict) settle-says h
 
   -- two answers that keep the promise are equal
   pub settle-once : (a a′ : SettleAnswer) → a ≡ settleOutcome e d n s delay ts → a′ ≡ settleOutcome e d n s delay ts → a ≡ a′
@@ -84,7 +84,7 @@ module _ (e : Edition) (d n : ℕ) (s : List ℕ) (delay : Float) (ts : List Inp
   -- a refusal by 13 is not given exactly when the delay and the times are sound, and there where a cell reads
   pub settle-sound : settleOutcome e d n s delay ts .verdict ≡ Fine → SoundTimes e n s delay ts
   settle-sound h =
-      let w = in-order (settleLines e d n s delay ts) (sym says ∙ h) in
+      let w = in-order (settleLines e d n s delay ts) (sym settle-says ∙ h) in
       let q = every n (inputSound e s (records e s) ts) in
       let t = not-false (inRange delay && q) (w .1 .1 .1 .0) in record {
         delayed = and-left (inRange delay) q t;
@@ -94,7 +94,7 @@ module _ (e : Edition) (d n : ℕ) (s : List ℕ) (delay : Float) (ts : List Inp
 
   module _ (form : InOrder (badInputs n ∷ sheetLines e d n s)) where
     pub sound-settles : SoundTimes e n s delay ts → settleOutcome e d n s delay ts .verdict ≡ Fine
-    sound-settles w = says ∙ passes (badInputs n ∷ sheetLines e d n s) (badTimes e n s delay ts ∷ []) form ∙ rw (w .delayed, all) refl
+    sound-settles w = settle-says ∙ passes (badInputs n ∷ sheetLines e d n s) (badTimes e n s delay ts ∷ []) form ∙ rw (w .delayed, all) refl
       where
         at : (j : ℕ) → j < n → inputSound e s (records e s) ts j ≡ true
         at j l = go (given (timeAt ts j)) refl
@@ -116,7 +116,7 @@ module _ (e : Edition) (d n : ℕ) (s : List ℕ) (delay : Float) (ts : List Inp
 
   module _ (ok : IsEdition e) (done : settleOutcome e d n s delay ts .verdict ≡ Fine) where
     pub left : Leaves e d n s delay ts
-    left = leaves e ok d n s delay ts (in-order (settleLines e d n s delay ts) (sym says ∙ done))
+    left = leaves e ok d n s delay ts (in-order (settleLines e d n s delay ts) (sym settle-says ∙ done))
 
     is : settleOutcome e d n s delay ts ≡ settleDone e n s delay ts
     unfolding settleOutcome

@@ -1,5 +1,5 @@
 -- A good sheet in which each record but the last is read is answered by run and by rebuild; line 10 names the first bad
--- record, and line 15 the first unread one. Assumes nothing.
+-- record, for a sheet's own desk the first that doesn't belong, and line 15 the first unread one. Assumes nothing.
 use mathlib.Core.Path.{_≡_, refl, sym, ap, _∙_, subst}
 use mathlib.Core.Logic.{_↔_}
 use mathlib.Core.Bool.{true, false, not}
@@ -7,7 +7,7 @@ use mathlib.Core.List.{List, [], _∷_, _++_}
 use Prim.Native.Nat.{ℕ, _+_, _^_, _≤_, _<_}
 use native.Mathlib.Omega.{arith}
 use lib.ListN.{length}
-use borrow.Author.Tests.{le-leb, lt-leb, eq-eqb, ltb-true, not-false}
+use borrow.Author.Tests.{le-leb, lt-leb, eq-eqb, lt-ltb, ltb-true, not-false}
 use Rattle.bits.proofs.Bools.{clash}
 use Rattle.bits.proofs.Least.{is-least}
 use Rattle.tables.specs.Table.{mostInputs, tableLength}
@@ -15,8 +15,10 @@ use Rattle.sheets.specs.declared.kinds.Edition.{Edition}
 use Rattle.sheets.specs.Edition.{IsEdition}
 use Rattle.sheets.specs.Record.{keeps}
 use Rattle.sheets.specs.Sheet.{records, recordAt, bad, firstBad, sheetBit, rebuilt, Good}
+use Rattle.sheets.specs.Desk.{deskOf, FirstAmiss}
 use Rattle.sheets.specs.Reading.{EachRead, IsFirstUnread, firstUnread}
 use Rattle.sheets.proofs.Keeping.{rules, kept}
+use Rattle.sheets.proofs.Desks.{bad-amiss, amiss-bad}
 use Rattle.sheets.proofs.Unread.{unread-first}
 use Rattle.refusals.specs.declared.verdicts.Verdict.{Verdict}
 use Rattle.refusals.specs.declared.verdicts.Verdict.the-variants.{Fine, Refused}
@@ -71,6 +73,23 @@ pub index-first : (e : Edition) → IsEdition e → (d n : ℕ) (s : List ℕ) (
 index-first e ok d n s ls ms o p v q h =
     let w = held ls (badRecord e d n s) ms 10 o p (λ z. omega arith) (ap numberOf (sym q) ∙ h) in
     rw (q, w .1) (names-first e ok d n s (w .0))
+
+-- and of a sheet's own desk: it is refused as 10 at i exactly where the lines before are in order and record i is the first that doesn't belong
+pub amiss-exactly : (e : Edition) → IsEdition e → (n : ℕ) (s : List ℕ) (ls ms : List Line) → others 10 ls ≡ true → others 10 ms ≡ true
+    → (v : Verdict) → v ≡ verdict (ls ++ (badRecord e (deskOf e s) n s ∷ ms)) → (i : ℕ)
+    → (v ≡ Refused (refusal 10 i)) ↔ (InOrder ls × FirstAmiss e n s (records e s) i)
+amiss-exactly e ok n s ls ms o p v is i =
+    let l = badRecord e (deskOf e s) n s in
+    let m = records e s in (
+      λ q.
+          let w = held ls l ms 10 o p (λ z. omega arith) (ap numberOf (sym is ∙ q)) in
+          let at : firstBad e (deskOf e s) n s m ≡ i = ap placeOf (sym (w .1) ∙ sym is ∙ q) in
+          (passed ls (l ∷ ms) 10 o (ap numberOf (sym is ∙ q)) .0, subst (FirstAmiss e n s m) at (bad-amiss e n s ok m (ltb-true (firstBad e (deskOf e s) n s m) m (w .0)))),
+      λ w.
+          let at = amiss-bad e n s ok m i (w .1) in
+          is ∙ passes ls (l ∷ ms) (w .0)
+          ∙ rw (lt-ltb (firstBad e (deskOf e s) n s m) m (omega (arith, at, w .1 .within))) (ap (λ (j : ℕ). Refused (refusal 10 j)) at),
+    )
 
 -- a call whose last line is 15, and whose other lines are ls
 module _ (e : Edition) (n : ℕ) (s : List ℕ) (ls : List Line) (o : others 15 ls ≡ true) (v : Verdict) (is : v ≡ verdict (ls ++ (unreadRecord e n s ∷ []))) where

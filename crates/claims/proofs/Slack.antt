@@ -31,13 +31,13 @@ use Rattle.claims.proofs.Verdicts.{says-verdict, is-refused, is-done, b
 use Rattle.claims.proofs.Sheets.{index-first}
 
 module _ (e : Edition) (d n : ℕ) (s : List ℕ) (delay : Float) (ts : List InputTime) (deadline : ℤ) where
-  says : slackOutcome e d n s delay ts deadline .verdict ≡ verdict (slackLines e d n s delay ts deadline)
+  pub slack-says : slackOutcome e d n s delay ts deadline .verdict ≡ verdict (slackLines e d n s delay ts deadline)
   unfolding slackOutcome
-  says = says-verdict (λ (a : SlackAnswer). a .verdict) (slackDone e n s delay ts deadline) slackNot refl (λ r. refl) (verdict (slackLines e d n s delay ts deadline))
+  slack-says = says-verdict (λ (a : SlackAnswer). a .verdict) (slackDone e n s delay ts deadline) slackNot refl (λ r. refl) (verdict (slackLines e d n s delay ts deadline))
 
   -- the verdict is that of lines 1, 9, 10, 13 and 14
   pub slack-lines : ByLines (slackOutcome e d n s delay ts deadline .verdict) (slackLines e d n s delay ts deadline)
-  slack-lines = by-lines (slackLines e d n s delay ts deadline) refl (slackOutcome e d n s delay ts deadline .verdict) says
+  slack-lines = by-lines (slackLines e d n s delay ts deadline) refl (slackOutcome e d n s delay ts deadline .verdict) slack-says
 
   -- refused: the slack is 0
   pub slack-refused : (r : Refusal) → slackOutcome e d n s delay ts deadline .verdict ≡ Refused r → slackOutcome e d n s delay ts deadline .slack ≡ pos 0
@@ -48,14 +48,14 @@ module _ (e : Edition) (d n : ℕ) (s : List ℕ) (delay : Float) (ts : List Inp
   -- nothing is named but for number 10
   pub slack-no-index : (numberOf (slackOutcome e d n s delay ts deadline .verdict) ≡ 10 → ⊥) → placeOf (slackOutcome e d n s delay ts deadline .verdict) ≡ 0
   slack-no-index h =
-      ap placeOf says
-      ∙ names-nothing (λ k. eqb k 10) (slackLines e d n s delay ts deadline) refl (ne-eqb (numberOf (verdict (slackLines e d n s delay ts deadline))) 10 (λ q. h (ap numberOf says ∙ q)))
+      ap placeOf slack-says
+      ∙ names-nothing (λ k. eqb k 10) (slackLines e d n s delay ts deadline) refl (ne-eqb (numberOf (verdict (slackLines e d n s delay ts deadline))) 10 (λ q. h (ap numberOf slack-says ∙ q)))
 
   -- and then it is the first bad record
   pub slack-index : IsEdition e → numberOf (slackOutcome e d n s delay ts deadline .verdict) ≡ 10 → FirstBad e d n s (placeOf (slackOutcome e d n s delay ts deadline .verdict))
   slack-index ok h =
       index-first e ok d n s (badInputs n ∷ badSheet e s ∷ []) (badTimes e n s delay ts ∷ badSlack n delay ts deadline ∷ []) refl refl
-      (slackOutcome e d n s delay ts deadline .verdict) says h
+      (slackOutcome e d n s delay ts deadline .verdict) slack-says h
 
   -- two answers that keep the promise are equal
   pub slack-once : (a a′ : SlackAnswer) → a ≡ slackOutcome e d n s delay ts deadline → a′ ≡ slackOutcome e d n s delay ts deadline → a ≡ a′
@@ -65,7 +65,7 @@ module _ (e : Edition) (d n : ℕ) (s : List ℕ) (delay : Float) (ts : List Inp
 
   module _ (ok : IsEdition e) (done : slackOutcome e d n s delay ts deadline .verdict ≡ Fine) where
     lines : InOrder (slackLines e d n s delay ts deadline)
-    lines = in-order (slackLines e d n s delay ts deadline) (sym says ∙ done)
+    lines = in-order (slackLines e d n s delay ts deadline) (sym slack-says ∙ done)
 
     left : Leaves e d n s delay ts
     left = let w = lines in leaves e ok d n s delay ts (w .0, (w .1 .0, (w .1 .1 .0, (w .1 .1 .1 .0, tt))))

@@ -23,7 +23,7 @@ use Rattle.bench.specs.MakeSheet.{sheetFor, makeForm, makeOutcome}
 use Rattle.claims.proofs.Made.{make-sound, is-made, not-stuck}
 use Rattle.claims.proofs.MakeSheet.{made-blocked, blocked-refused}
 
-module _ (e : Edition) (d n : ℕ) (t sheet work : List ℕ) (form : InOrder (makeForm e n 2 t sheet work)) where
+module _ (e : Edition) (d n : ℕ) (t sheet work : List ℕ) (form : InOrder (makeForm e d n 2 t sheet work)) where
   some : 1 ≤ n
   some = make-sound e d n 2 t sheet work form .some
 

@@ -38,7 +38,7 @@ use Rattle.claims.proofs.MakeSheet.{made-rebuilds, made-gives}
 
 -- ---- a bench that only says no
 
-module _ (e : Edition) (d n K : ℕ) (t sheet work : List ℕ) (form : InOrder (makeForm e n K t sheet work)) (small : size n (bit (support n (tableBit t))) ≤ K) where
+module _ (e : Edition) (d n K : ℕ) (t sheet work : List ℕ) (form : InOrder (makeForm e d n K t sheet work)) (small : size n (bit (support n (tableBit t))) ≤ K) where
   -- where form and room are in order and at most K inputs count, make is done, with one cell
   pub one-cell : makeOutcome e d n K t sheet work .answer ≡ record { verdict = Fine; count = 1 }
   one-cell =

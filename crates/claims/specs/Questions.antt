@@ -10,13 +10,13 @@ use Rattle.refusals.specs.Lines.{numberOf, placeOf}
 use Rattle.splitting.specs.TrySplit.{TryOutcome, tryOutcome}
 use Rattle.splitting.specs.FindBest.{FindOutcome, findOutcome}
 use Rattle.running.specs.declared.run_sheet.RunAnswer.{RunAnswer}
-use Rattle.running.specs.RunSheet.{runOutcome}
-use Rattle.running.specs.RebuildTable.{RebuildOutcome, rebuildOutcome}
+use Rattle.running.specs.RunSheet.{runOwn}
+use Rattle.running.specs.RebuildTable.{RebuildOutcome, rebuildOwn}
 use Rattle.bench.specs.MakeSheet.{MakeOutcome, makeOutcome}
 use Rattle.bench.specs.BenchProgram.{written}
 use Rattle.formulas.specs.Text.{mostText}
 use Rattle.formulas.specs.ReadFormula.{ReadOutcome, readOutcome}
-use Rattle.printing.specs.WriteFormula.{WriteOutcome, writeOutcome}
+use Rattle.printing.specs.WriteFormula.{WriteOutcome, writeOwn}
 use Rattle.claims.specs.Words.{recordsOf}
 
 -- what the bench can be asked
@@ -78,15 +78,15 @@ sayRead o = numberOf (o .verdict) ∷ placeOf (o .verdict) ∷ o .table
 abbrev pub sayWrite : WriteOutcome → List ℕ
 sayWrite o = numberOf (o .answer .verdict) ∷ placeOf (o .answer .verdict) ∷ take (o .answer .length) (o .room)
 
--- what the definitions answer, in the first edition and for the bench's own desk
+-- what the definitions answer, in the first edition; what is made is for bench use
 abbrev pub answer : Question → List ℕ
 answer (trying n K A B t room) = sayTry (tryOutcome firstEdition n K A B t room)
 answer (finding n K t) = sayFind (findOutcome firstEdition n K t lentWork)
 answer (making n K t) = sayMake (makeOutcome firstEdition 0 n K t lentSheet lentWork)
-answer (running n s x) = sayRun (runOutcome firstEdition 0 n s x)
-answer (rebuilding n s table) = sayRebuild (rebuildOutcome firstEdition 0 n s table)
+answer (running n s x) = sayRun (runOwn firstEdition n s x)
+answer (rebuilding n s table) = sayRebuild (rebuildOwn firstEdition n s table)
 answer (parsing n text table) = sayRead (readOutcome n text table)
-answer (printing n s) = sayWrite (writeOutcome firstEdition 0 n s lentText)
+answer (printing n s) = sayWrite (writeOwn firstEdition n s lentText)
 answer (reading input) = written input
 
 -- an example: what is asked, and what is to be answered

@@ -4,7 +4,7 @@ use mathlib.Core.Logic.{_↔_, _⊎_}
 use mathlib.Core.Bool.{Bool}
 use mathlib.Core.List.{List}
 use Prim.Native.Nat.{ℕ, _+_, _*_, _^_, _<_, _≤_}
-use lib.ListN.{length, getD, take}
+use lib.ListN.{length, getD, take, drop}
 use Rattle.bits.specs.Sets.{size}
 use Rattle.splits.specs.Columns.{columns}
 use Rattle.sheets.specs.declared.kinds.Edition.{Edition}
@@ -50,3 +50,11 @@ pub record Breaks (n : ℕ) (F : ℕ → Bool) (A B : ℕ → Bool) (m b k : ℕ
   pub count : k ≡ length (columns n F A B b)
   pub more : m < length (columns n F A B b)
   pub before : (b′ : ℕ) → b′ < b → length (columns n F A B b′) ≤ m
+
+-- two outcomes of make that differ in the desk's byte of their records alone: answer, work area, every other byte of a
+-- record, and the bytes after the last record are the same
+pub record OtherDesk (e : Edition) (o o′ : MakeOutcome) : Type 0 where
+  pub answer : o .answer ≡ o′ .answer
+  pub work : o .work ≡ o′ .work
+  pub bytes : (i j : ℕ) → (j ≡ e .most + 1 → ⊥) → recordAt e (recordsOf e o) i j ≡ recordAt e (recordsOf e o′) i j
+  pub rest : drop (e .size * o .answer .count) (o .sheet) ≡ drop (e .size * o′ .answer .count) (o′ .sheet)

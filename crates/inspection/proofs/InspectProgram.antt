@@ -13,13 +13,14 @@ use borrow.Author.Tests.{lt-ltb, le-ltb}
 use borrow.Rule.Slice.PartMut.{putMid, midOf}
 use Rattle.tables.specs.Table.{mostInputs, tableLength}
 use Rattle.sheets.specs.Edition.{firstEdition}
+use Rattle.sheets.specs.Desk.{deskOf}
 use Rattle.refusals.specs.declared.verdicts.Verdict.{Verdict}
 use Rattle.refusals.specs.declared.verdicts.Verdict.the-variants.{Refused}
 use Rattle.refusals.specs.Lines.{refusal, numberOf, placeOf}
 use Rattle.refusals.proofs.Lines.{here, decides}
 use Rattle.refusals.proofs.Tests.{over as outside}
 use Rattle.bench.proofs.BenchProgram.{rest}
-use Rattle.inspection.specs.CheckSheet.{checkLines, checkOutcome}
+use Rattle.inspection.specs.CheckSheet.{checkLines, checkOutcome, checkOwn}
 use Rattle.inspection.specs.InspectProgram.{digits, decimal, inspected, shown, written, mostWritten, ProgramOutcome, programOutcome}
 
 -- ---- a number's digits
@@ -122,9 +123,9 @@ module _ (x : ℕ) (o left : List ℕ) (r : ℕ) (many : 10 ≤ x) (fit : length
 -- ---- the parts of the input
 
 -- where n is too large, that alone decides
-too-many : (n : ℕ) (t s : List ℕ) → mostInputs < n → Refused (refusal 1 0) ≡ checkOutcome firstEdition 0 n t s
+too-many : (n : ℕ) (t s : List ℕ) → mostInputs < n → Refused (refusal 1 0) ≡ checkOwn firstEdition n t s
 unfolding checkOutcome
-too-many n t s h = decides (checkLines firstEdition 0 n t s) (here (outside 1 n mostInputs (omega arith) ∙ lt-ltb mostInputs n h))
+too-many n t s h = decides (checkLines firstEdition (deskOf firstEdition s) n t s) (here (outside 1 n mostInputs (omega arith) ∙ lt-ltb mostInputs n h))
 
 module _ (input : List ℕ) (n start bytes end : ℕ) where
   abbrev behind : List ℕ
@@ -132,15 +133,15 @@ module _ (input : List ℕ) (n start bytes end : ℕ) where
 
   pub parted : n ≡ getD input 0 0 → drop start input ≡ drop 1 input → (n ≤ mostInputs → bytes ≡ tableLength n)
       → take end behind ≡ take bytes behind → drop end behind ≡ drop bytes behind
-      → checkOutcome firstEdition 0 n (take end behind) (midOf end (length behind - end) behind) ≡ inspected input
+      → checkOwn firstEdition n (take end behind) (midOf end (length behind - end) behind) ≡ inspected input
   unfolding inspected
   parted p q b t s = elim (decLt mostInputs n) [
     | yes l ↦ sym (too-many n _ _ l) ∙ too-many n _ _ l ∙ ap whole p
-    | no l ↦ ap₂ (checkOutcome firstEdition 0 n) (t ∙ ap₂ take (b (omega arith)) from) (rest end behind ∙ s ∙ ap₂ drop (b (omega arith)) from) ∙ ap whole p
+    | no l ↦ ap₂ (checkOwn firstEdition n) (t ∙ ap₂ take (b (omega arith)) from) (rest end behind ∙ s ∙ ap₂ drop (b (omega arith)) from) ∙ ap whole p
   ]
     where
       whole : ℕ → Verdict
-      whole m = checkOutcome firstEdition 0 m (take (tableLength m) (drop 1 input)) (drop (tableLength m) (drop 1 input))
+      whole m = checkOwn firstEdition m (take (tableLength m) (drop 1 input)) (drop (tableLength m) (drop 1 input))
 
       from : behind ≡ drop 1 input
       from = rest start input ∙ q

@@ -4,6 +4,7 @@ use mathlib.Core.List.{List, [], _∷_, _++_}
 use Prim.Native.Nat.{ℕ, _^_, _<_}
 use Rattle.tables.specs.Table.{tableBit}
 use Rattle.sheets.specs.declared.kinds.Edition.{Edition}
+use Rattle.sheets.specs.Desk.{deskOf}
 use Rattle.sheets.specs.Sheet.{records, sheetBit, Good}
 use Rattle.sheets.specs.Reading.{EachRead}
 use Rattle.refusals.specs.declared.verdicts.Verdict.{Verdict}
@@ -22,9 +23,14 @@ againstLines e d n t s = sheetLines e d n s ++ (tableDiffers e n t s ∷ [])
 abbrev pub checkLines : Edition → ℕ → ℕ → List ℕ → List ℕ → List Line
 checkLines e d n t s = (tableLines n t ++ againstLines e d n t s) ++ (unreadRecord e n s ∷ [])
 
--- what check is to answer, whatever is handed over: `Fine` says that the sheet is accepted
+-- what check is to answer where the sheet is to be the desk d's, whatever is handed over: `Fine` says that the sheet is
+-- accepted
 unfoldable pub checkOutcome : Edition → ℕ → ℕ → List ℕ → List ℕ → Verdict
 checkOutcome e d n t s = verdict (checkLines e d n t s)
+
+-- and for the sheet's own desk
+abbrev pub checkOwn : Edition → ℕ → List ℕ → List ℕ → Verdict
+checkOwn e n t s = checkOutcome e (deskOf e s) n t s
 
 -- in words, of a gate whose table is in order: the sheet keeps the record rules, at every assignment it gives the
 -- table's bit, and each record but the last is read

@@ -8,7 +8,7 @@ use Rattle.tables.specs.Table.{mostInputs, tableLength}
 use Rattle.sheets.specs.Edition.{recordSize, mostRecords, firstEdition}
 use Rattle.refusals.specs.declared.verdicts.Verdict.{Verdict}
 use Rattle.refusals.specs.Lines.{numberOf, placeOf}
-use Rattle.inspection.specs.CheckSheet.{checkOutcome}
+use Rattle.inspection.specs.CheckSheet.{checkOwn}
 
 -- n, the longest table, the longest sheet and one byte more are read; what follows changes nothing
 abbrev pub mostRead : ℕ
@@ -27,7 +27,7 @@ decimal x = digits (suc x) x
 unfoldable pub inspected : List ℕ → Verdict
 inspected input =
     let n = getD input 0 0 in
-    checkOutcome firstEdition 0 n (take (tableLength n) (drop 1 input)) (drop (tableLength n) (drop 1 input))
+    checkOwn firstEdition n (take (tableLength n) (drop 1 input)) (drop (tableLength n) (drop 1 input))
 
 -- the answer number, a space and the place
 abbrev pub shown : Verdict → List ℕ

@@ -5,11 +5,12 @@ use refusals::verdicts::Verdict;
 use refusals::verdicts::refuse;
 use refusals::verdicts::refuse_at;
 use runs::checking::first_difference;
+use sheets::desk::desk_of;
 use sheets::kinds::Edition;
 ghost use mathlib.Core.Path.{_≡_};
 ghost use Rattle.sheets.specs.Edition.{IsEdition, firstEdition};
 ghost use Rattle.refusals.specs.Lines.{verdict};
-ghost use Rattle.inspection.specs.CheckSheet.{tableLines, checkOutcome};
+ghost use Rattle.inspection.specs.CheckSheet.{tableLines, checkOutcome, checkOwn};
 
 // Lines 1, 3 and 4.
 fn table_form(n: u64, t: &[u8]) -> Verdict
@@ -28,7 +29,7 @@ fn table_form(n: u64, t: &[u8]) -> Verdict
     Verdict::Fine
 }
 
-// Checks a sheet of an edition, the desk's byte being d, against a table.
+// Checks a sheet of an edition, which is to be the desk d's, against a table.
 pub fn check_in<'a>(e: Edition, d: u8, n: u64, t: &'a [u8], s: &'a [u8]) -> Verdict
     requires { ⌜ IsEdition e ⌝ }
     ensures { λ r. ⌜ r ≡ checkOutcome e d n (now (t .entry)) (now (s .entry)) ⌝ }
@@ -49,9 +50,17 @@ pub fn check_in<'a>(e: Edition, d: u8, n: u64, t: &'a [u8], s: &'a [u8]) -> Verd
     form::all_read(e, d, inputs, s)
 }
 
+// Checks a sheet of an edition, whatever its desk, against a table.
+pub fn check_own<'a>(e: Edition, n: u64, t: &'a [u8], s: &'a [u8]) -> Verdict
+    requires { ⌜ IsEdition e ⌝ }
+    ensures { λ r. ⌜ r ≡ checkOwn e n (now (t .entry)) (now (s .entry)) ⌝ }
+{
+    check_in(e, desk_of(e, s), n, t, s)
+}
+
 // Checks a sheet against a table: accepted, or why not.
 pub fn check_sheet<'a>(n: u64, t: &'a [u8], s: &'a [u8]) -> Verdict
-    ensures { λ r. ⌜ r ≡ checkOutcome firstEdition 0 n (now (t .entry)) (now (s .entry)) ⌝ }
+    ensures { λ r. ⌜ r ≡ checkOwn firstEdition n (now (t .entry)) (now (s .entry)) ⌝ }
 {
-    check_in(Edition::first(), 0, n, t, s)
+    check_own(Edition::first(), n, t, s)
 }

@@ -1,5 +1,5 @@
 // Keeping the shorter of two sheets for one table: a part of what the caller lent, where it lies.
-use crate::check_sheet::check_in;
+use crate::check_sheet::check_own;
 use refusals::verdicts::Verdict;
 use sheets::kinds::Edition;
 ghost use mathlib.Core.Path.{_≡_};
@@ -48,20 +48,13 @@ fn keep(first: Verdict, second: Verdict, i: usize, j: usize) -> Kept
     }
 }
 
-// Looks over both sheets, of an edition and for a desk.
-pub fn keep_in<'a>(
-    e: Edition,
-    d: u8,
-    n: u64,
-    t: &'a [u8],
-    first: &'a [u8],
-    second: &'a [u8],
-) -> Kept
+// Looks over both sheets of an edition, each for its own desk.
+pub fn keep_in<'a>(e: Edition, n: u64, t: &'a [u8], first: &'a [u8], second: &'a [u8]) -> Kept
     requires { ⌜ IsEdition e ⌝ }
-    ensures { λ r. ⌜ r ≡ keptOutcome e d n (now (t .entry)) (now (first .entry)) (now (second .entry)) ⌝ }
+    ensures { λ r. ⌜ r ≡ keptOutcome e n (now (t .entry)) (now (first .entry)) (now (second .entry)) ⌝ }
 {
-    let one = check_in(e, d, n, t, first);
-    let two = check_in(e, d, n, t, second);
+    let one = check_own(e, n, t, first);
+    let two = check_own(e, n, t, second);
     keep(one, two, first.len() / e.size, second.len() / e.size)
 }
 
@@ -80,15 +73,15 @@ pub fn part_of<'a>(which: u64, first: &'a [u8], second: &'a [u8]) -> &'a [u8]
 
 // Which of two sheets for one table is kept, and what the call beside says.
 pub fn keep_shorter<'a>(n: u64, t: &'a [u8], first: &'a [u8], second: &'a [u8]) -> Kept
-    ensures { λ r. ⌜ r ≡ keptOutcome firstEdition 0 n (now (t .entry)) (now (first .entry)) (now (second .entry)) ⌝ }
+    ensures { λ r. ⌜ r ≡ keptOutcome firstEdition n (now (t .entry)) (now (first .entry)) (now (second .entry)) ⌝ }
 {
-    keep_in(Edition::first(), 0, n, t, first, second)
+    keep_in(Edition::first(), n, t, first, second)
 }
 
 // The shorter of two sheets for one table, of those that the check accepts; empty if it accepts neither.
 pub fn shorter<'a>(n: u64, t: &'a [u8], first: &'a [u8], second: &'a [u8]) -> &'a [u8]
     ensures { λ r. ⌜
-        now r ≡ shorterOutcome firstEdition 0 n (now (t .entry)) (now (first .entry)) (now (second .entry))
+        now r ≡ shorterOutcome firstEdition n (now (t .entry)) (now (first .entry)) (now (second .entry))
         ⌝ }
 {
     let kept = keep_shorter(n, t, first, second);
@@ -98,7 +91,7 @@ pub fn shorter<'a>(n: u64, t: &'a [u8], first: &'a [u8], second: &'a [u8]) -> &'
 // The call beside: done if one of them is accepted, else the first's refusal.
 pub fn shorter_verdict<'a>(n: u64, t: &'a [u8], first: &'a [u8], second: &'a [u8]) -> Verdict
     ensures { λ r. ⌜
-        r ≡ keptOutcome firstEdition 0 n (now (t .entry)) (now (first .entry)) (now (second .entry)) .verdict
+        r ≡ keptOutcome firstEdition n (now (t .entry)) (now (first .entry)) (now (second .entry)) .verdict
         ⌝ }
 {
     let kept = keep_shorter(n, t, first, second);

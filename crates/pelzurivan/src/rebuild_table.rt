@@ -4,7 +4,7 @@ use refusals::verdicts::place_of;
 use running::rebuild_table::rebuild_table;
 ghost use mathlib.Core.Path.{_≡_};
 ghost use Rattle.sheets.specs.Edition.{firstEdition};
-ghost use Rattle.running.specs.RebuildTable.{rebuildOutcome};
+ghost use Rattle.running.specs.RebuildTable.{rebuildOwn};
 ghost use Rattle.pelzurivan.specs.RebuildTable.{rebuiltC};
 
 // The number, the index of a bad record (10) or of an unread one (15).
@@ -18,8 +18,8 @@ pub struct RebuiltC {
 #[no_mangle]
 pub extern "C" fn pelzurivan_rebuild(n: u64, s: &[u8], table: &mut [u8]) -> RebuiltC
     ensures { λ r. ⌜
-        (r ≡ rebuiltC (rebuildOutcome firstEdition 0 n (now (s .entry)) (now (table .entry))))
-        × (now (table .exit) ≡ rebuildOutcome firstEdition 0 n (now (s .entry)) (now (table .entry)) .table)
+        (r ≡ rebuiltC (rebuildOwn firstEdition n (now (s .entry)) (now (table .entry))))
+        × (now (table .exit) ≡ rebuildOwn firstEdition n (now (s .entry)) (now (table .entry)) .table)
         ⌝ }
 {
     let verdict = rebuild_table(n, s, table);

@@ -6,7 +6,7 @@ use refusals::verdicts::place_of;
 use settling::settle::settle;
 ghost use mathlib.Core.Path.{_≡_};
 ghost use Rattle.sheets.specs.Edition.{firstEdition};
-ghost use Rattle.settling.specs.Settle.{settleOutcome};
+ghost use Rattle.settling.specs.Settle.{settleOwn};
 ghost use Rattle.pelzurivan.specs.InputTimes.{inputTimes};
 ghost use Rattle.pelzurivan.specs.Settle.{settledC};
 
@@ -22,7 +22,7 @@ pub struct SettledC {
 // When the output settles, where each cell takes the same delay.
 #[no_mangle]
 pub extern "C" fn pelzurivan_settle(n: u64, s: &[u8], delay: f64, c: TimesC) -> SettledC
-    ensures { λ r. ⌜ r ≡ settledC (settleOutcome firstEdition 0 n (now (s .entry)) delay (inputTimes c)) ⌝ }
+    ensures { λ r. ⌜ r ≡ settledC (settleOwn firstEdition n (now (s .entry)) delay (inputTimes c)) ⌝ }
 {
     let answer = settle(n, s, delay, input_times(c));
     let verdict = answer.verdict;

@@ -24,7 +24,7 @@ pub extern "C" fn pelzurivan_shorter<'a>(
     second: &'a [u8],
 ) -> ShorterC
     ensures { λ r. ⌜
-        r ≡ shorterC (keptOutcome firstEdition 0 n (now (t .entry)) (now (first .entry)) (now (second .entry)))
+        r ≡ shorterC (keptOutcome firstEdition n (now (t .entry)) (now (first .entry)) (now (second .entry)))
         (now (first .entry)) (now (second .entry))
         ⌝ }
 {

@@ -4,7 +4,7 @@ use refusals::verdicts::number_of;
 use refusals::verdicts::place_of;
 ghost use mathlib.Core.Path.{_≡_};
 ghost use Rattle.sheets.specs.Edition.{firstEdition};
-ghost use Rattle.printing.specs.WriteFormula.{writeOutcome};
+ghost use Rattle.printing.specs.WriteFormula.{writeOwn};
 ghost use Rattle.pelzurivan.specs.WriteFormula.{formulaWrittenC};
 
 // The number, the index of a bad record (10), and the text's length.
@@ -19,8 +19,8 @@ pub struct FormulaWrittenC {
 #[no_mangle]
 pub extern "C" fn pelzurivan_write_formula(n: u64, s: &[u8], room: &mut [u8]) -> FormulaWrittenC
     ensures { λ r. ⌜
-        (r ≡ formulaWrittenC (writeOutcome firstEdition 0 n (now (s .entry)) (now (room .entry))))
-        × (now (room .exit) ≡ writeOutcome firstEdition 0 n (now (s .entry)) (now (room .entry)) .room)
+        (r ≡ formulaWrittenC (writeOwn firstEdition n (now (s .entry)) (now (room .entry))))
+        × (now (room .exit) ≡ writeOwn firstEdition n (now (s .entry)) (now (room .entry)) .room)
         ⌝ }
 {
     let answer = write_formula(n, s, room);

@@ -4,6 +4,7 @@ use Prim.Native.Nat.{ℕ}
 use lib.Dec.{ltb}
 use lib.ListN.{length}
 use Rattle.sheets.specs.declared.kinds.Edition.{Edition}
+use Rattle.sheets.specs.Desk.{deskOf}
 use Rattle.refusals.specs.declared.verdicts.Refusal.{Refusal}
 use Rattle.refusals.specs.declared.verdicts.Verdict.the-variants.{Fine, Refused}
 use Rattle.refusals.specs.Lines.{Line, line, verdict, reply}
@@ -42,6 +43,10 @@ writeDone e n s room = record {
 abbrev pub writeNot : List ℕ → Refusal → WriteOutcome
 writeNot room r = record { answer = record { verdict = Refused r; length = 0 }; room = room }
 
--- what the writer is to return and leave, whatever is handed over
+-- what the writer is to return and leave where the sheet is to be the desk d's, whatever is handed over
 unfoldable pub writeOutcome : Edition → ℕ → ℕ → List ℕ → List ℕ → WriteOutcome
 writeOutcome e d n s room = reply (verdict (writeLines e d n s room)) (writeDone e n s room) (writeNot room)
+
+-- and for the sheet's own desk
+abbrev pub writeOwn : Edition → ℕ → List ℕ → List ℕ → WriteOutcome
+writeOwn e n s room = writeOutcome e (deskOf e s) n s room

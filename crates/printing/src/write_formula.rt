@@ -5,11 +5,12 @@ use refusals::form;
 use refusals::verdicts::Refusal;
 use refusals::verdicts::Verdict;
 use refusals::verdicts::refuse;
+use sheets::desk::desk_of;
 use sheets::kinds::Edition;
 ghost use mathlib.Core.Path.{_≡_};
 ghost use Rattle.sheets.specs.Edition.{IsEdition, firstEdition};
 ghost use Rattle.refusals.specs.Lines.{verdict};
-ghost use Rattle.printing.specs.WriteFormula.{writeLines, writeOutcome};
+ghost use Rattle.printing.specs.WriteFormula.{writeLines, writeOutcome, writeOwn};
 
 // A text has at most so many bytes.
 const MOST_TEXT: usize = 1024;
@@ -43,7 +44,7 @@ fn write_form<'a>(e: Edition, d: u8, n: u64, s: &'a [u8], room: &'a [u8]) -> Ver
     Verdict::Fine
 }
 
-// Writes a sheet of an edition, the desk's byte being d.
+// Writes a sheet of an edition, which is to be the desk d's.
 pub fn write_in(e: Edition, d: u8, n: u64, s: &[u8], room: &mut [u8]) -> WriteAnswer
     requires { ⌜ IsEdition e ⌝ }
     ensures { λ r. ⌜
@@ -66,12 +67,13 @@ pub fn write_in(e: Edition, d: u8, n: u64, s: &[u8], room: &mut [u8]) -> WriteAn
     }
 }
 
-// Writes a sheet of n inputs as a formula into a lent room.
+// Writes a sheet of n inputs, whatever its desk, as a formula into a lent room.
 pub fn write_formula(n: u64, s: &[u8], room: &mut [u8]) -> WriteAnswer
     ensures { λ r. ⌜
         record { answer = r; room = now (room .exit) }
-        ≡ writeOutcome firstEdition 0 n (now (s .entry)) (now (room .entry))
+        ≡ writeOwn firstEdition n (now (s .entry)) (now (room .entry))
         ⌝ }
 {
-    write_in(Edition::first(), 0, n, s, room)
+    let e = Edition::first();
+    write_in(e, desk_of(e, s), n, s, room)
 }

@@ -14,7 +14,7 @@ use Rattle.splits.specs.Columns.{fewColumns, firstBroken}
 use Rattle.splits.specs.Pair.{inputsH}
 use Rattle.best.specs.Search.{Answer, none, split}
 use Rattle.sheets.specs.declared.kinds.Edition.{Edition}
-use Rattle.sheets.specs.Edition.{mostRecords}
+use Rattle.sheets.specs.Edition.{mostRecords, mostDesk}
 use Rattle.sheets.specs.Sheet.{badLength, records, firstBad}
 use Rattle.sheets.specs.Reading.{firstUnread}
 use Rattle.runs.specs.Checking.{firstDifference}
@@ -43,6 +43,10 @@ abbrev pub badSets : ℕ → ℕ → ℕ → ℕ → Line
 badSets n K A B =
     line 5 (leb (2 ^ n) A || (leb (2 ^ n) B ||
     (not (disjoint n (bit A) (bit B)) || (ltb (size n (bit A)) 2 || ltb K (size n (bit A) + size n (bit B))))))
+
+-- 5: a desk above 4
+abbrev pub badDesk : ℕ → Line
+badDesk d = line 5 (ltb mostDesk d)
 
 -- 6: room for H shorter than its table
 abbrev pub shortRoom : ℕ → ℕ → ℕ → List ℕ → List ℕ → Line

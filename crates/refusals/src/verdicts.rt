@@ -20,6 +20,8 @@ impl Refusal {
     pub const SPARE: u8 = 4;
     // a named split's sets don't fit n or K
     pub const SETS: u8 = 5;
+    // the desk is above 4
+    pub const DESK: u8 = 5;
     // a lent room is too short
     pub const ROOM: u8 = 6;
     // nothing to split

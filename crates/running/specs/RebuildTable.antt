@@ -2,6 +2,7 @@
 use mathlib.Core.List.{List, [], _∷_, _++_}
 use Prim.Native.Nat.{ℕ}
 use Rattle.sheets.specs.declared.kinds.Edition.{Edition}
+use Rattle.sheets.specs.Desk.{deskOf}
 use Rattle.sheets.specs.Sheet.{records, rebuilt}
 use Rattle.refusals.specs.declared.verdicts.Refusal.{Refusal}
 use Rattle.refusals.specs.declared.verdicts.Verdict.{Verdict}
@@ -30,6 +31,10 @@ rebuildDone e n s = record { verdict = Fine; table = rebuilt e n s (records e s)
 abbrev pub rebuildNot : List ℕ → Refusal → RebuildOutcome
 rebuildNot table r = record { verdict = Refused r; table = table }
 
--- what rebuild is to return and leave, whatever is handed over
+-- what rebuild is to return and leave where the sheet is to be the desk d's, whatever is handed over
 unfoldable pub rebuildOutcome : Edition → ℕ → ℕ → List ℕ → List ℕ → RebuildOutcome
 rebuildOutcome e d n s table = reply (verdict (rebuildLines e d n s table)) (rebuildDone e n s) (rebuildNot table)
+
+-- and for the sheet's own desk
+abbrev pub rebuildOwn : Edition → ℕ → List ℕ → List ℕ → RebuildOutcome
+rebuildOwn e n s table = rebuildOutcome e (deskOf e s) n s table

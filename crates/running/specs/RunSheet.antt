@@ -3,6 +3,7 @@ use mathlib.Core.Bool.{false}
 use mathlib.Core.List.{List, [], _∷_, _++_}
 use Prim.Native.Nat.{ℕ}
 use Rattle.sheets.specs.declared.kinds.Edition.{Edition}
+use Rattle.sheets.specs.Desk.{deskOf}
 use Rattle.sheets.specs.Sheet.{records, sheetBit}
 use Rattle.refusals.specs.declared.verdicts.Refusal.{Refusal}
 use Rattle.refusals.specs.declared.verdicts.Verdict.the-variants.{Fine, Refused}
@@ -26,6 +27,10 @@ runDone e n s x = record { verdict = Fine; bit = sheetBit e n s (records e s) x 
 abbrev pub runNot : Refusal → RunAnswer
 runNot r = record { verdict = Refused r; bit = false }
 
--- what run is to return, whatever is handed over
+-- what run is to return where the sheet is to be the desk d's, whatever is handed over
 unfoldable pub runOutcome : Edition → ℕ → ℕ → List ℕ → ℕ → RunAnswer
 runOutcome e d n s x = reply (verdict (runLines e d n s x)) (runDone e n s x) runNot
+
+-- and for the sheet's own desk
+abbrev pub runOwn : Edition → ℕ → List ℕ → ℕ → RunAnswer
+runOwn e n s x = runOutcome e (deskOf e s) n s x

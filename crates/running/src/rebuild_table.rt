@@ -4,11 +4,12 @@ use refusals::verdicts::Refusal;
 use refusals::verdicts::Verdict;
 use refusals::verdicts::refuse;
 use runs::running::rebuild;
+use sheets::desk::desk_of;
 use sheets::kinds::Edition;
 ghost use mathlib.Core.Path.{_≡_};
 ghost use Rattle.sheets.specs.Edition.{IsEdition, firstEdition};
 ghost use Rattle.refusals.specs.Lines.{verdict};
-ghost use Rattle.running.specs.RebuildTable.{rebuildLines, rebuildOutcome};
+ghost use Rattle.running.specs.RebuildTable.{rebuildLines, rebuildOutcome, rebuildOwn};
 
 // Lines 1, 3, 9, 10 and 15.
 fn rebuild_form<'a>(e: Edition, d: u8, n: u64, s: &'a [u8], table: &'a [u8]) -> Verdict
@@ -29,7 +30,7 @@ fn rebuild_form<'a>(e: Edition, d: u8, n: u64, s: &'a [u8], table: &'a [u8]) -> 
     form::all_read(e, d, inputs, s)
 }
 
-// Rebuilds the table of a sheet of an edition, the desk's byte being d, into a lent one, which is written whole.
+// Rebuilds the table of a sheet of an edition, which is to be the desk d's, into a lent one, which is written whole.
 pub fn rebuild_in(e: Edition, d: u8, n: u64, s: &[u8], table: &mut [u8]) -> Verdict
     requires { ⌜ IsEdition e ⌝ }
     ensures { λ r. ⌜
@@ -46,12 +47,13 @@ pub fn rebuild_in(e: Edition, d: u8, n: u64, s: &[u8], table: &mut [u8]) -> Verd
     Verdict::Fine
 }
 
-// Rebuilds the table of a sheet into a lent one.
+// Rebuilds the table of a sheet, whatever its desk, into a lent one.
 pub fn rebuild_table(n: u64, s: &[u8], table: &mut [u8]) -> Verdict
     ensures { λ r. ⌜
         record { verdict = r; table = now (table .exit) }
-        ≡ rebuildOutcome firstEdition 0 n (now (s .entry)) (now (table .entry))
+        ≡ rebuildOwn firstEdition n (now (s .entry)) (now (table .entry))
         ⌝ }
 {
-    rebuild_in(Edition::first(), 0, n, s, table)
+    let e = Edition::first();
+    rebuild_in(e, desk_of(e, s), n, s, table)
 }

@@ -4,11 +4,12 @@ use refusals::verdicts::Refusal;
 use refusals::verdicts::Verdict;
 use refusals::verdicts::refuse;
 use runs::running::bit_of;
+use sheets::desk::desk_of;
 use sheets::kinds::Edition;
 ghost use mathlib.Core.Path.{_≡_};
 ghost use Rattle.sheets.specs.Edition.{IsEdition, firstEdition};
 ghost use Rattle.refusals.specs.Lines.{verdict};
-ghost use Rattle.running.specs.RunSheet.{runLines, runOutcome};
+ghost use Rattle.running.specs.RunSheet.{runLines, runOutcome, runOwn};
 
 // The bit, if nothing is wrong.
 pub struct RunAnswer {
@@ -35,7 +36,7 @@ fn run_form(e: Edition, d: u8, n: u64, s: &[u8], x: u64) -> Verdict
     form::all_read(e, d, inputs, s)
 }
 
-// Runs a sheet of an edition, the desk's byte being d, at the assignment x.
+// Runs a sheet of an edition, which is to be the desk d's, at the assignment x.
 pub fn run_in(e: Edition, d: u8, n: u64, s: &[u8], x: u64) -> RunAnswer
     requires { ⌜ IsEdition e ⌝ }
     ensures { λ r. ⌜ r ≡ runOutcome e d n (now (s .entry)) x ⌝ }
@@ -54,9 +55,10 @@ pub fn run_in(e: Edition, d: u8, n: u64, s: &[u8], x: u64) -> RunAnswer
     }
 }
 
-// Runs a sheet at the assignment x.
+// Runs a sheet, whatever its desk, at the assignment x.
 pub fn run_sheet(n: u64, s: &[u8], x: u64) -> RunAnswer
-    ensures { λ r. ⌜ r ≡ runOutcome firstEdition 0 n (now (s .entry)) x ⌝ }
+    ensures { λ r. ⌜ r ≡ runOwn firstEdition n (now (s .entry)) x ⌝ }
 {
-    run_in(Edition::first(), 0, n, s, x)
+    let e = Edition::first();
+    run_in(e, desk_of(e, s), n, s, x)
 }

@@ -4,6 +4,7 @@ use mathlib.Core.List.{List, [], _∷_, _++_}
 use Prim.Native.Nat.{ℕ}
 use lib.Ieee.{Float}
 use Rattle.sheets.specs.declared.kinds.Edition.{Edition}
+use Rattle.sheets.specs.Desk.{deskOf}
 use Rattle.times.specs.declared.input_time.InputTime.{InputTime}
 use Rattle.times.specs.InputTimes.{zeroTime}
 use Rattle.times.specs.Signals.{settled}
@@ -30,6 +31,10 @@ settleDone e n s delay ts = record {
 abbrev pub settleNot : Refusal → SettleAnswer
 settleNot r = record { verdict = Refused r; earliest = zeroTime; latest = zeroTime }
 
--- what settle is to return, whatever is handed over
+-- what settle is to return where the sheet is to be the desk d's, whatever is handed over
 unfoldable pub settleOutcome : Edition → ℕ → ℕ → List ℕ → Float → List InputTime → SettleAnswer
 settleOutcome e d n s delay ts = reply (verdict (settleLines e d n s delay ts)) (settleDone e n s delay ts) settleNot
+
+-- and for the sheet's own desk
+abbrev pub settleOwn : Edition → ℕ → List ℕ → Float → List InputTime → SettleAnswer
+settleOwn e n s delay ts = settleOutcome e (deskOf e s) n s delay ts

@@ -5,6 +5,7 @@ use Prim.Native.Nat.{ℕ}
 use lib.IntN.{ℤ, pos, _-ℤ_}
 use lib.Ieee.{Float}
 use Rattle.sheets.specs.declared.kinds.Edition.{Edition}
+use Rattle.sheets.specs.Desk.{deskOf}
 use Rattle.times.specs.declared.input_time.InputTime.{InputTime}
 use Rattle.times.specs.Signals.{settled}
 use Rattle.times.specs.Sixteenths.{sixteenthsOf}
@@ -30,7 +31,11 @@ slackDone e n s delay ts deadline = record {
 abbrev pub slackNot : Refusal → SlackAnswer
 slackNot r = record { verdict = Refused r; slack = pos 0 }
 
--- what slack is to return, whatever is handed over
+-- what slack is to return where the sheet is to be the desk d's, whatever is handed over
 unfoldable pub slackOutcome : Edition → ℕ → ℕ → List ℕ → Float → List InputTime → ℤ → SlackAnswer
 slackOutcome e d n s delay ts deadline =
     reply (verdict (slackLines e d n s delay ts deadline)) (slackDone e n s delay ts deadline) slackNot
+
+-- and for the sheet's own desk
+abbrev pub slackOwn : Edition → ℕ → List ℕ → Float → List InputTime → ℤ → SlackAnswer
+slackOwn e n s delay ts deadline = slackOutcome e (deskOf e s) n s delay ts deadline

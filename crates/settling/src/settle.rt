@@ -4,6 +4,7 @@ use refusals::form;
 use refusals::verdicts::Refusal;
 use refusals::verdicts::Verdict;
 use refusals::verdicts::refuse;
+use sheets::desk::desk_of;
 use sheets::kinds::Edition;
 use times::input_time::InputTime;
 use times::input_time::in_range;
@@ -18,7 +19,7 @@ ghost use Rattle.sheets.specs.Sheet.{records};
 ghost use Rattle.times.specs.Reading.{Timed};
 ghost use Rattle.times.specs.Signals.{settled};
 ghost use Rattle.refusals.specs.Lines.{verdict};
-ghost use Rattle.settling.specs.Settle.{settleLines, settleOutcome};
+ghost use Rattle.settling.specs.Settle.{settleLines, settleOutcome, settleOwn};
 
 // The output's earliest and latest time, if nothing is wrong.
 pub struct SettleAnswer {
@@ -60,7 +61,7 @@ fn settle_at(late: bool, e: Edition, n: u32, s: &[u8], delay: f64, times: [Input
     output_time(e, n, s, m, late, plain_zero(delay), inputs)
 }
 
-// Settles a sheet of an edition, the desk's byte being d.
+// Settles a sheet of an edition, which is to be the desk d's.
 pub fn settle_in(
     e: Edition,
     d: u8,
@@ -90,7 +91,8 @@ pub fn settle_in(
 
 // The output's earliest and latest time, from each input's time and one delay for all cells.
 pub fn settle(n: u64, s: &[u8], delay: f64, times: [InputTime; 16]) -> SettleAnswer
-    ensures { λ r. ⌜ r ≡ settleOutcome firstEdition 0 n (now (s .entry)) delay times ⌝ }
+    ensures { λ r. ⌜ r ≡ settleOwn firstEdition n (now (s .entry)) delay times ⌝ }
 {
-    settle_in(Edition::first(), 0, n, s, delay, times)
+    let e = Edition::first();
+    settle_in(e, desk_of(e, s), n, s, delay, times)
 }

@@ -3,6 +3,7 @@ use crate::settle::settle_in;
 use refusals::verdicts::Refusal;
 use refusals::verdicts::Verdict;
 use refusals::verdicts::refuse;
+use sheets::desk::desk_of;
 use sheets::kinds::Edition;
 use times::input_time::InputTime;
 use times::sixteenths::count_of;
@@ -19,7 +20,7 @@ ghost use Rattle.sheets.specs.Edition.{IsEdition, firstEdition};
 ghost use Rattle.times.specs.InputTimes.{inRange, soundTime, timeAt};
 ghost use Rattle.refusals.specs.Lines.{verdict};
 ghost use Rattle.settling.specs.Refusals.{badSlack};
-ghost use Rattle.settling.specs.Slack.{slackOutcome};
+ghost use Rattle.settling.specs.Slack.{slackOutcome, slackOwn};
 
 // The slack in sixteenths, if nothing is wrong.
 pub struct SlackAnswer {
@@ -46,7 +47,7 @@ fn slack_form(n: u32, delay: f64, times: [InputTime; 16], deadline: i64) -> Verd
     Verdict::Fine
 }
 
-// The slack of a sheet of an edition, the desk's byte being d.
+// The slack of a sheet of an edition, which is to be the desk d's.
 pub fn slack_in(
     e: Edition,
     d: u8,
@@ -82,7 +83,8 @@ pub fn slack_in(
 
 // A deadline in sixteenths less the output's latest time.
 pub fn slack(n: u64, s: &[u8], delay: f64, times: [InputTime; 16], deadline: i64) -> SlackAnswer
-    ensures { λ r. ⌜ r ≡ slackOutcome firstEdition 0 n (now (s .entry)) delay times deadline ⌝ }
+    ensures { λ r. ⌜ r ≡ slackOwn firstEdition n (now (s .entry)) delay times deadline ⌝ }
 {
-    slack_in(Edition::first(), 0, n, s, delay, times, deadline)
+    let e = Edition::first();
+    slack_in(e, desk_of(e, s), n, s, delay, times, deadline)
 }

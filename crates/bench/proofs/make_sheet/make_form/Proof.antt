@@ -6,11 +6,11 @@ use native.Mathlib.Omega.{arith}
 use lib.Dec.{ltb}
 use lib.ListN.{length}
 use borrow.Author.Needs.{needs}
-use borrow.Author.Tests.{lt-ltb}
+use borrow.Author.Tests.{lt-ltb, le-ltb}
 use Rattle.bits.proofs.Bools.{or-left, or-right}
-use Rattle.sheets.specs.Edition.{mostRecords}
+use Rattle.sheets.specs.Edition.{mostRecords, mostDesk}
 use Rattle.chains.specs.Area.{workLength}
-use Rattle.refusals.specs.Refusals.{gateLines, shortSheet}
+use Rattle.refusals.specs.Refusals.{gateLines, badDesk, shortSheet}
 use Rattle.refusals.proofs.Lines.{fine, here, later, stopped, decided}
 use Rattle.refusals.proofs.Lent.{both-long}
 use Rattle.bench.proofs.make_sheet.make_form.Statement.{statement}
@@ -20,41 +20,56 @@ returns : tie.Need-returns
 returns c =
     let g = c .before .before in
     let a = g .before .before .before .before .args in
-    stopped (gateLines (a .e) (a .n) (a .k) (a .t .now)) (shortSheet (a .e) (a .sheet .now) (a .work .now) ∷ []) _ (g .gate .ensures)
+    stopped (gateLines (a .e) (a .n) (a .k) (a .t .now)) (badDesk (a .d) ∷ shortSheet (a .e) (a .sheet .now) (a .work .now) ∷ []) _ (g .gate .ensures)
     (c .enum-told2 .given .0 .0) (c .enum-told2 .given .1)
-
-mul-if1 : tie.Need-mul-if1
-mul-if1 c = omega (arith, c .before .before .before .before .before .before .before .pre .short)
 
 returns-2 : tie.Need-returns-2
 returns-2 c =
     let i = c .before in
-    let f = i .before .before in
+    let f = i .before in
     let g = f .before .before in
     let a = g .before .before .before .before .args in
     c .refuse .ensures
-    ∙ decided (gateLines (a .e) (a .n) (a .k) (a .t .now)) (shortSheet (a .e) (a .sheet .now) (a .work .now) ∷ []) _ (g .gate .ensures) (f .enum-told .given .1)
-    (here (or-left (ltb (length (a .sheet .now)) (a .e .size * mostRecords)) (ltb (length (a .work .now)) workLength) (lt-ltb (length (a .sheet .now)) (a .e .size * mostRecords) (i .if1 .taken))))
+    ∙ decided (gateLines (a .e) (a .n) (a .k) (a .t .now)) (badDesk (a .d) ∷ shortSheet (a .e) (a .sheet .now) (a .work .now) ∷ []) _ (g .gate .ensures) (f .enum-told .given .1)
+    (here (lt-ltb mostDesk (a .d) (i .if1 .taken)))
+
+mul-if2 : tie.Need-mul-if2
+mul-if2 c = omega (arith, c .before .before .before .before .before .before .before .before .pre .short)
 
 returns-3 : tie.Need-returns-3
 returns-3 c =
     let i = c .before in
-    let f = i .before .before .before in
+    let j = i .before .before in
+    let f = j .before in
     let g = f .before .before in
     let a = g .before .before .before .before .args in
     c .refuse2 .ensures
-    ∙ decided (gateLines (a .e) (a .n) (a .k) (a .t .now)) (shortSheet (a .e) (a .sheet .now) (a .work .now) ∷ []) _ (g .gate .ensures) (f .enum-told .given .1)
-    (here (or-right (ltb (length (a .sheet .now)) (a .e .size * mostRecords)) (ltb (length (a .work .now)) workLength) (lt-ltb (length (a .work .now)) workLength (i .if2 .taken))))
+    ∙ decided (gateLines (a .e) (a .n) (a .k) (a .t .now)) (badDesk (a .d) ∷ shortSheet (a .e) (a .sheet .now) (a .work .now) ∷ []) _ (g .gate .ensures) (f .enum-told .given .1)
+    (later (le-ltb mostDesk (a .d) (j .if1 .left))
+    (here (or-left (ltb (length (a .sheet .now)) (a .e .size * mostRecords)) (ltb (length (a .work .now)) workLength) (lt-ltb (length (a .sheet .now)) (a .e .size * mostRecords) (i .if2 .taken)))))
 
 returns-4 : tie.Need-returns-4
 returns-4 c =
-    let f = c .before .before .before in
+    let i = c .before in
+    let j = i .before .before .before in
+    let f = j .before in
     let g = f .before .before in
     let a = g .before .before .before .before .args in
-    decided (gateLines (a .e) (a .n) (a .k) (a .t .now)) (shortSheet (a .e) (a .sheet .now) (a .work .now) ∷ []) _ (g .gate .ensures) (f .enum-told .given .1)
-    (later (both-long (a .e) (a .sheet .now) (a .work .now) (c .before .if1 .left) (c .if2 .left)) fine)
+    c .refuse3 .ensures
+    ∙ decided (gateLines (a .e) (a .n) (a .k) (a .t .now)) (badDesk (a .d) ∷ shortSheet (a .e) (a .sheet .now) (a .work .now) ∷ []) _ (g .gate .ensures) (f .enum-told .given .1)
+    (later (le-ltb mostDesk (a .d) (j .if1 .left))
+    (here (or-right (ltb (length (a .sheet .now)) (a .e .size * mostRecords)) (ltb (length (a .work .now)) workLength) (lt-ltb (length (a .work .now)) workLength (i .if3 .taken)))))
+
+returns-5 : tie.Need-returns-5
+returns-5 c =
+    let j = c .before .before .before in
+    let f = j .before in
+    let g = f .before .before in
+    let a = g .before .before .before .before .args in
+    decided (gateLines (a .e) (a .n) (a .k) (a .t .now)) (badDesk (a .d) ∷ shortSheet (a .e) (a .sheet .now) (a .work .now) ∷ []) _ (g .gate .ensures) (f .enum-told .given .1)
+    (later (le-ltb mostDesk (a .d) (j .if1 .left)) (later (both-long (a .e) (a .sheet .now) (a .work .now) (c .before .if2 .left) (c .if3 .left)) fine))
 
 pub make-form-spec : {M : Type 1} → statement M
 make-form-spec =
-    tie.close (tie.spec (λ c κs. search needs) (λ c. search needs) (λ c. search needs) returns mul-if1
-    (λ c κs. search needs) returns-2 (λ c κs. search needs) returns-3 returns-4)
+    tie.close (tie.spec (λ c κs. search needs) (λ c. search needs) (λ c. search needs) returns (λ c. search needs)
+    (λ c κs. search needs) returns-2 mul-if2 (λ c κs. search needs) returns-3 (λ c κs. search needs) returns-4 returns-5)

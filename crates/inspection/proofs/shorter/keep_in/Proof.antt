@@ -14,7 +14,7 @@ returns c =
     let a = l .before .before .before .before .before .args in
     c .keep .ensures
     ∙ ap₂ (λ (v w : Verdict). kept v w (records (a .e) (a .first .now)) (records (a .e) (a .second .now)))
-    (l .before .check-in .ensures) (l .check-in2 .ensures)
+    (l .before .check-own .ensures) (l .check-own2 .ensures)
 
 pub keep-in-spec : {M : Type 1} → statement M
 keep-in-spec =

@@ -7,7 +7,7 @@ use borrow.Author.Needs.{needs}
 use Rattle.sheets.specs.Edition.{firstEdition}
 use Rattle.refusals.specs.Lines.{numberOf, placeOf}
 use Rattle.settling.specs.declared.slack.SlackAnswer.{SlackAnswer}
-use Rattle.settling.specs.Slack.{slackOutcome}
+use Rattle.settling.specs.Slack.{slackOwn}
 use Rattle.pelzurivan.specs.Slack.{slackC}
 use Rattle.pelzurivan.proofs.slack.pelzurivan_slack.Statement.{statement}
 use Rattle.pelzurivan.proofs.slack.pelzurivan_slack.Tie as tie
@@ -23,7 +23,7 @@ returns c =
     let t = i .before .before in
     let a = t .args in
     same (s .slack .result) _ _ _ _ (p .before .number-of .ensures) (p .place-of .ensures) (toZ-ofZ (record { sfits = c .struct-told .given .1 .0 .1 }))
-    (s .slack .ensures ∙ ap₂ (slackOutcome firstEdition 0 (a .n) (a .s .now) (a .delay)) (i .input-times .ensures) (toZ-ofZ (t .fits .deadline)))
+    (s .slack .ensures ∙ ap₂ (slackOwn firstEdition (a .n) (a .s .now) (a .delay)) (i .input-times .ensures) (toZ-ofZ (t .fits .deadline)))
 
 pub pelzurivan-slack-spec : {M : Type 1} → statement M
 pelzurivan-slack-spec =
