@@ -40,6 +40,12 @@ impl Refusal {
     pub const SLACK: u8 = 14;
     // a record but the last is read by no later record: its index
     pub const UNREAD: u8 = 15;
+    // the desk is closed: its mark isn't 1
+    pub const CLOSED: u8 = 18;
+    // the desk is outside 1 to 4, or the sheet is another desk's
+    pub const DESK: u8 = 19;
+    // the card has a wrong length
+    pub const CARD: u8 = 20;
 }
 
 // What looking at a call's lines comes to.
