@@ -2,9 +2,9 @@
 -- answers, and the calls.
 pub mod Card
 pub mod Stores
-pub mod Mingling
 pub mod Refusals
 pub mod LoadDesk
 pub mod LoadCut
 pub mod LoadStore
 pub mod RunDesk
+pub mod Mingling

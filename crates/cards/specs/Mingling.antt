@@ -5,7 +5,9 @@ use mathlib.Core.List.{List, [], _∷_, _++_}
 use Prim.Native.Nat.{ℕ}
 use lib.Dec.{eqb}
 use Rattle.cards.specs.declared.stores.Store.{Store}
+use Rattle.refusals.specs.Lines.{verdict, reply}
 use Rattle.cards.specs.Stores.{loadStores}
+use Rattle.cards.specs.LoadDesk.{loadLines, loadOutcome}
 
 -- a load that is asked for
 pub record Load : Type 0 where
@@ -40,3 +42,16 @@ pub data Mingling : (ℕ → List Store) → List Store → Type 0 where
   over : {q : ℕ → List Store} → ((d : ℕ) → q d ≡ []) → Mingling q []
   next : {q : ℕ → List Store} {t : Store} {r w : List Store} (d : ℕ) → q d ≡ t ∷ r → Mingling (left q d r) w
       → Mingling q (t ∷ w)
+
+-- ---- the calls
+
+-- the loads that are accepted on a card of c's length
+abbrev pub accepted : List ℕ → List Load → List Load
+accepted c [] = []
+accepted c (l ∷ ls) =
+    reply (verdict (loadLines c (l .desk) (l .inputs) (l .sheet))) (l ∷ accepted c ls) (λ r. accepted c ls)
+
+-- the card after one call of a load after another, refused ones too
+abbrev pub called : List Load → List ℕ → List ℕ
+called [] c = c
+called (l ∷ ls) c = called ls (loadOutcome c (l .desk) (l .inputs) (l .sheet) .card)

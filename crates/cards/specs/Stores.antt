@@ -1,14 +1,15 @@
 -- A load is a list of stores, one byte each.
+use mathlib.Core.Path.{_≡_}
 use mathlib.Core.List.{List, [], _∷_, _++_}
 use mathlib.Core.Bool.{cond}
-use Prim.Native.Nat.{ℕ, _+_, _-_}
+use Prim.Native.Nat.{ℕ, _+_, _-_, _<_}
 use lib.Dec.{eqb}
 use lib.ListN.{getD, set, take, drop}
 use Rattle.bits.specs.Lists.{listOf}
 use Rattle.sheets.specs.Edition.{recordSize, firstEdition}
 use Rattle.sheets.specs.Sheet.{records}
 use Rattle.cards.specs.declared.stores.Store.{Store}
-use Rattle.cards.specs.Card.{placeBytes, base, holder}
+use Rattle.cards.specs.Card.{placeBytes, base, holder, mark}
 
 -- the byte b goes to place a of the card
 abbrev pub storing : ℕ → ℕ → Store
@@ -62,6 +63,12 @@ cutLoad k d n s = take k (loadStores d n s)
 -- store i of a load alone, none where it has no such
 abbrev pub oneStore : ℕ → ℕ → ℕ → List ℕ → List Store
 oneStore i d n s = take 1 (drop i (loadStores d n s))
+
+-- a desk with the bytes o holds the sheet s, of n inputs, and is open
+pub record Holds (o : List ℕ) (n : ℕ) (s : List ℕ) : Type 0 where
+  pub places : (j : ℕ) → j < placeBytes → getD o j 0 ≡ placeByte s j
+  pub marked : mark o ≡ 1
+  pub status : (j : ℕ) → j < recordSize - 1 → getD o (placeBytes + 1 + j) 0 ≡ statusByte n s j
 
 -- ---- of any stores those into desk d, in their order
 abbrev pub onto : ℕ → List Store → List Store
