@@ -9,9 +9,11 @@ use native.Mathlib.Omega.{arith}
 use lib.Dec.{leb, ltb, eqb}
 use lib.ListN.{length, getD, take, drop}
 use lib.Seq.{take-all, length-take-le}
-use borrow.Author.Tests.{eq-eqb, ne-eqb, eqb-true, eqb-false, le-leb, lt-leb, not-false}
-use Rattle.sheets.specs.Edition.{recordSize, mostRecords, firstEdition}
-use Rattle.sheets.specs.Sheet.{records, badLength, Good}
+use borrow.Author.Tests.{eq-eqb, ne-eqb, eqb-true, eqb-false, le-leb, lt-leb, leb-false, not-false}
+use Rattle.tables.specs.Table.{mostInputs}
+use Rattle.sheets.specs.declared.kinds.Edition.{Edition}
+use Rattle.sheets.specs.Edition.{IsEdition, recordSize, mostRecords, firstEdition}
+use Rattle.sheets.specs.Sheet.{records, badLength, Good, AllReadable}
 use Rattle.sheets.proofs.Keeping.{first-edition}
 use Rattle.sheets.proofs.Looks.{right-length}
 use Rattle.refusals.specs.declared.verdicts.Verdict.{Verdict}
@@ -20,7 +22,7 @@ use Rattle.refusals.specs.Lines.{Line, line, refusal, InOrder, verdict, reply}
 use Rattle.refusals.specs.Refusals.{badInputs, badSheet, badRecord, sheetLines, unreadRecord, badAssignment}
 use Rattle.refusals.proofs.Lines.{here, later, decides, passes, lapses, in-order}
 use Rattle.refusals.proofs.Tests.{inside}
-use Rattle.refusals.proofs.Sheets.{good-sheet}
+use Rattle.refusals.proofs.Sheets.{good-sheet, runnable}
 use Rattle.running.specs.declared.run_sheet.RunAnswer.{RunAnswer}
 use Rattle.running.specs.RunSheet.{runLines, runDone, runNot, runOutcome}
 use Rattle.cards.specs.declared.stores.Store.{Store}
@@ -32,6 +34,13 @@ use Rattle.cards.specs.RunDesk.{deskLines, deskOutcome, runDeskOutcome}
 use Rattle.cards.proofs.Making.{Every, made-length, own-length, own-made}
 use Rattle.cards.proofs.Order.{Into, onto-other}
 use Rattle.cards.proofs.Loaded.{mark-zero, desk-holds, says-inputs, says-sheet}
+
+-- what running a sheet of n inputs at the assignment x asks
+abbrev pub Ready : Edition → ℕ → List ℕ → ℕ → Type 0
+Ready e n s x =
+    (IsEdition e × (length s / recordSize ≤ mostRecords) × (n ≤ mostInputs) × (e .size * (length s / recordSize) ≤ length s)
+    × AllReadable e s (length s / recordSize))
+    × (x < 2 ^ n)
 
 -- ---- a desk's lines
 
@@ -56,6 +65,23 @@ pub desk-lines : (o : List ℕ) (d x : ℕ) → length o ≡ deskBytes
 desk-lines o d x l =
     ap (λ (t : Line). badDesk d ∷ closed o ∷ badInputs (inputs o) ∷ t ∷ badRecord firstEdition d (inputs o) (sheetOn o)
     ∷ unreadRecord firstEdition (inputs o) (sheetOn o) ∷ badAssignment (inputs o) x ∷ []) (count-line o l)
+
+-- and where it is open, only those
+pub open-lines : (o : List ℕ) (d x : ℕ) → length o ≡ deskBytes → noDesk d ≡ false → mark o ≡ 1
+    → verdict (deskLines o d x) ≡ verdict (filedLines d (inputs o) (sheetOn o) ++ (badAssignment (inputs o) x ∷ []))
+open-lines o d x l g h =
+    ap verdict (desk-lines o d x l)
+    ∙ passes (badDesk d ∷ closed o ∷ []) (filedLines d (inputs o) (sheetOn o) ++ (badAssignment (inputs o) x ∷ [])) (g, (ap (λ (m : ℕ). not (eqb m 1)) h, tt))
+
+-- a desk whose lines are in order can be run
+pub ready : (o : List ℕ) (d x : ℕ) → length o ≡ deskBytes → verdict (deskLines o d x) ≡ Fine → Ready firstEdition (inputs o) (sheetOn o) x
+ready o d x l e =
+    let n = inputs o in
+    let s = sheetOn o in
+    let w = in-order (badDesk d ∷ closed o ∷ (filedLines d n s ++ (badAssignment n x ∷ []))) (sym (ap verdict (desk-lines o d x l)) ∙ e) .1 .1 in (
+      runnable firstEdition d n s first-edition (records firstEdition s) (inside 1 n mostInputs (w .0) .1) (good-sheet firstEdition d n s first-edition (w .1 .0, (w .1 .1 .0, tt))),
+      leb-false (2 ^ n) x (w .1 .1 .1 .1 .0),
+    )
 
 -- ---- by its own bytes alone
 
@@ -140,9 +166,7 @@ pub holding-answer : (o : List ℕ) (d n : ℕ) (s : List ℕ) (x : ℕ) → len
     → InOrder (filedLines d n s) → deskOutcome o d x ≡ runOutcome firstEdition d n s x
 unfolding deskOutcome
 holding-answer o d n s x l g h k w =
-    ap (λ (ls : List Line). reply (verdict ls) (runDone firstEdition (inputs o) (sheetOn o) x) runNot) (desk-lines o d x l)
-    ∙ ap (λ (v : Verdict). reply v (runDone firstEdition (inputs o) (sheetOn o) x) runNot)
-    (passes (badDesk d ∷ closed o ∷ []) (filedLines d (inputs o) (sheetOn o) ++ (badAssignment (inputs o) x ∷ [])) (g, (ap (λ (m : ℕ). not (eqb m 1)) (h .marked), tt)))
+    ap (λ (v : Verdict). reply v (runDone firstEdition (inputs o) (sheetOn o) x) runNot) (open-lines o d x l g (h .marked))
     ∙ ap₂ (λ (i : ℕ) (t : List ℕ). reply (verdict (filedLines d i t ++ (badAssignment i x ∷ []))) (runDone firstEdition i t x) runNot)
     (says-inputs o n s h) (says-sheet o n s h l (k .whole) (k .most))
     ∙ as-on-bench d n s x w

@@ -5,3 +5,4 @@ pub mod Order
 pub mod Mingled
 pub mod Loaded
 pub mod Desks
+pub mod Calls

@@ -1,29 +1,26 @@
+-- `another_desk` meets its contract: only a sheet of a record or more says its desk. Assumes nothing.
+use mathlib.Core.Path.{sym, ap}
+use mathlib.Core.Bool.{Bool, not, _&&_}
+use native.Mathlib.Omega.{arith}
+use lib.Dec.{eqb}
+use lib.ListN.{length, getD}
 use borrow.Author.Needs.{needs}
+use borrow.Author.Tests.{le-leb, lt-leb}
+use Rattle.sheets.specs.Edition.{recordSize}
 use Rattle.cards.proofs.load_desk.another_desk.Statement.{statement}
 use Rattle.cards.proofs.load_desk.another_desk.Tie as tie
-use Rattle.cards.proofs.load_desk.another_desk.Reads as reads
-use Rattle.cards.proofs.load_desk.another_desk.Lts as lts
 
--- src/load_desk.rt:25:9
 returns : tie.Need-returns
-returns c = ?
+returns c =
+    let a = c .before .args in
+    sym (ap (λ (t : Bool). t && not (eqb (getD (a .s .now) 7 0) (a .d))) (lt-leb recordSize (length (a .s .now)) (c .if1 .taken)))
 
--- src/load_desk.rt:27:7
-sub-result : tie.Need-sub-result
-sub-result c = search needs
-
--- src/load_desk.rt:27:5
-shared-slice-read-result : tie.Need-shared-slice-read-result
-shared-slice-read-result c = search needs
-
--- src/load_desk.rt:27:5
-cast-result : tie.Need-cast-result
-cast-result c = ?
-
--- src/load_desk.rt:21:1
 returns-2 : tie.Need-returns-2
-returns-2 c = ?
+returns-2 c =
+    let a = c .before .before .args in
+    sym (ap (λ (t : Bool). t && not (eqb (getD (a .s .now) 7 0) (a .d))) (le-leb recordSize (length (a .s .now)) (omega arith)))
 
 pub another-desk-spec : {M : Type 1} → statement M
 another-desk-spec =
-    tie.close (tie.spec returns sub-result shared-slice-read-result cast-result returns-2)
+    tie.close (tie.spec returns (λ c. search needs) (λ c. search needs)
+    (λ c. omega (arith, c .shared-slice-known .given 7)) returns-2)

@@ -1,69 +1,58 @@
+-- `load_form` meets its contract: each return is the first line that holds, or that none does. Assumes nothing.
+use mathlib.Core.Path.{sym, ap, ap₂, _∙_}
+use mathlib.Core.Bool.{Bool, not, _||_}
+use mathlib.Core.List.{[], _∷_}
+use native.Mathlib.Omega.{arith}
+use lib.ListN.{length}
 use borrow.Author.Needs.{needs}
+use borrow.Author.Tests.{eq-eqb, ne-eqb}
+use Rattle.refusals.proofs.Lines.{here, later, decides, passes}
+use Rattle.refusals.proofs.Tests.{inside}
+use Rattle.cards.specs.Card.{desks, cardBytes}
+use Rattle.cards.specs.Refusals.{badCard, anotherDesk, badLoad, filedLines}
+use Rattle.cards.specs.LoadDesk.{loadLines}
 use Rattle.cards.proofs.load_desk.load_form.Statement.{statement}
 use Rattle.cards.proofs.load_desk.load_form.Tie as tie
-use Rattle.cards.proofs.load_desk.load_form.Reads as reads
-use Rattle.cards.proofs.load_desk.load_form.Lts as lts
-use Rattle.cards.proofs.form.filed.Reads as filed-reads
-use Rattle.cards.proofs.load_desk.another_desk.Reads as another-desk-reads
-use Rattle.refusals.proofs.form.outside.Reads as outside-reads
-use Rattle.refusals.proofs.verdicts.refuse.Reads as refuse-reads
 
--- src/load_desk.rt:35:9
-refuse-requires : tie.Need-refuse-requires
-refuse-requires c κs = search needs
-
--- src/load_desk.rt:35:9
 returns : tie.Need-returns
-returns c = ?
+returns c =
+    let a = c .before .before .before .before .args in
+    c .refuse .ensures ∙ decides (loadLines (a .card .now) (a .d) (a .n) (a .s .now)) (here (ap not (ne-eqb (length (a .card .now)) cardBytes (c .before .if1 .taken))))
 
--- src/load_desk.rt:37:8
-outside-requires : tie.Need-outside-requires
-outside-requires c κs = search needs
-
--- src/load_desk.rt:38:9
-refuse-requires-2 : tie.Need-refuse-requires-2
-refuse-requires-2 c κs = search needs
-
--- src/load_desk.rt:38:9
 returns-2 : tie.Need-returns-2
-returns-2 c = ?
+returns-2 c =
+    let o = c .before .before in
+    let a = o .before .before .before .before .args in
+    c .refuse2 .ensures
+    ∙ decides (loadLines (a .card .now) (a .d) (a .n) (a .s .now)) (later (ap not (eq-eqb (length (a .card .now)) cardBytes (o .before .if1 .left)))
+    (here (ap (λ (t : Bool). t || anotherDesk (a .d) (a .s .now)) (sym (o .outside .ensures) ∙ c .before .if2 .taken))))
 
--- src/load_desk.rt:40:8
-another-desk-requires : tie.Need-another-desk-requires
-another-desk-requires c κs = search needs
-
--- src/load_desk.rt:41:9
-refuse-requires-3 : tie.Need-refuse-requires-3
-refuse-requires-3 c κs = search needs
-
--- src/load_desk.rt:41:9
 returns-3 : tie.Need-returns-3
-returns-3 c = ?
+returns-3 c =
+    let m = c .before .before in
+    let o = m .before .before in
+    let a = o .before .before .before .before .args in
+    c .refuse3 .ensures
+    ∙ decides (loadLines (a .card .now) (a .d) (a .n) (a .s .now)) (later (ap not (eq-eqb (length (a .card .now)) cardBytes (o .before .if1 .left)))
+    (here (ap₂ _||_ (sym (o .outside .ensures) ∙ m .before .if2 .left) (sym (m .another-desk .ensures) ∙ c .before .if3 .taken))))
 
--- src/load_desk.rt:43:11
 cast-filed : tie.Need-cast-filed
-cast-filed c = ?
+cast-filed c =
+    let o = c .before .before .before in
+    omega (arith, inside 1 (o .before .before .before .before .args .d) desks (sym (o .outside .ensures) ∙ c .before .before .if2 .left))
 
--- src/load_desk.rt:43:5
-filed-requires : tie.Need-filed-requires
-filed-requires c κs = search needs
-
--- src/load_desk.rt:31:1
 returns-4 : tie.Need-returns-4
-returns-4 c = ?
+returns-4 c =
+    let m = c .before .before in
+    let o = m .before .before in
+    let a = o .before .before .before .before .args in
+    c .filed .ensures
+    ∙ sym (passes (badCard (a .card .now) ∷ badLoad (a .d) (a .s .now) ∷ []) (filedLines (a .d) (a .n) (a .s .now)) (
+      ap not (eq-eqb (length (a .card .now)) cardBytes (o .before .if1 .left)),
+      (ap₂ _||_ (sym (o .outside .ensures) ∙ m .before .if2 .left) (sym (m .another-desk .ensures) ∙ c .before .if3 .left), tt),
+    ))
 
 pub load-form-spec : {M : Type 1} → statement M
 load-form-spec =
-    tie.close
-    (tie.spec
-    refuse-requires
-    returns
-    outside-requires
-    refuse-requires-2
-    returns-2
-    another-desk-requires
-    refuse-requires-3
-    returns-3
-    cast-filed
-    filed-requires
-    returns-4)
+    tie.close (tie.spec (λ c κs. search needs) returns (λ c κs. search needs) (λ c κs. search needs) returns-2
+    (λ c κs. search needs) (λ c κs. search needs) returns-3 cast-filed (λ c κs. search needs) returns-4)

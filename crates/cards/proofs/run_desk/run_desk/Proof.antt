@@ -1,83 +1,65 @@
+-- `run_desk` meets its contract: past 20 and 19 the desk's own bytes decide. Assumes nothing.
+use mathlib.Core.Path.{_≡_, sym, ap, _∙_}
+use mathlib.Core.Bool.{false}
+use Prim.Native.Nat.{ℕ, _+_, _-_, _≤_}
+use native.Mathlib.Omega.{arith}
+use lib.ListN.{length, take, drop}
 use borrow.Author.Needs.{needs}
+use Rattle.refusals.specs.declared.verdicts.Verdict.{Verdict}
+use Rattle.refusals.proofs.Tests.{inside}
+use Rattle.cards.specs.Card.{desks, deskBytes, base, ownBytes}
+use Rattle.cards.specs.Refusals.{noDesk}
+use Rattle.cards.specs.RunDesk.{deskOutcome}
+use Rattle.cards.proofs.Making.{own-length}
+use Rattle.cards.proofs.Desks.{run-own, run-short, no-such-desk}
 use Rattle.cards.proofs.run_desk.run_desk.Statement.{statement}
 use Rattle.cards.proofs.run_desk.run_desk.Tie as tie
-use Rattle.cards.proofs.run_desk.run_desk.Reads as reads
-use Rattle.cards.proofs.run_desk.run_desk.Lts as lts
-use Rattle.cards.proofs.run_desk.run_own.Reads as run-own-reads
-use Rattle.refusals.proofs.form.outside.Reads as outside-reads
-use Rattle.refusals.proofs.verdicts.refuse.Reads as refuse-reads
 
--- src/run_desk.rt:84:22
-refuse-requires : tie.Need-refuse-requires
-refuse-requires c κs = search needs
-
--- src/run_desk.rt:83:9
 returns : tie.Need-returns
-returns c = ?
+returns c =
+    let a = c .before .before .before .args in
+    ap (λ (v : Verdict). record { verdict = v; bit = false }) (c .refuse .ensures) ∙ sym (run-short (a .card .now) (a .d) (a .x) (c .before .if1 .taken))
 
--- src/run_desk.rt:88:8
-outside-requires : tie.Need-outside-requires
-outside-requires c κs = search needs
-
--- src/run_desk.rt:90:22
-refuse-requires-2 : tie.Need-refuse-requires-2
-refuse-requires-2 c κs = search needs
-
--- src/run_desk.rt:89:9
 returns-2 : tie.Need-returns-2
-returns-2 c = ?
+returns-2 c =
+    let p = c .before .before in
+    let a = p .before .before .before .args in
+    ap (λ (v : Verdict). record { verdict = v; bit = false }) (c .refuse2 .ensures)
+    ∙ sym (run-own (a .card .now) (a .d) (a .x) (p .before .if1 .left)
+    ∙ no-such-desk (ownBytes (a .card .now) (a .d)) (a .d) (a .x) (sym (p .outside .ensures) ∙ c .before .if2 .taken))
 
--- src/run_desk.rt:94:24
-sub-base : tie.Need-sub-base
-sub-base c = ?
+-- past them
+module _ (c : tie.Else2) where
+  abbrev d : ℕ
+  d = c .before .before .before .before .args .d
 
--- src/run_desk.rt:94:16
-mul-base : tie.Need-mul-base
-mul-base c = ?
+  known : noDesk d ≡ false
+  known = sym (c .before .outside .ensures) ∙ c .if2 .left
 
--- src/run_desk.rt:95:15
-add-end : tie.Need-add-end
-add-end c = ?
+  pub least : 1 ≤ d
+  least = inside 1 d desks known .0
 
--- src/run_desk.rt:96:13
-sub-run-own : tie.Need-sub-run-own
-sub-run-own c = search needs
+  pub most : d ≤ desks
+  most = inside 1 d desks known .1
 
--- src/run_desk.rt:96:13
-part-run-own-start : tie.Need-part-run-own-start
-part-run-own-start c = search needs
+  pub cut : base d + deskBytes - base d ≡ deskBytes
+  cut = omega arith
 
--- src/run_desk.rt:96:13
-part-run-own-end : tie.Need-part-run-own-end
-part-run-own-end c = ?
-
--- src/run_desk.rt:96:31
-cast-run-own : tie.Need-cast-run-own
-cast-run-own c = ?
-
--- src/run_desk.rt:96:5
 run-own-requires : tie.Need-run-own-requires
-run-own-requires c κs = ?
+run-own-requires c κs =
+    let p = c .before in
+    let l = p .before .before .before .before .args .card .now in
+    (ap (λ (k : ℕ). length (take k (drop (base (d p)) l))) (cut p) ∙ own-length l (d p) (p .before .before .if1 .left) (most p), known p)
 
--- src/run_desk.rt:79:1
 returns-3 : tie.Need-returns-3
-returns-3 c = ?
+returns-3 c =
+    let p = c .before .before in
+    let a = p .before .before .before .before .args in
+    c .run-own .ensures ∙ ap (λ (k : ℕ). deskOutcome (take k (drop (base (a .d)) (a .card .now))) (a .d) (a .x)) (cut p)
+    ∙ sym (run-own (a .card .now) (a .d) (a .x) (p .before .before .if1 .left))
 
 pub run-desk-spec : {M : Type 1} → statement M
 run-desk-spec =
-    tie.close
-    (tie.spec
-    refuse-requires
-    returns
-    outside-requires
-    refuse-requires-2
-    returns-2
-    sub-base
-    mul-base
-    add-end
-    sub-run-own
-    part-run-own-start
-    part-run-own-end
-    cast-run-own
-    run-own-requires
-    returns-3)
+    tie.close (tie.spec (λ c κs. search needs) returns (λ c κs. search needs) (λ c κs. search needs) returns-2 least
+    (λ c. omega (arith, most c)) (λ c. omega (arith, most c)) (λ c. search needs) (λ c. search needs)
+    (λ c. omega (arith, least c, most c)) (λ c. omega (arith, most (c .before))) run-own-requires returns-3)
