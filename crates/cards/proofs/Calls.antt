@@ -7,7 +7,7 @@ use Prim.Native.Nat.{ℕ, suc, _<_, _≤_}
 use native.Mathlib.Omega.{arith}
 use lib.Dec.{eqb}
 use lib.ListN.{length, getD, set, take, drop}
-use lib.Seq.{drop-cons}
+use lib.Seq.{drop-cons, take-suc}
 use Rattle.refusals.specs.declared.verdicts.Refusal.{Refusal}
 use Rattle.refusals.specs.declared.verdicts.Verdict.{Verdict}
 use Rattle.refusals.specs.declared.verdicts.Verdict.the-variants.{Fine, Refused}
@@ -15,7 +15,7 @@ use Rattle.refusals.specs.Lines.{line, verdict, reply}
 use Rattle.refusals.proofs.Lines.{in-order}
 use Rattle.cards.specs.declared.stores.Store.{Store}
 use Rattle.cards.specs.Card.{cardBytes}
-use Rattle.cards.specs.Stores.{storing, made, loadStores, storeCount, storeAt, oneStore}
+use Rattle.cards.specs.Stores.{storing, made, loadStores, storeCount, storeAt, cutLoad, oneStore}
 use Rattle.cards.specs.Refusals.{badLoad, filedLines}
 use Rattle.cards.specs.LoadDesk.{loadLines, loadDone, loadNot, partOutcome, loadOutcome}
 use Rattle.cards.specs.Mingling.{Load, storesOf, inTurn, waiting, Mingling, accepted, called}
@@ -34,7 +34,7 @@ accepted-alike (l ∷ ls) c e q =
     ap₂ (λ (v : Verdict) (r : List Load). reply v (l ∷ r) (λ (f : Refusal). r)) (load-verdict c e (l .desk) (l .inputs) (l .sheet) q) (accepted-alike ls c e q)
 
 -- what is accepted is for a desk that a card has
-numbered : (ls : List Load) (c : List ℕ) → Numbered (accepted c ls)
+pub numbered : (ls : List Load) (c : List ℕ) → Numbered (accepted c ls)
 numbered [] c = tt
 numbered (l ∷ ls) c = go (verdict (loadLines c (l .desk) (l .inputs) (l .sheet))) refl (numbered ls c)
   where
@@ -62,3 +62,10 @@ mingled-calls ls c w m = mingled (accepted c ls) (numbered ls c) w m c ∙ sym (
 -- store i of a load alone is one byte
 pub one-byte : (d n : ℕ) (s c : List ℕ) (i : ℕ) → i < storeCount → made (oneStore i d n s) c ≡ set c (storeAt d n s i .place) (storeAt d n s i .byte)
 one-byte d n s c i h = ap (λ (u : List Store). made (take 1 u) c) (drop-cons (loadStores d n s) i (storing 0 0) (omega (arith, length-load d n s)))
+
+-- the order of the stores: each beginning of a load is the one before it and the next store
+pub cut-next : (d n : ℕ) (s c : List ℕ) (k : ℕ) → k < storeCount
+    → made (cutLoad (suc k) d n s) c ≡ set (made (cutLoad k d n s) c) (storeAt d n s k .place) (storeAt d n s k .byte)
+cut-next d n s c k h =
+    ap (λ (u : List Store). made u c) (take-suc (loadStores d n s) k (storing 0 0) (omega (arith, length-load d n s)))
+    ∙ made-append (cutLoad k d n s) (storeAt d n s k ∷ []) c

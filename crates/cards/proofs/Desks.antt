@@ -30,7 +30,7 @@ use Rattle.cards.specs.Card.{desks, placeBytes, deskBytes, cardBytes, ow
 use Rattle.cards.specs.Stores.{made, loadStores, storeCount, cutLoad, onto, Holds}
 use Rattle.cards.specs.Refusals.{badCard, noDesk, anotherDesk, badDesk, closed, badCount, filedLines}
 use Rattle.cards.specs.LoadDesk.{loadLines}
-use Rattle.cards.specs.RunDesk.{deskLines, deskOutcome, runDeskOutcome}
+use Rattle.cards.specs.RunDesk.{deskLines, runDeskLines, deskOutcome, runDeskOutcome}
 use Rattle.cards.proofs.Making.{Every, made-length, own-length, own-made}
 use Rattle.cards.proofs.Order.{Into, onto-other}
 use Rattle.cards.proofs.Loaded.{mark-zero, desk-holds, says-inputs, says-sheet}
@@ -116,6 +116,19 @@ answers-own u c d x = go (eqb (length c) cardBytes) refl (noDesk d) refl
         same : (b : Bool) → noDesk d ≡ b → length c ≡ cardBytes → deskOutcome (ownBytes (made u c) d) d x ≡ deskOutcome (ownBytes (made v c) d) d x
         same true q h = no-such-desk (ownBytes (made u c) d) d x q ∙ sym (no-such-desk (ownBytes (made v c) d) d x q)
         same false q h = let w = inside 1 d desks q in ap (λ (o : List ℕ). deskOutcome o d x) (own-made u c d h (w .0) (w .1))
+
+-- 20 is a line before its own
+pub run-by-lines : (c : List ℕ) (d x : ℕ)
+    → runDeskOutcome c d x ≡ reply (verdict (runDeskLines c d x)) (runDone firstEdition (inputs (ownBytes c d)) (sheetOn (ownBytes c d)) x) runNot
+unfolding runDeskOutcome deskOutcome
+run-by-lines c d x = go (badCard c .holds) (verdict (deskLines (ownBytes c d) d x))
+  where
+    done : RunAnswer
+    done = runDone firstEdition (inputs (ownBytes c d)) (sheetOn (ownBytes c d)) x
+
+    go : (t : Bool) (v : Verdict) → reply (cond t (Refused (refusal 20 0)) Fine) (reply v done runNot) runNot ≡ reply (cond t (Refused (refusal 20 0)) v) done runNot
+    go true v = refl
+    go false v = refl
 
 -- ---- while it is loaded, and afterwards
 

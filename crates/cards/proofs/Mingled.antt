@@ -5,6 +5,8 @@ use mathlib.Core.Bool.{Bool, true, false, cond}
 use mathlib.Core.List.{List, [], _∷_, _++_}
 use Prim.Native.Nat.{ℕ, _≤_}
 use lib.Dec.{eqb}
+use lib.ListN.{length, take, drop, take-append-drop}
+use lib.Seq.{take-append-seam}
 use borrow.Author.Tests.{eq-eqb, ne-eqb, eqb-true, eqb-false}
 use Rattle.cards.specs.declared.stores.Store.{Store}
 use Rattle.cards.specs.Card.{holder}
@@ -32,7 +34,7 @@ turn-seen (l ∷ ls) h d = onto-append d (storesOf l) (inTurn ls) ∙ go (eqb (l
     go false q ih = ap (λ (u : List Store). u ++ onto d (inTurn ls)) (onto-other (l .desk) d (storesOf l) (eqb-false (l .desk) d q) into) ∙ ih
 
 -- what waits at a desk goes to it
-waits-own : (ls : List Load) → Numbered ls → (d : ℕ) → Every (Into d) (waiting ls d)
+pub waits-own : (ls : List Load) → Numbered ls → (d : ℕ) → Every (Into d) (waiting ls d)
 waits-own [] h d = tt
 waits-own (l ∷ ls) h d = go (eqb (l .desk) d) refl (waits-own ls (h .1) d)
   where
@@ -63,6 +65,14 @@ mingling-seen (next {q} {t} {r} {w} d e m) own f = go (eqb f d) refl (mingling-s
         ∙ ap (λ (u : List Store). t ∷ u) ih ∙ sym e ∙ ap q (sym (eqb-true f d z))
     go false z ih =
         ap (λ (b : Bool). cond b (t ∷ onto f w) (onto f w)) (ne-eqb (holder (t .place)) f (λ y. eqb-false f d z (sym y ∙ ours .0))) ∙ ih
+
+-- and of its beginning, a beginning of that
+pub beginning-seen : {q : ℕ → List Store} {w : List Store} → Mingling q w → ((d : ℕ) → Every (Into d) (q d)) → (k f : ℕ)
+    → onto f (take k w) ≡ take (length (onto f (take k w))) (q f)
+beginning-seen {q} {w} m own k f =
+    let u = onto f (take k w) in
+    sym (take-append-seam u (onto f (drop k w)))
+    ∙ ap (take (length u)) (sym (onto-append f (take k w) (drop k w)) ∙ ap (onto f) (take-append-drop k w) ∙ mingling-seen m own f)
 
 -- so it ends in the card of the loads one after another
 pub mingled : (ls : List Load) → Numbered ls → (w : List Store) → Mingling (waiting ls) w → (c : List ℕ) → made w c ≡ made (inTurn ls) c

@@ -19,6 +19,10 @@ deskLines o d x =
 unfoldable pub deskOutcome : List ℕ → ℕ → ℕ → RunAnswer
 deskOutcome o d x = reply (verdict (deskLines o d x)) (runDone firstEdition (inputs o) (sheetOn o) x) runNot
 
+-- of a card: 20 and those
+abbrev pub runDeskLines : List ℕ → ℕ → ℕ → List Line
+runDeskLines c d x = badCard c ∷ deskLines (ownBytes c d) d x
+
 -- what running a desk is to return, whatever is handed over: 20 first, and then what the desk answers
 unfoldable pub runDeskOutcome : List ℕ → ℕ → ℕ → RunAnswer
 runDeskOutcome c d x = reply (verdict (badCard c ∷ [])) (deskOutcome (ownBytes c d) d x) runNot

@@ -12,6 +12,9 @@ pub mod CheckSheet
 pub mod Shorter
 pub mod Settle
 pub mod Slack
+pub mod CardsLoad
+pub mod CardsRun
+pub mod Cards
 pub mod Fewest
 pub mod Trees
 pub mod BenchProgram
