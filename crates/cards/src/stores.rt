@@ -19,10 +19,10 @@ pub struct Store {
 fn place_byte(s: &[u8], j: usize) -> u8
     ensures { λ r. ⌜ r ≡ placeByte (now (s .entry)) j ⌝ }
 {
-    if j < s.len() {
-        return s[j];
+    if s.len() <= j {
+        return 0;
     }
-    0
+    s[j]
 }
 
 // Byte j of the status record past its mark.
