@@ -5,4 +5,5 @@ pub mod Order
 pub mod Mingled
 pub mod Loaded
 pub mod Desks
+pub mod Looked
 pub mod Calls

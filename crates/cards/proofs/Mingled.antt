@@ -66,7 +66,29 @@ mingling-seen (next {q} {t} {r} {w} d e m) own f = go (eqb f d) refl (mingling-s
     go false z ih =
         ap (λ (b : Bool). cond b (t ∷ onto f w) (onto f w)) (ne-eqb (holder (t .place)) f (λ y. eqb-false f d z (sym y ∙ ours .0))) ∙ ih
 
--- and of its beginning, a beginning of that
+-- and conversely: stores of which each desk sees what waited at it are such a mingling
+pub seen-mingling : (w : List Store) {q : ℕ → List Store} → ((d : ℕ) → onto d w ≡ q d) → Mingling q w
+seen-mingling [] h = over (λ d. sym (h d))
+seen-mingling (t ∷ w) {q} h = next (holder (t .place)) (sym (h (holder (t .place))) ∙ first) (seen-mingling w rest)
+  where
+    d : ℕ
+    d = holder (t .place)
+
+    first : onto d (t ∷ w) ≡ t ∷ onto d w
+    first = ap (λ (b : Bool). cond b (t ∷ onto d w) (onto d w)) (eq-eqb d d refl)
+
+    rest : (f : ℕ) → onto f w ≡ left q d (onto d w) f
+    rest f = pick (eqb f d) refl
+      where
+        pick : (b : Bool) → eqb f d ≡ b → onto f w ≡ cond b (onto d w) (q f)
+        pick true z = ap (λ (i : ℕ). onto i w) (eqb-true f d z)
+        pick false z = sym (ap (λ (b : Bool). cond b (t ∷ onto f w) (onto f w)) (ne-eqb d f (λ y. eqb-false f d z (sym y)))) ∙ h f
+
+-- so one after another is a mingling too
+pub turn-mingles : (ls : List Load) → Numbered ls → Mingling (waiting ls) (inTurn ls)
+turn-mingles ls h = seen-mingling (inTurn ls) (turn-seen ls h)
+
+-- of the beginning of a mingling a desk sees a beginning of what waited at it
 pub beginning-seen : {q : ℕ → List Store} {w : List Store} → Mingling q w → ((d : ℕ) → Every (Into d) (q d)) → (k f : ℕ)
     → onto f (take k w) ≡ take (length (onto f (take k w))) (q f)
 beginning-seen {q} {w} m own k f =

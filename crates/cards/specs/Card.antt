@@ -1,8 +1,9 @@
 -- A card: four desks of 256 bytes, one after another. A desk has 15 places for records, then one status record: the
 -- open mark, n, the count of cells and 13 zero bytes.
+use mathlib.Core.Path.{_≡_}
 use mathlib.Core.List.{List}
-use Prim.Native.Nat.{ℕ, _+_, _-_, _*_, _/_}
-use lib.ListN.{getD, take, drop}
+use Prim.Native.Nat.{ℕ, _+_, _-_, _*_, _/_, _<_}
+use lib.ListN.{length, getD, take, drop}
 use Rattle.sheets.specs.Edition.{recordSize, mostRecords}
 
 -- how many desks a card has; they are counted from 1
@@ -48,3 +49,11 @@ cells o = getD o (placeBytes + 2) 0
 -- the sheet that it holds: as many records as the count says, from its first place on
 abbrev pub sheetOn : List ℕ → List ℕ
 sheetOn o = take (recordSize * cells o) o
+
+-- two desks agree in what is used: mark, n, count, and the places that the count says are used
+pub record SameUse (o p : List ℕ) : Type 0 where
+  pub lengths : length o ≡ length p
+  pub marks : mark o ≡ mark p
+  pub ns : inputs o ≡ inputs p
+  pub counts : cells o ≡ cells p
+  pub used : (j : ℕ) → j < recordSize * cells o → j < placeBytes → getD o j 0 ≡ getD p j 0

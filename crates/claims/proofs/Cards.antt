@@ -1,5 +1,6 @@
 -- Four desks on one card: the isolation. Assumes nothing.
 use mathlib.Core.Path.{_≡_, refl, sym, ap, _∙_, subst}
+use mathlib.Core.Logic.{_↔_}
 use mathlib.Core.List.{List, []}
 use Prim.Native.Nat.{ℕ, suc, _<_, _≤_}
 use native.Mathlib.Omega.{arith}
@@ -11,18 +12,19 @@ use Rattle.refusals.specs.declared.verdicts.Verdict.the-variants.{Fine, Refused
 use Rattle.refusals.specs.Lines.{refusal, verdict}
 use Rattle.running.specs.RunSheet.{runNot, runOutcome}
 use Rattle.cards.specs.declared.stores.Store.{Store}
-use Rattle.cards.specs.Card.{desks, cardBytes, ownBytes}
+use Rattle.cards.specs.Card.{desks, cardBytes, ownBytes, SameUse}
 use Rattle.cards.specs.Stores.{made, loadStores, storeCount, storeAt, cutLoad, oneStore, onto, Holds}
 use Rattle.cards.specs.LoadDesk.{LoadOutcome, loadLines, partOutcome, loadOutcome}
 use Rattle.cards.specs.LoadCut.{cutOutcome}
 use Rattle.cards.specs.LoadStore.{storeOutcome}
 use Rattle.cards.specs.RunDesk.{deskOutcome, runDeskOutcome}
-use Rattle.cards.specs.Mingling.{Load, waiting, Mingling, accepted, called}
+use Rattle.cards.specs.Mingling.{Load, inTurn, waiting, Mingling, accepted, called}
 use Rattle.cards.proofs.Making.{Every, every-take, every-drop, made-length, own-made}
 use Rattle.cards.proofs.Order.{Into, all-into, onto-other, length-load}
-use Rattle.cards.proofs.Mingled.{waits-own, beginning-seen}
+use Rattle.cards.proofs.Mingled.{waits-own, mingling-seen, seen-mingling, turn-mingles, beginning-seen}
 use Rattle.cards.proofs.Loaded.{desk-holds}
 use Rattle.cards.proofs.Desks.{Accepted, run-own, answers-own, cut-closed, load-answers, others-answer}
+use Rattle.cards.proofs.Looked.{looks-used}
 use Rattle.cards.proofs.Calls.{load-verdict, accepted-alike, numbered, mingled-calls, one-byte, cut-next}
 use Rattle.claims.proofs.CardsLoad.{load-says, load-refused, load-made, load-accepted}
 
@@ -32,6 +34,15 @@ use Rattle.claims.proofs.CardsLoad.{load-says, load-refused, load-made,
 -- order that keeps each desk's own, one load after another: the card ends as one call after another leaves it.
 pub mingled-loads : (ls : List Load) (c : List ℕ) (w : List Store) → Mingling (waiting (accepted c ls)) w → made w c ≡ called ls c
 mingled-loads = mingled-calls
+
+-- An order is such a mingling exactly if each desk sees the stores of its own accepted loads, one load after another;
+-- one call after another is one of them.
+pub mingling-exactly : (ls : List Load) (c : List ℕ) (w : List Store)
+    → Mingling (waiting (accepted c ls)) w ↔ ((d : ℕ) → onto d w ≡ waiting (accepted c ls) d)
+mingling-exactly ls c w = (λ m. mingling-seen m (waits-own (accepted c ls) (numbered ls c)), seen-mingling w)
+
+pub turn-is-mingling : (ls : List Load) (c : List ℕ) → Mingling (waiting (accepted c ls)) (inTurn (accepted c ls))
+turn-is-mingling ls c = turn-mingles (accepted c ls) (numbered ls c)
 
 -- Whether a load is accepted, its number and its index do not depend on what the card holds, nor on which of the
 -- load's stores are made.
@@ -57,6 +68,11 @@ midway ls c w m k d = beginning-seen m (waits-own (accepted c ls) (numbered ls c
 -- assignment.
 pub own-alone : (c e : List ℕ) (d x : ℕ) → length c ≡ cardBytes → length e ≡ cardBytes → ownBytes c d ≡ ownBytes e d → runDeskOutcome c d x ≡ runDeskOutcome e d x
 own-alone c e d x g h q = run-own c d x g ∙ ap (λ (o : List ℕ). deskOutcome o d x) q ∙ sym (run-own e d x h)
+
+-- Of these neither the unused places nor the 13 last bytes are looked at.
+pub used-alone : (c e : List ℕ) (d x : ℕ) → length c ≡ cardBytes → length e ≡ cardBytes → SameUse (ownBytes c d) (ownBytes e d)
+    → runDeskOutcome c d x ≡ runDeskOutcome e d x
+used-alone c e d x g h q = run-own c d x g ∙ looks-used (ownBytes c d) (ownBytes e d) d x q ∙ sym (run-own e d x h)
 
 -- No store of a desk's load, nor any part of it, changes a byte or an answer of another's, accepted or not.
 module _ (a b : ℕ) (c : List ℕ) (d n : ℕ) (s : List ℕ) (f : ℕ) (other : d ≡ f → ⊥) where
