@@ -72,7 +72,7 @@ own-alone c e d x g h q = run-own c d x g ∙ ap (λ (o : List ℕ). deskOutcome
 -- Of these neither the unused places nor the 13 last bytes are looked at.
 pub used-alone : (c e : List ℕ) (d x : ℕ) → length c ≡ cardBytes → length e ≡ cardBytes → SameUse (ownBytes c d) (ownBytes e d)
     → runDeskOutcome c d x ≡ runDeskOutcome e d x
-used-alone c e d x g h q = run-own c d x g ∙ looks-used (ownBytes c d) (ownBytes e d) d x q ∙ sym (run-own e d x h)
+used-alone c e d x g h q = run-own c d x g ∙ looks-used d x (ownBytes c d) (ownBytes e d) q ∙ sym (run-own e d x h)
 
 -- No store of a desk's load, nor any part of it, changes a byte or an answer of another's, accepted or not.
 module _ (a b : ℕ) (c : List ℕ) (d n : ℕ) (s : List ℕ) (f : ℕ) (other : d ≡ f → ⊥) where
