@@ -7,14 +7,13 @@ use native.Mathlib.Omega.{arith}
 use lib.ListN.{length, set, take, drop}
 use lib.Seq.{take-all}
 use Rattle.sheets.specs.Edition.{firstEdition}
-use Rattle.refusals.specs.declared.verdicts.Verdict.{Verdict}
-use Rattle.refusals.specs.declared.verdicts.Verdict.the-variants.{Fine, Refused}
-use Rattle.refusals.specs.Lines.{refusal, verdict}
+use Rattle.refusals.specs.declared.verdicts.Verdict.the-variants.{Fine}
+use Rattle.refusals.specs.Lines.{refusal}
 use Rattle.running.specs.RunSheet.{runNot, runOutcome}
 use Rattle.cards.specs.declared.stores.Store.{Store}
 use Rattle.cards.specs.Card.{desks, cardBytes, ownBytes, SameUse}
 use Rattle.cards.specs.Stores.{made, loadStores, storeCount, storeAt, cutLoad, oneStore, onto, Holds}
-use Rattle.cards.specs.LoadDesk.{LoadOutcome, loadLines, partOutcome, loadOutcome}
+use Rattle.cards.specs.LoadDesk.{partOutcome, loadOutcome}
 use Rattle.cards.specs.LoadCut.{cutOutcome}
 use Rattle.cards.specs.LoadStore.{storeOutcome}
 use Rattle.cards.specs.RunDesk.{deskOutcome, runDeskOutcome}
@@ -26,7 +25,7 @@ use Rattle.cards.proofs.Loaded.{desk-holds}
 use Rattle.cards.proofs.Desks.{Accepted, run-own, answers-own, cut-closed, load-answers, others-answer}
 use Rattle.cards.proofs.Looked.{looks-used}
 use Rattle.cards.proofs.Calls.{load-verdict, accepted-alike, numbered, mingled-calls, one-byte, cut-next}
-use Rattle.claims.proofs.CardsLoad.{load-says, load-refused, load-made, load-accepted}
+use Rattle.claims.proofs.CardsLoad.{load-says, load-made, load-accepted, load-either}
 
 -- ---- the mingling
 
@@ -62,6 +61,11 @@ pub midway : (ls : List Load) (c : List ℕ) (w : List Store) → Mingling (wait
     → onto d (take k w) ≡ take (length (onto d (take k w))) (waiting (accepted c ls) d)
 midway ls c w m k d = beginning-seen m (waits-own (accepted c ls) (numbered ls c)) k d
 
+-- So it answers as if a beginning of its own loads had been made, and nothing else.
+pub midway-answers : (ls : List Load) (c : List ℕ) (w : List Store) → Mingling (waiting (accepted c ls)) w → (k d x : ℕ)
+    → runDeskOutcome (made (take k w) c) d x ≡ runDeskOutcome (made (take (length (onto d (take k w))) (waiting (accepted c ls) d)) c) d x
+midway-answers ls c w m k d x = answers-own (take k w) c d x ∙ ap (λ (u : List Store). runDeskOutcome (made u c) d x) (midway ls c w m k d)
+
 -- ---- a desk's own bytes
 
 -- Once the card's length is right, what a desk answers, refusals too, is a function of its own 256 bytes and the
@@ -83,23 +87,12 @@ module _ (a b : ℕ) (c : List ℕ) (d n : ℕ) (s : List ℕ) (f : ℕ) (other 
   elsewhere l = every-take (Into d) a (drop b (loadStores d n s)) (every-drop (Into d) b (loadStores d n s) (all-into d n s l))
 
   pub answers-stay : (x : ℕ) → runDeskOutcome (partOutcome part c d n s .card) f x ≡ runDeskOutcome c f x
-  answers-stay x = go (partOutcome part c d n s .verdict) refl
-    where
-      go : (v : Verdict) → partOutcome part c d n s .verdict ≡ v → runDeskOutcome (partOutcome part c d n s .card) f x ≡ runDeskOutcome c f x
-      go Fine h =
-          ap (λ (e : List ℕ). runDeskOutcome e f x) (load-made part c d n s h)
-          ∙ others-answer d f part c x other (elsewhere (load-accepted part c d n s h .least))
-      go (Refused r) h = ap (λ (e : List ℕ). runDeskOutcome e f x) (load-refused part c d n s r h)
+  answers-stay x = load-either part c d n s (λ e. runDeskOutcome e f x ≡ runDeskOutcome c f x) refl (λ w. others-answer d f part c x other (elsewhere (w .least)))
 
   pub bytes-stay : 1 ≤ f → f ≤ desks → ownBytes (partOutcome part c d n s .card) f ≡ ownBytes c f
-  bytes-stay l m = go (partOutcome part c d n s .verdict) refl
-    where
-      go : (v : Verdict) → partOutcome part c d n s .verdict ≡ v → ownBytes (partOutcome part c d n s .card) f ≡ ownBytes c f
-      go Fine h =
-          let w = load-accepted part c d n s h in
-          ap (λ (e : List ℕ). ownBytes e f) (load-made part c d n s h)
-          ∙ own-made part c f (w .long) l m ∙ ap (λ (v : List Store). ownBytes (made v c) f) (onto-other d f part other (elsewhere (w .least)))
-      go (Refused r) h = ap (λ (e : List ℕ). ownBytes e f) (load-refused part c d n s r h)
+  bytes-stay l m =
+      load-either part c d n s (λ e. ownBytes e f ≡ ownBytes c f) refl
+      (λ w. own-made part c f (w .long) l m ∙ ap (λ (v : List Store). ownBytes (made v c) f) (onto-other d f part other (elsewhere (w .least))))
 
 -- ---- a load that is accepted, and cut
 

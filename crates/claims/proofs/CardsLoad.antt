@@ -1,6 +1,6 @@
 -- Load a desk of a card, a load that is cut, one store of a load: what is claimed of the three at once, where of the
 -- load's stores only ts are made. Assumes nothing.
-use mathlib.Core.Path.{_≡_, refl, sym, ap, _∙_}
+use mathlib.Core.Path.{_≡_, refl, sym, ap, _∙_, subst}
 use mathlib.Core.Logic.{_↔_}
 use mathlib.Core.Bool.{false, _||_}
 use mathlib.Core.List.{List, [], _∷_, _++_}
@@ -48,6 +48,14 @@ module _ (ts : List Store) (c : List ℕ) (d n : ℕ) (s : List ℕ) where
   -- what is then known: the card's length, the desk, and that the sheet is good
   pub load-accepted : partOutcome ts c d n s .verdict ≡ Fine → Accepted c d n s
   load-accepted h = accepts c d n s (in-order (loadLines c d n s) (sym load-says ∙ h))
+
+  -- so what holds of the card as it was, and of an accepted load's stores made on it, holds of the card afterwards
+  pub load-either : (P : List ℕ → Type 0) → P c → (Accepted c d n s → P (made ts c)) → P (partOutcome ts c d n s .card)
+  load-either P same new = go (partOutcome ts c d n s .verdict) refl
+    where
+      go : (v : Verdict) → partOutcome ts c d n s .verdict ≡ v → P (partOutcome ts c d n s .card)
+      go Fine h = subst P (sym (load-made h)) (new (load-accepted h))
+      go (Refused r) h = subst P (sym (load-refused r h)) same
 
   -- nothing is named but for numbers 10 and 15
   pub load-no-index : (eqb (numberOf (partOutcome ts c d n s .verdict)) 10 || eqb (numberOf (partOutcome ts c d n s .verdict)) 15) ≡ false
