@@ -5,6 +5,7 @@ mod form;
 pub mod load_cut;
 pub mod load_desk;
 pub mod load_store;
+mod loading;
 pub mod run_desk;
 mod sizes;
-pub mod stores;
+mod stores;

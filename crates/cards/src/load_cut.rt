@@ -1,5 +1,5 @@
 // A load that is cut, as by a pulled plug: for trying what a desk then answers.
-use crate::load_desk::load_part;
+use crate::loading::load_part;
 use crate::sizes::STORES;
 use refusals::verdicts::Verdict;
 ghost use mathlib.Core.Path.{_≡_};

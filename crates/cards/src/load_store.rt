@@ -1,5 +1,5 @@
 // One store of a load: for making the stores of several loads in any order.
-use crate::load_desk::load_part;
+use crate::loading::load_part;
 use crate::sizes::STORES;
 use refusals::verdicts::Verdict;
 ghost use mathlib.Core.Path.{_≡_};

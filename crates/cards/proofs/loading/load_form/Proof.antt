@@ -11,8 +11,8 @@ use Rattle.refusals.proofs.Tests.{inside}
 use Rattle.cards.specs.Card.{desks, cardBytes}
 use Rattle.cards.specs.Refusals.{badCard, anotherDesk, badLoad, filedLines}
 use Rattle.cards.specs.LoadDesk.{loadLines}
-use Rattle.cards.proofs.load_desk.load_form.Statement.{statement}
-use Rattle.cards.proofs.load_desk.load_form.Tie as tie
+use Rattle.cards.proofs.loading.load_form.Statement.{statement}
+use Rattle.cards.proofs.loading.load_form.Tie as tie
 
 returns : tie.Need-returns
 returns c =

@@ -16,8 +16,8 @@ use Rattle.cards.specs.declared.stores.Store.{Store}
 use Rattle.cards.specs.Stores.{loadStores}
 use Rattle.cards.specs.LoadDesk.{loadLines, loadDone, loadNot, partOutcome}
 use Rattle.cards.proofs.Desks.{Accepted, accepts}
-use Rattle.cards.proofs.load_desk.load_part.Statement.{statement}
-use Rattle.cards.proofs.load_desk.load_part.Tie as tie
+use Rattle.cards.proofs.loading.load_part.Statement.{statement}
+use Rattle.cards.proofs.loading.load_part.Tie as tie
 
 -- the stores that are asked for
 part : tie.Start → List Store

@@ -7,8 +7,8 @@ use lib.ListN.{length, getD}
 use borrow.Author.Needs.{needs}
 use borrow.Author.Tests.{le-leb, lt-leb}
 use Rattle.sheets.specs.Edition.{recordSize}
-use Rattle.cards.proofs.load_desk.another_desk.Statement.{statement}
-use Rattle.cards.proofs.load_desk.another_desk.Tie as tie
+use Rattle.cards.proofs.loading.another_desk.Statement.{statement}
+use Rattle.cards.proofs.loading.another_desk.Tie as tie
 
 returns : tie.Need-returns
 returns c =
