@@ -8,7 +8,8 @@
  * A gate has n inputs, 1 to 16. Its table has bit x mod 8 of byte x div 8 for each assignment x: 1 byte up to n = 3,
  * else 2^(n-3) bytes. An input counts if flipping it alone changes the table's bit at some assignment. A cell has at
  * most k inputs, 2 to 6. A sheet is records of 16 bytes, the last is the output; byte 7 of each is the sheet's desk,
- * 0 for bench use or 1 to 4. A call that reads a sheet takes one of any desk.
+ * 0 for bench use or 1 to 4. A call that reads a sheet takes one of any desk. A card has four desks of 256 bytes: 15
+ * record places, then the status record, which is an open mark, n, the count of cells and 13 zero bytes.
  *
  * number is 0 where the call is done, else the first of these that holds:
  *    1  n outside 1 to 16
@@ -32,6 +33,10 @@
  *   16  text is no formula of n inputs; place is the first byte at which it can't be continued (a letter beyond n and
  *       a 33rd level are such bytes), its length if it ends too soon or is over 1,024 bytes; or no formula is printed
  *       for the sheet: place is 0
+ *   18  the desk is closed: its mark isn't 1
+ *   19  the desk is outside 1 to 4, or at a load the sheet, of 16 bytes or more, has another desk in its byte 7
+ *   20  the card isn't 1,024 bytes
+ * For cards the order is its own: 20, 19, 18, then 1, 9, 10, 15 and 11.
  * After a refusal every other value is 0 (but for what 8 of a named split, 10, 12, 15 and 16 name), and no result byte
  * is touched.
  */
@@ -45,7 +50,8 @@
 extern "C" {
 #endif
 
-enum { PELZURIVAN_RECORD = 16, PELZURIVAN_SHEET = 240, PELZURIVAN_WORK = 16384, PELZURIVAN_TEXT = 1024 };
+enum { PELZURIVAN_RECORD = 16, PELZURIVAN_SHEET = 240, PELZURIVAN_WORK = 16384, PELZURIVAN_TEXT = 1024,
+       PELZURIVAN_CARD = 1024 };
 
 typedef struct { uint64_t number, d, b, columns; } pelzurivan_tried;
 typedef struct { uint64_t number, own, shared; } pelzurivan_sought;
@@ -62,6 +68,7 @@ typedef struct { uint8_t kind[16]; double first[16], second[16]; } pelzurivan_ti
 typedef struct { uint64_t number, index; double earliest, latest; } pelzurivan_settled;
 typedef struct { uint64_t number, index; int64_t slack; } pelzurivan_slack_answer;
 typedef struct { uint64_t which, length, number; } pelzurivan_shorter_answer;
+typedef struct { uint64_t number, index; } pelzurivan_loaded;
 
 /* Tries a named split: D in d, H in the first bytes of room, the bytes after its table stay. 1 to 6, 8: b is then the
  * least assignment of shared (its members in increasing position, lowest as bit 0) with more than two different
@@ -123,6 +130,24 @@ pelzurivan_formula_read pelzurivan_read_formula(uint64_t n, const uint8_t *text,
  * so is every sheet made with k = 2. place is the index of a bad record (10). 1, 6, 9, 10, 16. */
 pelzurivan_formula_written pelzurivan_write_formula(uint64_t n, const uint8_t *sheet, size_t sheet_length, uint8_t *room,
                                                     size_t room_length);
+
+/* Loads a sheet onto a desk, 1 to 4, of a card, in 257 stores of a byte: mark to 0; the 240 bytes of the record places
+ * upward, unused places zero; the rest of the status upward; mark to 1. Each store changes the desk's own bytes alone.
+ * A record of another desk is bad. 20, 19, 1, 9, 10, 15. */
+pelzurivan_loaded pelzurivan_load(uint8_t *card, size_t card_length, uint64_t desk, uint64_t n, const uint8_t *sheet,
+                                  size_t sheet_length);
+
+/* A load that is cut after at most so many stores. The answer is the load's own, wherever it is cut. */
+pelzurivan_loaded pelzurivan_load_cut(uint8_t *card, size_t card_length, uint64_t desk, uint64_t n,
+                                      const uint8_t *sheet, size_t sheet_length, uint64_t stores);
+
+/* One store of a load, 0 to 256 (more is none), and no other. The answer is the load's own. */
+pelzurivan_loaded pelzurivan_load_store(uint8_t *card, size_t card_length, uint64_t desk, uint64_t n,
+                                        const uint8_t *sheet, size_t sheet_length, uint64_t which);
+
+/* Runs a desk at the assignment x: the bit. Beyond the card's length only the desk's own bytes are looked at, and of
+ * these neither unused places nor the 13 last. index is counted within the desk. 20, 19, 18, 1, 9, 10, 15, 11. */
+pelzurivan_ran pelzurivan_run_desk(const uint8_t *card, size_t card_length, uint64_t desk, uint64_t x);
 
 #ifdef __cplusplus
 }

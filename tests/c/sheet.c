@@ -186,6 +186,48 @@ static void the_shorter_sheet(void) {
     expect(a.which == 0 && a.length == 0 && a.number == 15, "shorter: neither, and the first's refusal");
 }
 
+/* The sheet of example 2, for a desk. */
+static void for_desk(uint8_t desk, uint8_t sheet[sizeof EXAMPLE_2]) {
+    memcpy(sheet, EXAMPLE_2, sizeof EXAMPLE_2);
+    sheet[7] = sheet[PELZURIVAN_RECORD + 7] = desk;
+}
+
+/* Desk 2 is loaded, cut before its last store, and finished; then desks 1 and 3 store by store in turns. */
+static void four_desks(void) {
+    enum { STORES = 257 };
+    uint8_t card[PELZURIVAN_CARD], other[PELZURIVAN_CARD], one[sizeof EXAMPLE_2], two[sizeof EXAMPLE_2];
+    memset(card, PRESET, sizeof card);
+    for_desk(2, two);
+    pelzurivan_loaded loaded = pelzurivan_load_cut(card, sizeof card, 2, 3, two, sizeof two, STORES - 1);
+    expect(loaded.number == 0 && pelzurivan_run_desk(card, sizeof card, 2, 7).number == 18, "a cut load: 18");
+    loaded = pelzurivan_load(card, sizeof card, 2, 3, two, sizeof two);
+    expect(loaded.number == 0 && loaded.index == 0, "load: done");
+    for (uint64_t x = 0; x < 8; x++) {
+        pelzurivan_ran ran = pelzurivan_run_desk(card, sizeof card, 2, x);
+        expect(ran.number == 0 && ran.bit == (x == 7) && ran.index == 0, "run a desk: the AND of three");
+    }
+    expect(all_are(PRESET, card, 256) && all_are(PRESET, card + 512, 512), "load: the other desks' bytes stay");
+
+    memcpy(other, card, sizeof card);
+    for_desk(1, one);
+    for_desk(3, two);
+    for (uint64_t i = 0; i <= STORES; i++) {
+        pelzurivan_load_store(card, sizeof card, 1, 3, one, sizeof one, i);
+        pelzurivan_load_store(card, sizeof card, 3, 3, two, sizeof two, i);
+    }
+    pelzurivan_load(other, sizeof other, 3, 3, two, sizeof two);
+    pelzurivan_load(other, sizeof other, 1, 3, one, sizeof one);
+    expect(memcmp(card, other, sizeof card) == 0, "two loads at once: the card of one after the other");
+
+    expect(pelzurivan_load(card, sizeof card, 1, 3, two, sizeof two).number == 19, "load: 19, another desk's sheet");
+    expect(pelzurivan_run_desk(card, sizeof card, 5, 0).number == 19, "run a desk: 19");
+    expect(pelzurivan_run_desk(card, sizeof card - 1, 5, 0).number == 20, "run a desk: 20 comes before 19");
+    two[PELZURIVAN_RECORD + 7] = 0;
+    loaded = pelzurivan_load(card, sizeof card, 3, 3, two, sizeof two);
+    expect(loaded.number == 10 && loaded.index == 1, "load: 10, record 1");
+    expect(memcmp(card, other, sizeof card) == 0, "load: a refusal leaves the card");
+}
+
 /* Masks are whole numbers: 65,539 names a position from n up, whatever its low 16 bits say. */
 static void masks_above_16_bits(void) {
     static uint8_t table[8192], room[4096];
@@ -230,6 +272,7 @@ int main(void) {
     settle_and_slack();
     a_cell_that_nobody_reads();
     the_shorter_sheet();
+    four_desks();
     masks_above_16_bits();
     refusals();
     printf("tests/c: %d of %d checks hold\n", checks - faults, checks);

@@ -76,12 +76,18 @@ area handed(size_t most) {
     return a;
 }
 
-area lent(size_t most) {
-    area a = part(most);
-    memset(a.bytes, preset, a.length);
+static area writable(area a) {
     lent_areas[lent_count++] = a;
     return a;
 }
+
+area lent(size_t most) {
+    area a = part(most);
+    memset(a.bytes, preset, a.length);
+    return writable(a);
+}
+
+area shared(size_t most) { return writable(handed(most)); }
 
 void start(void) {
     memcpy(before, pool, used);

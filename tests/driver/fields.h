@@ -7,7 +7,7 @@
 #include <stdint.h>
 
 /* The longest of each kind that a case may name; a room is as long as what it is for. */
-enum { TABLE = 16400, WORK = 20000, SHEET = 1000, TEXT = 2000 };
+enum { TABLE = 16400, WORK = 20000, SHEET = 1000, TEXT = 2000, CARD = 1100 };
 
 typedef struct {
     uint8_t *bytes;
@@ -25,6 +25,7 @@ uint64_t number(size_t width);
 double time_number(void); /* the eight bytes of an f64 */
 area handed(size_t most); /* bytes to be read */
 area lent(size_t most);   /* bytes to be written, preset */
+area shared(size_t most); /* bytes to be read and written, as handed over */
 bool whole(void);
 const char *why_not_whole(void);
 

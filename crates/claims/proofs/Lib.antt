@@ -16,6 +16,9 @@ pub mod ReadFormula
 pub mod WriteFormula
 pub mod Formulas
 pub mod Desks
+pub mod CardsLoad
+pub mod CardsRun
+pub mod Cards
 pub mod Fewest
 pub mod Trees
 pub mod BenchProgram

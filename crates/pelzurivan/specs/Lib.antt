@@ -11,3 +11,4 @@ pub mod Settle
 pub mod Slack
 pub mod ReadFormula
 pub mod WriteFormula
+pub mod LoadDesk

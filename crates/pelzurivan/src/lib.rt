@@ -3,9 +3,13 @@
 pub mod check_sheet;
 pub mod find_best;
 pub mod input_times;
+pub mod load_cut;
+pub mod load_desk;
+pub mod load_store;
 pub mod make_sheet;
 pub mod read_formula;
 pub mod rebuild_table;
+pub mod run_desk;
 pub mod run_sheet;
 pub mod settle;
 pub mod shorter;
