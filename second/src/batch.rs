@@ -36,7 +36,7 @@ impl<'a> Reader<'a> {
             match field {
                 Field::Number(_, width) => case.numbers.push(self.number(*width)?),
                 Field::Lent(_, buffer) => case.lent.push(self.length(*buffer)?),
-                Field::Bytes(_, buffer) => {
+                Field::Bytes(_, buffer) | Field::Handed(_, buffer) => {
                     let length = self.length(*buffer)?;
                     case.bytes.push(self.bytes(length)?.to_vec());
                 }
@@ -107,7 +107,7 @@ pub fn case_bytes(case: &Case) -> Vec<u8> {
             }
             Field::Lent(..) => output.extend(length(*lent.next().expect("a length"))),
             Field::Fixed(..) => output.extend(bytes.next().expect("bytes for each field")),
-            Field::Bytes(..) => {
+            Field::Bytes(..) | Field::Handed(..) => {
                 let bytes = bytes.next().expect("bytes for each field");
                 output.extend(length(bytes.len()));
                 output.extend(bytes);
@@ -123,9 +123,10 @@ fn length(length: usize) -> [u8; 2] {
 
 /// How long the answer to a case is; the case alone decides it.
 pub fn answer_length(case: &Case) -> usize {
+    let areas = case.preset(0);
     let widths = case.call.answers.iter().map(|part| match part {
         Part::Number(_, width) => *width,
-        Part::Lent(area) => case.lent[*area],
+        Part::Lent(area) => areas[*area].len(),
         Part::Mark(_) => 1,
     });
     widths.sum()

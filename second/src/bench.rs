@@ -1,7 +1,7 @@
 //! The bench program's format: n, K and the table in; the number and the sheet out.
 
 use crate::calls::make::make;
-use crate::cell::{write_sheet, SHEET_BYTES};
+use crate::cell::{BENCH, SHEET_BYTES};
 use crate::refusals::{DONE, WORK_BYTES};
 
 /// What the bench program writes for these bytes of standard input.
@@ -10,8 +10,8 @@ pub fn bench(input: &[u8]) -> Vec<u8> {
     // has a wrong length for this one, so it needs no rule of its own.
     let byte = |place: usize| u64::from(input.get(place).copied().unwrap_or(0));
     let table = input.get(2..).unwrap_or(&[]);
-    match make(byte(0), byte(1), table, SHEET_BYTES, WORK_BYTES) {
-        Ok(cells) => [&[DONE], &write_sheet(&cells)[..]].concat(),
+    match make([byte(0), byte(1), u64::from(BENCH)], table, SHEET_BYTES, WORK_BYTES) {
+        Ok(sheet) => [&[DONE], &sheet[..]].concat(),
         Err(number) => vec![number],
     }
 }

@@ -5,11 +5,12 @@ use crate::fresh::Fresh;
 use crate::random::Random;
 
 // The longest table (or room for one, or for H), work area, sheet (or room for
-// one) and text that a case may name.
+// one), text and card that a case may name.
 pub const TABLE_BUFFER: usize = 16_400;
 pub const WORK_BUFFER: usize = 20_000;
 pub const SHEET_BUFFER: usize = 1_000;
 pub const TEXT_BUFFER: usize = 2_000;
+pub const CARD_BUFFER: usize = 1_100;
 
 /// Every lent byte holds this before a call, unless a batch says otherwise, so
 /// that one sees what was touched.
@@ -25,6 +26,8 @@ pub enum Field {
     Fixed(&'static str, usize, fn(&[u8]) -> String),
     /// The length of a lent area, at most as long as the buffer.
     Lent(&'static str, usize),
+    /// A lent area that is as handed over: a length and so many bytes.
+    Handed(&'static str, usize),
 }
 
 /// A field of an answer. Lent areas are numbered as they stand in the case.
@@ -77,9 +80,21 @@ impl Case {
         self.numbers[..].try_into().expect("as many numbers as the call asks for")
     }
 
-    /// The lent areas before the call.
+    /// The lent areas before the call: preset, or as handed over.
     pub fn preset(&self, preset: u8) -> Vec<Vec<u8>> {
-        self.lent.iter().map(|&length| vec![preset; length]).collect()
+        let (mut bytes, mut lent) = (self.bytes.iter(), self.lent.iter());
+        let mut areas = Vec::new();
+        for field in self.call.asks {
+            match field {
+                Field::Number(..) => {}
+                Field::Bytes(..) | Field::Fixed(..) => {
+                    bytes.next();
+                }
+                Field::Handed(..) => areas.extend(bytes.next().cloned()),
+                Field::Lent(..) => areas.extend(lent.next().map(|&length| vec![preset; length])),
+            }
+        }
+        areas
     }
 }
 

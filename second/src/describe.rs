@@ -27,7 +27,7 @@ pub fn case_text(case: &Case) -> String {
         Field::Fixed(name, _, shown) => {
             format!(" {name} {}", bytes.next().map_or_else(missing, |b| shown(b)))
         }
-        Field::Bytes(name, _) => {
+        Field::Bytes(name, _) | Field::Handed(name, _) => {
             format!(" {name} {}", bytes.next().map_or_else(missing, |b| hex(b)))
         }
         Field::Lent(name, _) => format!(" {name} {}", shown(lent.next())),
@@ -54,6 +54,7 @@ fn missing() -> String {
 
 /// An answer in words. The bytes come from outside and may stop anywhere.
 pub fn answer_text(case: &Case, answer: &[u8]) -> String {
+    let areas = case.preset(0);
     let mut at = 0;
     let mut field = |width: usize| {
         let bytes = answer.get(at..at + width);
@@ -64,7 +65,7 @@ pub fn answer_text(case: &Case, answer: &[u8]) -> String {
         Part::Number(name, width) => {
             format!("{name} {}", in_words(name, field(*width).map(number_of)))
         }
-        Part::Lent(area) => format!("room {}", field(case.lent[*area]).map_or_else(missing, hex)),
+        Part::Lent(area) => format!("room {}", field(areas[*area].len()).map_or_else(missing, hex)),
         Part::Mark(_) => format!("W {}", shown(field(1).map(number_of).as_ref())),
     });
     parts.collect::<Vec<_>>().join(", ")

@@ -5,6 +5,7 @@
 
 pub mod best;
 pub mod calls;
+pub mod card;
 pub mod cell;
 pub mod chain;
 pub mod network;

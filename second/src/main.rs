@@ -8,7 +8,9 @@ use second::bench::bench;
 use second::case::PRESET;
 use second::inspect::inspect;
 use second::outside::arguments::Arguments;
-use second::outside::{compare, compare_bench, compare_inspect, fewest, measure, programs, trees};
+use second::outside::{
+    cards, compare, compare_bench, compare_inspect, fewest, measure, programs, trees,
+};
 
 const USAGE: &str =
     "second answer [--preset XX]   a batch on standard input, its answers on standard output
@@ -19,6 +21,7 @@ second compare-bench [--seed S] [--cases N] [--fault] -- COMMAND ARGS..
 second compare-inspect [--seed S] [--cases N] [--fault] -- COMMAND ARGS..
 second fewest [--seed S] [--cases N] [--all-of-4] -- COMMAND ARGS..
 second trees [--seed S] [--cases N] -- COMMAND ARGS..
+second cards [--seed S] [--cases N] -- COMMAND ARGS..
 second measure [--seed S] [--only WORDS] -- COMMAND ARGS..
 second tables --kind random|near|split|sparse --n N --count C [--seed S]";
 
@@ -50,6 +53,7 @@ fn obey(words: &[String]) -> Result<(), String> {
         "compare-inspect" => compare_program(&compare_inspect::PROGRAM),
         "fewest" => fewest::fewest(&options(&["--seed", "--cases"], &["--all-of-4"])?),
         "trees" => trees::trees(&options(&["--seed", "--cases"], &[])?),
+        "cards" => cards::cards(&options(&["--seed", "--cases"], &[])?),
         "measure" => measure::measure(&options(&["--seed", "--only"], &[])?),
         "tables" => measure::tables(&options(&["--kind", "--n", "--count", "--seed"], &[])?),
         _ => Err(format!("{command} is not a command\n{USAGE}")),

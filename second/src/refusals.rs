@@ -3,7 +3,7 @@
 //! Each call checks its own lines of the document's table in the order of their
 //! numbers, so that the lowest number that applies is the one given.
 
-use crate::cell::{read_sheet, Cell, MOST_READS, RECORD_BYTES, SHEET_BYTES};
+use crate::cell::{read_sheet, Cell, LAST_DESK, MOST_READS, RECORD_BYTES, SHEET_BYTES};
 use crate::network::first_unread;
 use crate::table::{Table, MOST_INPUTS};
 
@@ -24,6 +24,9 @@ pub const NO_TIME: u8 = 13;
 pub const NO_SLACK: u8 = 14;
 pub const NO_READER: u8 = 15;
 pub const NO_TEXT: u8 = 16;
+pub const CLOSED: u8 = 18;
+pub const NO_DESK: u8 = 19;
+pub const NO_CARD: u8 = 20;
 
 /// A refusal: its number and what it names (a record's index, an assignment, a
 /// place in a text), else 0.
@@ -77,13 +80,32 @@ pub fn table_of(n: usize, table: &[u8]) -> Result<Table, u8> {
     Ok(Table::from_bytes(n, table))
 }
 
+/// Line 5 where a sheet is made: the desk it is for.
+pub fn desk_of_sheet(desk: u64) -> Result<u8, u8> {
+    match u8::try_from(desk) {
+        Ok(desk) if desk <= LAST_DESK => Ok(desk),
+        _ => Err(NO_SETS),
+    }
+}
+
 /// Lines 9 and 10: the length of the sheet, then its records.
 pub fn cells(n: usize, sheet: &[u8]) -> Result<Vec<Cell>, Refusal> {
+    whole_records(sheet)?;
+    read_sheet(n, sheet).map_err(bad_record)
+}
+
+/// Line 9.
+pub fn whole_records(sheet: &[u8]) -> Result<(), u8> {
     let whole = sheet.chunks(RECORD_BYTES).all(|record| record.len() == RECORD_BYTES);
-    if sheet.is_empty() || !whole || sheet.len() > SHEET_BYTES {
-        return Err(NO_SHEET.into());
+    match sheet.is_empty() || !whole || sheet.len() > SHEET_BYTES {
+        true => Err(NO_SHEET),
+        false => Ok(()),
     }
-    read_sheet(n, sheet).map_err(|place| Refusal { number: NO_RECORD, place })
+}
+
+/// Line 10, with the index of the first bad record.
+pub fn bad_record(place: usize) -> Refusal {
+    Refusal { number: NO_RECORD, place }
 }
 
 /// Line 15: each record but the last is read by a later one.

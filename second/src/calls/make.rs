@@ -1,12 +1,12 @@
 //! Make a sheet: the count of cells, their records into a lent sheet.
 
 use crate::case::{Call, Case, Field, Part, SHEET_BUFFER, TABLE_BUFFER, WORK_BUFFER};
-use crate::cell::{write_sheet, Cell, SHEET_BYTES};
+use crate::cell::{write_sheet_for, BENCH, RECORD_BYTES, SHEET_BYTES};
 use crate::chain::chain;
 use crate::fresh::gate::{self, Ask};
 use crate::fresh::Fresh;
 use crate::random::Random;
-use crate::refusals::{clear_work, gate, DONE, NO_ROOM, NO_SPLIT, WORK_BYTES};
+use crate::refusals::{clear_work, desk_of_sheet, gate, DONE, NO_ROOM, NO_SPLIT, WORK_BYTES};
 
 pub static CALL: Call = Call {
     code: 0x03,
@@ -28,33 +28,45 @@ pub fn case(n: u64, k: u64, table: Vec<u8>, room: usize, work: usize) -> Case {
     Case { call: &CALL, numbers: vec![n, k], bytes: vec![table], lent: vec![room, work] }
 }
 
-/// The cells of the table's sheet, for rooms of these lengths.
-pub fn make(n: u64, k: u64, table: &[u8], room: usize, work: usize) -> Result<Vec<Cell>, u8> {
+/// The table's sheet for a desk, for rooms of these lengths.
+pub fn make([n, k, desk]: [u64; 3], table: &[u8], room: usize, work: usize) -> Result<Vec<u8>, u8> {
     let (gate, k) = gate(n, k, table)?;
+    let desk = desk_of_sheet(desk)?;
     if room < SHEET_BYTES || work < WORK_BYTES {
         return Err(NO_ROOM);
     }
-    chain(&gate, k).ok_or(NO_SPLIT)
+    let cells = chain(&gate, k).ok_or(NO_SPLIT)?;
+    Ok(write_sheet_for(desk, &cells))
 }
 
 fn answer(case: &Case, lent: &mut [Vec<u8>]) -> Vec<u64> {
     let [n, k] = case.numbers();
-    let (number, cells) = match make(n, k, &case.bytes[0], lent[0].len(), lent[1].len()) {
-        Ok(cells) => (DONE, cells),
+    let made = make([n, k, u64::from(BENCH)], &case.bytes[0], lent[0].len(), lent[1].len());
+    written(made, lent)
+}
+
+/// Number and count, with the sheet in the room.
+pub fn written(made: Result<Vec<u8>, u8>, lent: &mut [Vec<u8>]) -> Vec<u64> {
+    let (number, sheet) = match made {
+        Ok(sheet) => (DONE, sheet),
         Err(number) => (number, Vec::new()),
     };
-    let sheet = write_sheet(&cells);
     lent[0][..sheet.len()].copy_from_slice(&sheet);
     clear_work(number, &mut lent[1]);
-    vec![u64::from(number), cells.len() as u64]
+    vec![u64::from(number), (sheet.len() / RECORD_BYTES) as u64]
 }
 
 fn fresh(random: &mut Random) -> Fresh {
+    let faults = [gate::SPARE, gate::ROOM, gate::WORK, gate::LENGTH, gate::CELL_SIZE, gate::INPUTS];
+    let Ask { n, k, table, room, work, tags, .. } = drawn(random, &faults);
+    Fresh { case: case(n, k, table, room, work), tags }
+}
+
+/// What may be asked of make, with room for a sheet, perhaps spoiled.
+pub fn drawn(random: &mut Random, faults: &[gate::Fault]) -> Ask {
     let mut ask = gate::draw(random, false);
     ask.needed = SHEET_BYTES;
     gate::lend_room(random, &mut ask, SHEET_BUFFER);
-    let faults = [gate::SPARE, gate::ROOM, gate::WORK, gate::LENGTH, gate::CELL_SIZE, gate::INPUTS];
-    gate::spoil(random, &mut ask, &faults);
-    let Ask { n, k, table, room, work, tags, .. } = ask;
-    Fresh { case: case(n, k, table, room, work), tags }
+    gate::spoil(random, &mut ask, faults);
+    ask
 }

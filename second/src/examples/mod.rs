@@ -1,6 +1,7 @@
 //! The bench examples 1 to 11 of document 01, with its answers as literals (6 and
 //! 9 as document 02 has them), and some for the requests of document 02.
 
+mod desks;
 pub mod requests;
 
 use crate::batch::answer_length;
@@ -75,7 +76,7 @@ fn refusal(name: &'static str, case: Case, number: u8) -> Example {
     for part in case.call.answers {
         match part {
             Part::Number(_, width) => expected.extend(vec![0; *width]),
-            Part::Lent(area) => expected.extend(vec![PRESET; case.lent[*area]]),
+            Part::Lent(area) => expected.extend(&case.preset(PRESET)[*area]),
             Part::Mark(_) => expected.push(u8::from(number != NO_SPLIT)),
         }
     }
@@ -185,5 +186,6 @@ fn example_11() -> Vec<Example> {
 
 pub fn all() -> Vec<Example> {
     let base = [examples_1_to_5(), examples_6_to_9(), example_10(), example_11()];
-    base.into_iter().flatten().chain(requests::all()).collect()
+    let list = base.into_iter().flatten().chain(requests::all()).chain(desks::all());
+    list.filter(|example| calls::call_of(example.case.call.code).is_some()).collect()
 }

@@ -58,7 +58,7 @@ pub fn apply(
         Damage::OneInputLess => record[0] = record[0].wrapping_sub(1),
         Damage::OneInputMore => record[0] = record[0].wrapping_add(1),
         Damage::Place(place) => return spoil_place(random, record, place, k, limit),
-        Damage::Byte7 => record[7] = random.pick(&[1, 2, 128, 255]),
+        Damage::Byte7 => record[7] = other_desk(random, record[7]),
         Damage::TableByte(byte) => record[byte] ^= 1 << random.below(8),
         Damage::SpareBit => spare_bit(random, record, k),
         Damage::Order => swap_two(random, record, k),
@@ -96,6 +96,12 @@ const TABLE_BYTES: [&str; 8] = [
     "table byte 14",
     "table byte 15",
 ];
+
+/// Another desk, or none.
+pub fn other_desk(random: &mut Random, desk: u8) -> u8 {
+    let others: Vec<u8> = (0..=6).chain([128, 254, 255]).filter(|&other| other != desk).collect();
+    random.pick(&others)
+}
 
 /// Another value in a signal place; near the limit it may even stay sound.
 fn spoil_place(

@@ -5,7 +5,7 @@ use super::sheets::middling;
 use super::tables::any;
 use super::Fresh;
 use crate::calls;
-use crate::cell::{MOST_RECORDS, RECORD_BYTES, UNUSED};
+use crate::cell::{LAST_DESK, MOST_RECORDS, RECORD_BYTES, UNUSED};
 use crate::random::Random;
 use crate::table::Table;
 
@@ -14,7 +14,7 @@ use crate::table::Table;
 type Break = (&'static str, fn(&[u8]) -> usize, fn(&[u8], u8) -> u8);
 
 /// For records that read 2 to 5 signals.
-const BREAKS: [Break; 14] = [
+const BREAKS: [Break; 15] = [
     ("k is 0", |_| 0, |_, _| 0),
     ("k above 6", |_| 0, |_, _| 7),
     ("k is 255", |_| 0, |_, _| 255),
@@ -26,7 +26,8 @@ const BREAKS: [Break; 14] = [
     ("first unused place", |record| last(record) + 1, |_, _| 254),
     ("first unused place a signal", |record| last(record) + 1, |_, limit| limit - 1),
     ("last unused place", |_| 6, |_, _| 0),
-    ("byte 7", |_| 7, |_, _| 1),
+    ("no desk", |_| 7, |_, _| LAST_DESK + 1),
+    ("byte 7 is 255", |_| 7, |_, _| 255),
     (
         "first bit from 2^k up",
         |record| 8 + spare(record) / 8,

@@ -14,6 +14,8 @@ use crate::split::Split;
 pub struct Ask {
     pub n: u64,
     pub k: u64,
+    /// The desk to make a sheet for.
+    pub desk: u64,
     pub split: Split,
     pub table: Vec<u8>,
     /// How much room is needed, and how much is lent.
@@ -29,11 +31,12 @@ impl Tagged for Ask {
     }
 }
 
-type Fault = super::Fault<Ask>;
+pub type Fault = super::Fault<Ask>;
 
 // The spare bit comes first because it changes n, n itself comes last.
 pub const SPARE: Fault = ("spare bit", spare_bit);
 pub const SETS: Fault = ("own and shared sets", bad_sets);
+pub const DESK: Fault = ("desk", bad_desk);
 pub const ROOM: Fault = ("room", short_room);
 pub const WORK: Fault = ("work area", short_work);
 pub const LENGTH: Fault = ("table length", bad_length);
@@ -60,7 +63,8 @@ pub fn draw(random: &mut Random, cheap: bool) -> Ask {
     }
     let table = drawn.table.to_bytes();
     let n = drawn.table.inputs as u64;
-    Ask { n, k: k as u64, split, table, needed: 0, room: 0, work, tags }
+    let desk = random.below(5) as u64;
+    Ask { n, k: k as u64, desk, split, table, needed: 0, room: 0, work, tags }
 }
 
 /// Mostly a cell size that leaves something to split, and one that suits the
@@ -107,6 +111,10 @@ fn bad_inputs(random: &mut Random, ask: &mut Ask) {
 
 fn bad_cell_size(random: &mut Random, ask: &mut Ask) {
     ask.k = bad::cell_size(random, ask.k);
+}
+
+fn bad_desk(random: &mut Random, ask: &mut Ask) {
+    ask.desk = bad::desk(random, ask.desk);
 }
 
 fn bad_length(random: &mut Random, ask: &mut Ask) {

@@ -2,7 +2,9 @@
 
 mod bad;
 pub mod breaks;
+pub mod cards;
 pub mod damage;
+pub mod desks;
 pub mod every_bit;
 pub mod every_rule;
 pub mod gate;
@@ -19,7 +21,7 @@ pub mod trees;
 pub mod two_sheets;
 pub mod unread;
 
-use crate::calls::TABLE;
+use crate::calls::{call_of, TABLE};
 use crate::case::{Case, Field};
 use crate::random::Random;
 
@@ -31,8 +33,8 @@ pub struct Fresh {
 
 /// So many fresh cases, the calls in turn; besides, a few large ones, splits that
 /// break at a known place, tables that ignore inputs in every place, every rule
-/// of the records broken, every bit of some sheets flipped, and cells that nobody
-/// reads at every place.
+/// of the records broken, every bit of some sheets flipped, cells that nobody
+/// reads at every place, records of other desks, cuts of a load and damaged cards.
 pub fn cases(random: &mut Random, count: usize) -> Vec<Fresh> {
     let mut list: Vec<Fresh> = (0..count).map(|i| (TABLE[i % TABLE.len()].fresh)(random)).collect();
     list.extend(large::cases(random));
@@ -41,6 +43,9 @@ pub fn cases(random: &mut Random, count: usize) -> Vec<Fresh> {
     list.extend(every_rule::cases(random));
     list.extend(every_bit::cases(random));
     list.extend(unread::cases(random));
+    list.extend(desks::cases(random));
+    list.extend(cards::cases(random));
+    list.retain(|fresh| call_of(fresh.case.call.code).is_some());
     for fresh in &mut list {
         fresh.tags.extend(size_tag(&fresh.case));
     }

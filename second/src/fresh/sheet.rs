@@ -4,7 +4,9 @@ use super::sheets::{padded, KINDS};
 use super::Tagged;
 use super::{bad, damage};
 use crate::case::{SHEET_BUFFER, TABLE_BUFFER};
-use crate::cell::{read_sheet, write_sheet, MOST_RECORDS, RECORD_BYTES, SHEET_BYTES};
+use crate::cell::{
+    desk_of, read_sheet, set_desk, write_sheet_for, BENCH, MOST_RECORDS, RECORD_BYTES, SHEET_BYTES,
+};
 use crate::network::{first_unread, rebuild};
 use crate::random::Random;
 use crate::table::Table;
@@ -57,10 +59,17 @@ pub fn walked_inputs(random: &mut Random) -> usize {
 /// A sound sheet for a gate of n inputs.
 pub fn draw(random: &mut Random, n: usize) -> Ask {
     let kind = random.pick(&KINDS);
-    let sheet = kind.draw(random, n);
+    let mut sheet = kind.draw(random, n);
+    let desk = any_desk(random);
+    set_desk(&mut sheet, desk);
     let cells = read_sheet(n, &sheet).expect("a sound sheet");
     let read = if first_unread(n, &cells).is_none() { "each read" } else { "not each read" };
-    let tags = vec![format!("sheet: {}", kind.name()), format!("cells: {read}")];
+    let of = if desk == BENCH { "bench use" } else { "one of the four" };
+    let tags = vec![
+        format!("sheet: {}", kind.name()),
+        format!("cells: {read}"),
+        format!("desk of a sheet: {of}"),
+    ];
     Ask {
         n: n as u64,
         x: 0,
@@ -72,6 +81,11 @@ pub fn draw(random: &mut Random, n: usize) -> Ask {
         deadline: 0,
         tags,
     }
+}
+
+/// In every other case bench use.
+pub fn any_desk(random: &mut Random) -> u8 {
+    random.pick(&[BENCH, BENCH, BENCH, BENCH, 1, 2, 3, 4])
 }
 
 /// The same, with the table that the sheet carries.
@@ -110,7 +124,7 @@ fn pad(random: &mut Random, ask: &mut Ask) {
         let at = random.below(cells.len());
         cells = padded(random, n, &cells, at);
     }
-    ask.sheet = write_sheet(&cells);
+    ask.sheet = write_sheet_for(desk_of(&ask.sheet), &cells);
 }
 
 fn bad_sheet_length(random: &mut Random, ask: &mut Ask) {

@@ -1,7 +1,7 @@
 //! Two sheets for one table, each sound or spoiled.
 
 use super::sheet::{self, Ask, Fault};
-use crate::cell::{read_sheet, write_sheet, Cell, MOST_READS, MOST_RECORDS};
+use crate::cell::{read_sheet, write_sheet_for, Cell, MOST_READS, MOST_RECORDS};
 use crate::chain::chain;
 use crate::network::rebuild;
 use crate::random::Random;
@@ -38,7 +38,7 @@ pub fn draw(random: &mut Random) -> Two {
     Two { n, table, first: sheet, second: other.sheet, tags }
 }
 
-/// Another sheet that gives the same table: as long, longer, or made anew, and
+/// Another sheet, of any desk, that gives the same table: as long, longer, or made anew, and
 /// then perhaps shorter. Now and then one that gives any other.
 pub fn equal(random: &mut Random, n: usize, sheet: &[u8]) -> (Vec<u8>, &'static str) {
     let cells = read_sheet(n, sheet).expect("a sound sheet");
@@ -50,7 +50,7 @@ pub fn equal(random: &mut Random, n: usize, sheet: &[u8]) -> (Vec<u8>, &'static 
         5 | 6 => (turned(random, n, cells), "as long"),
         _ => return (sheet::draw(random, n).sheet, "any other"),
     };
-    (write_sheet(&cells), name)
+    (write_sheet_for(sheet::any_desk(random), &cells), name)
 }
 
 /// One cell gives the opposite, and those that read it take it so.

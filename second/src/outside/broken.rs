@@ -14,7 +14,9 @@ fn case_with(call: &'static Call, length: impl Fn(usize, usize) -> usize) -> Cas
     for (at, field) in call.asks.iter().enumerate() {
         match field {
             Field::Number(..) => case.numbers.push(3),
-            Field::Bytes(_, buffer) => case.bytes.push(vec![0x80; length(at, *buffer)]),
+            Field::Bytes(_, buffer) | Field::Handed(_, buffer) => {
+                case.bytes.push(vec![0x80; length(at, *buffer)]);
+            }
             Field::Fixed(_, length, _) => case.bytes.push(vec![0; *length]),
             Field::Lent(_, buffer) => case.lent.push(length(at, *buffer)),
         }
@@ -30,7 +32,7 @@ fn batches(random: &mut Random) -> Vec<(String, Vec<u8>)> {
         let full = case_bytes(&case_with(call, |_, buffer| buffer));
         for (field, asked) in call.asks.iter().enumerate() {
             let name = match asked {
-                Field::Bytes(name, _) | Field::Lent(name, _) => name,
+                Field::Bytes(name, _) | Field::Lent(name, _) | Field::Handed(name, _) => name,
                 Field::Number(..) | Field::Fixed(..) => continue,
             };
             let long = case_with(call, |at, buffer| buffer + usize::from(at == field));

@@ -3,6 +3,7 @@
 pub mod arguments;
 mod asking;
 mod broken;
+pub mod cards;
 pub mod command;
 pub mod compare;
 pub mod compare_bench;

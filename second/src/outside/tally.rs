@@ -33,13 +33,13 @@ impl Tally {
         let most = given().copied().max().unwrap_or(0);
         println!("passed, by call and number:");
         let head: Vec<String> = (0..=most).map(|number| format!("{number:>6}")).collect();
-        println!("  {:<12}{}", "", head.concat());
+        println!("  {:<16}{}", "", head.concat());
         for call in TABLE {
             let row = (0..=most).map(|number| match self.of(call, number) {
                 0 if !call.gives.contains(&number) => format!("{:>6}", "-"),
                 count => format!("{count:>6}"),
             });
-            println!("  {:02X} {:<9}{}", call.code, call.name, row.collect::<String>());
+            println!("  {:02X} {:<13}{}", call.code, call.name, row.collect::<String>());
         }
         println!("passed, by kind (a case may count under several):");
         for (tag, count) in &self.tags {
