@@ -37,9 +37,9 @@ use Rattle.printing.proofs.Turns.{Each, each-signal}
 use Rattle.trees.specs.Tree as tree
 use Rattle.trees.specs.Tree.{Tree, uses, TreeOf}
 use Rattle.trees.proofs.Graft.{Computes, counted-read}
-use Rattle.pairs.specs.TreeOf.{flip, treeOf}
-use Rattle.pairs.proofs.Cells.{ReadOnce, times-snoc}
-use Rattle.pairs.proofs.Printed.{read-once, made-printable}
+use Rattle.twos.specs.TreeOf.{flip, treeOf}
+use Rattle.twos.proofs.Cells.{ReadOnce, times-snoc}
+use Rattle.twos.proofs.Printed.{read-once, made-printable}
 
 -- ---- a formula's tree
 
