@@ -45,7 +45,8 @@ pub fn print(n: usize, cells: &[Cell]) -> Option<String> {
     if !once || !cells.iter().all(can_be_printed) {
         return None;
     }
-    let mut texts: Vec<String> = (b'a'..=b'p').take(n).map(|byte| char::from(byte).into()).collect();
+    let mut texts: Vec<String> =
+        (b'a'..=b'p').take(n).map(|byte| char::from(byte).into()).collect();
     for cell in cells {
         let forms: &[(u64, &str)] = if cell.reads.len() == 1 { &OF_ONE } else { &OF_TWO };
         let (_, form) = forms.iter().find(|(table, _)| *table == cell.table)?;

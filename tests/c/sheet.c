@@ -228,6 +228,26 @@ static void four_desks(void) {
     expect(memcmp(card, other, sizeof card) == 0, "load: a refusal leaves the card");
 }
 
+/* The sheet of example 2 prints (c&(a&b)), which reads as its table. */
+static void formulas_both_ways(void) {
+    static const char text[] = "(c&(a&b))";
+    const size_t length = sizeof text - 1;
+    uint8_t room[PELZURIVAN_TEXT + 1], table[] = {PRESET};
+    memset(room, PRESET, sizeof room);
+    pelzurivan_formula_written written = pelzurivan_write_formula(3, EXAMPLE_2, sizeof EXAMPLE_2, room, sizeof room);
+    expect(written.number == 0 && written.length == length && written.place == 0, "write: done, nine bytes");
+    expect(memcmp(room, text, length) == 0, "write: the formula of example 2");
+    expect(all_are(PRESET, room + length, sizeof room - length), "write: the bytes past the text stay");
+    pelzurivan_formula_read read = pelzurivan_read_formula(3, room, written.length, table, sizeof table);
+    expect(read.number == 0 && table[0] == AND_OF_3[0], "read: the table back");
+    read = pelzurivan_read_formula(2, room, written.length, table, sizeof table);
+    expect(read.number == 16 && read.place == 1, "read: 16 at a letter beyond n");
+    written = pelzurivan_write_formula(3, EXAMPLE_2, sizeof EXAMPLE_2, room, PELZURIVAN_TEXT - 1);
+    expect(written.number == 6 && written.length == 0, "write: 6, a short room");
+    written = pelzurivan_write_formula(3, PADDED, sizeof PADDED, room, sizeof room);
+    expect(written.number == 16 && written.place == 0 && written.length == 0, "write: 16, a cell that nobody reads");
+}
+
 /* Masks are whole numbers: 65,539 names a position from n up, whatever its low 16 bits say. */
 static void masks_above_16_bits(void) {
     static uint8_t table[8192], room[4096];
@@ -273,6 +293,7 @@ int main(void) {
     a_cell_that_nobody_reads();
     the_shorter_sheet();
     four_desks();
+    formulas_both_ways();
     masks_above_16_bits();
     refusals();
     printf("tests/c: %d of %d checks hold\n", checks - faults, checks);

@@ -35,10 +35,10 @@ fn load_form<'a>(card: &'a [u8], d: u64, n: u64, s: &'a [u8]) -> Verdict
         return refuse(Refusal::CARD);
     }
     if outside(1, d, DESKS) {
-        return refuse(Refusal::DESK);
+        return refuse(Refusal::OTHER_DESK);
     }
     if another_desk(d, s) {
-        return refuse(Refusal::DESK);
+        return refuse(Refusal::OTHER_DESK);
     }
     filed(d as u8, n, s)
 }

@@ -87,7 +87,7 @@ pub fn run_desk(card: &[u8], d: u64, x: u64) -> RunAnswer
     }
     if outside(1, d, DESKS) {
         return RunAnswer {
-            verdict: refuse(Refusal::DESK),
+            verdict: refuse(Refusal::OTHER_DESK),
             bit: false,
         };
     }

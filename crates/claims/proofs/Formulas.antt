@@ -29,9 +29,9 @@ use Rattle.printing.specs.Print.{sheetText, formulaOf}
 use Rattle.printing.specs.Printable.{Printable}
 use Rattle.printing.specs.WriteFormula.{writeForm, writeOutcome}
 use Rattle.trees.specs.Tree.{TreeOf}
-use Rattle.pairs.specs.TreeOf.{treeOf}
-use Rattle.pairs.proofs.Printed.{made-printable}
-use Rattle.pairs.proofs.Formula.{formula-tree}
+use Rattle.twos.specs.TreeOf.{treeOf}
+use Rattle.twos.proofs.Printed.{made-printable}
+use Rattle.twos.proofs.Formula.{formula-tree}
 use Rattle.claims.specs.Words.{recordsOf}
 use Rattle.claims.proofs.Made.{IsMade, is-made, made-records, made-good, made-fits, cells-give}
 use Rattle.claims.proofs.ReadFormula.{read-one, read-exactly, read-whole}

@@ -7,7 +7,9 @@ use native.Mathlib.Numerals.{add-one}
 use native.Mathlib.Omega.{arith}
 use native.Mathlib.Decide.{decLt}
 use lib.Bits.{bitAnd, bitOr, bitXor}
+use lib.Dec.{eqb}
 use lib.ListN.{length, List·getD-eq-default}
+use borrow.Author.Tests.{eq-eqb, ne-eqb, eqb-true, eqb-false}
 use Rattle.bits.specs.Numbers.{number}
 use Rattle.bits.proofs.Numbers.{none-zero}
 use Rattle.bits.proofs.Sums.{all-ones}
@@ -17,10 +19,21 @@ use Rattle.formulas.specs.declared.reading.Found.the-variants.{Word, Stu
 use Rattle.formulas.specs.Formula.{Formula, letter, constant, negated, joined, value}
 use Rattle.formulas.specs.Text.{byteAt, mark}
 use Rattle.formulas.specs.Reading.{Kind, bang, opening, digit, input, other, kind, Reading, upTo, stuck, reads}
-use Rattle.formulas.specs.Words.{wordOf, foundOf, Gives}
+use Rattle.formulas.specs.Words.{wordOf, foundOf, Gives, closedAt}
 use Rattle.formulas.proofs.Steps.{Run, run, runs, r-other, r-digit, r-input, r-deep-not, r-deep-open, r-not-bad, r-not, r-open-bad, r-open-left, r-open, r-first-bad, r-last, r-next-bad, r-next}
 use Rattle.formulas.proofs.Grammar.{mark-pos, sound, spells-lt, spells-bytes}
 use Rattle.formulas.proofs.Bitwise.{number-and, number-or, number-xor, number-not}
+
+-- ---- `)`
+
+pub closes : (s : List ℕ) (v q : ℕ) → byteAt s q ≡ 41 → Word v (q + 1) ≡ closedAt s v q
+closes s v q e = sym (ap (λ (t : Bool). cond t (Word v (q + 1)) (Stuck q)) (eq-eqb (byteAt s q) 41 e))
+
+pub closes-not : (s : List ℕ) (v q : ℕ) → (byteAt s q ≡ 41 → ⊥) → Stuck q ≡ closedAt s v q
+closes-not s v q e = sym (ap (λ (t : Bool). cond t (Word v (q + 1)) (Stuck q)) (ne-eqb (byteAt s q) 41 e))
+
+pub closes-end : (s : List ℕ) (v q : ℕ) → length s ≤ q → Stuck q ≡ closedAt s v q
+closes-end s v q h = closes-not s v q (λ e. omega (arith, e, List·getD-eq-default s 0 h))
 
 -- ---- words
 
@@ -214,10 +227,6 @@ module _ (s : List ℕ) (n i : ℕ) where
       go zero b h = absurd (b refl)
       go (suc d) b h = by-run 0 (suc d) p (Stuck q) (λ m y. on m d (read-value e (down 3 d h) m (omega arith)))
 
-  pub f-open-end : {d p v q : ℕ} {r : Found} → kind n (byteAt s p) ≡ opening → (d ≡ 0 → ⊥) → p < length s → r ≡ Word v q → Gives s n 3 (d - 1) (p + 1) i r
-      → length s ≤ q → Gives s n 0 d p i (Stuck q)
-  f-open-end a b l e h x = f-open-left a b l e h (λ f. omega (arith, f, List·getD-eq-default s 0 x))
-
   pub f-open : {d p v q : ℕ} {r : Found} → kind n (byteAt s p) ≡ opening → (d ≡ 0 → ⊥) → p < length s → r ≡ Word v q → Gives s n 3 (d - 1) (p + 1) i r
       → byteAt s q ≡ 41 → Gives s n 0 d p i (Word v (q + 1))
   f-open {d} {p} {v} {q} {r} a b l e h x = go d b (subst (λ (z : ℕ). Gives s n 3 (d - 1) z i r) (add-one p) h)
@@ -232,3 +241,12 @@ module _ (s : List ℕ) (n i : ℕ) where
       go : (d : ℕ) → (d ≡ 0 → ⊥) → Gives s n 3 (d - 1) (suc p) i r → Gives s n 0 d p i (Word v (q + 1))
       go zero b h = absurd (b refl)
       go (suc d) b h = by-run 0 (suc d) p (Word v (q + 1)) (λ m y. on m d (read-value e (down 3 d h) m (omega arith)))
+
+  -- closed, or not
+  pub f-closed : {d p v q : ℕ} {r r′ : Found} → kind n (byteAt s p) ≡ opening → (d ≡ 0 → ⊥) → p < length s → r ≡ Word v q → Gives s n 3 (d - 1) (p + 1) i r
+      → r′ ≡ closedAt s v q → Gives s n 0 d p i r′
+  f-closed {d} {p} {v} {q} {r} {r′} a b l e h c = subst (Gives s n 0 d p i) (sym c) (go (eqb (byteAt s q) 41) refl)
+    where
+      go : (t : Bool) → eqb (byteAt s q) 41 ≡ t → Gives s n 0 d p i (cond t (Word v (q + 1)) (Stuck q))
+      go true x = f-open a b l e h (eqb-true (byteAt s q) 41 x)
+      go false x = f-open-left a b l e h (eqb-false (byteAt s q) 41 x)

@@ -1,10 +1,11 @@
 // The readers of sum, term, part and factor, which call each other in a cycle: each call has a byte less before it, or
 // goes one step down. They work on 64 assignments at a time: bit i of a word is the value at assignment 64 w + i.
 use runs::words::input_word;
-ghost use Prim.Native.Nat.{_≤_};
+ghost use mathlib.Core.Path.{_≡_};
+ghost use Prim.Native.Nat.{_<_, _≤_};
 ghost use lib.ListN.{length};
 ghost use Rattle.tables.specs.Table.{mostInputs};
-ghost use Rattle.formulas.specs.Words.{Gives};
+ghost use Rattle.formulas.specs.Words.{Gives, Single, closedAt};
 
 // What a reader found: a word of values and the place after it, or the place at which the text can't be continued.
 pub enum Found {
@@ -93,7 +94,42 @@ fn part(t: &[u8], at: usize, left: usize, n: u32, w: u32) -> Found
     }
 }
 
-// A factor: a letter, `0`, `1`, `!` before a factor, or a sum in parentheses; the last two are one level down.
+// A factor of one byte, which is neither `!` nor `(`: a letter, `0` or `1`.
+fn single(t: &[u8], at: usize, n: u32, w: u32) -> Found
+    requires { ⌜ (at < length (now t)) × (n ≤ mostInputs) ⌝ }
+    ensures { λ r. ⌜ Single (now (t .entry)) n at w r ⌝ }
+{
+    let b = t[at];
+    if b == b'0' {
+        return Found::Word(0, at + 1);
+    }
+    if b == b'1' {
+        return Found::Word(!0, at + 1);
+    }
+    if b < b'a' {
+        return Found::Stuck(at);
+    }
+    if b < b'a' + n as u8 {
+        let v = input_word((b - b'a') as u32, w);
+        return Found::Word(v, at + 1);
+    }
+    Found::Stuck(at)
+}
+
+// `)` after the word v that was read up to q.
+fn closed(t: &[u8], v: u64, q: usize) -> Found
+    ensures { λ r. ⌜ r ≡ closedAt (now (t .entry)) v q ⌝ }
+{
+    if t.len() <= q {
+        return Found::Stuck(q);
+    }
+    if t[q] == b')' {
+        return Found::Word(v, q + 1);
+    }
+    Found::Stuck(q)
+}
+
+// A factor: one byte, `!` before a factor, or a sum in parentheses; the last two are one level down.
 fn factor(t: &[u8], at: usize, left: usize, n: u32, w: u32) -> Found
     requires { ⌜ (at ≤ length (now t)) × (n ≤ mostInputs) ⌝ }
     ensures { λ r. ⌜ Gives (now (t .entry)) n 0 left at w r ⌝ }
@@ -124,28 +160,9 @@ fn factor(t: &[u8], at: usize, left: usize, n: u32, w: u32) -> Found
                 return Found::Stuck(p);
             }
             Found::Word(v, q) => {
-                if t.len() <= q {
-                    return Found::Stuck(q);
-                }
-                if t[q] == b')' {
-                    return Found::Word(v, q + 1);
-                }
-                return Found::Stuck(q);
+                return closed(t, v, q);
             }
         }
     }
-    if b == b'0' {
-        return Found::Word(0, at + 1);
-    }
-    if b == b'1' {
-        return Found::Word(!0, at + 1);
-    }
-    if b < b'a' {
-        return Found::Stuck(at);
-    }
-    if b < b'a' + n as u8 {
-        let v = input_word((b - b'a') as u32, w);
-        return Found::Word(v, at + 1);
-    }
-    Found::Stuck(at)
+    single(t, at, n, w)
 }

@@ -77,9 +77,13 @@ module _ (K : ℕ) where
         let q : suc i + length cs ≡ i + suc (length cs) = omega arith in
         let rest = measured cs d (suc i) u (w .2) (later-once c (d ∷ cs) i w o) (λ s h. ap (λ (b : Bool). measure (cond b t (v s))) (ne-eqb s i (λ e. omega arith)) ∙ none s (omega arith)) in
         omega (
-          arith, rest, ap (λ (x : ℕ). measure (inTurn makes (suc i) (d ∷ cs) u x)) q,
+          arith,
+          rest,
+          ap (λ (x : ℕ). measure (inTurn makes (suc i) (d ∷ cs) u x)) q,
           cells-more (λ s. measure (v s)) (λ s. measure (u s)) i (measure t) (λ s. one s (eqb s i) refl) (d ∷ cs),
-          ap (λ (r : ℕ). r * measure t) (first-once c d cs i w o), adds c v, mul-suc k (1 + length cs),
+          ap (λ (r : ℕ). r * measure t) (first-once c d cs i w o),
+          adds c v,
+          mul-suc k (1 + length cs),
         )
       where
         one : (s : ℕ) (b : Bool) → eqb s i ≡ b → measure (cond b (makes c v) (v s)) ≡ measure (v s) + val (eqb i s) * measure (makes c v)
@@ -133,6 +137,7 @@ text-short n K (c ∷ cs) some w p =
     omega (
       arith,
       measured K cellText length 5 (λ c v. sides-short (c .signals) (c .table) v) cs c n (letterText n) w (p .once)
-      (λ s h. ap (λ (b : Bool). length (cond b ((97 + s) ∷ []) [])) (le-ltb s n h)),
-      read-short n (c ∷ cs) (p .plain), ap (λ (x : ℕ). length (inTurn cellText n (c ∷ cs) (letterText n) x)) q,
+          (λ s h. ap (λ (b : Bool). length (cond b ((97 + s) ∷ []) [])) (le-ltb s n h)),
+      read-short n (c ∷ cs) (p .plain),
+      ap (λ (x : ℕ). length (inTurn cellText n (c ∷ cs) (letterText n) x)) q,
     )

@@ -156,7 +156,7 @@ module _ {e : Edition} {n : ℕ} {s : List ℕ} {x : ℕ} {flip : Bool} {room : 
     reads-lower : (k : ℕ) → k < length (pairCell c .signals) → getD (pairCell c .signals) k 0 < x
     reads-lower k l =
         let a = subst (λ (d : Cell). (i : ℕ) → i < length (d .signals) → getD (d .signals) i 0 < n + (x - n)) the-cell
-            (wired-at (e .most) (sheetCells e s m) n (h .sheet .wired) (x - n) below) in
+        (wired-at (e .most) (sheetCells e s m) n (h .sheet .wired) (x - n) below) in
         omega (arith, a k l)
 
     -- ( , ! or not, the lower signal, the mark, ! or not, the other, )

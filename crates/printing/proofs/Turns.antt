@@ -57,7 +57,7 @@ Each C (c ∷ cs) = C c × Each C cs
 
 module _ {A B : Type 0} (f : Cell → (ℕ → A) → A) (g : Cell → (ℕ → B) → B) (P : ℕ → A → B → Type 0) (C : Cell → Type 0) (b : ℕ)
     (step : (c : Cell) (i : ℕ) (v : ℕ → A) (w : ℕ → B) → b ≤ i → C c → ((j : ℕ) → j < length (c .signals) → getD (c .signals) j 0 < i)
-        → ((s : ℕ) → s < i → P s (v s) (w s)) → P i (f c v) (g c w)) where
+    → ((s : ℕ) → s < i → P s (v s) (w s)) → P i (f c v) (g c w)) where
   -- what a cell hands on holds of every signal
   pub each-signal : (K : ℕ) (cs : List Cell) (i : ℕ) (v : ℕ → A) (w : ℕ → B) → b ≤ i → Each C cs → Wired K i cs → ((s : ℕ) → s < i → P s (v s) (w s))
       → (s : ℕ) → s < i + length cs → P s (inTurn f i cs v s) (inTurn g i cs w s)

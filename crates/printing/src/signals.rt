@@ -32,11 +32,19 @@ fn put_flip(room: &mut [u8], at: usize, flip: bool) -> usize
 }
 
 // Signal x, with `!` before it if it is flipped; a cell calls the writer on the lower signals that it reads.
-pub fn write(e: Edition, n: usize, s: &[u8], x: usize, flip: bool, room: &mut [u8], at: usize) -> usize
+pub fn write(
+    e: Edition,
+    n: usize,
+    s: &[u8],
+    x: usize,
+    flip: bool,
+    room: &mut [u8],
+    at: usize,
+) -> usize
     requires { ⌜ Room e n (now s) x flip (now room) at ⌝ }
     ensures { λ r. ⌜
         Put (now (room .entry)) at (flipped flip (printed n (sheetCells e (now (s .entry)) (records e (now (s .entry)))) x))
-            (now (room .exit)) r
+        (now (room .exit)) r
         ⌝ }
 {
     let from = put_flip(room, at, flip);

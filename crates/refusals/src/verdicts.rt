@@ -47,7 +47,7 @@ impl Refusal {
     // the desk is closed: its mark isn't 1
     pub const CLOSED: u8 = 18;
     // the desk is outside 1 to 4, or the sheet is another desk's
-    pub const DESK: u8 = 19;
+    pub const OTHER_DESK: u8 = 19;
     // the card has a wrong length
     pub const CARD: u8 = 20;
 }

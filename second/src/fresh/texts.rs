@@ -124,7 +124,7 @@ fn long(random: &mut Random, ask: &mut Ask) {
     }
     while text.len() < length {
         let whole =
-            text.last().is_some_and(|byte| b"01)".contains(byte) || byte.is_ascii_lowercase());
+            text.last().map_or(false, |byte| b"01)".contains(byte) || byte.is_ascii_lowercase());
         text.push(if whole { b'^' } else { b'a' });
     }
     ask.text = text;

@@ -6,8 +6,8 @@ use native.Mathlib.Omega.{arith}
 use borrow.Author.Needs.{needs}
 use lib.ListN.{length}
 use lib.Bits.{bitAnd, bitOr, bitXor}
-use Rattle.formulas.proofs.Grammar.{kind-bang, kind-open, kind-zero, kind-one, kind-input, kind-other}
-use Rattle.formulas.proofs.Words.{and-word, or-word, xor-word, zero-word, one-word, letter-word, ahead, first-bad, last, last-end, next-bad, next, f-end, f-other, f-digit, f-input, f-deep-not, f-deep-open, f-not-bad, f-not, f-open-bad, f-open-left, f-open-end, f-open}
+use Rattle.formulas.proofs.Grammar.{kind-bang, kind-open}
+use Rattle.formulas.proofs.Words.{and-word, or-word, xor-word, ahead, first-bad, last, last-end, next-bad, next, f-end, f-deep-not, f-deep-open, f-not-bad, f-not, f-open-bad, f-closed}
 use borrow.Fn.Kinds.{In}
 use borrow.Fn.PlainCycle.{Measures, is, falls, and}
 use Rattle.formulas.proofs.reading.factor.Reads as factor
@@ -22,7 +22,8 @@ use Rattle.formulas.proofs.reading.+factor+part+sum+term.Lts-sum as sum
 use Rattle.formulas.proofs.reading.term.Reads as term
 use Rattle.formulas.proofs.reading.term.Kinds as term-kinds
 use Rattle.formulas.proofs.reading.+factor+part+sum+term.Lts-term as term-lts
-use Rattle.runs.proofs.words.input_word.Reads as input-word-reads
+use Rattle.formulas.proofs.reading.closed.Reads as closed-reads
+use Rattle.formulas.proofs.reading.single.Reads as single-reads
 use Rattle.formulas.proofs.reading.+factor+part+sum+term.{statement}
 use Rattle.formulas.proofs.reading.+factor+part+sum+term.Tie.{close}
 
@@ -62,282 +63,128 @@ term-at t = and 1 term-kinds.ps (is 1 term-kinds.ps μ-term t) term.Pre
 abbrev term-below : ℕ → In 1 term-kinds.ps
 term-below t = and 1 term-kinds.ps (falls 1 term-kinds.ps _<_ μ-term t) term.Pre
 
-factor-returns : (t : ℕ) → factor-lts.Need-returns (
+-- what the functions that each calls ask and promise; those of the cycle only below t
+abbrev factor-beside : ℕ → factor-lts.Claims
+factor-beside t = (
   factor-below t,
   factor.Post,
   sum-below t,
   sum.Post,
-  input-word-reads.Asked,
-  input-word-reads.Learnt,
-) (factor-at t) factor.Post
+  closed-reads.Asked,
+  closed-reads.Learnt,
+  single-reads.Asked,
+  single-reads.Learnt,
+)
+
+abbrev part-beside : ℕ → part-lts.Claims
+part-beside t = (
+  factor-below t,
+  factor.Post,
+  part-below t,
+  part.Post,
+)
+
+abbrev sum-beside : ℕ → sum-lts.Claims
+sum-beside t = (term-below t, term.Post, sum-below t, sum.Post)
+
+abbrev term-beside : ℕ → term-lts.Claims
+term-beside t = (part-below t, part.Post, term-below t, term.Post)
+
+factor-returns : (t : ℕ) → factor-lts.Need-returns (factor-beside t) (factor-at t) factor.Post
 factor-returns t c = f-end _ _ _ (c .if1 .taken)
 
-factor-returns-2 : (t : ℕ) → factor-lts.Need-returns-2 (
-  factor-below t,
-  factor.Post,
-  sum-below t,
-  sum.Post,
-  input-word-reads.Asked,
-  input-word-reads.Learnt,
-) (factor-at t) factor.Post
+factor-returns-2 : (t : ℕ) → factor-lts.Need-returns-2 (factor-beside t) (factor-at t) factor.Post
 factor-returns-2 t c = f-deep-not _ _ _ (kind-bang _ _ (c .before .if2 .taken)) (c .if3 .taken)
 
-factor-returns-3 : (t : ℕ) → factor-lts.Need-returns-3 (
-  factor-below t,
-  factor.Post,
-  sum-below t,
-  sum.Post,
-  input-word-reads.Asked,
-  input-word-reads.Learnt,
-) (factor-at t) factor.Post
+factor-returns-3 : (t : ℕ) → factor-lts.Need-returns-3 (factor-beside t) (factor-at t) factor.Post
 factor-returns-3 t c = f-not-bad _ _ _ (kind-bang _ _ (c .before .before .before .before .before .if2 .taken)) (c .before .before .before .before .if3 .left) (c .before .before .before .before .before .before .before .if1 .left) (c .before .p .given .1) (c .before .before .before .factor .ensures)
 
-factor-returns-4 : (t : ℕ) → factor-lts.Need-returns-4 (
-  factor-below t,
-  factor.Post,
-  sum-below t,
-  sum.Post,
-  input-word-reads.Asked,
-  input-word-reads.Learnt,
-) (factor-at t) factor.Post
+factor-returns-4 : (t : ℕ) → factor-lts.Need-returns-4 (factor-beside t) (factor-at t) factor.Post
 factor-returns-4 t c = f-not _ _ _ (kind-bang _ _ (c .before .before .before .before .before .if2 .taken)) (c .before .before .before .before .if3 .left) (c .before .before .before .before .before .before .before .if1 .left) (c .before .v .given .1) (c .before .before .before .factor .ensures)
 
-factor-returns-5 : (t : ℕ) → factor-lts.Need-returns-5 (
-  factor-below t,
-  factor.Post,
-  sum-below t,
-  sum.Post,
-  input-word-reads.Asked,
-  input-word-reads.Learnt,
-) (factor-at t) factor.Post
+factor-returns-5 : (t : ℕ) → factor-lts.Need-returns-5 (factor-beside t) (factor-at t) factor.Post
 factor-returns-5 t c = f-deep-open _ _ _ (kind-open _ _ (c .before .if4 .taken)) (c .if5 .taken)
 
-factor-returns-6 : (t : ℕ) → factor-lts.Need-returns-6 (
-  factor-below t,
-  factor.Post,
-  sum-below t,
-  sum.Post,
-  input-word-reads.Asked,
-  input-word-reads.Learnt,
-) (factor-at t) factor.Post
+factor-returns-6 : (t : ℕ) → factor-lts.Need-returns-6 (factor-beside t) (factor-at t) factor.Post
 factor-returns-6 t c = f-open-bad _ _ _ (kind-open _ _ (c .before .before .before .before .before .if4 .taken)) (c .before .before .before .before .if5 .left) (c .before .before .before .before .before .before .before .before .if1 .left) (c .before .p2 .given .1) (c .before .before .before .sum .ensures)
 
-factor-returns-7 : (t : ℕ) → factor-lts.Need-returns-7 (
-  factor-below t,
-  factor.Post,
-  sum-below t,
-  sum.Post,
-  input-word-reads.Asked,
-  input-word-reads.Learnt,
-) (factor-at t) factor.Post
-factor-returns-7 t c = f-open-end _ _ _ (kind-open _ _ (c .before .before .before .before .before .before .if4 .taken)) (c .before .before .before .before .before .if5 .left) (c .before .before .before .before .before .before .before .before .before .if1 .left) (c .before .before .v2 .given .1) (c .before .before .before .before .sum .ensures) (c .if6 .taken)
+factor-returns-7 : (t : ℕ) → factor-lts.Need-returns-7 (factor-beside t) (factor-at t) factor.Post
+factor-returns-7 t c =
+    let m = c .before .before .before .before in
+    f-closed _ _ _ (kind-open _ _ (m .before .before .if4 .taken)) (m .before .if5 .left) (m .before .before .before .before .before .if1 .left) (c .before .before .v2 .given .1) (m .sum .ensures)
+    (c .closed .ensures)
 
-factor-returns-8 : (t : ℕ) → factor-lts.Need-returns-8 (
-  factor-below t,
-  factor.Post,
-  sum-below t,
-  sum.Post,
-  input-word-reads.Asked,
-  input-word-reads.Learnt,
-) (factor-at t) factor.Post
-factor-returns-8 t c = f-open _ _ _ (kind-open _ _ (c .before .before .before .before .before .before .before .before .if4 .taken)) (c .before .before .before .before .before .before .before .if5 .left) (c .before .before .before .before .before .before .before .before .before .before .before .if1 .left) (c .before .before .before .before .v2 .given .1) (c .before .before .before .before .before .before .sum .ensures) (c .if7 .taken)
+factor-returns-8 : (t : ℕ) → factor-lts.Need-returns-8 (factor-beside t) (factor-at t) factor.Post
+factor-returns-8 t c = c .single .ensures .gives _ (c .before .before .if2 .left) (c .before .if4 .left)
 
-factor-returns-9 : (t : ℕ) → factor-lts.Need-returns-9 (
-  factor-below t,
-  factor.Post,
-  sum-below t,
-  sum.Post,
-  input-word-reads.Asked,
-  input-word-reads.Learnt,
-) (factor-at t) factor.Post
-factor-returns-9 t c = f-open-left _ _ _ (kind-open _ _ (c .before .before .before .before .before .before .before .before .if4 .taken)) (c .before .before .before .before .before .before .before .if5 .left) (c .before .before .before .before .before .before .before .before .before .before .before .if1 .left) (c .before .before .before .before .v2 .given .1) (c .before .before .before .before .before .before .sum .ensures) (c .if7 .left)
-
-factor-returns-10 : (t : ℕ) → factor-lts.Need-returns-10 (
-  factor-below t,
-  factor.Post,
-  sum-below t,
-  sum.Post,
-  input-word-reads.Asked,
-  input-word-reads.Learnt,
-) (factor-at t) factor.Post
-factor-returns-10 t c = f-digit _ _ _ false (kind-zero _ _ (c .if8 .taken)) (zero-word _)
-
-factor-returns-11 : (t : ℕ) → factor-lts.Need-returns-11 (
-  factor-below t,
-  factor.Post,
-  sum-below t,
-  sum.Post,
-  input-word-reads.Asked,
-  input-word-reads.Learnt,
-) (factor-at t) factor.Post
-factor-returns-11 t c = f-digit _ _ _ true (kind-one _ _ (c .if9 .taken)) (one-word _)
-
-factor-returns-12 : (t : ℕ) → factor-lts.Need-returns-12 (
-  factor-below t,
-  factor.Post,
-  sum-below t,
-  sum.Post,
-  input-word-reads.Asked,
-  input-word-reads.Learnt,
-) (factor-at t) factor.Post
-factor-returns-12 t c = f-other _ _ _ (kind-other _ _ (c .before .before .before .before .if2 .left) (c .before .before .before .if4 .left) (c .before .before .if8 .left) (c .before .if9 .left) (λ a b. omega arith))
-
-factor-returns-13 : (t : ℕ) → factor-lts.Need-returns-13 (
-  factor-below t,
-  factor.Post,
-  sum-below t,
-  sum.Post,
-  input-word-reads.Asked,
-  input-word-reads.Learnt,
-) (factor-at t) factor.Post
-factor-returns-13 t c = f-input _ _ _ _ (kind-input _ _ (c .before .before .if10 .left) (omega arith)) (c .input-word .ensures ∙ letter-word _ _)
-
-factor-returns-14 : (t : ℕ) → factor-lts.Need-returns-14 (
-  factor-below t,
-  factor.Post,
-  sum-below t,
-  sum.Post,
-  input-word-reads.Asked,
-  input-word-reads.Learnt,
-) (factor-at t) factor.Post
-factor-returns-14 t c = f-other _ _ _ (kind-other _ _ (c .before .before .before .before .before .if2 .left) (c .before .before .before .before .if4 .left) (c .before .before .before .if8 .left) (c .before .before .if9 .left) (λ a b. omega arith))
-
-part-returns : (t : ℕ) → part-lts.Need-returns (
-  factor-below t,
-  factor.Post,
-  part-below t,
-  part.Post,
-) (part-at t) part.Post
+part-returns : (t : ℕ) → part-lts.Need-returns (part-beside t) (part-at t) part.Post
 part-returns t c = first-bad _ _ _ (c .before .p .given .1) (c .before .before .before .factor .ensures)
 
-part-part-requires : (t : ℕ) → part-lts.Need-part-requires (
-  factor-below t,
-  factor.Post,
-  part-below t,
-  part.Post,
-) (part-at t) part.Post
+part-part-requires : (t : ℕ) → part-lts.Need-part-requires (part-beside t) (part-at t) part.Post
 part-part-requires t c κs = let h = ahead (c .before .before .before .before .v .given .1) (c .before .before .before .before .before .before .factor .ensures) (search needs) in (omega arith, (omega arith, search needs))
 
-part-returns-2 : (t : ℕ) → part-lts.Need-returns-2 (
-  factor-below t,
-  factor.Post,
-  part-below t,
-  part.Post,
-) (part-at t) part.Post
+part-returns-2 : (t : ℕ) → part-lts.Need-returns-2 (part-beside t) (part-at t) part.Post
 part-returns-2 t c = next-bad _ _ _ (c .before .before .before .before .before .before .before .before .v .given .1) (c .before .before .before .before .before .before .before .before .before .before .factor .ensures) (search needs) (c .before .before .before .before .if2 .taken) (c .before .p2 .given .1) (c .before .before .before .part .ensures)
 
-part-returns-3 : (t : ℕ) → part-lts.Need-returns-3 (
-  factor-below t,
-  factor.Post,
-  part-below t,
-  part.Post,
-) (part-at t) part.Post
+part-returns-3 : (t : ℕ) → part-lts.Need-returns-3 (part-beside t) (part-at t) part.Post
 part-returns-3 t c = next _ _ _ bitAnd (λ F G. and-word F G _) (c .before .before .before .before .before .before .before .before .v .given .1) (c .before .before .before .before .before .before .before .before .before .before .factor .ensures) (search needs) (c .before .before .before .before .if2 .taken) (c .before .x .given .1) (c .before .before .before .part .ensures)
 
-part-returns-4 : (t : ℕ) → part-lts.Need-returns-4 (
-  factor-below t,
-  factor.Post,
-  part-below t,
-  part.Post,
-) (part-at t) part.Post
+part-returns-4 : (t : ℕ) → part-lts.Need-returns-4 (part-beside t) (part-at t) part.Post
 part-returns-4 t c = last _ _ _ (c .before .before .before .before .v .given .1) (c .before .before .before .before .before .before .factor .ensures) (c .if2 .left)
 
-part-returns-5 : (t : ℕ) → part-lts.Need-returns-5 (
-  factor-below t,
-  factor.Post,
-  part-below t,
-  part.Post,
-) (part-at t) part.Post
+part-returns-5 : (t : ℕ) → part-lts.Need-returns-5 (part-beside t) (part-at t) part.Post
 part-returns-5 t c = last-end _ _ _ (c .before .before .v .given .1) (c .before .before .before .before .factor .ensures) (c .if1 .left)
 
 sum-returns :
     (t : ℕ) →
-    sum-lts.Need-returns (term-below t, term.Post, sum-below t, sum.Post) (sum-at t) sum.Post
+    sum-lts.Need-returns (sum-beside t) (sum-at t) sum.Post
 sum-returns t c = first-bad _ _ _ (c .before .p .given .1) (c .before .before .before .term .ensures)
 
-sum-sum-requires : (t : ℕ) → sum-lts.Need-sum-requires (
-  term-below t,
-  term.Post,
-  sum-below t,
-  sum.Post,
-) (sum-at t) sum.Post
+sum-sum-requires : (t : ℕ) → sum-lts.Need-sum-requires (sum-beside t) (sum-at t) sum.Post
 sum-sum-requires t c κs = let h = ahead (c .before .before .before .before .v .given .1) (c .before .before .before .before .before .before .term .ensures) (search needs) in (omega arith, (omega arith, search needs))
 
 sum-returns-2 :
     (t : ℕ) →
-    sum-lts.Need-returns-2 (term-below t, term.Post, sum-below t, sum.Post) (sum-at t) sum.Post
+    sum-lts.Need-returns-2 (sum-beside t) (sum-at t) sum.Post
 sum-returns-2 t c = next-bad _ _ _ (c .before .before .before .before .before .before .before .before .v .given .1) (c .before .before .before .before .before .before .before .before .before .before .term .ensures) (search needs) (c .before .before .before .before .if2 .taken) (c .before .p2 .given .1) (c .before .before .before .sum .ensures)
 
 sum-returns-3 :
     (t : ℕ) →
-    sum-lts.Need-returns-3 (term-below t, term.Post, sum-below t, sum.Post) (sum-at t) sum.Post
+    sum-lts.Need-returns-3 (sum-beside t) (sum-at t) sum.Post
 sum-returns-3 t c = next _ _ _ bitOr (λ F G. or-word F G _) (c .before .before .before .before .before .before .before .before .v .given .1) (c .before .before .before .before .before .before .before .before .before .before .term .ensures) (search needs) (c .before .before .before .before .if2 .taken) (c .before .x .given .1) (c .before .before .before .sum .ensures)
 
 sum-returns-4 :
     (t : ℕ) →
-    sum-lts.Need-returns-4 (term-below t, term.Post, sum-below t, sum.Post) (sum-at t) sum.Post
+    sum-lts.Need-returns-4 (sum-beside t) (sum-at t) sum.Post
 sum-returns-4 t c = last _ _ _ (c .before .before .before .before .v .given .1) (c .before .before .before .before .before .before .term .ensures) (c .if2 .left)
 
 sum-returns-5 :
     (t : ℕ) →
-    sum-lts.Need-returns-5 (term-below t, term.Post, sum-below t, sum.Post) (sum-at t) sum.Post
+    sum-lts.Need-returns-5 (sum-beside t) (sum-at t) sum.Post
 sum-returns-5 t c = last-end _ _ _ (c .before .before .v .given .1) (c .before .before .before .before .term .ensures) (c .if1 .left)
 
 term-returns :
     (t : ℕ) →
-    term-lts.Need-returns (part-below t, part.Post, term-below t, term.Post) (term-at t) term.Post
+    term-lts.Need-returns (term-beside t) (term-at t) term.Post
 term-returns t c = first-bad _ _ _ (c .before .p .given .1) (c .before .before .before .part .ensures)
 
-term-term-requires : (t : ℕ) → term-lts.Need-term-requires (
-  part-below t,
-  part.Post,
-  term-below t,
-  term.Post,
-) (term-at t) term.Post
+term-term-requires : (t : ℕ) → term-lts.Need-term-requires (term-beside t) (term-at t) term.Post
 term-term-requires t c κs = let h = ahead (c .before .before .before .before .v .given .1) (c .before .before .before .before .before .before .part .ensures) (search needs) in (omega arith, (omega arith, search needs))
 
-term-returns-2 : (t : ℕ) → term-lts.Need-returns-2 (
-  part-below t,
-  part.Post,
-  term-below t,
-  term.Post,
-) (term-at t) term.Post
+term-returns-2 : (t : ℕ) → term-lts.Need-returns-2 (term-beside t) (term-at t) term.Post
 term-returns-2 t c = next-bad _ _ _ (c .before .before .before .before .before .before .before .before .v .given .1) (c .before .before .before .before .before .before .before .before .before .before .part .ensures) (search needs) (c .before .before .before .before .if2 .taken) (c .before .p2 .given .1) (c .before .before .before .term .ensures)
 
-term-returns-3 : (t : ℕ) → term-lts.Need-returns-3 (
-  part-below t,
-  part.Post,
-  term-below t,
-  term.Post,
-) (term-at t) term.Post
+term-returns-3 : (t : ℕ) → term-lts.Need-returns-3 (term-beside t) (term-at t) term.Post
 term-returns-3 t c = next _ _ _ bitXor (λ F G. xor-word F G _) (c .before .before .before .before .before .before .before .before .v .given .1) (c .before .before .before .before .before .before .before .before .before .before .part .ensures) (search needs) (c .before .before .before .before .if2 .taken) (c .before .x .given .1) (c .before .before .before .term .ensures)
 
-term-returns-4 : (t : ℕ) → term-lts.Need-returns-4 (
-  part-below t,
-  part.Post,
-  term-below t,
-  term.Post,
-) (term-at t) term.Post
+term-returns-4 : (t : ℕ) → term-lts.Need-returns-4 (term-beside t) (term-at t) term.Post
 term-returns-4 t c = last _ _ _ (c .before .before .before .before .v .given .1) (c .before .before .before .before .before .before .part .ensures) (c .if2 .left)
 
-term-returns-5 : (t : ℕ) → term-lts.Need-returns-5 (
-  part-below t,
-  part.Post,
-  term-below t,
-  term.Post,
-) (term-at t) term.Post
+term-returns-5 : (t : ℕ) → term-lts.Need-returns-5 (term-beside t) (term-at t) term.Post
 term-returns-5 t c = last-end _ _ _ (c .before .before .v .given .1) (c .before .before .before .before .part .ensures) (c .if1 .left)
 
 pub +factor+part+sum+term-spec : {M : Type 1} → statement M
-+factor+part+sum+term-spec = close μ-factor μ-part μ-sum μ-term (λ t. factor-lts.spec (
-  factor-below t,
-  factor.Post,
-  sum-below t,
-  sum.Post,
-  input-word-reads.Asked,
-  input-word-reads.Learnt,
-)
-    (factor-at t)
++factor+part+sum+term-spec = close μ-factor μ-part μ-sum μ-term (λ t. factor-lts.spec (factor-beside t) (factor-at t)
     factor.Post
     (factor-returns t)
     (λ c. search needs)
@@ -356,26 +203,11 @@ pub +factor+part+sum+term-spec : {M : Type 1} → statement M
     (λ c. search needs)
     (factor-returns-6 t)
     (λ c. search needs)
-    (factor-returns-7 t)
-    (λ c. search needs)
-    (λ c. search needs)
-    (factor-returns-8 t)
-    (factor-returns-9 t)
-    (λ c. search needs)
-    (factor-returns-10 t)
-    (λ c. search needs)
-    (factor-returns-11 t)
-    (factor-returns-12 t)
-    (λ c. search needs)
-    (λ c. search needs)
-    (λ c. search needs)
     (λ c κs. search needs)
-    (λ c. search needs)
-    (factor-returns-13 t)
-    (factor-returns-14 t))
-    (λ t. part-lts.spec
-    (factor-below t, factor.Post, part-below t, part.Post)
-    (part-at t)
+    (factor-returns-7 t)
+    (λ c κs. search needs)
+    (factor-returns-8 t))
+    (λ t. part-lts.spec (part-beside t) (part-at t)
     part.Post
     (λ c κs. search needs)
     (λ c. search needs)
@@ -390,9 +222,7 @@ pub +factor+part+sum+term-spec : {M : Type 1} → statement M
     (part-returns-3 t)
     (part-returns-4 t)
     (part-returns-5 t))
-    (λ t. sum-lts.spec
-    (term-below t, term.Post, sum-below t, sum.Post)
-    (sum-at t)
+    (λ t. sum-lts.spec (sum-beside t) (sum-at t)
     sum.Post
     (λ c κs. search needs)
     (λ c. search needs)
@@ -407,9 +237,7 @@ pub +factor+part+sum+term-spec : {M : Type 1} → statement M
     (sum-returns-3 t)
     (sum-returns-4 t)
     (sum-returns-5 t))
-    λ t. term-lts.spec
-    (part-below t, part.Post, term-below t, term.Post)
-    (term-at t)
+    λ t. term-lts.spec (term-beside t) (term-at t)
     term.Post
     (λ c κs. search needs)
     (λ c. search needs)

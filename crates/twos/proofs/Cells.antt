@@ -49,9 +49,12 @@ module _ (n : ℕ) (F : ℕ → Bool) (A B : ℕ) (c : Candidate n 2 1 A B) (Q :
   code-is : (x : ℕ) → code x ≡ val (bit D (gather n sD x))
   unfolding tableD
   code-is x =
-      let small : code x < 2 = omega (arith, codeAt-gather n F (bit A) (bit B) x,
-      column-there n F (bit A) (bit B) (gather n (bit B) x) (gather n (bit A) x) (gather-lt n (bit A) x),
-      possible-few n F (bit A) (bit B) (c .apart) 1 Q (gather n (bit B) x)) in
+      let small : code x < 2 = omega (
+        arith,
+        codeAt-gather n F (bit A) (bit B) x,
+        column-there n F (bit A) (bit B) (gather n (bit B) x) (gather n (bit A) x) (gather-lt n (bit A) x),
+        possible-few n F (bit A) (bit B) (c .apart) 1 Q (gather n (bit B) x),
+      ) in
       let whole : code x ≡ code x / 2 ^ 0 % 2 = omega (arith, small) in
       whole ∙ sym (val-bit (code x) 0)
       ∙ ap val (sym (bit-number (2 ^ size n sD) (λ v. bit (codeAt n F (bit A) (bit B) v) 0) (gather n sD x) (gather-lt n sD x)))
@@ -119,8 +122,13 @@ module _ (s t : ℕ → Bool) (l : List ℕ) (x : ℕ) where
   picked zero h apart = omega arith
   picked (suc n) h apart =
       let a = getD l n 0 in
-      omega (arith, go (s n) (t n) (apart n (omega arith)), picked n (omega arith) (λ j g. apart j (omega arith)),
-      ap (times x) (take-suc l n 0 (omega arith)), times-snoc x (take n l) a)
+      omega (
+        arith,
+        go (s n) (t n) (apart n (omega arith)),
+        picked n (omega arith) (λ j g. apart j (omega arith)),
+        ap (times x) (take-suc l n 0 (omega arith)),
+        times-snoc x (take n l) a,
+      )
     where
       go : (p q : Bool) → (p ≡ true → q ≡ true → ⊥) → times x (cond p (pick n s l ++ (getD l n 0 ∷ [])) (pick n s l)) + times x (cond q (pick n t l ++ (getD l n 0 ∷ [])) (pick n t l))
           ≤ times x (pick n s l) + times x (pick n t l) + val (eqb x (getD l n 0))

@@ -23,7 +23,7 @@ use Rattle.chains.proofs.Lists.{AllBelow, pick-length, pick-below, inputs-lengt
 use Rattle.chains.proofs.Aside.{sheet-made, table-few, table-fits}
 use Rattle.chains.proofs.Read.{table-read}
 use Rattle.printing.specs.Printable.{AllPlain, Printable}
-use Rattle.pairs.proofs.Cells.{AllBoth, makes-both, ReadOnce, makes-once}
+use Rattle.twos.proofs.Cells.{AllBoth, makes-both, ReadOnce, makes-once}
 
 -- cells that fit records, read at most two signals, and depend on both of two, are plain
 all-plain : (e : Edition) (i : ℕ) (cs : List Cell) → FitsFrom e i cs → AtMost 2 cs → AllBoth cs → AllPlain cs

@@ -37,9 +37,9 @@ use Rattle.printing.proofs.Turns.{Each, each-signal}
 use Rattle.trees.specs.Tree as tree
 use Rattle.trees.specs.Tree.{Tree, uses, TreeOf}
 use Rattle.trees.proofs.Graft.{Computes, counted-read}
-use Rattle.pairs.specs.TreeOf.{flip, treeOf}
-use Rattle.pairs.proofs.Cells.{ReadOnce, times-snoc}
-use Rattle.pairs.proofs.Printed.{read-once, made-printable}
+use Rattle.twos.specs.TreeOf.{flip, treeOf}
+use Rattle.twos.proofs.Cells.{ReadOnce, times-snoc}
+use Rattle.twos.proofs.Printed.{read-once, made-printable}
 
 -- ---- a formula's tree
 
@@ -164,8 +164,9 @@ letters-read j n h (c ∷ cs) some w p =
     omega (
       arith,
       measured 2 cellFormula (λ F. uses j (treeOf F)) 0 (λ c v. cell-reads j (c .signals) (c .table) v) cs c n letter w (p .once)
-      (λ s g. ap val (ne-eqb s j (λ q. omega arith))),
-      all-reads j (c ∷ cs), ap (λ (x : ℕ). uses j (treeOf (inTurn cellFormula n (c ∷ cs) letter x))) q,
+          (λ s g. ap val (ne-eqb s j (λ q. omega arith))),
+      all-reads j (c ∷ cs),
+      ap (λ (x : ℕ). uses j (treeOf (inTurn cellFormula n (c ∷ cs) letter x))) q,
     )
 
 -- a constant reads nothing
