@@ -23,6 +23,7 @@ pub const NO_MATCH: u8 = 12;
 pub const NO_TIME: u8 = 13;
 pub const NO_SLACK: u8 = 14;
 pub const NO_READER: u8 = 15;
+pub const NO_TURN: u8 = 21;
 
 /// A refusal: its number and what it names (a record's index, an assignment), else 0.
 #[derive(Clone, Copy, Debug, PartialEq, Eq)]

@@ -2,6 +2,7 @@
 
 pub mod check;
 pub mod find;
+pub mod look_up;
 pub mod make;
 pub mod rebuild;
 pub mod run;
@@ -9,11 +10,12 @@ pub mod settle;
 pub mod shorter;
 pub mod slack;
 pub mod try_split;
+pub mod turn;
 
 use crate::case::Call;
 
 /// The calls that are answered today, by code.
-pub static TABLE: [&Call; 9] = [
+pub static TABLE: [&Call; 11] = [
     &try_split::CALL,
     &find::CALL,
     &make::CALL,
@@ -23,6 +25,8 @@ pub static TABLE: [&Call; 9] = [
     &settle::CALL,
     &slack::CALL,
     &shorter::CALL,
+    &turn::CALL,
+    &look_up::CALL,
 ];
 
 pub fn call_of(code: u8) -> Option<&'static Call> {
