@@ -2,3 +2,4 @@
 pub mod Ways
 pub mod Listing
 pub mod Book
+pub mod Turn

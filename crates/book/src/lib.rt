@@ -1,3 +1,4 @@
 // The book of three-input cells: which tables differ only by swapped inputs, flipped inputs or a flipped output.
 pub mod look_up;
-mod ways;
+pub mod turn;
+pub mod ways;

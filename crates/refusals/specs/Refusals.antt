@@ -1,6 +1,6 @@
 -- The table of refusals: each line under its number, with its words and what it names besides (nothing, where nothing
 -- is said). The code has the numbers in src/verdicts.rt. Number 17 is given by nobody yet; 13 and 14 stand with the
--- times (settling, Refusals).
+-- times (settling, Refusals), 21 with the book (book, Turn).
 use mathlib.Core.Bool.{Bool, true, false, not, _&&_, _||_}
 use mathlib.Core.List.{List, [], _∷_}
 use Prim.Native.Nat.{ℕ, _+_, _-_, _*_, _^_}

@@ -40,6 +40,8 @@ impl Refusal {
     pub const SLACK: u8 = 14;
     // a record but the last is read by no later record: its index
     pub const UNREAD: u8 = 15;
+    // no swap and flips turn one table into the other
+    pub const TURN: u8 = 21;
 }
 
 // What looking at a call's lines comes to.
