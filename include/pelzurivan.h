@@ -27,6 +27,7 @@
  *   14  the delay or a time of the n inputs isn't a whole number of sixteenths, or the deadline is outside
  *       -1,048,576 to 1,048,576
  *   15  some record but the last is read by no later record; index (or place) is the first such
+ *   21  no swapped inputs, flipped inputs or flipped output turn the first table into the second
  * After a refusal every other value is 0 (but for what 8 of a named split, 10, 12 and 15 name), and no result byte is
  * touched.
  */
@@ -55,6 +56,7 @@ typedef struct { uint8_t kind[16]; double first[16], second[16]; } pelzurivan_ti
 typedef struct { uint64_t number, index; double earliest, latest; } pelzurivan_settled;
 typedef struct { uint64_t number, index; int64_t slack; } pelzurivan_slack_answer;
 typedef struct { uint64_t which, length, number; } pelzurivan_shorter_answer;
+typedef struct { uint64_t number, flip, mask, p0, p1, p2; } pelzurivan_turned;
 
 /* Tries a named split: D in d, H in the first bytes of room, the bytes after its table stay. 1 to 6, 8: b is then the
  * least assignment of shared (its members in increasing position, lowest as bit 0) with more than two different
@@ -99,6 +101,14 @@ pelzurivan_slack_answer pelzurivan_slack(uint64_t n, const uint8_t *sheet, size_
 pelzurivan_shorter_answer pelzurivan_shorter(uint64_t n, const uint8_t *table, size_t table_length,
                                              const uint8_t *first, size_t first_length, const uint8_t *second,
                                              size_t second_length);
+
+/* Turns one three-input table into another. The second at x is the first at y, flipped if flip is 1, where bit j of y
+ * is bit pj of x, flipped if bit j of mask is set; it is the first such way by flip, then mask, then p0 p1 p2 read as
+ * one number. 21. */
+pelzurivan_turned pelzurivan_turn(uint8_t first, uint8_t second);
+
+/* Looks a three-input table up in the book: the least table that it can be turned into. */
+uint8_t pelzurivan_look_up(uint8_t table);
 
 #ifdef __cplusplus
 }

@@ -12,6 +12,8 @@ pub mod CheckSheet
 pub mod Shorter
 pub mod Settle
 pub mod Slack
+pub mod Turn
+pub mod Book
 pub mod Fewest
 pub mod Trees
 pub mod BenchProgram

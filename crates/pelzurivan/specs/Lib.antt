@@ -9,3 +9,4 @@ pub mod Shorter
 pub mod InputTimes
 pub mod Settle
 pub mod Slack
+pub mod Turn

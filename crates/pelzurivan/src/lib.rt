@@ -3,6 +3,7 @@
 pub mod check_sheet;
 pub mod find_best;
 pub mod input_times;
+pub mod look_up;
 pub mod make_sheet;
 pub mod rebuild_table;
 pub mod run_sheet;
@@ -10,3 +11,4 @@ pub mod settle;
 pub mod shorter;
 pub mod slack;
 pub mod try_split;
+pub mod turn;
