@@ -22,9 +22,10 @@ pub extern "C" fn pelzurivan_turn(first: u8, second: u8) -> TurnedC
     ensures { λ r. ⌜ r ≡ turnedC (turnOutcome first second) ⌝ }
 {
     let answer = turn(first, second);
+    let verdict = answer.verdict;
     let way = answer.way;
     TurnedC {
-        number: number_of(answer.verdict) as u64,
+        number: number_of(verdict) as u64,
         flip: way.flip as u64,
         mask: way.mask as u64,
         p0: way.p0 as u64,
