@@ -33,9 +33,8 @@ static void print_board(uint8_t board) {
     printf("\nBoard %02X: %d table%s\n", board, count, count == 1 ? "" : "s");
     for (int row = 0; row < ROWS; row++) {
         map_row(board, row);
-        fputs("   ", stdout);
         for (int i = row * A_ROW; i < count && (i < (row + 1) * A_ROW || row + 1 == ROWS); i++)
-            printf(" %02X", members[i]);
+            printf("%s%02X", i == row * A_ROW ? "    " : " ", members[i]);
         putchar('\n');
     }
 }
