@@ -12,17 +12,12 @@ pub struct Way {
 /// Every way: by output flip, then the mask of input flips, then p0 p1 p2 read as
 /// one number.
 pub fn ways() -> Vec<Way> {
+    let digits = (0..=222).map(|number| [number / 100, number / 10 % 10, number % 10]);
+    let orders: Vec<[u8; 3]> = digits.filter(|p| (0..3).all(|input| p.contains(&input))).collect();
     let mut list = Vec::new();
     for flip in [false, true] {
         for mask in 0..8 {
-            for number in 0..=222 {
-                let p = [number / 100, number / 10 % 10, number % 10];
-                let mut sorted = p;
-                sorted.sort_unstable();
-                if sorted == [0, 1, 2] {
-                    list.push(Way { flip, mask, p });
-                }
-            }
+            list.extend(orders.iter().map(|&p| Way { flip, mask, p }));
         }
     }
     list

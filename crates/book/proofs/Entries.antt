@@ -1,11 +1,11 @@
--- An entry is the least number reachable, and two tables have the same one exactly when one can be turned into the other. Assumes nothing.
-use mathlib.Core.Path.{_≡_, sym, ap, subst, _∙_}
+-- An entry is the least number reachable, and two tables have the same one exactly when one can be turned into the
+-- other. Assumes nothing.
+use mathlib.Core.Path.{_≡_, sym, subst, _∙_}
 use mathlib.Core.Logic.{_↔_}
-use mathlib.Core.Bool.{Bool, true}
+use mathlib.Core.Bool.{true}
 use Prim.Native.Nat.{ℕ, _<_, _≤_}
 use native.Mathlib.Decide.{decLt}
 use native.Mathlib.Omega.{arith}
-use lib.Dec.{ltb}
 use borrow.Author.Tests.{ltb-true, lt-ltb}
 use Rattle.bits.specs.Below.{least, IsLeast}
 use Rattle.bits.proofs.Bools.{clash}
@@ -17,7 +17,10 @@ use Rattle.book.proofs.Listed.{some-way, reachable-by}
 use Rattle.book.proofs.Group.{reach-same, reach-back, reach-on}
 
 pub reaches-exactly : (f g : ℕ) → (reaches f g ≡ true) ↔ Reachable f g
-reaches-exactly f g = (λ h. reachable-by f g (ltb-true (firstWay f g) wayCount h), λ r. lt-ltb (firstWay f g) wayCount (some-way f g r))
+reaches-exactly f g = (
+  λ h. reachable-by f g (ltb-true (firstWay f g) wayCount h),
+  λ r. lt-ltb (firstWay f g) wayCount (some-way f g r),
+)
 
 pub entry-least : (f : ℕ) → f < tableCount → LeastReachable f (entry f)
 unfolding entry
@@ -50,5 +53,6 @@ least-shared r u = record {
 pub same-entry : (f g : ℕ) → f < tableCount → g < tableCount → Reachable f g ↔ (entry f ≡ entry g)
 same-entry f g h k = (
   λ r. least-once (least-shared r (entry-least f h)) (entry-least g k),
-  λ e. reach-on (entry-least f h .reachable) (subst (λ (m : ℕ). Reachable m g) (sym e) (reach-back (entry-least g k .reachable))),
+  λ e. reach-on (entry-least f h .reachable)
+      (subst (λ (m : ℕ). Reachable m g) (sym e) (reach-back (entry-least g k .reachable))),
 )

@@ -1,6 +1,6 @@
 -- Ways compose and turn back, so that tables which can be turned into each other make classes. Assumes nothing.
 use mathlib.Core.Path.{_≡_, refl, sym, ap, ap₂, subst, _∙_}
-use mathlib.Core.Bool.{Bool, true, false, not, _&&_}
+use mathlib.Core.Bool.{Bool, true, false, _&&_}
 use Prim.Native.Nat.{ℕ, zero, suc, _<_}
 use native.Mathlib.Omega.{arith}
 use lib.Dec.{eqb}
@@ -32,14 +32,15 @@ moved-lt w x = number-lt 3 _
 
 -- ---- one way after another
 
-bothMask : Way → Way → ℕ
-bothMask w v = number 3 (λ j. flipped (bit (w .mask) j) (bit (v .mask) (place w j)))
+-- bit j of its mask
+abbrev bothFlip : Way → Way → ℕ → Bool
+bothFlip w v j = flipped (bit (w .mask) j) (bit (v .mask) (place w j))
 
 -- v after w
 pub both : Way → Way → Way
 both w v = record {
   flip = flipped (v .flip) (w .flip);
-  mask = bothMask w v;
+  mask = number 3 (bothFlip w v);
   p0 = place v (w .p0);
   p1 = place v (w .p1);
   p2 = place v (w .p2);
@@ -53,7 +54,7 @@ module _ (w v : Way) where
   both-place (suc (suc j)) = refl
 
   both-way : IsWay w → IsWay v → IsWay (both w v)
-  unfolding both bothMask
+  unfolding both
   both-way k l = record {
     mask = number-lt 3 _;
     within = λ j h. subst (λ (m : ℕ). m < 3) (sym (both-place j)) (l .within (place w j) (k .within j h));
@@ -62,15 +63,17 @@ module _ (w v : Way) where
   }
 
   both-moved : IsWay w → (x : ℕ) → moved (both w v) x ≡ moved w (moved v x)
-  unfolding moved bothMask both
+  unfolding moved both
   both-moved k x = number-ext 3 _ _ at
     where
       at : (j : ℕ) → j < 3
-          → flipped (bit (both w v .mask) j) (bit x (place (both w v) j)) ≡ flipped (bit (w .mask) j) (bit (moved v x) (place w j))
+          → flipped (bit (both w v .mask) j) (bit x (place (both w v) j))
+          ≡ flipped (bit (w .mask) j) (bit (moved v x) (place w j))
       at j h =
-          ap₂ (λ (s : Bool) (m : ℕ). flipped s (bit x m)) (bit-number 3 (λ j. flipped (bit (w .mask) j) (bit (v .mask) (place w j))) j h) (both-place j)
+          ap₂ (λ (s : Bool) (m : ℕ). flipped s (bit x m)) (bit-number 3 (bothFlip w v) j h) (both-place j)
           ∙ flipped-both (bit (w .mask) j) (bit (v .mask) (place w j)) (bit x (place v (place w j)))
-          ∙ ap (flipped (bit (w .mask) j)) (sym (bit-number 3 (λ j. flipped (bit (v .mask) j) (bit x (place v j))) (place w j) (k .within j h)))
+          ∙ ap (flipped (bit (w .mask) j))
+          (sym (bit-number 3 (λ j. flipped (bit (v .mask) j) (bit x (place v j))) (place w j) (k .within j h)))
 
   both-turns : IsWay w → (f g h : ℕ) → Turns w f g → Turns v g h → Turns (both w v) f h
   unfolding both
@@ -92,8 +95,11 @@ back w = record {
   p2 = backPlace w 2;
 }
 
+abbrev same : Way → Way → ℕ → Bool
+same v w x = eqb (moved w (moved v x)) x
+
 undoes : Way → Way → Bool
-undoes v w = isWay v && every 8 (λ x. eqb (moved w (moved v x)) x)
+undoes v w = isWay v && every 8 (same v w)
 
 all-back : every wayCount (λ i. undoes (back (wayAt i)) (wayAt i)) ≡ true
 unfolding undoes isWay back backPlace least wayAt moved number
@@ -114,7 +120,7 @@ module _ (w : Way) (k : IsWay w) where
   back-turns f g t x l =
       sym (flipped-back (w .flip) (bit f x))
       ∙ ap (λ (y : ℕ). flipped (w .flip) (flipped (w .flip) (bit f y)))
-      (sym (eqb-true _ x (every-at 8 (λ x. eqb (moved w (moved (back w) x)) x) (and-right (isWay (back w)) _ undone) x l)))
+      (sym (eqb-true _ x (every-at 8 (same (back w) w) (and-right (isWay (back w)) _ undone) x l)))
       ∙ ap (flipped (w .flip)) (sym (t (moved (back w) x) (moved-lt (back w) x)))
 
 -- ---- classes
@@ -132,7 +138,11 @@ reach-same f = record {
 }
 
 pub reach-back : {f g : ℕ} → Reachable f g → Reachable g f
-reach-back {f} {g} r = record { way = back (r .way); is = back-way (r .way) (r .is); turns = back-turns (r .way) (r .is) f g (r .turns) }
+reach-back {f} {g} r = record {
+  way = back (r .way);
+  is = back-way (r .way) (r .is);
+  turns = back-turns (r .way) (r .is) f g (r .turns);
+}
 
 pub reach-on : {f g h : ℕ} → Reachable f g → Reachable g h → Reachable f h
 reach-on {f} {g} {h} r s = record {

@@ -1,5 +1,6 @@
--- The printed book, and its rule: each entry is reachable and no smaller number is, by one test over the whole book. Assumes nothing.
-use mathlib.Core.Path.{_≡_, refl, sym, ap, ap₂, subst, _∙_}
+-- The printed book, and its rule: each entry is reachable and no smaller number is, by one test over the whole book.
+-- Assumes nothing.
+use mathlib.Core.Path.{_≡_, refl, sym, ap, subst, _∙_}
 use mathlib.Core.Bool.{Bool, true, _&&_}
 use mathlib.Core.List.{List, [], _∷_}
 use Prim.Native.Nat.{ℕ, _<_, _≤_}
@@ -63,22 +64,27 @@ rule = refl
 turned-is : (w : Way) (f g : ℕ) → g < tableCount → Turns w f g → turnedAt (listOf 8 (moved w)) (w .flip) f ≡ g
 unfolding turnedAt
 turned-is w f g l t =
-    number-ext 8 _ (bit g) (λ x b. ap (λ (y : ℕ). flipped (w .flip) (bit f y)) (list-at 8 (moved w) x 0 b) ∙ sym (t x b)) ∙ number-bit 8 g l
+    number-ext 8 _ (bit g) (λ x b. ap (λ (y : ℕ). flipped (w .flip) (bit f y)) (list-at 8 (moved w) x 0 b) ∙ sym (t x b))
+    ∙ number-bit 8 g l
 
 module _ (f : ℕ) (h : f < tableCount) where
   reached : Reachable f (getD book f 0)
-  reached = reaches-exactly f (getD book f 0) .0 (every-at tableCount (λ f. reaches f (getD book f 0)) (and-left allReached allLow rule) f h)
+  reached =
+      reaches-exactly f (getD book f 0) .0
+      (every-at tableCount (λ f. reaches f (getD book f 0)) (and-left allReached allLow rule) f h)
 
   low-at : (i : ℕ) → i < wayCount → getD book f 0 ≤ turnedAt (listOf 8 (moved (wayAt i))) (wayAt i .flip) f
   low-at i l =
-      leb-true _ _ (every-at tableCount (λ f. leb (getD book f 0) (turnedAt (listOf 8 (moved (wayAt i))) (wayAt i .flip) f))
-      (every-at wayCount (λ i. noneLower (listOf 8 (moved (wayAt i))) (wayAt i .flip)) (and-right allReached allLow rule) i l) f h)
+      let ys = listOf 8 (moved (wayAt i)) in
+      leb-true _ _ (every-at tableCount (λ f. leb (getD book f 0) (turnedAt ys (wayAt i .flip) f))
+      (every-at wayCount (λ i. noneLower (listOf 8 (moved (wayAt i))) (wayAt i .flip))
+      (and-right allReached allLow rule) i l) f h)
 
   none-lower : (g : ℕ) → g < tableCount → Reachable f g → getD book f 0 ≤ g
   none-lower g l r =
       let w = r .way in
-      subst (λ (m : ℕ). getD book f 0 ≤ m) (turned-is (wayAt (rank w)) f g l (subst (λ (v : Way). Turns v f g) (sym (listed w (r .is))) (r .turns)))
-      (low-at (rank w) (rank-lt w (r .is)))
+      let t = subst (λ (v : Way). Turns v f g) (sym (listed w (r .is))) (r .turns) in
+      subst (λ (m : ℕ). getD book f 0 ≤ m) (turned-is (wayAt (rank w)) f g l t) (low-at (rank w) (rank-lt w (r .is)))
 
   pub book-rule : LeastReachable f (getD book f 0)
   book-rule = record { table = omega (arith, none-lower f h (reach-same f)); reachable = reached; least = none-lower }

@@ -21,9 +21,13 @@ ordered flip mask o = record { flip = flip; mask = mask; p0 = o / 100; p1 = o / 
 unfoldable pub wayAt : ℕ → Way
 wayAt i = ordered (eqb (i / 48) 1) (i / 6 % 8) (getD orders (i % 6) 0)
 
+-- whether g at x is f at y, flipped if so said
+abbrev pub agrees : Way → ℕ → ℕ → ℕ → Bool
+agrees w f g x = Bool·beq (bit g x) (flipped (w .flip) (bit f (moved w x)))
+
 -- whether the way turns f into g
 unfoldable pub turns : Way → ℕ → ℕ → Bool
-turns w f g = every 8 (λ x. Bool·beq (bit g x) (flipped (w .flip) (bit f (moved w x))))
+turns w f g = every 8 (agrees w f g)
 
 -- the least i whose way does, and how many ways there are if none does
 unfoldable pub firstWay : ℕ → ℕ → ℕ

@@ -1,5 +1,5 @@
--- Turning one three-input table into another by swapped inputs, flipped inputs and a flipped output. A table is a number
--- below 256: its bit x is its value at the assignment x.
+-- Turning one three-input table into another by swapped inputs, flipped inputs and a flipped output. A table is a
+-- number below 256: its bit x is its value at the assignment x.
 use mathlib.Core.Path.{_≡_}
 use mathlib.Core.Logic.{_⊎_}
 use mathlib.Core.Bool.{Bool, true, false, not, _&&_, _||_}

@@ -32,10 +32,12 @@ module _ (f g : ℕ) where
   turn-lines = by-lines (turnLines f g) refl (turnOutcome f g .verdict) says
 
   -- refused: zeros
-  pub turn-refused : (r : Refusal) → turnOutcome f g .verdict ≡ Refused r → turnOutcome f g .way ≡ record { flip = false; mask = 0; p0 = 0; p1 = 0; p2 = 0 }
+  pub turn-refused : (r : Refusal) → turnOutcome f g .verdict ≡ Refused r
+      → turnOutcome f g .way ≡ record { flip = false; mask = 0; p0 = 0; p1 = 0; p2 = 0 }
   unfolding turnOutcome
   turn-refused r h =
-      ap (λ (a : TurnAnswer). a .way) (is-refused (λ (a : TurnAnswer). a .verdict) (turnDone f g) turnNot refl (λ q. refl) (verdict (turnLines f g)) r h)
+      let v = λ (a : TurnAnswer). a .verdict in
+      ap (λ a. a .way) (is-refused v (turnDone f g) turnNot refl (λ q. refl) (verdict (turnLines f g)) r h)
 
   -- nothing is named
   pub turn-names-nothing : placeOf (turnOutcome f g .verdict) ≡ 0
@@ -45,7 +47,8 @@ module _ (f g : ℕ) where
   pub turn-once : (a b : TurnAnswer) → a ≡ turnOutcome f g → b ≡ turnOutcome f g → a ≡ b
   turn-once a b p q = p ∙ sym q
 
-  by-test : {t : Bool} → reaches f g ≡ t → turnOutcome f g ≡ reply (verdict (line 21 (not t) ∷ [])) (turnDone f g) turnNot
+  by-test : {t : Bool} → reaches f g ≡ t
+      → turnOutcome f g ≡ reply (verdict (line 21 (not t) ∷ [])) (turnDone f g) turnNot
   unfolding turnOutcome
   by-test h = ap (λ (t : Bool). reply (verdict (line 21 (not t) ∷ [])) (turnDone f g) turnNot) h
 
@@ -57,7 +60,8 @@ module _ (f g : ℕ) where
   pub turn-exactly : (numberOf (turnOutcome f g .verdict) ≡ 21) ↔ (Reachable f g → ⊥)
   turn-exactly = (
     λ e r. let z : _≡_ {A = ℕ} 0 21 = sym (ap numberOf (turn-done r)) ∙ e in omega arith,
-    λ n. ap (λ (a : TurnAnswer). numberOf (a .verdict)) (by-test (false-of (reaches f g) (λ h. n (reaches-exactly f g .0 h)))),
+    λ n. ap (λ (a : TurnAnswer). numberOf (a .verdict))
+        (by-test (false-of (reaches f g) (λ h. n (reaches-exactly f g .0 h)))),
   )
 
   -- the way is the first of all that turn the first table into the second
@@ -65,7 +69,9 @@ module _ (f g : ℕ) where
   turn-first done = go (reaches f g) refl
     where
       go : (t : Bool) → reaches f g ≡ t → FirstWay f g (turnOutcome f g .way)
-      go true h = subst (λ (a : TurnAnswer). FirstWay f g (a .way)) (sym (by-test h)) (first-way f g (ltb-true (firstWay f g) wayCount h))
+      go true h =
+          subst (λ (a : TurnAnswer). FirstWay f g (a .way)) (sym (by-test h))
+          (first-way f g (ltb-true (firstWay f g) wayCount h))
       go false h = absurd (not-fine (refusal 21 0) (sym done ∙ ap (λ (a : TurnAnswer). a .verdict) (by-test h)))
 
   -- and there is one exactly when the book has the same entry for both

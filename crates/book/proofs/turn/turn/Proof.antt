@@ -1,6 +1,6 @@
 -- `turn` meets its contract: below the end of the listing there is a way, at its end there is none. Assumes nothing.
 use mathlib.Core.Path.{_≡_, sym, ap, _∙_}
-use mathlib.Core.Bool.{Bool, true, false, not}
+use mathlib.Core.Bool.{Bool, not}
 use mathlib.Core.List.{[], _∷_}
 use Prim.Native.Nat.{ℕ, _<_, _≤_}
 use native.Mathlib.Omega.{arith}
@@ -10,7 +10,6 @@ use Rattle.refusals.specs.declared.verdicts.Verdict.{Verdict}
 use Rattle.refusals.specs.declared.verdicts.Verdict.the-variants.{Fine, Refused}
 use Rattle.refusals.specs.Lines.{refusal, line, verdict, reply}
 use Rattle.book.specs.declared.ways.Way.{Way}
-use Rattle.book.specs.declared.turn.TurnAnswer.{TurnAnswer}
 use Rattle.book.specs.Ways.{wayCount}
 use Rattle.book.specs.Listing.{wayAt, firstWay}
 use Rattle.book.specs.Book.{reaches}
@@ -25,11 +24,15 @@ module _ (f g i : ℕ) (e : i ≡ firstWay f g) where
   by h = ap (λ (t : Bool). reply (verdict (line 21 (not t) ∷ [])) (turnDone f g) turnNot) (sym h)
 
   found : (w : Way) → i < wayCount → w ≡ wayAt i → record { verdict = Fine; way = w } ≡ turnOutcome f g
-  found w l q = ap (λ (v : Way). record { verdict = Fine; way = v }) (q ∙ ap wayAt e) ∙ by (lt-ltb (firstWay f g) wayCount (omega arith))
+  found w l q =
+      ap (λ (v : Way). record { verdict = Fine; way = v }) (q ∙ ap wayAt e)
+      ∙ by (lt-ltb (firstWay f g) wayCount (omega arith))
 
   none : (v : Verdict) → wayCount ≤ i → v ≡ Refused (refusal 21 0)
       → record { verdict = v; way = turnNot (refusal 21 0) .way } ≡ turnOutcome f g
-  none v l q = ap (λ (u : Verdict). record { verdict = u; way = turnNot (refusal 21 0) .way }) q ∙ by (le-ltb (firstWay f g) wayCount (omega arith))
+  none v l q =
+      ap (λ (u : Verdict). record { verdict = u; way = turnNot (refusal 21 0) .way }) q
+      ∙ by (le-ltb (firstWay f g) wayCount (omega arith))
 
 returns : tie.Need-returns
 returns c =

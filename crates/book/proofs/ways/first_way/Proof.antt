@@ -27,10 +27,12 @@ unfolding least
 loop-holds c = (omega arith, refl)
 
 does-turn-requires : tie.Need-does-turn-requires Inv-loop μ-loop
-does-turn-requires c κs = subst (λ (w : Way). IsWay w) (sym (c .way-at .ensures)) (way-at (c .before .before .loop .i) (omega arith))
+does-turn-requires c κs =
+    subst (λ (w : Way). IsWay w) (sym (c .way-at .ensures)) (way-at (c .before .before .loop .i) (omega arith))
 
 looked : (c : tie.After-does-turn Inv-loop μ-loop)
-    → let q = c .before .before .before in c .does-turn .result ≡ test (q .before .args .f) (q .before .args .g) (q .loop .i)
+    → let q = c .before .before .before in
+    let a = q .before .args in c .does-turn .result ≡ test (a .f) (a .g) (q .loop .i)
 looked c =
     let a = c .before .before .before .before .args in
     c .does-turn .ensures ∙ ap (λ (w : Way). turns w (a .f) (a .g)) (c .before .way-at .ensures)
@@ -40,13 +42,15 @@ unfolding firstWay
 returns c =
     let q = c .before .before .before .before in
     let a = q .before .args in
-    sym (least-stop (q .loop .i) wayCount (test (a .f) (a .g)) (q .loop .inv .1) (sym (looked (c .before)) ∙ c .if1 .taken) (omega arith))
+    sym (least-stop (q .loop .i) wayCount (test (a .f) (a .g)) (q .loop .inv .1)
+    (sym (looked (c .before)) ∙ c .if1 .taken) (omega arith))
 
 loop-again : tie.Need-loop-again Inv-loop μ-loop
 loop-again c =
     let q = c .before .before .before .before in
     let a = q .before .args in
-    (omega arith, least-more (q .loop .i) (test (a .f) (a .g)) (q .loop .inv .1) (sym (looked (c .before)) ∙ c .if1 .left))
+    let m = least-more (q .loop .i) (test (a .f) (a .g)) (q .loop .inv .1) in
+    (omega arith, m (sym (looked (c .before)) ∙ c .if1 .left))
 
 returns-2 : tie.Need-returns-2 Inv-loop μ-loop
 unfolding firstWay

@@ -13,10 +13,12 @@ use Rattle.book.proofs.ways.moved_to.Tie as tie
 abbrev bitOfY : Way → ℕ → ℕ → Bool
 bitOfY w x j = flipped (bit (w .mask) j) (bit x (place w j))
 
-digit-is : (w : Way) (x j : ℕ) {s : Bool} {d : ℕ} → s ≡ bit (w .mask) j → d ≡ val (flipped s (bit x (place w j))) → d ≡ val (bitOfY w x j)
+digit-is : (w : Way) (x j : ℕ) {s : Bool} {d : ℕ} → s ≡ bit (w .mask) j → d ≡ val (flipped s (bit x (place w j)))
+    → d ≡ val (bitOfY w x j)
 digit-is w x j e q = q ∙ ap (λ (s : Bool). val (flipped s (bit x (place w j)))) e
 
-summed : (w : Way) (x a b c : ℕ) → a ≡ val (bitOfY w x 0) → b ≡ val (bitOfY w x 1) → c ≡ val (bitOfY w x 2) → a + b * 2 + c * 4 ≡ moved w x
+summed : (w : Way) (x a b c : ℕ) → a ≡ val (bitOfY w x 0) → b ≡ val (bitOfY w x 1) → c ≡ val (bitOfY w x 2)
+    → a + b * 2 + c * 4 ≡ moved w x
 unfolding moved number
 summed w x a b c p q r = omega arith
 
@@ -31,7 +33,8 @@ returns c =
 
 pub moved-to-spec : {M : Type 1} → statement M
 moved-to-spec =
-    tie.close (tie.spec (λ c κs. search needs) (λ c κs. omega (arith, c .before .pre .within 0 (omega arith))) (λ c κs. search needs)
-    (λ c κs. omega (arith, c .before .before .before .pre .within 1 (omega arith))) (λ c κs. search needs)
-    (λ c κs. omega (arith, c .before .before .before .before .before .pre .within 2 (omega arith))) (λ c. search needs) (λ c. search needs)
-    (λ c. search needs) (λ c. search needs) returns)
+    tie.close (tie.spec (λ c κs. search needs) (λ c κs. omega (arith, c .before .pre .within 0 (omega arith)))
+    (λ c κs. search needs) (λ c κs. omega (arith, c .before .before .before .pre .within 1 (omega arith)))
+    (λ c κs. search needs)
+    (λ c κs. omega (arith, c .before .before .before .before .before .pre .within 2 (omega arith)))
+    (λ c. search needs) (λ c. search needs) (λ c. search needs) (λ c. search needs) returns)
