@@ -36,8 +36,8 @@ module _ (f g : ℕ) where
       → turnOutcome f g .way ≡ record { flip = false; mask = 0; p0 = 0; p1 = 0; p2 = 0 }
   unfolding turnOutcome
   turn-refused r h =
-      let v = λ (a : TurnAnswer). a .verdict in
-      ap (λ a. a .way) (is-refused v (turnDone f g) turnNot refl (λ q. refl) (verdict (turnLines f g)) r h)
+      ap (λ (a : TurnAnswer). a .way)
+      (is-refused (λ (a : TurnAnswer). a .verdict) (turnDone f g) turnNot refl (λ q. refl) (verdict (turnLines f g)) r h)
 
   -- nothing is named
   pub turn-names-nothing : placeOf (turnOutcome f g .verdict) ≡ 0
