@@ -16,7 +16,7 @@ pub mod timing;
 pub mod trees;
 pub mod two_sheets;
 pub mod unread;
-mod whole_book;
+pub mod whole_book;
 
 use crate::calls::TABLE;
 use crate::case::{Case, Field};
@@ -30,8 +30,8 @@ pub struct Fresh {
 
 /// So many fresh cases, the calls in turn; besides, a few large ones, splits that
 /// break at a known place, tables that ignore inputs in every place, every rule
-/// of the records broken, every bit of some sheets flipped, cells that nobody
-/// reads at every place, and the whole book.
+/// of the records broken, every bit of some sheets flipped, and cells that nobody
+/// reads at every place.
 pub fn cases(random: &mut Random, count: usize) -> Vec<Fresh> {
     let mut list: Vec<Fresh> = (0..count).map(|i| (TABLE[i % TABLE.len()].fresh)(random)).collect();
     list.extend(large::cases(random));
@@ -40,7 +40,6 @@ pub fn cases(random: &mut Random, count: usize) -> Vec<Fresh> {
     list.extend(every_rule::cases(random));
     list.extend(every_bit::cases(random));
     list.extend(unread::cases(random));
-    list.extend(whole_book::cases());
     for fresh in &mut list {
         fresh.tags.extend(size_tag(&fresh.case));
     }
