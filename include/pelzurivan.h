@@ -36,6 +36,7 @@
  *   18  the desk is closed: its mark isn't 1
  *   19  the desk is outside 1 to 4, or at a load the sheet, of 16 bytes or more, has another desk in its byte 7
  *   20  the card isn't 1,024 bytes
+ *   21  no swapped inputs, flipped inputs or flipped output turn the first table into the second
  * For cards the order is its own: 20, 19, 18, then 1, 9, 10, 15 and 11.
  * After a refusal every other value is 0 (but for what 8 of a named split, 10, 12, 15 and 16 name), and no result byte
  * is touched.
@@ -69,6 +70,7 @@ typedef struct { uint64_t number, index; double earliest, latest; } pelzurivan_s
 typedef struct { uint64_t number, index; int64_t slack; } pelzurivan_slack_answer;
 typedef struct { uint64_t which, length, number; } pelzurivan_shorter_answer;
 typedef struct { uint64_t number, index; } pelzurivan_loaded;
+typedef struct { uint64_t number, flip, mask, p0, p1, p2; } pelzurivan_turned;
 
 /* Tries a named split: D in d, H in the first bytes of room, the bytes after its table stay. 1 to 6, 8: b is then the
  * least assignment of shared (its members in increasing position, lowest as bit 0) with more than two different
@@ -148,6 +150,14 @@ pelzurivan_loaded pelzurivan_load_store(uint8_t *card, size_t card_length, uint6
 /* Runs a desk at the assignment x: the bit. Beyond the card's length only the desk's own bytes are looked at, and of
  * these neither unused places nor the 13 last. index is counted within the desk. 20, 19, 18, 1, 9, 10, 15, 11. */
 pelzurivan_ran pelzurivan_run_desk(const uint8_t *card, size_t card_length, uint64_t desk, uint64_t x);
+
+/* Turns one three-input table into another. The second at x is the first at y, flipped if flip is 1, where bit j of y
+ * is bit pj of x, flipped if bit j of mask is set; it is the first such way by flip, then mask, then p0 p1 p2 read as
+ * one number. 21. */
+pelzurivan_turned pelzurivan_turn(uint8_t first, uint8_t second);
+
+/* Looks a three-input table up in the book: the least table that it can be turned into. */
+uint8_t pelzurivan_look_up(uint8_t table);
 
 #ifdef __cplusplus
 }

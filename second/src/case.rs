@@ -3,6 +3,7 @@
 
 use crate::fresh::Fresh;
 use crate::random::Random;
+use crate::refusals::DONE;
 
 // The longest table (or room for one, or for H), work area, sheet (or room for
 // one), text and card that a case may name.
@@ -55,7 +56,12 @@ pub struct Call {
 }
 
 impl Call {
-    /// Where in the answer the call's number stands.
+    /// The number in an answer; one that has none is no refusal.
+    pub fn number_in(&self, answer: &[u8]) -> u8 {
+        answer.get(self.number_at()).copied().unwrap_or(DONE)
+    }
+
+    /// Where in the answer the call's number stands, behind its end if it has none.
     pub fn number_at(&self) -> usize {
         let widths = self.answers.iter().map_while(|part| match part {
             Part::Number(name, width) if *name != "number" => Some(*width),

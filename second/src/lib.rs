@@ -4,6 +4,7 @@
 //! speaks, the third what is needed to question another program.
 
 pub mod best;
+pub mod book;
 pub mod calls;
 pub mod card;
 pub mod cell;

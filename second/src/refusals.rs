@@ -27,6 +27,7 @@ pub const NO_TEXT: u8 = 16;
 pub const CLOSED: u8 = 18;
 pub const NO_DESK: u8 = 19;
 pub const NO_CARD: u8 = 20;
+pub const NO_TURN: u8 = 21;
 
 /// A refusal: its number and what it names (a record's index, an assignment, a
 /// place in a text), else 0.

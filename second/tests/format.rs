@@ -38,7 +38,7 @@ fn the_table_has_each_code_once_and_only_numbers_that_its_calls_give() {
             let case = (call.fresh)(&mut random).case;
             assert_eq!(case.call.code, call.code);
             if case_bytes(&case).len() < 200 {
-                let number = answer_bytes(&case, PRESET)[call.number_at()];
+                let number = call.number_in(&answer_bytes(&case, PRESET));
                 assert!(call.gives.contains(&number));
             }
         }

@@ -237,11 +237,34 @@ static void run_desk(void) {
     put(1, a.index);
 }
 
+static void turn(void) {
+    uint8_t first = (uint8_t)number(1), second = (uint8_t)number(1);
+    if (!whole()) return;
+    start();
+    pelzurivan_turned a = pelzurivan_turn(first, second);
+    stop();
+    put(1, a.number);
+    put(1, a.flip);
+    put(1, a.mask);
+    put(1, a.p0);
+    put(1, a.p1);
+    put(1, a.p2);
+}
+
+static void look_up(void) {
+    uint8_t table = (uint8_t)number(1);
+    if (!whole()) return;
+    start();
+    uint8_t entry = pelzurivan_look_up(table);
+    stop();
+    put(1, entry);
+}
+
 static const call CALLS[] = {
     {0x01, try_split},     {0x02, find},          {0x03, make},  {0x04, run},      {0x05, rebuild},
     {0x06, check},         {0x07, settle},        {0x08, slack}, {0x09, shorter},  {0x0A, read_formula},
     {0x0B, write_formula}, {0x0C, make_for_desk}, {0x0D, load},  {0x0E, run_desk}, {0x0F, load_cut},
-    {0x1C, load_store},
+    {0x19, turn},          {0x1A, look_up},       {0x1C, load_store},
 };
 
 const call *call_of(int code) {

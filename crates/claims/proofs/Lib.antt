@@ -19,6 +19,8 @@ pub mod Desks
 pub mod CardsLoad
 pub mod CardsRun
 pub mod Cards
+pub mod Turn
+pub mod Book
 pub mod Fewest
 pub mod Trees
 pub mod BenchProgram

@@ -12,3 +12,4 @@ pub mod Slack
 pub mod ReadFormula
 pub mod WriteFormula
 pub mod LoadDesk
+pub mod Turn

@@ -1,6 +1,7 @@
 -- The table of refusals: each line under its number, with its words and what it names besides (nothing, where nothing
 -- is said). The code has the numbers in src/verdicts.rt. 13 and 14 stand with the times (settling, Refusals), 16
--- with texts (formulas, Refusals; printing, Printable), 18 to 20 with the cards (cards, Refusals); 17 is free.
+-- with texts (formulas, Refusals; printing, Printable), 18 to 20 with the cards (cards, Refusals), 21 with the book
+-- (book, Turn); 17 is free.
 use mathlib.Core.Bool.{Bool, true, false, not, _&&_, _||_}
 use mathlib.Core.List.{List, [], _∷_}
 use Prim.Native.Nat.{ℕ, _+_, _-_, _*_, _^_}

@@ -50,6 +50,8 @@ impl Refusal {
     pub const OTHER_DESK: u8 = 19;
     // the card has a wrong length
     pub const CARD: u8 = 20;
+    // no swap and flips turn one table into the other
+    pub const TURN: u8 = 21;
 }
 
 // What looking at a call's lines comes to.

@@ -4,6 +4,7 @@ pub mod check;
 pub mod cut_load;
 pub mod find;
 pub mod load;
+pub mod look_up;
 pub mod make;
 pub mod make_for_desk;
 pub mod one_store;
@@ -15,6 +16,7 @@ pub mod settle;
 pub mod shorter;
 pub mod slack;
 pub mod try_split;
+pub mod turn;
 pub mod write_formula;
 
 use crate::case::Call;
@@ -38,6 +40,8 @@ pub static TABLE: &[&Call] = &[
     &run_desk::CALL,
     &cut_load::CALL,
     &one_store::CALL,
+    &turn::CALL,
+    &look_up::CALL,
 ];
 
 pub fn call_of(code: u8) -> Option<&'static Call> {

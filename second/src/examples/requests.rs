@@ -209,6 +209,28 @@ fn formulas() -> Vec<Example> {
     ]
 }
 
+/// AND is NOR with every input flipped, input 0 is input 1 with the two swapped,
+/// and XOR is its own opposite with any input flipped.
+fn the_book() -> Vec<Example> {
+    let found = |table: u8, entry: u8| example("E14", calls::look_up::case(table), vec![entry]);
+    let told = |first: u8, second: u8, answer: &str| {
+        example("E14", calls::turn::case(first, second), unhex(answer))
+    };
+    vec![
+        found(0x80, 0x01),
+        found(0x96, 0x69),
+        found(0xE8, 0x17),
+        told(0x80, 0x80, "00 00 00 00 01 02"),
+        told(0x80, 0x01, "00 00 07 00 01 02"),
+        told(0x80, 0x7F, "00 01 00 00 01 02"),
+        told(0xAA, 0xCC, "00 00 00 01 00 02"),
+        told(0x96, 0x69, "00 00 01 00 01 02"),
+        told(0x00, 0xFF, "00 01 00 00 01 02"),
+        told(0x80, 0x96, "15 00 00 00 00 00"),
+        told(0x80, 0xE8, "15 00 00 00 00 00"),
+    ]
+}
+
 pub fn all() -> Vec<Example> {
     let parts = [
         check_a_sheet(),
@@ -218,6 +240,7 @@ pub fn all() -> Vec<Example> {
         cells_that_nobody_reads(),
         the_shorter_of_two(),
         formulas(),
+        the_book(),
     ];
     parts.into_iter().flatten().collect()
 }

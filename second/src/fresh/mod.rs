@@ -20,6 +20,7 @@ pub mod timing;
 pub mod trees;
 pub mod two_sheets;
 pub mod unread;
+pub mod whole_book;
 
 use crate::calls::{call_of, TABLE};
 use crate::case::{Case, Field};

@@ -12,7 +12,7 @@ use crate::calls::TABLE;
 use crate::case::{Case, PRESET};
 use crate::describe::{answer_text, case_text};
 use crate::examples;
-use crate::fresh::{self, Fresh};
+use crate::fresh::{self, whole_book, Fresh};
 use crate::random::Random;
 
 /// So many fresh cases for each call, unless it is said otherwise.
@@ -75,13 +75,14 @@ pub fn compare(arguments: &Arguments) -> Result<(), String> {
     Ok(())
 }
 
-/// The document's examples and half of the fresh cases as lent bytes are preset
-/// anyway, the others with two other values: a stray write of a preset value
+/// The document's examples and half of the fresh cases and of the whole book as
+/// lent bytes are preset anyway, the others with two other values: a stray write of a preset value
 /// would not be seen in its own batch.
 fn batches(random: &mut Random, count: usize) -> Result<Vec<Batch>, String> {
     let start = Instant::now();
     let mut first = document_questions()?;
     let mut fresh = fresh::cases(random, count);
+    fresh.extend(whole_book::cases());
     random.shuffle(&mut fresh);
     let third = fresh.split_off(fresh.len() * 3 / 4);
     let second = fresh.split_off(fresh.len() * 2 / 3);

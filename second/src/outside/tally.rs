@@ -18,7 +18,7 @@ pub struct Tally {
 impl Tally {
     /// Counts a case that passed, with the answer both programs gave.
     pub fn count(&mut self, call: &Call, answer: &[u8], tags: &[String]) {
-        *self.numbers.entry((call.code, answer[call.number_at()])).or_default() += 1;
+        *self.numbers.entry((call.code, call.number_in(answer))).or_default() += 1;
         for tag in tags {
             *self.tags.entry(tag.clone()).or_default() += 1;
         }

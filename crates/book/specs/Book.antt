@@ -1,0 +1,36 @@
+-- The book: for each three-input table the least number reachable.
+use mathlib.Core.Bool.{Bool, false, cond, _||_}
+use mathlib.Core.List.{List, [], _∷_}
+use Prim.Native.Nat.{ℕ, suc, _<_, _≤_}
+use lib.Dec.{eqb, ltb}
+use Rattle.bits.specs.Below.{least}
+use Rattle.book.specs.Ways.{Reachable, wayCount}
+use Rattle.book.specs.Listing.{firstWay}
+
+-- a three-input table is a byte
+abbrev pub tableCount : ℕ
+tableCount = 256
+
+-- e is the least number reachable from f
+pub record LeastReachable (f e : ℕ) : Type 0 where
+  pub table : e < tableCount
+  pub reachable : Reachable f e
+  pub least : (g : ℕ) → g < tableCount → Reachable f g → e ≤ g
+
+-- whether some way turns f into g
+abbrev pub reaches : ℕ → ℕ → Bool
+reaches f g = ltb (firstWay f g) wayCount
+
+-- what the book says of f
+unfoldable pub entry : ℕ → ℕ
+entry f = least tableCount (reaches f)
+
+-- ---- how many different numbers a list has
+
+abbrev pub appears : ℕ → List ℕ → Bool
+appears x [] = false
+appears x (y ∷ l) = eqb x y || appears x l
+
+abbrev pub different : List ℕ → ℕ
+different [] = 0
+different (x ∷ l) = cond (appears x l) (different l) (suc (different l))
