@@ -9,10 +9,10 @@ use Rattle.bits.specs.Numbers.{bit}
 use Rattle.bits.specs.Sets.{size}
 use Rattle.tables.specs.Table.{tableBit}
 use Rattle.tables.specs.Counting.{support}
-use Rattle.best.specs.declared.counted.Counted.{Counted}
-use Rattle.best.specs.declared.counted.Counted.the-variants.{Few, Split, Nothing}
+use Rattle.quick.specs.declared.counted.Counted.{Counted}
+use Rattle.quick.specs.declared.counted.Counted.the-variants.{Few, Split, Nothing}
 use Rattle.best.specs.Search.{Answer, none, split}
 use Rattle.best.specs.Counting.{bestCounting}
 
 -- that at most K inputs count
 abbrev pub isFew : Counted → Bool

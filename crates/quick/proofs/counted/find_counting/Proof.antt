@@ -15,11 +15,11 @@ use Rattle.bits.proofs.Numbers.{number-lt}
 use Rattle.tables.specs.Table.{tableBit}
 use Rattle.tables.specs.Counting.{counts, support}
 use Rattle.tables.proofs.Bytes.{length-holds}
 use Rattle.best.specs.Search.{none}
 use Rattle.best.specs.Counting.{spreadAnswer, bestCounting}
 use Rattle.best.proofs.Counting.{counting-found}
-use Rattle.best.proofs.counted.find_counting.Statement.{statement}
-use Rattle.best.proofs.counted.find_counting.Tie as tie
+use Rattle.quick.proofs.counted.find_counting.Statement.{statement}
+use Rattle.quick.proofs.counted.find_counting.Tie as tie
 
 -- the mask, and how many inputs count
 module _ (c : tie.After-members) where

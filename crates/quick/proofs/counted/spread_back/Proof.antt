@@ -4,12 +4,12 @@ use native.Mathlib.Omega.{arith}
 use lib.Pow.{pow-mono}
 use borrow.Author.Needs.{needs}
 use Rattle.bits.specs.Numbers.{bit}
 use Rattle.best.specs.declared.Found.{Found}
 use Rattle.best.specs.Answers.{answerOf}
 use Rattle.best.specs.Search.{split}
 use Rattle.best.specs.Counting.{spreadAnswer}
-use Rattle.best.proofs.counted.spread_back.Statement.{statement}
-use Rattle.best.proofs.counted.spread_back.Tie as tie
+use Rattle.quick.proofs.counted.spread_back.Statement.{statement}
+use Rattle.quick.proofs.counted.spread_back.Tie as tie
 
 cast-t9 : tie.Need-cast-t9
 cast-t9 c = let g = c .before .before .before .before .before in omega (arith, c .before .spread-out .ensures .1, pow-mono {i = g .args .n} {j = 16} (g .pre))

@@ -1,6 +1,6 @@
 // The best split over the inputs that count.
-use crate::Found;
 use crate::search::find;
+use best::Found;
 use bits::sets::members;
 use bits::sets::spread_out;
 use tables::aside::set_aside;
@@ -13,9 +13,9 @@ ghost use Prim.Native.Nat.{_≤_};
 ghost use lib.ListN.{length};
 ghost use Rattle.bits.specs.Numbers.{bit};
 ghost use Rattle.tables.specs.Table.{mostInputs, tableLength};
 ghost use Rattle.best.specs.Answers.{answerOf};
 ghost use Rattle.best.specs.Counting.{spreadAnswer};
-ghost use Rattle.best.specs.Counted.{isFew, splitIn, FoundCounting};
+ghost use Rattle.quick.specs.Counted.{isFew, splitIn, FoundCounting};
 
 // What a search over the inputs that count finds: that at most k of them do; an own and a shared mask in the caller's
 // positions; or nothing.

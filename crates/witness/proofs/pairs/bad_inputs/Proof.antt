@@ -1,0 +1,35 @@
+-- Each input in the mask was ruled out. Assumes nothing.
+use Prim.Native.Nat.{_≤_}
+use Rattle.best.specs.Moves.{both}
+use Rattle.tables.specs.Table.{tableBit}
+use Rattle.witness.proofs.Keeping.{needs-none}
+use Rattle.witness.specs.Notes.{Needs}
+use borrow.Author.Needs.{needs}
+use native.Mathlib.Omega.{arith}
+use Rattle.witness.proofs.pairs.bad_inputs.Statement.{statement}
+use Rattle.witness.proofs.pairs.bad_inputs.Tie as tie
+
+abbrev Inv-loop : tie.InvT-loop
+Inv-loop t n last most i j places mask₀ c₀ mask c = (c ≤ n) × Needs n (tableBit t) (both i j) mask
+
+abbrev μ-loop : tie.MeasureT-loop
+μ-loop t n last most i j places mask₀ c₀ mask c = c
+
+loop-holds : tie.Need-loop-holds Inv-loop μ-loop
+loop-holds c = (omega arith, needs-none (both (c .before .before .before .args .i) (c .before .before .before .args .j)))
+
+with-bad-requires : tie.Need-with-bad-requires Inv-loop μ-loop
+with-bad-requires c κs = let s = c .before .before .before .before .before in ((s .pre .0, s .pre .1, s .pre .2, s .pre .3, omega (arith, s .pre .0 .most)), c .before .loop .inv .1)
+
+returns : tie.Need-returns Inv-loop μ-loop
+returns c = c .before .before .with-bad .ensures
+
+loop-again : tie.Need-loop-again Inv-loop μ-loop
+loop-again c = (omega arith, c .before .before .with-bad .ensures)
+
+returns-2 : tie.Need-returns-2 Inv-loop μ-loop
+returns-2 c = c .before .loop .inv .1
+
+pub bad-inputs-spec : {M : Type 1} → statement M
+bad-inputs-spec =
+    tie.close (tie.spec Inv-loop μ-loop (λ c κs. search needs) (λ c κs. search needs) loop-holds (λ c. search needs) with-bad-requires (λ c κs. search needs) returns (λ c. search needs) loop-again returns-2)
