@@ -64,10 +64,10 @@ module _ (n k : ℕ) (enough : k ≤ n) where
   none-size = size-ext n (bit 0) (λ j. false) (λ j l. bit-zero j) ∙ size-none n
 
   -- where the search tries it and answers, that is the best split
-  pub first-best : (F : ℕ → Bool) → 2 ≤ k → (q A B : ℕ) → tryB n 1 F q (2 ^ k - 1) 0 ≡ split A B → best n 1 F k ≡ split A B
-  first-best F two q A B e =
-      let h = tryB-split n 1 F q (2 ^ k - 1) 0 A B e in
-      best-answer n 1 F k (2 ^ k - 1) 0 (record {
+  pub first-best : (r : ℕ) (F : ℕ → Bool) → r < k → (q A B : ℕ) → tryB n r F q (2 ^ k - 1) 0 ≡ split A B → best n r F k ≡ split A B
+  first-best r F more q A B e =
+      let h = tryB-split n r F q (2 ^ k - 1) 0 A B e in
+      best-answer n r F k (2 ^ k - 1) 0 (record {
         candidate = record { belowA = first-lt; belowB = pow-pos n; apart = h .apart; more = omega (arith, first-size); most = omega (arith, first-size, none-size) };
         possible = h .possible;
         ahead = λ A′ B′ c P. record {
@@ -137,7 +137,7 @@ pair-size (suc n) i j l h = ⊎-elim (λ g. omega (arith, pair-size n i j l g)) 
             or-true true t e = refl
             or-true false t e = e
 
-module _ {n : ℕ} {F : ℕ → Bool} (k : ℕ) (l : List ℕ) (most : n ≤ 16) (w : BadPairs n F l) (dead : AllDead l n k 256) where
+module _ {n : ℕ} {F : ℕ → Bool} (k : ℕ) (l : List ℕ) (most : n ≤ 16) (w : BadPairs n F 2 l) (dead : AllDead l n k 256) where
   fails : (A B : ℕ) → Candidate n k 1 A B → fewColumns n F (bit A) (bit B) 2 ≡ false
   fails A B c = go (two-members n (bit A) (c .more))
     where
@@ -145,7 +145,7 @@ module _ {n : ℕ} {F : ℕ → Bool} (k : ℕ) (l : List ℕ) (most : n ≤ 16)
       go u = at (u .0) (u .1) (u .2) (u .3) (u .4) (u .5)
         where
           at : (i j : ℕ) → j < i → i < n → bit A i ≡ true → bit A j ≡ true → fewColumns n F (bit A) (bit B) 2 ≡ false
-          at i j p q hasI hasJ = lacks n F (both i j) A B (x .0) (needs (x .0) (d .part (x .0) (x .2))) own (x .3) (c .apart)
+          at i j p q hasI hasJ = lacks n 1 F (both i j) A B (x .0) (needs (x .0) (d .part (x .0) (x .2))) own (x .3) (c .apart)
             where
               m : ℕ
               m = i * 16 + j
@@ -160,8 +160,8 @@ module _ {n : ℕ} {F : ℕ → Bool} (k : ℕ) (l : List ℕ) (most : n ≤ 16)
               d = subst (λ (b : ℕ). Dead (getD l m 0) i b k) low (subst (λ (a : ℕ). Dead (getD l m 0) a (m % 16) k) high
                   (dead m (omega (arith, most)) (omega (arith, high, low)) (omega (arith, high))))
 
-              needs : Needs n F (both i j) (getD l m 0)
-              needs = subst (λ (b : ℕ). Needs n F (both i b) (getD l m 0)) low (subst (λ (a : ℕ). Needs n F (both a (m % 16)) (getD l m 0)) high (w .each m (omega (arith, most))))
+              needs : Needs n F 2 (both i j) (getD l m 0)
+              needs = subst (λ (b : ℕ). Needs n F 2 (both i b) (getD l m 0)) low (subst (λ (a : ℕ). Needs n F 2 (both a (m % 16)) (getD l m 0)) high (w .each m (omega (arith, most))))
 
               own : Inside (both i j) (bit A)
               own y e = pick (eqb y i) refl e

@@ -25,7 +25,7 @@ use Rattle.best.proofs.First.{first-nothing}
 use Rattle.best.proofs.Tries.{tryB-split, tryA-size, tryA-is}
 use Rattle.best.proofs.Ranges.{even, range-lt, upper-has}
 use Rattle.best.proofs.Walks.{Turn, maskOf}
-use Rattle.witness.proofs.Members.{rules-more}
+use Rattle.witness.proofs.Members.{bit-within, rules-more}
 use Rattle.witness.specs.Witness.{Inside, single, RulesOut}
 use Rattle.witness.specs.Notes.{Needs, BadPairs, Adds, Outside}
 
@@ -67,9 +67,6 @@ crowded n acc left S off inside h = pick (missing n (union acc left) S (omega (a
 pub wide-size : (n m : ℕ) → n ≤ 16 → m < 2 ^ n → size 16 (bit m) ≡ size n (bit m)
 wide-size n m h l = sym (ones-size 16 m (lt-of-lt-of-le l (pow-mono {i = n} {j = 16} h))) ∙ ones-size n m l
 
-bit-within : (m w j : ℕ) → m < 2 ^ w → bit m j ≡ true → j < w
-bit-within m w j h e = elim (decLt j w) [ yes l ↦ l | no l ↦ absurd (clash e (bit-high m w j h (omega arith))) ]
-
 -- `need & !acc`
 module _ (need acc : ℕ) (fits : acc < 65536) where
   pub left-bit : (j : ℕ) → j < 16 → bit (bitAnd need (65535 - acc)) j ≡ (bit need j && not (bit acc j))
@@ -95,66 +92,66 @@ module _ {n p acc : ℕ} (r : Range n p acc) (i : ℕ) (l : i < 2 ^ p) where
   range-has j e = elim (decLt j p) [ yes g ↦ absurd (clash e (r .low j g)) | no g ↦ range-stays j (omega arith) ∙ e ]
 
 -- ---- what is never answered
-module _ (n : ℕ) (F : ℕ → Bool) where
-  pub tryB-never : (q A B : ℕ) → (size n (bit B) ≡ q → Apart n (bit A) (bit B) → fewColumns n F (bit A) (bit B) 2 ≡ false) → tryB n 1 F q A B ≡ none
-  tryB-never q A B h = go (tryB n 1 F q A B) refl
+module _ (n r : ℕ) (F : ℕ → Bool) where
+  pub tryB-never : (q A B : ℕ) → (size n (bit B) ≡ q → Apart n (bit A) (bit B) → fewColumns n F (bit A) (bit B) (2 ^ r) ≡ false) → tryB n r F q A B ≡ none
+  tryB-never q A B h = go (tryB n r F q A B) refl
     where
-      go : (a : Answer) → tryB n 1 F q A B ≡ a → a ≡ none
+      go : (a : Answer) → tryB n r F q A B ≡ a → a ≡ none
       go none e = refl
       go (split A′ B′) e =
-          let w = tryB-split n 1 F q A B A′ B′ e in
-          absurd (clash (possible-iff n F (bit A) (bit B) (w .apart) 1 .1 (w .possible)) (h (w .sizeB) (w .apart)))
+          let w = tryB-split n r F q A B A′ B′ e in
+          absurd (clash (possible-iff n F (bit A) (bit B) (w .apart) r .1 (w .possible)) (h (w .sizeB) (w .apart)))
 
   -- an input that cannot be free, and is
-  pub lacks : (P : ℕ → Bool) (A B : ℕ) (c : ℕ) → RulesOut n F 2 P (single c) → Inside P (bit A) → union (bit A) (bit B) c ≡ false → Apart n (bit A) (bit B)
-      → fewColumns n F (bit A) (bit B) 2 ≡ false
+  pub lacks : (P : ℕ → Bool) (A B : ℕ) (c : ℕ) → RulesOut n F (2 ^ r) P (single c) → Inside P (bit A) → union (bit A) (bit B) c ≡ false → Apart n (bit A) (bit B)
+      → fewColumns n F (bit A) (bit B) (2 ^ r) ≡ false
   lacks P A B c w inside out apart = w .fails (bit A) (bit B) apart inside (λ j e. ap (λ (i : ℕ). rest (bit A) (bit B) i) (eqb-true j c e) ∙ ap not out)
 
   -- ---- shared masks
-  module _ (own need : ℕ) (w : Needs n F (bit own) need) (off : (c : ℕ) → bit need c ≡ true → bit own c ≡ false) {p acc : ℕ} (r : SharedRange n own p acc)
+  module _ (own need : ℕ) (w : Needs n F (2 ^ r) (bit own) need) (off : (c : ℕ) → bit need c ≡ true → bit own c ≡ false) {p acc : ℕ} (g : SharedRange n own p acc)
       (k : ℕ) where
     fits : acc < 65536
-    fits = lt-of-lt-of-le (r .range .below) (pow-mono {i = n} {j = 16} (r .range .most))
+    fits = lt-of-lt-of-le (g .range .below) (pow-mono {i = n} {j = 16} (g .range .most))
 
-    without : (q c m : ℕ) → bit need c ≡ true → bit m c ≡ false → tryB n 1 F q own m ≡ none
+    without : (q c m : ℕ) → bit need c ≡ true → bit m c ≡ false → tryB n r F q own m ≡ none
     without q c m e f = tryB-never q own m (λ s apart. lacks (bit own) own m c (w c e) (λ j h. h) (ap₂ _||_ (off c e) f) apart)
 
-    pub shared-crowded : k < size 16 (bit (bitAnd need (65535 - acc))) → inRange p acc (tryB n 1 F (size n (bit acc) + k) own) ≡ none
+    pub shared-crowded : k < size 16 (bit (bitAnd need (65535 - acc))) → inRange p acc (tryB n r F (size n (bit acc) + k) own) ≡ none
     shared-crowded h = first-nothing (2 ^ p) _ (λ i l. tryB-never (size n (bit acc) + k) own (acc + i) (λ s apart. at i l s apart))
       where
-        at : (i : ℕ) → i < 2 ^ p → size n (bit (acc + i)) ≡ size n (bit acc) + k → Apart n (bit own) (bit (acc + i)) → fewColumns n F (bit own) (bit (acc + i)) 2 ≡ false
+        at : (i : ℕ) → i < 2 ^ p → size n (bit (acc + i)) ≡ size n (bit acc) + k → Apart n (bit own) (bit (acc + i)) → fewColumns n F (bit own) (bit (acc + i)) (2 ^ r) ≡ false
         at i l s apart =
-            let x = crowded 16 (bit acc) (bit (bitAnd need (65535 - acc))) (bit (acc + i)) (λ j g e. left-off need acc fits j g e .1) (range-has (r .range) i l)
-            (omega (arith, wide-size n acc (r .range .most) (r .range .below), wide-size n (acc + i) (r .range .most) (range-lt (r .range) i l))) in
+            let x = crowded 16 (bit acc) (bit (bitAnd need (65535 - acc))) (bit (acc + i)) (λ j l e. left-off need acc fits j l e .1) (range-has (g .range) i l)
+            (omega (arith, wide-size n acc (g .range .most) (g .range .below), wide-size n (acc + i) (g .range .most) (range-lt (g .range) i l))) in
             let e = left-off need acc fits (x .0) (x .1) (x .2) in
             lacks (bit own) own (acc + i) (x .0) (w (x .0) (e .0)) (λ j h. h) (ap₂ _||_ (off (x .0) (e .0)) (x .3)) apart
 
-    pub shared-passed : need < 65536 → bit (bitAnd need (65535 - acc)) p ≡ true → inRange p acc (tryB n 1 F (size n (bit acc) + k) own) ≡ none
+    pub shared-passed : need < 65536 → bit (bitAnd need (65535 - acc)) p ≡ true → inRange p acc (tryB n r F (size n (bit acc) + k) own) ≡ none
     shared-passed small h =
-        let g : p < 16 = bit-within (bitAnd need (65535 - acc)) 16 p (lt-of-le-of-lt (and-le-l need (65535 - acc)) small) h in
-        let e = left-off need acc fits p g h in
-        first-nothing (2 ^ p) _ (λ i l. without (size n (bit acc) + k) p (acc + i) (e .0) (range-stays (r .range) i l p (omega arith) ∙ e .1))
+        let p-lt : p < 16 = bit-within (bitAnd need (65535 - acc)) 16 p (lt-of-le-of-lt (and-le-l need (65535 - acc)) small) h in
+        let e = left-off need acc fits p p-lt h in
+        first-nothing (2 ^ p) _ (λ i l. without (size n (bit acc) + k) p (acc + i) (e .0) (range-stays (g .range) i l p (omega arith) ∙ e .1))
 
   -- ---- own masks
-  module _ (need : ℕ) {p acc : ℕ} (w : Needs n F (bit acc) need) (r : Range n p acc) (q k : ℕ) where
+  module _ (need : ℕ) {p acc : ℕ} (w : Needs n F (2 ^ r) (bit acc) need) (g : Range n p acc) (q k : ℕ) where
     own-fits : acc < 65536
-    own-fits = lt-of-lt-of-le (r .below) (pow-mono {i = n} {j = 16} (r .most))
+    own-fits = lt-of-lt-of-le (g .below) (pow-mono {i = n} {j = 16} (g .most))
 
-    pub own-crowded : q + k < size 16 (bit (bitAnd need (65535 - acc))) → inRange p acc (tryA n 1 F (size n (bit acc) + k) q) ≡ none
+    pub own-crowded : q + k < size 16 (bit (bitAnd need (65535 - acc))) → inRange p acc (tryA n r F (size n (bit acc) + k) q) ≡ none
     own-crowded h = first-nothing (2 ^ p) _ (λ i l. tried i l (ℕ-discrete (size n (bit (acc + i))) (size n (bit acc) + k)))
       where
         pairs : (i : ℕ) → i < 2 ^ p → size n (bit (acc + i)) ≡ size n (bit acc) + k → (B : ℕ) → B < 2 ^ n → size n (bit B) ≡ q → Apart n (bit (acc + i)) (bit B)
-            → fewColumns n F (bit (acc + i)) (bit B) 2 ≡ false
+            → fewColumns n F (bit (acc + i)) (bit B) (2 ^ r) ≡ false
         pairs i l s B b t apart =
-            let x = crowded 16 (bit acc) (bit (bitAnd need (65535 - acc))) (union (bit (acc + i)) (bit B)) (λ j g e. left-off need acc own-fits j g e .1)
-            (λ j e. ap (λ (u : Bool). u || bit B j) (range-has r i l j e))
-            (omega (arith, wide-size n acc (r .most) (r .below), wide-size n (acc + i) (r .most) (range-lt r i l), wide-size n B (r .most) b, size-or 16 (bit (acc + i)) (bit B))) in
-            lacks (bit acc) (acc + i) B (x .0) (w (x .0) (left-off need acc own-fits (x .0) (x .1) (x .2) .0)) (range-has r i l) (x .3) apart
+            let x = crowded 16 (bit acc) (bit (bitAnd need (65535 - acc))) (union (bit (acc + i)) (bit B)) (λ j l e. left-off need acc own-fits j l e .1)
+            (λ j e. ap (λ (u : Bool). u || bit B j) (range-has g i l j e))
+            (omega (arith, wide-size n acc (g .most) (g .below), wide-size n (acc + i) (g .most) (range-lt g i l), wide-size n B (g .most) b, size-or 16 (bit (acc + i)) (bit B))) in
+            lacks (bit acc) (acc + i) B (x .0) (w (x .0) (left-off need acc own-fits (x .0) (x .1) (x .2) .0)) (range-has g i l) (x .3) apart
 
-        tried : (i : ℕ) → i < 2 ^ p → Dec (size n (bit (acc + i)) ≡ size n (bit acc) + k) → tryA n 1 F (size n (bit acc) + k) q (acc + i) ≡ none
+        tried : (i : ℕ) → i < 2 ^ p → Dec (size n (bit (acc + i)) ≡ size n (bit acc) + k) → tryA n r F (size n (bit acc) + k) q (acc + i) ≡ none
         tried i l (yes s) =
-            tryA-is n 1 F (size n (bit acc) + k) q (acc + i) s ∙ first-nothing (2 ^ n) _ (λ B b. tryB-never q (acc + i) B (λ t apart. pairs i l s B b t apart))
-        tried i l (no s) = tryA-size n 1 F (size n (bit acc) + k) q (acc + i) s
+            tryA-is n r F (size n (bit acc) + k) q (acc + i) s ∙ first-nothing (2 ^ n) _ (λ B b. tryB-never q (acc + i) B (λ t apart. pairs i l s B b t apart))
+        tried i l (no s) = tryA-size n r F (size n (bit acc) + k) q (acc + i) s
 
 pub left-lt : (need acc : ℕ) → need < 65536 → bitAnd need (65535 - acc) < 65536
 left-lt need acc h = lt-of-le-of-lt (and-le-l need (65535 - acc)) h
@@ -164,9 +161,9 @@ pub left-outside : (need acc : ℕ) → need < 65536 → acc < 65536 → Outside
 left-outside need acc h g c e = left-off need acc g c (bit-within (bitAnd need (65535 - acc)) 16 c (left-lt need acc h) e) e .1
 
 -- the needed inputs of a mask with one position more
-pub own-more : {n : ℕ} {F : ℕ → Bool} {p acc k : ℕ} (r : Range n p acc) (d : Turn n p acc k) (l : List ℕ) (need more : ℕ) → BadPairs n F l → Needs n F (bit acc) need
-    → Adds l acc (p - 1) need more → Needs n F (bit (acc + maskOf p)) more
-own-more {n} {F} {p} {acc} r d l need more w x a = a .needs n F (bit (acc + maskOf p)) w inside has (λ c e. rules-more (x c e) inside (λ y h. h))
+pub own-more : {n : ℕ} {F : ℕ → Bool} {m p acc k : ℕ} (r : Range n p acc) (d : Turn n p acc k) (l : List ℕ) (need more : ℕ) → BadPairs n F m l
+    → Needs n F m (bit acc) need → Adds l acc (p - 1) need more → Needs n F m (bit (acc + maskOf p)) more
+own-more {n} {F} {m} {p} {acc} r d l need more w x a = a .needs n m F (bit (acc + maskOf p)) w inside has (λ c e. rules-more (x c e) inside (λ y h. h))
   where
     inside : Inside (bit acc) (bit (acc + maskOf p))
     inside = range-has r (maskOf p) (subst (λ (m : ℕ). m < 2 ^ p) (sym (d .mask)) (pow-lt (omega (arith, d .down))))

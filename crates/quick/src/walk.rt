@@ -6,37 +6,36 @@ ghost use Rattle.bits.specs.Numbers.{bit};
 ghost use Rattle.bits.specs.Sets.{Apart, size};
 ghost use Rattle.tables.specs.Table.{mostInputs, tableBit};
 ghost use Rattle.splits.specs.Columns.{fewColumns};
-ghost use Rattle.best.specs.Search.{split, tryA, tryB, inRange, best};
+ghost use Rattle.best.specs.Search.{tryA, tryB, inRange};
 ghost use Rattle.best.specs.Answers.{answerOf};
 ghost use Rattle.best.specs.Walk.{Range, SharedRange};
 ghost use Rattle.witness.specs.Notes.{Wide, Learned, Needs, BadPairs, Outside};
+use best::Found;
+use best::walk::attempt;
+use bits::sets::members;
+use splits::split::Split;
 use witness::hint::NONE;
 use witness::hint::look;
 use witness::needed::needed;
 use witness::notes::keep;
 use witness::notes::meets;
 use witness::notes::ruled;
-use witness::pairs::last_word;
 use witness::shrink::own_of;
 use witness::shrink::shrink;
+use witness::six::Six;
 use witness::six::shows;
-use best::Found;
-use bits::sets::members;
-use splits::columns::few_columns;
-use splits::split::Split;
 
-// Looks for six bits that show too many columns, and keeps what they rule out; whether that is this pair of masks.
-fn learn(t: &[u8], n: u32, own: u16, shared: u16, free: u16, notes: &mut [u32]) -> bool
-    requires { ⌜ Wide n (now t) × Learned n (tableBit (now t)) (now notes) × Apart n (bit own) (bit shared) ⌝ }
+// Keeps what six bits rule out, made small; whether that is this pair of masks.
+fn learn(t: &[u8], n: u32, own: u16, shared: u16, found: Six, notes: &mut [u32]) -> bool
+    requires { ⌜ Wide n (now t) × Learned n (tableBit (now t)) 2 (now notes) × Apart n (bit own) (bit shared) ⌝ }
     ensures { λ r. ⌜ (r ≡ true → fewColumns n (tableBit (now (t .entry))) (bit own) (bit shared) 2 ≡ false) ⌝ }
-    ensures { λ r. ⌜ Learned n (tableBit (now (t .entry))) (now (notes .exit)) ⌝ }
+    ensures { λ r. ⌜ Learned n (tableBit (now (t .entry))) 2 (now (notes .exit)) ⌝ }
 {
-    let own = own as u32;
-    let shared = shared as u32;
-    let found = look(t, last_word(n), own, shared, free as u32);
     if found.d == NONE {
         return false;
     }
+    let own = own as u32;
+    let shared = shared as u32;
     let w = shrink(t, n, found);
     let p = own_of(w);
     if !shows(t, n, w, p) {
@@ -46,24 +45,21 @@ fn learn(t: &[u8], n: u32, own: u16, shared: u16, free: u16, notes: &mut [u32]) 
     meets(p, w.d, own, own | shared)
 }
 
-// The pair of masks, if it is possible. Six bits against it are looked for at the free positions of `eye` alone.
-fn attempt(t: &[u8], n: u32, own: u16, shared: u16, eye: u16, notes: &mut [u32]) -> Found
-    requires { ⌜ Wide n (now t) × Learned n (tableBit (now t)) (now notes) ⌝ }
+// The pair of masks, if it is possible: what is known is asked first, then what can be learned.
+fn try_pair(t: &[u8], n: u32, own: u16, shared: u16, notes: &mut [u32]) -> Found
+    requires { ⌜ Wide n (now t) × Learned n (tableBit (now t)) 2 (now notes) ⌝ }
     requires { ⌜ (own < 2 ^ n) × (shared < 2 ^ n) × Apart n (bit own) (bit shared) ⌝ }
     ensures { λ f. ⌜ answerOf f ≡ tryB n 1 (tableBit (now (t .entry))) (size n (bit shared)) own shared ⌝ }
-    ensures { λ f. ⌜ Learned n (tableBit (now (t .entry))) (now (notes .exit)) ⌝ }
+    ensures { λ f. ⌜ Learned n (tableBit (now (t .entry))) 2 (now (notes .exit)) ⌝ }
 {
     if ruled(notes, own as u32, (own as u32) | (shared as u32)) {
         return Found::Nothing;
     }
-    let s = Split::of(n, own, shared);
-    if learn(t, n, own, shared, s.free & eye, notes) {
+    let found = look(t, Split::of(n, own, shared));
+    if learn(t, n, own, shared, found, notes) {
         return Found::Nothing;
     }
-    if few_columns(t, s, 2) {
-        return Found::Split(own, shared);
-    }
-    Found::Nothing
+    attempt(t, n, 1, own, shared)
 }
 
 // Whether the mask has more positions than there is room for.
@@ -87,10 +83,10 @@ fn walk_shared(
     k: u32,
     notes: &mut [u32],
 ) -> Found
-    requires { ⌜ Wide n (now t) × Learned n (tableBit (now t)) (now notes) ⌝ }
-    requires { ⌜ SharedRange n own p acc × Needs n (tableBit (now t)) (bit own) need × Outside need own ⌝ }
+    requires { ⌜ Wide n (now t) × Learned n (tableBit (now t)) 2 (now notes) ⌝ }
+    requires { ⌜ SharedRange n own p acc × Needs n (tableBit (now t)) 2 (bit own) need × Outside need own ⌝ }
     ensures { λ f. ⌜ answerOf f ≡ inRange p acc (tryB n 1 (tableBit (now (t .entry))) (size n (bit acc) + k) own) ⌝ }
-    ensures { λ f. ⌜ Learned n (tableBit (now (t .entry))) (now (notes .exit)) ⌝ }
+    ensures { λ f. ⌜ Learned n (tableBit (now (t .entry))) 2 (now (notes .exit)) ⌝ }
 {
     if k > p {
         return Found::Nothing;
@@ -103,7 +99,7 @@ fn walk_shared(
         return Found::Nothing;
     }
     if k == 0 {
-        return attempt(t, n, own, acc, 0xFFFF, notes);
+        return try_pair(t, n, own, acc, notes);
     }
     let j = p - 1;
     let taken = acc + (1 << j);
@@ -130,10 +126,10 @@ pub fn walk_own<'a>(
     k: u32,
     notes: &mut [u32],
 ) -> Found
-    requires { ⌜ Wide n (now t) × Learned n (tableBit (now t)) (now notes) × BadPairs n (tableBit (now t)) (now pairs) ⌝ }
-    requires { ⌜ Range n p acc × Needs n (tableBit (now t)) (bit acc) need × (q ≤ mostInputs) ⌝ }
+    requires { ⌜ Wide n (now t) × Learned n (tableBit (now t)) 2 (now notes) × BadPairs n (tableBit (now t)) 2 (now pairs) ⌝ }
+    requires { ⌜ Range n p acc × Needs n (tableBit (now t)) 2 (bit acc) need × (q ≤ mostInputs) ⌝ }
     ensures { λ f. ⌜ answerOf f ≡ inRange p acc (tryA n 1 (tableBit (now (t .entry))) (size n (bit acc) + k) q) ⌝ }
-    ensures { λ f. ⌜ Learned n (tableBit (now (t .entry))) (now (notes .exit)) ⌝ }
+    ensures { λ f. ⌜ Learned n (tableBit (now (t .entry))) 2 (now (notes .exit)) ⌝ }
 {
     if k > p {
         return Found::Nothing;
@@ -154,20 +150,4 @@ pub fn walk_own<'a>(
     }
     let more = needed(pairs, acc, j, need);
     walk_own(t, n, pairs, q, more, j, taken, fewer, notes)
-}
-
-// The very first candidate: the least own mask of k inputs, and nothing shared. Where it is possible, it is the best split.
-pub fn first_try(t: &[u8], n: u32, k: u32, notes: &mut [u32]) -> Found
-    requires { ⌜ Wide n (now t) × Learned n (tableBit (now t)) (now notes) ⌝ }
-    ensures { λ f. ⌜ ((A B : ℕ) → answerOf f ≡ split A B → best n 1 (tableBit (now (t .entry))) k ≡ split A B) ⌝ }
-    ensures { λ f. ⌜ Learned n (tableBit (now (t .entry))) (now (notes .exit)) ⌝ }
-{
-    if k < 2 {
-        return Found::Nothing;
-    }
-    if n < k {
-        return Found::Nothing;
-    }
-    let all: u32 = 1 << k;
-    attempt(t, n, (all - 1) as u16, 0, 0x0FFF, notes)
 }

@@ -17,9 +17,9 @@ pub record Wide (n : ℕ) (t : List ℕ) : Type 0 where
   pub long : 2 ^ n ≤ 8 * length t
 
 -- 64 pairs of masks, place i own and place 64 + i free, each of which rules out
-pub record Learned (n : ℕ) (F : ℕ → Bool) (l : List ℕ) : Type 0 where
+pub record Learned (n : ℕ) (F : ℕ → Bool) (m : ℕ) (l : List ℕ) : Type 0 where
   pub long : length l ≡ 130
-  pub each : (i : ℕ) → i < 64 → RulesOut n F 2 (bit (getD l i 0)) (bit (getD l (64 + i) 0))
+  pub each : (i : ℕ) → i < 64 → RulesOut n F m (bit (getD l i 0)) (bit (getD l (64 + i) 0))
 
 -- the mask P is inside `own`, and Q has no position of `both`
 pub record Meets (P Q own both : ℕ) : Type 0 where
@@ -33,13 +33,13 @@ pub record Skips (l : List ℕ) (own both : ℕ) : Type 0 where
   pub meets : Meets (getD l at 0) (getD l (64 + at) 0) own both
 
 -- with P among the own inputs, no input of the mask can be free
-abbrev pub Needs : ℕ → (ℕ → Bool) → (ℕ → Bool) → ℕ → Type 0
-Needs n F P mask = (c : ℕ) → bit mask c ≡ true → RulesOut n F 2 P (single c)
+abbrev pub Needs : ℕ → (ℕ → Bool) → ℕ → (ℕ → Bool) → ℕ → Type 0
+Needs n F m P mask = (c : ℕ) → bit mask c ≡ true → RulesOut n F m P (single c)
 
 -- place 16 i + j: the inputs that cannot be free where i and j are own
-pub record BadPairs (n : ℕ) (F : ℕ → Bool) (l : List ℕ) : Type 0 where
+pub record BadPairs (n : ℕ) (F : ℕ → Bool) (m : ℕ) (l : List ℕ) : Type 0 where
   pub long : length l ≡ 256
-  pub each : (at : ℕ) → at < 256 → Needs n F (both (at / 16) (at % 16)) (getD l at 0)
+  pub each : (at : ℕ) → at < 256 → Needs n F m (both (at / 16) (at % 16)) (getD l at 0)
 
 -- no position of the mask is own
 abbrev pub Outside : ℕ → ℕ → Type 0
@@ -47,7 +47,8 @@ Outside mask own = (c : ℕ) → bit mask c ≡ true → bit own c ≡ false
 
 -- with j and the mask acc among the own inputs: where no input of `need` can be free, none of `more` can
 pub record Adds (l : List ℕ) (acc j need more : ℕ) : Type 0 where
-  pub needs : (n : ℕ) (F P : ℕ → Bool) → BadPairs n F l → Inside (bit acc) P → P j ≡ true → Needs n F P need → Needs n F P more
+  pub needs : (n m : ℕ) (F P : ℕ → Bool) → BadPairs n F m l → Inside (bit acc) P → P j ≡ true
+      → Needs n F m P need → Needs n F m P more
 
 -- more inputs than k - 2 beside i and j are in the mask
 pub record Dead (mask i j k : ℕ) : Type 0 where

@@ -12,7 +12,7 @@ use Rattle.quick.proofs.search.walk_all.Statement.{statement}
 use Rattle.quick.proofs.search.walk_all.Tie as tie
 
 abbrev Inv-loop : tie.InvT-loop
-Inv-loop t n pairs k notes₀ i₀ notes i = (first i (λ j. first (j + 1) (ofSizes n 1 (tableBit t) (k - j))) ≡ none) × (i ≤ k - 1) × Learned n (tableBit t) notes
+Inv-loop t n pairs k notes₀ i₀ notes i = (first i (λ j. first (j + 1) (ofSizes n 1 (tableBit t) (k - j))) ≡ none) × (i ≤ k - 1) × Learned n (tableBit t) 2 notes
 
 abbrev μ-loop : tie.MeasureT-loop
 μ-loop t n pairs k notes₀ i₀ notes i = k - 1 - i

@@ -15,7 +15,7 @@ use Rattle.quick.proofs.search.with_own.Statement.{statement}
 use Rattle.quick.proofs.search.with_own.Tie as tie
 
 abbrev Inv-loop : tie.InvT-loop
-Inv-loop t n pairs p most notes₀ q₀ notes q = (first q (ofSizes n 1 (tableBit t) p) ≡ none) × (q ≤ most + 1) × Learned n (tableBit t) notes
+Inv-loop t n pairs p most notes₀ q₀ notes q = (first q (ofSizes n 1 (tableBit t) p) ≡ none) × (q ≤ most + 1) × Learned n (tableBit t) 2 notes
 
 abbrev μ-loop : tie.MeasureT-loop
 μ-loop t n pairs p most notes₀ q₀ notes q = most + 1 - q

@@ -56,7 +56,7 @@ pub +walk-own-spec : {M : Type 1} → statement M
     (λ c. let s = c .before .before .before .before .before .before in
     let a = s .args in
     let h = s .pre .1 .1 in (
-      sym (own-crowded (a .n) (tableBit (a .t .now)) (a .need) (h .1) (h .0) (a .q) (a .k)
+      sym (own-crowded (a .n) 1 (tableBit (a .t .now)) (a .need) (h .1) (h .0) (a .q) (a .k)
           (c .before .too-many .ensures (c .if2 .taken))),
       s .pre .1 .0 .1,
     ))

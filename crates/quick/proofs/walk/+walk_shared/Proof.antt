@@ -15,7 +15,7 @@ use Rattle.quick.proofs.walk.walk_shared.Reads as walk-shared
 use Rattle.quick.proofs.walk.walk_shared.Kinds as walk-shared-kinds
 use Rattle.quick.proofs.walk.+walk_shared.Lts-walk_shared as walk-shared-lts
 use Rattle.quick.proofs.walk.too_many.Reads as too-many-reads
-use Rattle.quick.proofs.walk.attempt.Reads as attempt-reads
+use Rattle.quick.proofs.walk.try_pair.Reads as try-pair-reads
 use Rattle.quick.proofs.walk.+walk_shared.{statement}
 use Rattle.quick.proofs.walk.+walk_shared.Tie.{close}
 
@@ -32,8 +32,8 @@ pub +walk-shared-spec : {M : Type 1} → statement M
 +walk-shared-spec = close μ-walk-shared λ t. walk-shared-lts.spec (
   too-many-reads.Asked,
   too-many-reads.Learnt,
-  attempt-reads.Asked,
-  attempt-reads.Learnt,
+  try-pair-reads.Asked,
+  try-pair-reads.Learnt,
   walk-shared-below t,
   walk-shared.Post,
 )
@@ -49,7 +49,7 @@ pub +walk-shared-spec : {M : Type 1} → statement M
     (λ c. let s = c .before .before .before .before .before in
     let a = s .args in
     let h = s .pre .1 .1 in (
-      sym (shared-crowded (a .n) (tableBit (a .t .now)) (a .own) (a .need) (h .1) (h .2) (h .0) (a .k)
+      sym (shared-crowded (a .n) 1 (tableBit (a .t .now)) (a .own) (a .need) (h .1) (h .2) (h .0) (a .k)
           (c .before .too-many .ensures (c .if2 .taken))),
       s .pre .1 .0 .1,
     ))
@@ -59,7 +59,7 @@ pub +walk-shared-spec : {M : Type 1} → statement M
     (λ c. let s = c .before .before .before .before .before .before in
     let a = s .args in
     let h = s .pre .1 .1 in
-    (sym (shared-passed (a .n) (tableBit (a .t .now)) (a .own) (a .need) (h .1) (h .2) (h .0) (a .k) (omega arith) (bit-set _ (a .p) (c .if3 .taken))), s .pre .1 .0 .1))
+    (sym (shared-passed (a .n) 1 (tableBit (a .t .now)) (a .own) (a .need) (h .1) (h .2) (h .0) (a .k) (omega arith) (bit-set _ (a .p) (c .if3 .taken))), s .pre .1 .0 .1))
     -- k is 0: the mask is made
     (λ c κs. let s = c .before .before .before .before .before .before .before .before in
     let w = s .pre .1 .1 .0 in
@@ -68,7 +68,7 @@ pub +walk-shared-spec : {M : Type 1} → statement M
     (λ c. let s = c .before .before .before .before .before .before .before .before .before .before .before in
     let a = s .args in
     let w = s .pre .1 .1 .0 in
-    (c .before .before .attempt .ensures .0 ∙ sym (walk-leaf (sharedTries (a .n) 1 (tableBit (a .t .now)) (a .own)) (w .range) (a .k) (c .before .before .before .before .if4 .taken)), c .before .before .attempt .ensures .1))
+    (c .before .before .try-pair .ensures .0 ∙ sym (walk-leaf (sharedTries (a .n) 1 (tableBit (a .t .now)) (a .own)) (w .range) (a .k) (c .before .before .before .before .if4 .taken)), c .before .before .try-pair .ensures .1))
     -- the numbers of a turn fit
     (λ c. search needs)
     (λ c. search needs)

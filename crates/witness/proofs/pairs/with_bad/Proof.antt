@@ -1,4 +1,5 @@
 -- `witness::pairs::with_bad` meets its contract: what the triple rules out joins the mask. Assumes nothing.
+use native.Mathlib.Omega.{arith}
 use borrow.Author.Needs.{needs}
 use Rattle.bits.proofs.Machine.{shl-one}
 use Rattle.best.specs.Moves.{both}
@@ -10,7 +11,7 @@ returns-3 : tie.Need-returns-3
 returns-3 c =
     let s = c .before .before .before .before .before in
     let a = s .args in
-    needs-or (both (a .i) (a .j)) _ _ (s .pre .1) (needs-power (both (a .i) (a .j)) (a .c) _ (shl-one 16 (a .c) (s .pre .0 .4)) (c .before .bad .ensures (c .if3 .taken)))
+    needs-or (both (a .i) (a .j)) _ _ (s .pre .1) (needs-power (both (a .i) (a .j)) (a .c) _ (shl-one 16 (a .c) (omega (arith, s .pre .0 .0 .most, s .pre .0 .3))) (c .before .bad .ensures (c .if3 .taken)))
 
 pub with-bad-spec : {M : Type 1} → statement M
 with-bad-spec =
