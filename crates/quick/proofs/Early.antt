@@ -206,7 +206,7 @@ dead-code mask i j k p q hi hj ep eq many = record {
     first : (c : ℕ) → bit (bitAnd (bitAnd mask (65535 - p)) (65535 - q)) c ≡ true → bit (bitAnd mask (65535 - p)) c ≡ true
     first c e = and-left (bit (bitAnd mask (65535 - p)) c) (bit (65535 - q) c) (sym (bit-and (bitAnd mask (65535 - p)) (65535 - q) c) ∙ e)
 
--- with fewer than two inputs a first cell spares nothing
-pub best-small : (n : ℕ) (F : ℕ → Bool) (k : ℕ) → k < 2 → best n 1 F k ≡ none
+-- with no more inputs than outputs first cells spare nothing
+pub best-small : (n r : ℕ) (F : ℕ → Bool) (k : ℕ) → k ≤ r → best n r F k ≡ none
 unfolding best first
-best-small n F k h = let e : k - 1 ≡ 0 = omega arith in ap (λ (m : ℕ). first m (λ i. first (i + 1) (λ q. first (2 ^ n) (tryA n 1 F (k - i) q)))) e
+best-small n r F k h = let e : k - r ≡ 0 = omega arith in ap (λ (m : ℕ). first m (λ i. first (i + 1) (λ q. first (2 ^ n) (tryA n r F (k - i) q)))) e

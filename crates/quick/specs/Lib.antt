@@ -1,2 +1,3 @@
--- The quick search over the inputs that count.
+-- The quick search, alone and over the inputs that count.
+pub mod Known
 pub mod Counted

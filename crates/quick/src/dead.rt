@@ -18,7 +18,10 @@ fn dead(mask: u16, i: u32, j: u32, k: u32) -> bool
 // The same of a place of the table of pairs, and yes where it stands for no two inputs.
 fn dead_at(pairs: &[u16], n: u32, k: u32, at: usize) -> bool
     requires { ⌜ (length (now pairs) ≡ 256) × (at < 256) ⌝ }
-    ensures { λ r. ⌜ (r ≡ true → at % 16 < at / 16 → at / 16 < n → Dead (getD (now (pairs .entry)) at 0) (at / 16) (at % 16) k) ⌝ }
+    ensures { λ r. ⌜
+        (r ≡ true → at % 16 < at / 16 → at / 16 < n
+        → Dead (getD (now (pairs .entry)) at 0) (at / 16) (at % 16) k)
+        ⌝ }
 {
     let i = (at / 16) as u32;
     let j = (at % 16) as u32;

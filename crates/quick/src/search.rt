@@ -1,16 +1,17 @@
 // The best split: the largest own set first, then the smallest shared set, then the least masks.
 ghost use mathlib.Core.Path.{_≡_};
-ghost use Prim.Native.Nat.{ℕ, _+_, _*_, _^_, _≤_};
+ghost use Prim.Native.Nat.{ℕ, _+_, _*_, _^_, _<_, _≤_};
 ghost use lib.ListN.{length};
 ghost use Rattle.tables.specs.Table.{mostInputs, tableBit};
 ghost use Rattle.best.specs.Search.{split, first, ofSizes, best};
 ghost use Rattle.best.specs.Answers.{answerOf};
-ghost use Rattle.witness.specs.Notes.{Wide, Learned, BadPairs};
-use best::Found;
-use best::search::find_with;
-use best::walk::attempt;
+ghost use Rattle.best.specs.Walk.{mostFirst};
+ghost use Rattle.quick.specs.Known.{Known};
+ghost use Rattle.witness.specs.Notes.{Wide, BadPairs};
 use crate::dead::all_dead;
 use crate::walk::walk_own;
+use best::Found;
+use best::pair::attempt;
 use witness::notes::blank;
 use witness::pairs::fill;
 use witness::pairs::unknown;
@@ -19,18 +20,23 @@ use witness::pairs::unknown;
 fn with_own<'a>(
     t: &'a [u8],
     n: u32,
+    r: u32,
     pairs: &'a [u16],
     p: u32,
     most: u32,
     notes: &mut [u32],
 ) -> Found
-    requires { ⌜ Wide n (now t) × Learned n (tableBit (now t)) 2 (now notes) × BadPairs n (tableBit (now t)) 2 (now pairs) × (most ≤ mostInputs) ⌝ }
-    ensures { λ f. ⌜ answerOf f ≡ first (most + 1) (ofSizes n 1 (tableBit (now (t .entry))) p) ⌝ }
-    ensures { λ f. ⌜ Learned n (tableBit (now (t .entry))) 2 (now (notes .exit)) ⌝ }
+    requires { ⌜
+        Known n r (now t) (now notes) × BadPairs n (tableBit (now t)) (2 ^ r) (now pairs) × (most ≤ mostInputs)
+        ⌝ }
+    ensures { λ f. ⌜
+        (answerOf f ≡ first (most + 1) (ofSizes n r (tableBit (now (t .entry))) p))
+        × Known n r (now (t .entry)) (now (notes .exit))
+        ⌝ }
 {
     let mut q: u32 = 0;
     while q <= most {
-        let found = walk_own(t, n, pairs, q, 0, n, 0, p, notes);
+        let found = walk_own(t, n, r, pairs, q, 0, n, 0, p, notes);
         if let Found::Split(a, b) = found {
             return Found::Split(a, b);
         }
@@ -39,14 +45,16 @@ fn with_own<'a>(
     Found::Nothing
 }
 
-// The best split, the largest own sets first.
-fn walk_all<'a>(t: &'a [u8], n: u32, pairs: &'a [u16], k: u32, notes: &mut [u32]) -> Found
-    requires { ⌜ Wide n (now t) × Learned n (tableBit (now t)) 2 (now notes) × BadPairs n (tableBit (now t)) 2 (now pairs) × (k ≤ mostInputs) ⌝ }
-    ensures { λ f. ⌜ answerOf f ≡ best n 1 (tableBit (now (t .entry))) k ⌝ }
+// The best split with r first cells of k inputs, the largest own sets first, by what is known of pairs.
+fn walk_all<'a>(t: &'a [u8], n: u32, r: u32, pairs: &'a [u16], k: u32) -> Found
+    requires { ⌜ (n ≤ mostInputs) × (r ≤ mostFirst) × (2 ^ n ≤ 8 * length (now t)) × (k ≤ mostInputs) ⌝ }
+    requires { ⌜ BadPairs n (tableBit (now t)) (2 ^ r) (now pairs) ⌝ }
+    ensures { λ f. ⌜ answerOf f ≡ best n r (tableBit (now (t .entry))) k ⌝ }
 {
+    let mut notes = blank();
     let mut i: u32 = 0;
-    while i + 1 < k {
-        let found = with_own(t, n, pairs, k - i, i, notes);
+    while i + r < k {
+        let found = with_own(t, n, r, pairs, k - i, i, &mut notes);
         if let Found::Split(a, b) = found {
             return Found::Split(a, b);
         }
@@ -57,41 +65,51 @@ fn walk_all<'a>(t: &'a [u8], n: u32, pairs: &'a [u16], k: u32, notes: &mut [u32]
 
 // The very first candidate: the least own mask of k inputs, and nothing shared. Where it is possible, it is the best
 // split.
-fn first_try(t: &[u8], n: u32, k: u32) -> Found
-    requires { ⌜ Wide n (now t) ⌝ }
+fn first_try(t: &[u8], n: u32, r: u32, k: u32) -> Found
+    requires { ⌜ (n ≤ mostInputs) × (r ≤ mostFirst) × (2 ^ n ≤ 8 * length (now t)) × (r < k) ⌝ }
     ensures { λ f. ⌜
-        ((A B : ℕ) → answerOf f ≡ split A B → best n 1 (tableBit (now (t .entry))) k ≡ split A B)
+        ((A B : ℕ) → answerOf f ≡ split A B → best n r (tableBit (now (t .entry))) k ≡ split A B)
         ⌝ }
 {
-    if k < 2 {
-        return Found::Nothing;
-    }
     if n < k {
         return Found::Nothing;
     }
     let all: u32 = 1 << k;
-    attempt(t, n, 1, (all - 1) as u16, 0)
+    attempt(t, n, r, (all - 1) as u16, 0)
 }
 
-// The best split of a table of one word or more. What splits at once is answered before any table of pairs is filled.
-fn find_wide(t: &[u8], n: u32, k: u32) -> Found
-    requires { ⌜ Wide n (now t) × (k ≤ mostInputs) ⌝ }
+// The best split with one first cell of a table of one word or more, by what its triples say of pairs.
+fn by_pairs(t: &[u8], n: u32, k: u32) -> Found
+    requires { ⌜ Wide n (now t) × (2 ≤ k) × (k ≤ mostInputs) ⌝ }
     ensures { λ f. ⌜ answerOf f ≡ best n 1 (tableBit (now (t .entry))) k ⌝ }
 {
-    if k < 2 {
-        return Found::Nothing;
-    }
-    let early = first_try(t, n, k);
-    if let Found::Split(a, b) = early {
-        return Found::Split(a, b);
-    }
     let mut pairs = unknown();
     fill(t, n, k - 2, &mut pairs);
     if all_dead(&pairs, n, k) {
         return Found::Nothing;
     }
-    let mut notes = blank();
-    walk_all(t, n, &pairs, k, &mut notes)
+    walk_all(t, n, 1, &pairs, k)
+}
+
+// The best split with r first cells of k inputs. What splits at once is answered before any table of pairs is filled.
+pub fn find_with(t: &[u8], n: u32, r: u32, k: u32) -> Found
+    requires { ⌜ (n ≤ mostInputs) × (r ≤ mostFirst) × (2 ^ n ≤ 8 * length (now t)) × (k ≤ mostInputs) ⌝ }
+    ensures { λ f. ⌜ answerOf f ≡ best n r (tableBit (now (t .entry))) k ⌝ }
+{
+    if k <= r {
+        return Found::Nothing;
+    }
+    let early = first_try(t, n, r, k);
+    if let Found::Split(a, b) = early {
+        return Found::Split(a, b);
+    }
+    if n >= 6 {
+        if r == 1 {
+            return by_pairs(t, n, k);
+        }
+    }
+    let pairs = unknown();
+    walk_all(t, n, r, &pairs, k)
 }
 
 // The best split with one first cell.
@@ -99,8 +117,5 @@ pub fn find(t: &[u8], n: u32, k: u32) -> Found
     requires { ⌜ (n ≤ mostInputs) × (2 ^ n ≤ 8 * length (now t)) × (k ≤ mostInputs) ⌝ }
     ensures { λ f. ⌜ answerOf f ≡ best n 1 (tableBit (now (t .entry))) k ⌝ }
 {
-    if n < 6 {
-        return find_with(t, n, 1, k);
-    }
-    find_wide(t, n, k)
+    find_with(t, n, 1, k)
 }

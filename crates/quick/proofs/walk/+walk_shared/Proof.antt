@@ -20,7 +20,7 @@ use Rattle.quick.proofs.walk.+walk_shared.{statement}
 use Rattle.quick.proofs.walk.+walk_shared.Tie.{close}
 
 abbrev μ-walk-shared : Measures 2 walk-shared-kinds.ps ℕ
-μ-walk-shared κs a = a .1 .1 .1 .1 .0
+μ-walk-shared κs a = a .1 .1 .1 .1 .1 .0
 
 abbrev walk-shared-at : ℕ → In 2 walk-shared-kinds.ps
 walk-shared-at t = and 2 walk-shared-kinds.ps (is 2 walk-shared-kinds.ps μ-walk-shared t) walk-shared.Pre
@@ -43,15 +43,15 @@ pub +walk-shared-spec : {M : Type 1} → statement M
     (λ c. let s = c .before .before .before in
     let a = s .args in
     let w = s .pre .1 .1 .0 in
-    (sym (walk-big (sharedTries (a .n) 1 (tableBit (a .t .now)) (a .own)) (w .range) (a .k) (c .if1 .taken)), s .pre .1 .0 .1))
+    (sym (walk-big (sharedTries (a .n) (a .r) (tableBit (a .t .now)) (a .own)) (w .range) (a .k) (c .if1 .taken)), s .pre .1 .0))
     -- the needed positions do not fit
     (λ c κs. search needs)
     (λ c. let s = c .before .before .before .before .before in
     let a = s .args in
     let h = s .pre .1 .1 in (
-      sym (shared-crowded (a .n) 1 (tableBit (a .t .now)) (a .own) (a .need) (h .1) (h .2) (h .0) (a .k)
+      sym (shared-crowded (a .n) (a .r) (tableBit (a .t .now)) (a .own) (a .need) (h .1) (h .2) (h .0) (a .k)
           (c .before .too-many .ensures (c .if2 .taken))),
-      s .pre .1 .0 .1,
+      s .pre .1 .0,
     ))
     (λ c. let a = c .before .before .before .before .before .args in record { fits = omega (arith, left-lt (a .need) (a .acc) (omega arith)) })
     (λ c. search needs)
@@ -59,7 +59,7 @@ pub +walk-shared-spec : {M : Type 1} → statement M
     (λ c. let s = c .before .before .before .before .before .before in
     let a = s .args in
     let h = s .pre .1 .1 in
-    (sym (shared-passed (a .n) 1 (tableBit (a .t .now)) (a .own) (a .need) (h .1) (h .2) (h .0) (a .k) (omega arith) (bit-set _ (a .p) (c .if3 .taken))), s .pre .1 .0 .1))
+    (sym (shared-passed (a .n) (a .r) (tableBit (a .t .now)) (a .own) (a .need) (h .1) (h .2) (h .0) (a .k) (omega arith) (bit-set _ (a .p) (c .if3 .taken))), s .pre .1 .0))
     -- k is 0: the mask is made
     (λ c κs. let s = c .before .before .before .before .before .before .before .before in
     let w = s .pre .1 .1 .0 in
@@ -68,7 +68,7 @@ pub +walk-shared-spec : {M : Type 1} → statement M
     (λ c. let s = c .before .before .before .before .before .before .before .before .before .before .before in
     let a = s .args in
     let w = s .pre .1 .1 .0 in
-    (c .before .before .try-pair .ensures .0 ∙ sym (walk-leaf (sharedTries (a .n) 1 (tableBit (a .t .now)) (a .own)) (w .range) (a .k) (c .before .before .before .before .if4 .taken)), c .before .before .try-pair .ensures .1))
+    (c .before .before .try-pair .ensures .0 ∙ sym (walk-leaf (sharedTries (a .n) (a .r) (tableBit (a .t .now)) (a .own)) (w .range) (a .k) (c .before .before .before .before .if4 .taken)), c .before .before .try-pair .ensures .1))
     -- the numbers of a turn fit
     (λ c. search needs)
     (λ c. search needs)
@@ -91,7 +91,7 @@ pub +walk-shared-spec : {M : Type 1} → statement M
     let a = s .args in
     let w = s .pre .1 .1 .0 in
     let d = turn (a .k) (w .range) (omega (arith, c .before .before .before .before .before .before .before .before .before .before .before .if1 .left)) (c .before .before .before .before .before .before .before .if4 .left) in (
-      sym (walk-found (sharedTries (a .n) 1 (tableBit (a .t .now)) (a .own)) (w .range) (a .k) d _ _
+      sym (walk-found (sharedTries (a .n) (a .r) (tableBit (a .t .now)) (a .own)) (w .range) (a .k) d _ _
           (sym (c .before .before .before .before .before .walk-shared .ensures .0) ∙ ap answerOf (c .before .without .given .1))),
       c .before .before .before .before .before .walk-shared .ensures .1,
     ))
@@ -104,8 +104,8 @@ pub +walk-shared-spec : {M : Type 1} → statement M
     let a = s .args in
     let w = s .pre .1 .1 .0 in
     let d = turn (a .k) (w .range) (omega (arith, c .before .before .before .before .before .before .before .before .before .before .before .if1 .left)) (c .before .before .before .before .before .before .before .if4 .left) in (
-      sym (walk-without (sharedTries (a .n) 1 (tableBit (a .t .now)) (a .own)) (w .range) (a .k) d
-          (tryB-own (a .n) 1 (tableBit (a .t .now)) _ (a .own) (a .p - 1) (d .inside) (bit-set (a .own) (a .p - 1) (c .if5 .taken)))
+      sym (walk-without (sharedTries (a .n) (a .r) (tableBit (a .t .now)) (a .own)) (w .range) (a .k) d
+          (tryB-own (a .n) (a .r) (tableBit (a .t .now)) _ (a .own) (a .p - 1) (d .inside) (bit-set (a .own) (a .p - 1) (c .if5 .taken)))
           (sym (c .before .before .before .before .before .walk-shared .ensures .0) ∙ ap answerOf (c .before .enum-told .given .1))),
       c .before .before .before .before .before .walk-shared .ensures .1,
     ))
@@ -114,14 +114,14 @@ pub +walk-shared-spec : {M : Type 1} → statement M
     let a = s .args in
     let h = s .pre .1 .1 in
     let d = turn (a .k) (h .0 .range) (omega (arith, c .before .before .before .before .before .before .before .before .before .before .before .before .if1 .left)) (c .before .before .before .before .before .before .before .before .if4 .left) in
-    (omega (arith, s .pre .0, d .down), ((s .pre .1 .0 .0, c .before .before .before .before .before .before .walk-shared .ensures .1), (shared-taken (h .0) d (bit-clear (a .own) (a .p - 1) (c .before .if5 .left)), h .1, h .2))))
+    (omega (arith, s .pre .0, d .down), (c .before .before .before .before .before .before .walk-shared .ensures .1, (shared-taken (h .0) d (bit-clear (a .own) (a .p - 1) (c .before .if5 .left)), h .1, h .2))))
     (λ c. search needs)
     (λ c. let s = c .before .before .before .before .before .before .before .before .before .before .before .before .before .before .before .before .before .before in
     let a = s .args in
     let w = s .pre .1 .1 .0 in
     let d = turn (a .k) (w .range) (omega (arith, c .before .before .before .before .before .before .before .before .before .before .before .before .before .before .before .if1 .left)) (c .before .before .before .before .before .before .before .before .before .before .before .if4 .left) in (
       c .before .before .walk-shared2 .ensures .0
-          ∙ sym (walk-next (sharedTries (a .n) 1 (tableBit (a .t .now)) (a .own)) (w .range) (a .k) d
+          ∙ sym (walk-next (sharedTries (a .n) (a .r) (tableBit (a .t .now)) (a .own)) (w .range) (a .k) d
           (sym (c .before .before .before .before .before .before .before .before .before .walk-shared .ensures .0) ∙ ap answerOf (c .before .before .before .before .before .enum-told .given .1))),
       c .before .before .walk-shared2 .ensures .1,
     ))

@@ -5,10 +5,9 @@ use mathlib.Core.List.{List, [], _∷_}
 use Prim.Native.Nat.{ℕ}
 use native.Mathlib.Omega.{arith}
 use borrow.Author.Needs.{needs}
-<<<<<<< HEAD:crates/splitting/proofs/find_best/search/Proof.antt
-use Rattle.best.specs.declared.counted.Counted.{Counted}
+use Rattle.quick.specs.declared.counted.Counted.{Counted}
 use Rattle.best.specs.Search.{Answer}
-use Rattle.best.specs.Counted.{FoundCounting}
+use Rattle.quick.specs.Counted.{FoundCounting}
 use Rattle.chains.proofs.Halves.{half-holds}
 use Rattle.refusals.specs.declared.verdicts.Verdict.{Verdict}
 use Rattle.refusals.specs.declared.verdicts.Verdict.the-variants.{Fine}
@@ -17,19 +16,6 @@ use Rattle.refusals.specs.Refusals.{noneBest}
 use Rattle.splitting.specs.FindBest.{FindOutcome, bestFor, findDone, findNot}
 use Rattle.splitting.proofs.find_best.search.Statement.{statement}
 use Rattle.splitting.proofs.find_best.search.Tie as tie
-=======
-use Rattle.chains.proofs.Halves.{half-holds}
-use Rattle.quick.specs.declared.counted.Counted.{Counted}
-use Rattle.best.specs.Search.{Answer}
-use Rattle.quick.specs.Counted.{FoundCounting}
-use Rattle.bench.specs.declared.refusals.Verdict.{Verdict}
-use Rattle.bench.specs.declared.refusals.Verdict.the-variants.{Fine}
-use Rattle.bench.specs.Lines.{line, verdict, reply}
-use Rattle.bench.specs.Refusals.{noneBest}
-use Rattle.bench.specs.FindBest.{FindOutcome, bestFor, findDone, findNot}
-use Rattle.bench.proofs.find_best.search.Statement.{statement}
-use Rattle.bench.proofs.find_best.search.Tie as tie
->>>>>>> 542acb4 (The quick search: witnesses that rule out splits, and a walk that skips what they rule out):crates/bench/proofs/find_best/search/Proof.antt
 
 -- what is answered, as few inputs count or not, of a best split
 abbrev answered : List ℕ → Bool → Answer → FindOutcome

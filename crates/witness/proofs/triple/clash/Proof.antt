@@ -20,10 +20,10 @@ change-requires-5 c κs = let s = c .before .before .before .before .before in
 
 change-requires-6 : tie.Need-change-requires-6
 change-requires-6 c κs = let s = c .before .before .before .before .before .before in (
-      s .pre .0,
-      or-lt (s .args .n) (s .args .x) (s .args .d) (s .pre .1) (s .pre .2),
-      or-lt (s .args .n) (s .args .p) (s .args .q) (s .pre .3) (s .pre .4),
-    )
+  s .pre .0,
+  or-lt (s .args .n) (s .args .x) (s .args .d) (s .pre .1) (s .pre .2),
+  or-lt (s .args .n) (s .args .p) (s .args .q) (s .pre .3) (s .pre .4),
+)
 
 returns : tie.Need-returns
 returns c k w =
