@@ -29,9 +29,9 @@ use Rattle.best.specs.Search.{Answer, none, split, first, tryA, tryB, best}
 use Rattle.best.proofs.Tries.{tryB-split}
 use Rattle.best.proofs.Best.{best-split, best-answer}
 use Rattle.witness.specs.Witness.{Inside}
-use Rattle.witness.specs.Notes.{Needs, BadPairs, Dead, AllDead}
+use Rattle.known.specs.Notes.{Needs, BadPairs, Dead, AllDead}
 use Rattle.witness.proofs.Members.{power-bit}
-use Rattle.quick.proofs.Pruning.{crowded, wide-size, lacks}
+use Rattle.walks.proofs.Pruning.{crowded, wide-size, lacks}
 
 -- ---- the first candidate
 

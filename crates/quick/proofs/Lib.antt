@@ -1,3 +1,2 @@
--- What the quick search rests on: where a walk may stop, and the answers without a walk.
-pub mod Pruning
+-- The answers without a walk.
 pub mod Early

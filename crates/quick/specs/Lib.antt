@@ -1,3 +1,2 @@
--- The quick search, alone and over the inputs that count.
-pub mod Known
+-- The search over the inputs that count.
 pub mod Counted

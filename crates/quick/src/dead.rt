@@ -3,7 +3,7 @@ ghost use mathlib.Core.Path.{_≡_};
 ghost use mathlib.Core.Bool.{true};
 ghost use Prim.Native.Nat.{_/_, _%_, _<_};
 ghost use lib.ListN.{length, getD};
-ghost use Rattle.witness.specs.Notes.{Dead, AllDead};
+ghost use Rattle.known.specs.Notes.{Dead, AllDead};
 use bits::sets::members;
 
 // Whether more inputs than k - 2 beside i and j are in the mask.

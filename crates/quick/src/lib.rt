@@ -3,4 +3,3 @@
 pub mod counted;
 mod dead;
 pub mod search;
-mod walk;

@@ -6,15 +6,16 @@ ghost use Rattle.tables.specs.Table.{mostInputs, tableBit};
 ghost use Rattle.best.specs.Search.{split, first, ofSizes, best};
 ghost use Rattle.best.specs.Answers.{answerOf};
 ghost use Rattle.best.specs.Walk.{mostFirst};
-ghost use Rattle.quick.specs.Known.{Known};
-ghost use Rattle.witness.specs.Notes.{Wide, BadPairs};
+ghost use Rattle.walks.specs.Known.{Known};
+ghost use Rattle.witness.specs.Points.{Wide};
+ghost use Rattle.known.specs.Notes.{BadPairs};
 use crate::dead::all_dead;
-use crate::walk::walk_own;
 use best::Found;
 use best::pair::attempt;
-use witness::notes::blank;
-use witness::pairs::fill;
-use witness::pairs::unknown;
+use known::notes::blank;
+use known::pairs::fill;
+use known::pairs::unknown;
+use walks::walk::walk_own;
 
 // The first possible pair with p own and at most `most` shared inputs, the smallest shared sets first.
 fn with_own<'a>(

@@ -1,6 +1,5 @@
--- The law of witnesses, its instances by few bits and by words, and what is kept of them.
+-- The law of witnesses, and its instances by few bits and by words.
 pub mod Law
 pub mod Members
 pub mod Points
 pub mod Corners
-pub mod Keeping

@@ -1,7 +1,7 @@
 -- Every place passed is dead. Assumes nothing.
 use Prim.Native.Nat.{_-_, _≤_}
 use Rattle.witness.proofs.Points.{said-no, not-false}
-use Rattle.witness.specs.Notes.{AllDead}
+use Rattle.known.specs.Notes.{AllDead}
 use borrow.Author.Count.{below-more}
 use borrow.Author.Needs.{needs}
 use native.Mathlib.Nat.{not-suc-le-zero}

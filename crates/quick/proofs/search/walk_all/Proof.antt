@@ -7,7 +7,7 @@ use Rattle.tables.specs.Table.{tableBit}
 use Rattle.best.specs.Search.{first, ofSizes, best}
 use Rattle.best.specs.Answers.{answerOf}
 use Rattle.best.proofs.First.{NoneYet, yet-starts, yet-goes, yet-stops, yet-ends}
-use Rattle.quick.specs.Known.{Known}
+use Rattle.walks.specs.Known.{Known}
 use Rattle.quick.proofs.search.walk_all.Statement.{statement}
 use Rattle.quick.proofs.search.walk_all.Tie as tie
 

@@ -9,8 +9,8 @@ use Rattle.best.specs.Search.{tryA, ofSizes}
 use Rattle.best.specs.Answers.{answerOf}
 use Rattle.best.proofs.First.{NoneYet, yet-starts, yet-goes, yet-stops, yet-ends}
 use Rattle.best.proofs.Walks.{start, start-whole}
-use Rattle.witness.proofs.Keeping.{needs-none}
-use Rattle.quick.specs.Known.{Known}
+use Rattle.known.proofs.Keeping.{needs-none}
+use Rattle.walks.specs.Known.{Known}
 use Rattle.quick.proofs.search.with_own.Statement.{statement}
 use Rattle.quick.proofs.search.with_own.Tie as tie
 
