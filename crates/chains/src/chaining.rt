@@ -3,7 +3,7 @@ use crate::area::HALF;
 use crate::area::next_table;
 use crate::signals::Signals;
 use best::Found;
-use best::search::find;
+use quick::search::find;
 use sheets::kinds::HeldCell;
 use sheets::kinds::Sheet;
 use splits::pair::d_table;

@@ -1,7 +1,7 @@
 // Finding the best split.
-use best::counted::Counted;
-use best::counted::find_counting;
 use chains::area::WORK;
+use quick::counted::Counted;
+use quick::counted::find_counting;
 use refusals::form;
 use refusals::verdicts::Refusal;
 use refusals::verdicts::Verdict;

@@ -5,9 +5,9 @@ use mathlib.Core.List.{List, [], _∷_}
 use Prim.Native.Nat.{ℕ}
 use native.Mathlib.Omega.{arith}
 use borrow.Author.Needs.{needs}
-use Rattle.best.specs.declared.counted.Counted.{Counted}
+use Rattle.quick.specs.declared.counted.Counted.{Counted}
 use Rattle.best.specs.Search.{Answer}
-use Rattle.best.specs.Counted.{FoundCounting}
+use Rattle.quick.specs.Counted.{FoundCounting}
 use Rattle.chains.proofs.Halves.{half-holds}
 use Rattle.refusals.specs.declared.verdicts.Verdict.{Verdict}
 use Rattle.refusals.specs.declared.verdicts.Verdict.the-variants.{Fine}

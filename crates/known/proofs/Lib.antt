@@ -1,0 +1,2 @@
+-- What is kept in mind stays true.
+pub mod Keeping

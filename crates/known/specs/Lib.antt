@@ -1,0 +1,2 @@
+-- What is known of a table.
+pub mod Notes

@@ -1,0 +1,2 @@
+-- The answers without a walk.
+pub mod Early

@@ -1,0 +1,2 @@
+-- The search over the inputs that count.
+pub mod Counted

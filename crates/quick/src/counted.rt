@@ -1,0 +1,58 @@
+// The best split over the inputs that count.
+use crate::search::find;
+use best::Found;
+use bits::sets::members;
+use bits::sets::spread_out;
+use tables::aside::set_aside;
+use tables::clear;
+use tables::counting::support_of;
+use tables::length_for;
+ghost use mathlib.Core.Path.{_≡_};
+ghost use mathlib.Core.Bool.{false};
+ghost use Prim.Native.Nat.{_≤_};
+ghost use lib.ListN.{length};
+ghost use Rattle.bits.specs.Numbers.{bit};
+ghost use Rattle.tables.specs.Table.{mostInputs, tableLength};
+ghost use Rattle.best.specs.Answers.{answerOf};
+ghost use Rattle.best.specs.Counting.{spreadAnswer};
+ghost use Rattle.quick.specs.Counted.{isFew, splitIn, FoundCounting};
+
+// What a search over the inputs that count finds: that at most k of them do; an own and a shared mask in the caller's
+// positions; or nothing.
+pub enum Counted {
+    Few,
+    Split(u16, u16),
+    Nothing,
+}
+
+// Masks over the members of a mask, spread back to the members.
+fn spread_back(n: u32, mask: u16, found: Found) -> Counted
+    requires { ⌜ n ≤ mostInputs ⌝ }
+    ensures { λ r. ⌜ (isFew r ≡ false) × (splitIn r ≡ spreadAnswer n (bit mask) (answerOf found)) ⌝ }
+{
+    let Found::Split(own, shared) = found else {
+        return Counted::Nothing;
+    };
+    let a = spread_out(n, mask, own as u32);
+    let b = spread_out(n, mask, shared as u32);
+    Counted::Split(a as u16, b as u16)
+}
+
+// The best split with one first cell of k inputs over the inputs that count, in a work area, which is then cleared;
+// where at most k inputs count nothing is looked for, and the work area stays.
+pub fn find_counting(t: &[u8], n: u32, k: u32, work: &mut [u8]) -> Counted
+    requires { ⌜ (length (now t) ≡ tableLength n) × (n ≤ mostInputs) × (k ≤ mostInputs)
+        × (length (now t) ≤ length (now work)) ⌝ }
+    ensures { λ r. ⌜ FoundCounting n k (now (t .entry)) (now (work .entry)) r (now (work .exit)) ⌝ }
+{
+    let mask = support_of(t, n);
+    let m = members(mask);
+    if m <= k {
+        return Counted::Few;
+    }
+    set_aside(t, n, mask, work);
+    let len = length_for(m);
+    let found = find(&work[..len], m, k);
+    clear(work);
+    spread_back(n, mask, found)
+}

@@ -1,0 +1,5 @@
+// The best split of a gate's table, found without trying what a few bits rule out: alone, and over the inputs that
+// count.
+pub mod counted;
+mod dead;
+pub mod search;

@@ -1,0 +1,2 @@
+-- Where a walk may stop.
+pub mod Pruning

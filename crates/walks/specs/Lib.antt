@@ -1,0 +1,2 @@
+-- What a walk knows.
+pub mod Known
