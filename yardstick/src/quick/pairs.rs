@@ -1,19 +1,21 @@
 //! For each two inputs the ones that can't be free where the two are own: the smallest witnesses, by whole words.
 
-use super::witness::Witness;
+use super::columns::next;
 use crate::table::{bits_from, off};
 
 pub struct Pairs([u16; 256]);
 
 impl Pairs {
-    pub fn fill(t: &[u8], n: u32, most: u32) -> Pairs {
-        let mut masks = [0; 256];
+    pub fn unknown() -> Pairs {
+        Pairs([0; 256])
+    }
+
+    pub fn fill(&mut self, t: &[u8], n: u32, most: u32) {
         for i in 0..n {
             for j in 0..i {
-                masks[(16 * i + j) as usize] = bad_inputs(t, n, most, i, j);
+                self.0[(16 * i + j) as usize] = bad_inputs(t, n, most, i, j);
             }
         }
-        Pairs(masks)
     }
 
     /// Whether no two inputs can be own.
@@ -53,52 +55,29 @@ fn bad_inputs(t: &[u8], n: u32, most: u32, i: u32, j: u32) -> u16 {
     mask
 }
 
+/// Whether eight bits rule out every split with i and j own and c free, 64 places at a time.
 fn bad(t: &[u8], n: u32, places: u64, i: u32, j: u32, c: u32) -> bool {
     let (p, q, d) = (1 << i, 1 << j, 1 << c);
-    match seek(t, n, places & off(c), p, q, d) {
-        Some(w) => w.shows(t, n, p | q),
-        None => false,
-    }
-}
-
-fn seek(t: &[u8], n: u32, places: u64, p: u32, q: u32, d: u32) -> Option<Witness> {
+    let here = places & off(c);
     let high = ((1u32 << n) - 64) & !(p | q | d);
     let mut x = 0u32;
     loop {
-        if let Some(w) = corners(t, places, x, p, q, d) {
-            return Some(w);
+        if clash(t, x, d, p, q) & here != 0 {
+            return true;
         }
-        x = x.wrapping_sub(high) & high;
+        x = next(high, x);
         if x == 0 {
-            return None;
+            return false;
         }
     }
 }
 
-/// Three of the four corners that have three columns over d, at the first place of x's word where there are such.
-fn corners(t: &[u8], places: u64, x: u32, p: u32, q: u32, d: u32) -> Option<Witness> {
-    let y = x | d;
-    let a = bits_from(t, x);
-    let b = bits_from(t, y);
-    let ap = bits_from(t, x | p) ^ a;
-    let bp = bits_from(t, y | p) ^ b;
-    let aq = bits_from(t, x | q) ^ a;
-    let bq = bits_from(t, y | q) ^ b;
-    let ar = bits_from(t, x | p | q) ^ a;
-    let br = bits_from(t, y | p | q) ^ b;
-    let found = (ap | aq | ar) & (bp | bq | br) & ((ap ^ bp) | (aq ^ bq) | (ar ^ br)) & places;
-    if found == 0 {
-        return None;
-    }
-    let k = found.trailing_zeros();
-    let vp = (ap >> k & 1) | (bp >> k & 1) << 1;
-    let vq = (aq >> k & 1) | (bq >> k & 1) << 1;
-    Some(pick(x | k, p, q, d, vp, vq))
-}
-
-fn pick(x: u32, p: u32, q: u32, d: u32, vp: u64, vq: u64) -> Witness {
-    let (xp, xq, xr) = (x | p, x | q, x | p | q);
-    let y = if vp == 0 { xq } else { xp };
-    let z = if vp == 0 || vq == 0 || vp == vq { xr } else { xq };
-    Witness { x, y, z, d }
+/// Where, from x on, the four points with p, q, both and neither have three columns over d: some point changes without
+/// d, some with d, and some with one of the two alone.
+fn clash(t: &[u8], x: u32, d: u32, p: u32, q: u32) -> u64 {
+    let change = |from: u32, set: u32| bits_from(t, from | set) ^ bits_from(t, from);
+    let (y, r) = (x | d, p | q);
+    let (ap, aq, ar) = (change(x, p), change(x, q), change(x, r));
+    let (bp, bq, br) = (change(y, p), change(y, q), change(y, r));
+    (ap | aq | ar) & (bp | bq | br) & ((ap ^ bp) | (aq ^ bq) | (ar ^ br))
 }

@@ -1,6 +1,7 @@
 //! Witnesses: three points and an offset at which the table shows three columns, found by whole words and made small.
 
-use crate::table::{bit, bits_from, off};
+use super::columns::{next, Split};
+use crate::table::bit;
 
 #[derive(Clone, Copy)]
 pub struct Witness {
@@ -84,76 +85,48 @@ impl Witness {
     }
 }
 
-/// The columns of a split, by words.
-struct Columns<'a> {
-    t: &'a [u8],
-    own: u32,
-    free: u32,
-    places: u64,
-}
-
 /// Three columns of a split, if one of its shared assignments has so many.
-pub fn look(t: &[u8], own: u32, shared: u32, free: u32) -> Option<Witness> {
-    let places = (0..6).filter(|j| free >> j & 1 == 0).fold(u64::MAX, |m, j| m & off(j));
-    let columns = Columns { t, own, free, places };
+pub fn look(s: &Split) -> Option<Witness> {
     let mut b = 0u32;
     loop {
-        if let Some(w) = columns.third(b) {
+        if let Some(w) = third(s, b) {
             return Some(w);
         }
-        b = b.wrapping_sub(shared) & shared;
+        b = next(s.shared, b);
         if b == 0 {
             return None;
         }
     }
 }
 
-impl Columns<'_> {
-    /// The free part at which the columns from x and from y on differ.
-    fn differ(&self, x: u32, y: u32) -> Option<u32> {
-        let high = self.free & !63;
-        let mut h = 0u32;
-        loop {
-            let d = (bits_from(self.t, x | h) ^ bits_from(self.t, y | h)) & self.places;
-            if d != 0 {
-                return Some(h | d.trailing_zeros());
+/// The six bits that tell three columns apart, of which the first two differ at the free part c.
+fn told(s: &Split, x: u32, y: u32, z: u32, c: u32) -> Option<Witness> {
+    let apart = bit(s.t, x | c) != bit(s.t, z | c);
+    let e = if apart { s.differ(y, z) } else { s.differ(x, z) }?;
+    Some(Witness { x: x | c, y: y | c, z: z | c, d: c ^ e })
+}
+
+/// A third column of the shared assignment b.
+fn third(s: &Split, b: u32) -> Option<Witness> {
+    let mut y = b;
+    let mut at = None;
+    let mut a = 0u32;
+    loop {
+        let z = b | a;
+        match at {
+            None => {
+                y = z;
+                at = s.differ(b, z);
             }
-            h = h.wrapping_sub(high) & high;
-            if h == 0 {
-                return None;
+            Some(c) => {
+                if s.differ(y, z).is_some() && s.differ(b, z).is_some() {
+                    return told(s, b, y, z, c);
+                }
             }
         }
-    }
-
-    fn told(&self, x: u32, y: u32, z: u32, c: u32) -> Option<Witness> {
-        let first = bit(self.t, x | c);
-        let third = bit(self.t, z | c);
-        let e = if first != third { self.differ(y, z) } else { self.differ(x, z) }?;
-        Some(Witness { x: x | c, y: y | c, z: z | c, d: c ^ e })
-    }
-
-    /// A third column of the shared assignment b.
-    fn third(&self, b: u32) -> Option<Witness> {
-        let mut y = b;
-        let mut at = None;
-        let mut a = 0u32;
-        loop {
-            let z = b | a;
-            match at {
-                None => {
-                    y = z;
-                    at = self.differ(b, z);
-                }
-                Some(c) => {
-                    if self.differ(y, z).is_some() && self.differ(b, z).is_some() {
-                        return self.told(b, y, z, c);
-                    }
-                }
-            }
-            a = a.wrapping_sub(self.own) & self.own;
-            if a == 0 {
-                return None;
-            }
+        a = next(s.own, a);
+        if a == 0 {
+            return None;
         }
     }
 }
