@@ -34,6 +34,8 @@ enum Search {
 }
 
 impl Search {
+    /// Never inlined, so that each call of a round is made.
+    #[inline(never)]
     fn find(self, t: &[u8], n: u32, k: u32, work: &mut [u8]) -> Answer {
         match self {
             Search::Ours => library::find(t, n, k, work),
@@ -56,7 +58,7 @@ impl Search {
         for _ in 0..rounds {
             let began = Instant::now();
             for _ in 0..calls {
-                std::hint::black_box(self.find(std::hint::black_box(t), n, k, &mut work));
+                assert_eq!(self.find(t, n, k, &mut work), answer);
             }
             least = least.min(began.elapsed().as_nanos() as f64 / calls as f64);
         }

@@ -15,10 +15,10 @@ pub struct Walk<'a> {
 impl Walk<'_> {
     /// Looks for a witness and keeps what it rules out; whether that is this split.
     fn learn(&mut self, s: &Split) -> bool {
-        let Some(found) = look(s) else {
-            return false;
+        let w = match look(s) {
+            Some(found) => found.shrunk(self.t, self.n),
+            None => return false,
         };
-        let w = found.shrunk(self.t, self.n);
         let p = w.own();
         if !w.shows(self.t, self.n, p) {
             return false;
