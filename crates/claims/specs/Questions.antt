@@ -41,7 +41,7 @@ lentWork = replicate workLength 0xAA
 -- the number, D, where it broke and how many columns there are, the room
 abbrev pub sayTry : TryOutcome → List ℕ
 sayTry o =
-    numberOf (o .answer .verdict) ∷ o .answer .d ∷ placeOf (o .answer .verdict) ∷ o .answer .columns ∷ o .room
+    numberOf (o .answer .verdict) ∷ o .answer .d .first ∷ placeOf (o .answer .verdict) ∷ o .answer .columns ∷ o .room
 
 -- the number and the masks
 abbrev pub sayFind : FindOutcome → List ℕ
@@ -61,7 +61,7 @@ sayRebuild o = numberOf (o .verdict) ∷ placeOf (o .verdict) ∷ o .table
 
 -- what the definitions answer, in the first edition and for the bench's own desk
 abbrev pub answer : Question → List ℕ
-answer (trying n K A B t room) = sayTry (tryOutcome firstEdition n K A B t room)
+answer (trying n K A B t room) = sayTry (tryOutcome firstEdition n K 1 A B t room)
 answer (finding n K t) = sayFind (findOutcome firstEdition n K t lentWork)
 answer (making n K t) = sayMake (makeOutcome firstEdition 0 n K t lentSheet lentWork)
 answer (running n s x) = sayRun (runOutcome firstEdition 0 n s x)

@@ -17,7 +17,8 @@ ghost use Rattle.sheets.specs.Edition.{IsEdition};
 ghost use Rattle.refusals.specs.Lines.{verdict, InOrder};
 ghost use Rattle.refusals.specs.Refusals.{badInputs, badCell, badTable, gateLines, sheetLines, unreadRecord};
 
-fn outside(low: u64, x: u64, high: u64) -> bool
+// Whether a number is outside its limits.
+pub fn outside(low: u64, x: u64, high: u64) -> bool
     ensures { λ r. ⌜ r ≡ not (leb low x && leb x high) ⌝ }
 {
     if x < low {

@@ -18,20 +18,20 @@ use Rattle.splitting.proofs.try_split.bad_sets.Tie as tie
 returns : tie.Need-returns
 returns c =
     let a = c .before .args in
-    sym (high-own (a .n) (a .k) (a .own) (a .shared) (omega (arith, c .if1 .taken, shl-one 64 (a .n) (omega arith))))
+    sym (high-own (a .n) (a .k) (a .r) (a .own) (a .shared) (omega (arith, c .if1 .taken, shl-one 64 (a .n) (omega arith))))
 
 returns-2 : tie.Need-returns-2
 returns-2 c =
     let a = c .before .before .args in
     let p = shl-one 64 (a .n) (omega arith) in
-    sym (high-shared (a .n) (a .k) (a .own) (a .shared) (omega arith) (omega (arith, c .if2 .taken)))
+    sym (high-shared (a .n) (a .k) (a .r) (a .own) (a .shared) (omega arith) (omega (arith, c .if2 .taken)))
 
 returns-3 : tie.Need-returns-3
 returns-3 c =
     let a = c .before .before .before .args in
     let p = shl-one 64 (a .n) (omega arith) in
     let l : a .own < 2 ^ a .n = omega arith in
-    sym (overlap (a .n) (a .k) (a .own) (a .shared) l (omega arith) (disjoint-and (a .n) (a .own) (a .shared) l ∙ ne-eqb _ 0 (c .if3 .taken)))
+    sym (overlap (a .n) (a .k) (a .r) (a .own) (a .shared) l (omega arith) (disjoint-and (a .n) (a .own) (a .shared) l ∙ ne-eqb _ 0 (c .if3 .taken)))
 
 cast-members : tie.Need-cast-members
 cast-members c =
@@ -44,7 +44,7 @@ returns-4 c =
     let a = o .before .before .before .args in
     let p = shl-one 64 (a .n) (omega arith) in
     let l : a .own < 2 ^ a .n = omega arith in
-    sym (few-own (a .n) (a .k) (a .own) (a .shared) l (omega arith) (disjoint-and (a .n) (a .own) (a .shared) l ∙ eq-eqb _ 0 (o .if3 .left))
+    sym (few-own (a .n) (a .k) (a .r) (a .own) (a .shared) l (omega arith) (disjoint-and (a .n) (a .own) (a .shared) l ∙ eq-eqb _ 0 (o .if3 .left))
     (omega (arith, c .before .members .ensures (a .n) l)))
 
 cast-members-2 : tie.Need-cast-members-2
@@ -75,7 +75,7 @@ returns-5 c =
     let l : a .own < 2 ^ a .n = omega arith in
     let h : a .shared < 2 ^ a .n = omega arith in
     ap₂ (λ (i j : ℕ). ltb (a .k) (i + j)) (m .ensures (a .n) l) (c .members2 .ensures (a .n) h)
-    ∙ sym (by-sizes (a .n) (a .k) (a .own) (a .shared) l h (disjoint-and (a .n) (a .own) (a .shared) l ∙ eq-eqb _ 0 (o .if3 .left))
+    ∙ sym (by-sizes (a .n) (a .k) (a .r) (a .own) (a .shared) l h (disjoint-and (a .n) (a .own) (a .shared) l ∙ eq-eqb _ 0 (o .if3 .left))
     (omega (arith, m .ensures (a .n) l, c .before .if4 .left)))
 
 pub bad-sets-spec : {M : Type 1} → statement M

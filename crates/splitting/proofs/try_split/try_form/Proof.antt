@@ -20,8 +20,8 @@ use Rattle.splitting.proofs.try_split.try_form.Statement.{statement}
 use Rattle.splitting.proofs.try_split.try_form.Tie as tie
 
 -- the lines behind those of the gate
-abbrev rest : ℕ → ℕ → ℕ → ℕ → List ℕ → List ℕ → List Line
-rest n K A B t room = badSets n K A B ∷ shortRoom n A B t room ∷ []
+abbrev rest : ℕ → ℕ → ℕ → ℕ → ℕ → List ℕ → List ℕ → List Line
+rest n K r A B t room = badSets n K r A B ∷ shortRoom n r A B t room ∷ []
 
 looked : (e : Edition) (n K : ℕ) (t : List ℕ) (v : Verdict) → v ≡ verdict (gateLines e n K t) → v ≡ Fine → Sound e n K t
 looked e n K t v p q = sound e n K t (in-order (gateLines e n K t) (sym p ∙ q))
@@ -30,7 +30,7 @@ returns : tie.Need-returns
 returns c =
     let g = c .before .before in
     let a = g .before .before .before .args in
-    stopped (gateLines (a .e) (a .n) (a .k) (a .t .now)) (rest (a .n) (a .k) (a .own) (a .shared) (a .t .now) (a .room .now)) _ (g .gate .ensures)
+    stopped (gateLines (a .e) (a .n) (a .k) (a .t .now)) (rest (a .n) (a .k) (a .r) (a .own) (a .shared) (a .t .now) (a .room .now)) _ (g .gate .ensures)
     (c .enum-told2 .given .0 .0) (c .enum-told2 .given .1)
 
 bad-sets-requires : tie.Need-bad-sets-requires
@@ -56,7 +56,7 @@ returns-2 c =
     let g = f .before .before in
     let a = g .before .before .before .args in
     c .refuse .ensures
-    ∙ decided (gateLines (a .e) (a .n) (a .k) (a .t .now)) (rest (a .n) (a .k) (a .own) (a .shared) (a .t .now) (a .room .now)) _ (g .gate .ensures) (f .enum-told .given .1)
+    ∙ decided (gateLines (a .e) (a .n) (a .k) (a .t .now)) (rest (a .n) (a .k) (a .r) (a .own) (a .shared) (a .t .now) (a .room .now)) _ (g .gate .ensures) (f .enum-told .given .1)
     (here (sym (b .before .bad-sets .ensures) ∙ b .if1 .taken))
 
 bytes-of-h-requires : tie.Need-bytes-of-h-requires
@@ -65,7 +65,7 @@ bytes-of-h-requires c κs =
     let g = f .before .before in
     let a = g .before .before .before .args in
     let w = looked (a .e) (a .n) (a .k) (a .t .now) _ (g .gate .ensures) (f .enum-told .given .1) in
-    let s = candidate (a .n) (a .k) (a .own) (a .shared) (sym (c .before .bad-sets .ensures) ∙ c .if1 .left) (a .e .most) (w .largest) in
+    let s = candidate (a .n) (a .k) (a .r) (a .own) (a .shared) (sym (c .before .bad-sets .ensures) ∙ c .if1 .left) (a .e .most) (w .largest) in
     (w .most, s .belowA, s .more)
 
 cast-bytes-of-h : tie.Need-cast-bytes-of-h
@@ -81,10 +81,10 @@ returns-3 c =
     let f = b .before .before in
     let g = f .before .before in
     let a = g .before .before .before .args in
-    let s = candidate (a .n) (a .k) (a .own) (a .shared) (sym (b .before .bad-sets .ensures) ∙ b .if1 .left) (a .k) (omega arith) in
+    let s = candidate (a .n) (a .k) (a .r) (a .own) (a .shared) (sym (b .before .bad-sets .ensures) ∙ b .if1 .left) (a .k) (omega arith) in
     let l = h .bytes-of-h .ensures .0 ∙ bytes-H s (tableBit (a .t .now)) in
     c .refuse2 .ensures
-    ∙ decided (gateLines (a .e) (a .n) (a .k) (a .t .now)) (rest (a .n) (a .k) (a .own) (a .shared) (a .t .now) (a .room .now)) _ (g .gate .ensures) (f .enum-told .given .1)
+    ∙ decided (gateLines (a .e) (a .n) (a .k) (a .t .now)) (rest (a .n) (a .k) (a .r) (a .own) (a .shared) (a .t .now) (a .room .now)) _ (g .gate .ensures) (f .enum-told .given .1)
     (later (sym (b .before .bad-sets .ensures) ∙ b .if1 .left) (here (lt-ltb (length (a .room .now)) _ (subst (λ (m : ℕ). length (a .room .now) < m) l (c .before .if2 .taken)))))
 
 returns-4 : tie.Need-returns-4
@@ -94,9 +94,9 @@ returns-4 c =
     let f = b .before .before in
     let g = f .before .before in
     let a = g .before .before .before .args in
-    let s = candidate (a .n) (a .k) (a .own) (a .shared) (sym (b .before .bad-sets .ensures) ∙ b .if1 .left) (a .k) (omega arith) in
+    let s = candidate (a .n) (a .k) (a .r) (a .own) (a .shared) (sym (b .before .bad-sets .ensures) ∙ b .if1 .left) (a .k) (omega arith) in
     let l = h .bytes-of-h .ensures .0 ∙ bytes-H s (tableBit (a .t .now)) in
-    decided (gateLines (a .e) (a .n) (a .k) (a .t .now)) (rest (a .n) (a .k) (a .own) (a .shared) (a .t .now) (a .room .now)) _ (g .gate .ensures) (f .enum-told .given .1)
+    decided (gateLines (a .e) (a .n) (a .k) (a .t .now)) (rest (a .n) (a .k) (a .r) (a .own) (a .shared) (a .t .now) (a .room .now)) _ (g .gate .ensures) (f .enum-told .given .1)
     (later (sym (b .before .bad-sets .ensures) ∙ b .if1 .left) (later (le-ltb (length (a .room .now)) _ (subst (λ (m : ℕ). m ≤ length (a .room .now)) l (c .if2 .left))) fine))
 
 pub try-form-spec : {M : Type 1} → statement M

@@ -1,0 +1,2 @@
+-- The laws of the best split over r.
+pub mod Best

@@ -1,0 +1,70 @@
+// The best split over how many first cells there are: of the best of each r, the first in the order.
+use best::counted::Counted;
+use best::counted::find_counting;
+use bits::sets::members;
+use splits::split::Split;
+ghost use mathlib.Core.Path.{_≡_};
+ghost use Prim.Native.Nat.{_+_, _^_, _<_, _≤_};
+ghost use lib.ListN.{length, replicate};
+ghost use Rattle.bits.specs.Numbers.{bit};
+ghost use Rattle.bits.specs.Sets.{size};
+ghost use Rattle.tables.specs.Table.{mostInputs, tableLength, tableBit};
+ghost use Rattle.tables.specs.Counting.{support};
+ghost use Rattle.splits.specs.Columns.{mostFirst};
+ghost use Rattle.best.specs.Counted.{splitIn};
+ghost use Rattle.several.specs.Search.{better, bestOver};
+ghost use Rattle.several.specs.Chosen.{choiceOf, OwnBelow, SplitBelow};
+
+// How many first cells, and the masks; no first cells where there is no such split.
+pub struct Chosen {
+    pub first: u32,
+    pub own: u16,
+    pub shared: u16,
+}
+
+// The choice so far, or what was found with r first cells, if that has the larger |A| - r.
+fn better(n: u32, r: u32, so_far: Chosen, found: Counted) -> Chosen
+    requires { ⌜ (1 ≤ r) × (r ≤ mostFirst) × (so_far .first ≤ mostFirst) ⌝ }
+    requires { ⌜ (n ≤ mostInputs) × OwnBelow n (choiceOf so_far) × SplitBelow n (splitIn found) ⌝ }
+    ensures { λ c. ⌜ (choiceOf c ≡ better n r (choiceOf so_far) (splitIn found)) × (c .first ≤ mostFirst) ⌝ }
+{
+    let Counted::Split(own, shared) = found else {
+        return so_far;
+    };
+    let fresh = Chosen {
+        first: r,
+        own: own,
+        shared: shared,
+    };
+    if so_far.first == 0 {
+        return fresh;
+    }
+    if members(so_far.own) + r < members(own) + so_far.first {
+        return fresh;
+    }
+    so_far
+}
+
+// The best split with 1, 2 or 3 first cells of k inputs over the inputs that count, of which there are more than k, in
+// a work area, which is then cleared.
+pub fn find_over(t: &[u8], n: u32, k: u32, work: &mut [u8]) -> Chosen
+    requires { ⌜ (length (now t) ≡ tableLength n) × (n ≤ mostInputs) × (k ≤ mostInputs)
+        × (length (now t) ≤ length (now work)) × (k < size n (bit (support n (tableBit (now t))))) ⌝ }
+    ensures { λ c. ⌜
+        (choiceOf c ≡ bestOver n (tableBit (now (t .entry))) k mostFirst)
+        × (now (work .exit) ≡ replicate (length (now (work .entry))) 0)
+        ⌝ }
+{
+    let mut so_far = Chosen {
+        first: 0,
+        own: 0,
+        shared: 0,
+    };
+    let mut r: u32 = 1;
+    while r <= Split::MOST_FIRST as u32 {
+        let found = find_counting(t, n, r, k, work);
+        so_far = better(n, r, so_far, found);
+        r += 1;
+    }
+    so_far
+}
