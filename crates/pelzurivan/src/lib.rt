@@ -2,6 +2,7 @@
 // The header is include/pelzurivan.h.
 pub mod check_sheet;
 pub mod find_best;
+pub mod find_several;
 pub mod input_times;
 pub mod make_sheet;
 pub mod rebuild_table;
@@ -9,4 +10,5 @@ pub mod run_sheet;
 pub mod settle;
 pub mod shorter;
 pub mod slack;
+pub mod try_several;
 pub mod try_split;

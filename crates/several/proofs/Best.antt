@@ -1,9 +1,9 @@
 -- The answer over r is the best over r, since each r's own best comes before all of that r, and of these the answer
 -- keeps the one that comes first; it is nothing exactly where none of any r works. Assumes nothing.
-use mathlib.Core.Path.{_≡_, refl, sym, subst}
+use mathlib.Core.Path.{_≡_, refl, sym, ap, subst}
 use mathlib.Core.Logic.{_↔_, ⊎-elim}
 use mathlib.Core.Bool.{Bool, true, false, cond}
-use Prim.Native.Nat.{ℕ, zero, suc, _+_, _<_, _≤_}
+use Prim.Native.Nat.{ℕ, zero, suc, _+_, _-_, _<_, _≤_}
 use native.Mathlib.Omega.{arith}
 use lib.Dec.{ltb}
 use borrow.Author.Tests.{ltb-true, ltb-false}
@@ -19,6 +19,7 @@ use Rattle.best.proofs.Counting.{counting-none, counting-split, counting-answer
 use Rattle.best.proofs.Order.{ahead-antisym}
 use Rattle.several.specs.Best.{Works, AheadOver, BestOver}
 use Rattle.several.specs.Search.{Choice, nothing, choice, better, bestOver}
+use Rattle.several.specs.Chosen.{OwnBelow, SplitBelow}
 
 -- ---- the order
 
@@ -146,3 +147,27 @@ module _ (n K : ℕ) (F : ℕ → Bool) where
 
           same : size n (bit A′) ≡ size n (bit A) → Ahead n A B A′ B′
           same a = o .inOrder (omega arith) refl
+
+  -- its own mask names positions below n alone
+  pub over-below : (m : ℕ) → OwnBelow n (bestOver n F K m)
+  over-below m = go (bestOver n F K m) (tells m)
+    where
+      go : (c : Choice) → Tells m c → OwnBelow n c
+      go nothing t = tt
+      go (choice r A B) t = t .works .candidate .belowA
+
+  -- so does that of the best with r first cells
+  pub counting-below : (r : ℕ) → SplitBelow n (bestCounting n r F K)
+  counting-below r = go (bestCounting n r F K) refl
+    where
+      go : (a : Answer) → bestCounting n r F K ≡ a → SplitBelow n a
+      go none e = tt
+      go (split A B) e = counting-split n r F K A B e .candidate .belowA
+
+  -- one r more, as a loop goes
+  pub over-next : (r : ℕ) → 1 ≤ r → bestOver n F K r ≡ better n r (bestOver n F K (r - 1)) (bestCounting n r F K)
+  unfolding bestOver
+  over-next zero h = absurd (omega arith)
+  over-next (suc m) h =
+      let e : suc m - 1 ≡ m = omega arith in
+      ap (λ (k : ℕ). better n (suc m) (bestOver n F K k) (bestCounting n (suc m) F K)) (sym e)

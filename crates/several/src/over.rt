@@ -11,6 +11,7 @@ ghost use Rattle.bits.specs.Sets.{size};
 ghost use Rattle.tables.specs.Table.{mostInputs, tableLength, tableBit};
 ghost use Rattle.tables.specs.Counting.{support};
 ghost use Rattle.splits.specs.Columns.{mostFirst};
+ghost use Rattle.best.specs.Search.{split};
 ghost use Rattle.best.specs.Counted.{splitIn};
 ghost use Rattle.several.specs.Search.{better, bestOver};
 ghost use Rattle.several.specs.Chosen.{choiceOf, OwnBelow, SplitBelow};
@@ -22,27 +23,39 @@ pub struct Chosen {
     pub shared: u16,
 }
 
-// The choice so far, or what was found with r first cells, if that has the larger |A| - r.
-fn better(n: u32, r: u32, so_far: Chosen, found: Counted) -> Chosen
-    requires { ⌜ (1 ≤ r) × (r ≤ mostFirst) × (so_far .first ≤ mostFirst) ⌝ }
-    requires { ⌜ (n ≤ mostInputs) × OwnBelow n (choiceOf so_far) × SplitBelow n (splitIn found) ⌝ }
-    ensures { λ c. ⌜ (choiceOf c ≡ better n r (choiceOf so_far) (splitIn found)) × (c .first ≤ mostFirst) ⌝ }
+// The choice so far, or a split with r first cells, if that has the larger |A| - r.
+fn larger(n: u32, r: u32, kept: Chosen, own: u16, shared: u16) -> Chosen
+    requires { ⌜
+        (1 ≤ r) × (r ≤ mostFirst) × (n ≤ mostInputs) × (kept .first ≤ mostFirst) × OwnBelow n (choiceOf kept)
+        × (own < 2 ^ n)
+        ⌝ }
+    ensures { λ c. ⌜ (choiceOf c ≡ better n r (choiceOf kept) (split own shared)) × (c .first ≤ mostFirst) ⌝ }
 {
-    let Counted::Split(own, shared) = found else {
-        return so_far;
-    };
     let fresh = Chosen {
         first: r,
         own: own,
         shared: shared,
     };
-    if so_far.first == 0 {
+    if kept.first == 0 {
         return fresh;
     }
-    if members(so_far.own) + r < members(own) + so_far.first {
+    if members(kept.own) + r < members(own) + kept.first {
         return fresh;
     }
-    so_far
+    kept
+}
+
+// The same of what was found with r first cells.
+fn with_found(n: u32, r: u32, kept: Chosen, found: Counted) -> Chosen
+    requires { ⌜ (1 ≤ r) × (r ≤ mostFirst) × (n ≤ mostInputs) × (kept .first ≤ mostFirst) ⌝ }
+    requires { ⌜ OwnBelow n (choiceOf kept) × SplitBelow n (splitIn found) ⌝ }
+    ensures { λ c. ⌜ (choiceOf c ≡ better n r (choiceOf kept) (splitIn found)) × (c .first ≤ mostFirst) ⌝ }
+{
+    match found {
+        Counted::Few => kept,
+        Counted::Split(own, shared) => larger(n, r, kept, own, shared),
+        Counted::Nothing => kept,
+    }
 }
 
 // The best split with 1, 2 or 3 first cells of k inputs over the inputs that count, of which there are more than k, in
@@ -55,7 +68,7 @@ pub fn find_over(t: &[u8], n: u32, k: u32, work: &mut [u8]) -> Chosen
         × (now (work .exit) ≡ replicate (length (now (work .entry))) 0)
         ⌝ }
 {
-    let mut so_far = Chosen {
+    let mut kept = Chosen {
         first: 0,
         own: 0,
         shared: 0,
@@ -63,8 +76,8 @@ pub fn find_over(t: &[u8], n: u32, k: u32, work: &mut [u8]) -> Chosen
     let mut r: u32 = 1;
     while r <= Split::MOST_FIRST as u32 {
         let found = find_counting(t, n, r, k, work);
-        so_far = better(n, r, so_far, found);
+        kept = with_found(n, r, kept, found);
         r += 1;
     }
-    so_far
+    kept
 }

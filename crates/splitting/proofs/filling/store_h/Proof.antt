@@ -75,5 +75,5 @@ returns c =
 
 pub store-h-spec : {M : Type 1} → statement M
 store-h-spec =
-    tie.close (tie.spec Inv-loop μ-loop loop-holds (λ c. search needs) h-byte-requires (λ c. search needs)
-    (λ c. search needs) (λ c. search needs) loop-again (λ c. search needs) returns)
+    tie.close (tie.spec Inv-loop μ-loop (λ c. search needs) loop-holds (λ c. search needs) h-byte-requires
+    (λ c. search needs) (λ c. search needs) (λ c. search needs) loop-again (λ c. search needs) returns)

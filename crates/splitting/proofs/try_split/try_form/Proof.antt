@@ -15,7 +15,7 @@ use Rattle.refusals.specs.Lines.{Line, verdict}
 use Rattle.refusals.specs.Refusals.{gateLines, badSets, shortRoom}
 use Rattle.refusals.proofs.Lines.{fine, here, later, in-order, stopped, decided}
 use Rattle.refusals.proofs.Tests.{Sound, sound}
-use Rattle.splitting.proofs.Sets.{candidate, bytes-H}
+use Rattle.splitting.proofs.Sets.{candidate, most-first, bytes-H}
 use Rattle.splitting.proofs.try_split.try_form.Statement.{statement}
 use Rattle.splitting.proofs.try_split.try_form.Tie as tie
 
@@ -65,11 +65,15 @@ bytes-of-h-requires c κs =
     let g = f .before .before in
     let a = g .before .before .before .args in
     let w = looked (a .e) (a .n) (a .k) (a .t .now) _ (g .gate .ensures) (f .enum-told .given .1) in
-    let s = candidate (a .n) (a .k) (a .r) (a .own) (a .shared) (sym (c .before .bad-sets .ensures) ∙ c .if1 .left) (a .e .most) (w .largest) in
-    (w .most, s .belowA, s .more)
+    let good = sym (c .before .bad-sets .ensures) ∙ c .if1 .left in
+    let s = candidate (a .n) (a .k) (a .r) (a .own) (a .shared) good (a .e .most) (w .largest) in
+    (w .most, s .belowA, s .more, most-first (a .n) (a .k) (a .r) (a .own) (a .shared) good)
 
 cast-bytes-of-h : tie.Need-cast-bytes-of-h
-cast-bytes-of-h c =
+cast-bytes-of-h c = omega (arith, bytes-of-h-requires c _ .3)
+
+cast-bytes-of-h-2 : tie.Need-cast-bytes-of-h-2
+cast-bytes-of-h-2 c =
     let a = c .before .before .before .before .before .before .before .args in
     let w = bytes-of-h-requires c _ in
     omega (arith, w .1, pow-mono {i = a .n} {j = mostInputs} (w .0))
@@ -102,5 +106,5 @@ returns-4 c =
 pub try-form-spec : {M : Type 1} → statement M
 try-form-spec =
     tie.close (tie.spec (λ c κs. search needs) (λ c. search needs) (λ c. search needs) returns cast-inputs
-    cast-bad-sets bad-sets-requires (λ c κs. search needs) returns-2 cast-bytes-of-h bytes-of-h-requires
-    (λ c κs. search needs) returns-3 returns-4)
+    cast-bad-sets bad-sets-requires (λ c κs. search needs) returns-2 cast-bytes-of-h cast-bytes-of-h-2
+    bytes-of-h-requires (λ c κs. search needs) returns-3 returns-4)

@@ -1,5 +1,5 @@
 -- `try_in` meets its contract: what form and room refuse, else the fixed pair. Assumes nothing.
-use mathlib.Core.Path.{_≡_, refl, sym, ap, _∙_, subst}
+use mathlib.Core.Path.{_≡_, refl, sym, ap, ap₂, _∙_, subst}
 use mathlib.Core.Bool.{Bool, cond}
 use mathlib.Core.List.{List, [], _∷_}
 use Prim.Native.Nat.{ℕ, _+_, _-_, _≤_}
@@ -13,6 +13,7 @@ use Rattle.bits.specs.Sets.{size}
 use Rattle.tables.specs.Table.{mostInputs, tableLength, tableBit}
 use Rattle.splits.specs.Columns.{mostFirst, columns}
 use Rattle.splits.specs.declared.pair.FirstCells.{FirstCells}
+use Rattle.splits.specs.Cells.{noCells}
 use Rattle.best.specs.Best.{Candidate}
 use Rattle.sheets.specs.declared.kinds.Edition.{Edition}
 use Rattle.sheets.specs.Edition.{largestCell}
@@ -51,12 +52,12 @@ no-columns e n K r A B t room why h =
 returns : tie.Need-returns
 unfolding tryOutcome
 returns c =
-    let f = c .before .before in
+    let f = c .before .before .before in
     let a = f .before .before .before .before .args in
-    let r = c .enum-told2 .given .0 .0 in
-    let e = c .enum-told2 .given .1 in
-    ap (λ (v : Verdict). record { answer = record { verdict = v; d = 0; columns = 0 }; room = a .room .now }) e
-    ∙ ap (λ (k : ℕ). record { answer = record { verdict = Refused r; d = 0; columns = k }; room = a .room .now })
+    let r = c .before .enum-told2 .given .0 .0 in
+    let e = c .before .enum-told2 .given .1 in
+    ap₂ (λ (v : Verdict) (d : FirstCells). record { answer = record { verdict = v; d = d; columns = 0 }; room = a .room .now }) e (c .none .ensures)
+    ∙ ap (λ (k : ℕ). record { answer = record { verdict = Refused r; d = noCells; columns = k }; room = a .room .now })
     (sym (no-columns (a .e) (a .n) (a .k) (a .r) (a .own) (a .shared) (a .t .now) (a .room .now) r (sym (f .try-form .ensures) ∙ e)))
     ∙ refused-by (tryForm (a .e) (a .n) (a .k) (a .r) (a .own) (a .shared) (a .t .now) (a .room .now)) (notPossible (a .n) (a .r) (a .own) (a .shared) (a .t .now) ∷ [])
     (tryDone (a .n) (a .r) (a .own) (a .shared) (a .t .now) (a .room .now)) (tryNot (a .n) (a .own) (a .shared) (a .t .now) (a .room .now)) (f .try-form .result) r (f .try-form .ensures) e
@@ -74,6 +75,14 @@ cast-of-2 c = let w = of-requires c _ in omega (arith, w .1, pow-mono {i = c .be
 
 cast-of-3 : tie.Need-cast-of-3
 cast-of-3 c = let w = of-requires c _ in omega (arith, w .2, pow-mono {i = c .before .before .before .before .before .before .args .n} {j = mostInputs} (w .0))
+
+cast-pair-of : tie.Need-cast-pair-of
+cast-pair-of c =
+    let i = c .before in
+    let f = i .before .before in
+    let s = f .before .before .before .before in
+    let a = s .args in
+    omega (arith, through (a .e) (a .n) (a .k) (a .r) (a .own) (a .shared) (a .t .now) (a .room .now) (s .pre .1) (sym (f .try-form .ensures) ∙ i .enum-told .given .1) .most)
 
 pair-of-requires : tie.Need-pair-of-requires
 pair-of-requires c κs =
@@ -97,7 +106,7 @@ returns-2 c =
     let a = f .before .before .before .before .args in
     carried
     (λ (n A B : ℕ).
-    record { answer = r .pair-of .result; room = r .pair-of .last .1 .1 .0 }
+    record { answer = r .pair-of .result; room = r .pair-of .last .1 .1 .1 .0 }
     ≡ reply (verdict (notPossible n (a .r) A B (a .t .now) ∷ [])) (tryDone n (a .r) A B (a .t .now) (a .room .now)) (tryNot n A B (a .t .now) (a .room .now)))
     (o .1) (o .2) (o .3) (r .pair-of .ensures)
     ∙ left-to (tryForm (a .e) (a .n) (a .k) (a .r) (a .own) (a .shared) (a .t .now) (a .room .now)) (notPossible (a .n) (a .r) (a .own) (a .shared) (a .t .now) ∷ [])
@@ -105,6 +114,6 @@ returns-2 c =
 
 pub try-in-spec : {M : Type 1} → statement M
 try-in-spec =
-    tie.close (tie.spec (λ c κs. search needs) (λ c. search needs) (λ c. search needs) (λ c. search needs) returns
-    (λ c. omega (arith, of-requires c _ .0)) cast-of-2 cast-of-3 of-requires pair-of-requires (λ c. search needs)
-    returns-2)
+    tie.close (tie.spec (λ c κs. search needs) (λ c. search needs) (λ c. search needs) (λ c κs. search needs)
+    (λ c. search needs) returns (λ c. omega (arith, of-requires c _ .0)) cast-of-2 cast-of-3 of-requires cast-pair-of
+    pair-of-requires (λ c. search needs) returns-2)
