@@ -17,7 +17,12 @@ pub struct SoughtSeveralC {
 
 // Finds the best split with 1, 2 or 3 first cells: how many, and two masks.
 #[no_mangle]
-pub extern "C" fn pelzurivan_find_several(n: u64, k: u64, t: &[u8], work: &mut [u8]) -> SoughtSeveralC
+pub extern "C" fn pelzurivan_find_several(
+    n: u64,
+    k: u64,
+    t: &[u8],
+    work: &mut [u8],
+) -> SoughtSeveralC
     ensures { λ r. ⌜
         (r ≡ soughtSeveralC (findSeveralOutcome firstEdition n k (now (t .entry)) (now (work .entry))))
         × (now (work .exit) ≡ findSeveralOutcome firstEdition n k (now (t .entry)) (now (work .entry)) .work)

@@ -1,11 +1,11 @@
 // Finding the best split with several first cells.
 use crate::over::find_over;
-use splitting::find_best::find_form;
+use bits::sets::members;
 use refusals::verdicts::Refusal;
 use refusals::verdicts::Verdict;
 use refusals::verdicts::refuse;
-use bits::sets::members;
 use sheets::kinds::Edition;
+use splitting::find_best::find_form;
 use tables::counting::support_of;
 ghost use mathlib.Core.Path.{_≡_};
 ghost use Prim.Native.Nat.{_≤_};

@@ -1,7 +1,7 @@
 // Trying a named split with several first cells.
+use sheets::kinds::Edition;
 use splitting::try_split::TryAnswer;
 use splitting::try_split::try_in;
-use sheets::kinds::Edition;
 ghost use mathlib.Core.Path.{_≡_};
 ghost use Rattle.sheets.specs.Edition.{firstEdition};
 ghost use Rattle.splitting.specs.TrySplit.{tryOutcome};

@@ -149,7 +149,12 @@ pub fn try_in(
             columns: 0,
         };
     };
-    pair_of(t, Split::of(n as u32, own as u16, shared as u16), r as u32, room)
+    pair_of(
+        t,
+        Split::of(n as u32, own as u16, shared as u16),
+        r as u32,
+        room,
+    )
 }
 
 // Tries the split with the masks own and shared: D, and H into the lent room.
