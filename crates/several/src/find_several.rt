@@ -14,7 +14,8 @@ ghost use Rattle.tables.specs.Table.{mostInputs, tableLength};
 ghost use Rattle.sheets.specs.Edition.{firstEdition};
 ghost use Rattle.chains.specs.Area.{workLength};
 ghost use Rattle.refusals.specs.Lines.{verdict, reply};
-ghost use Rattle.several.specs.FindSeveral.{bestSeveral, severalSays, severalDone, severalNot, findSeveralOutcome};
+ghost use Rattle.several.specs.FindSeveral.{bestSeveral, severalSays, severalDone, severalNot};
+ghost use Rattle.several.specs.FindSeveral.{findSeveralOutcome};
 
 // How many first cells, the own and the shared mask, if nothing is wrong.
 pub struct FindSeveralAnswer {
@@ -36,7 +37,7 @@ fn without(verdict: Verdict) -> FindSeveralAnswer
     }
 }
 
-// Lines 7 and 8: the best over how many first cells there are, or that at most k inputs count, or that none is possible.
+// Lines 7 and 8: the best over 1, 2 and 3 first cells, or that at most k inputs count, or that none is possible.
 fn search(n: u32, k: u32, t: &[u8], work: &mut [u8]) -> FindSeveralAnswer
     requires { ⌜
         (n ≤ mostInputs) × (k ≤ mostInputs) × (length (now t) ≡ tableLength n) × (workLength ≤ length (now work))
