@@ -175,6 +175,14 @@ module _ (e : Edition) (n K r A B : ℕ) (t room : List ℕ) where
         ∙ spare-zero h (bitH n F (bit A) (bit B)) x g l
 
 -- ---- document 01's call: one first cell, whose table is D
+
+one-bit : (f : ℕ → Bool) → number 1 f ≡ val (f 0)
+unfolding number
+one-bit f = go (f 0)
+  where
+    go : (b : Bool) → 0 + val b * 2 ^ 0 ≡ val b
+    go b = omega arith
+
 module _ (e : Edition) (n K A B : ℕ) (t room : List ℕ) (done : tryOutcome e n K 1 A B t room .answer .verdict ≡ Fine) where
   -- D is document 01's, and there is no other table; H is document 01's, before the bytes that stay
   pub tried-one : (tryOutcome e n K 1 A B t room .answer .d ≡ record { first = tableD n (tableBit t) (bit A) (bit B) 0; second = 0; third = 0 })
@@ -186,8 +194,7 @@ module _ (e : Edition) (n K A B : ℕ) (t room : List ℕ) (done : tryOutcome e 
       → tableBit t x
       ≡ tableBit (tryOutcome e n K 1 A B t room .room)
       (inputH n (bit A) (bit B) x (val (bit (tryOutcome e n K 1 A B t room .answer .d .first) (gather n (readsD (bit A) (bit B)) x))))
-  unfolding number
-  tried-one-works x l = tried-works e n K 1 A B t room done x l ∙ ap (λ (k : ℕ). tableBit (tryOutcome e n K 1 A B t room .room) (inputH n (bit A) (bit B) x k)) (go _)
-    where
-      go : (b : Bool) → 0 + val b * 2 ^ 0 ≡ val b
-      go b = omega arith
+  tried-one-works x l =
+      tried-works e n K 1 A B t room done x l
+      ∙ ap (λ (k : ℕ). tableBit (tryOutcome e n K 1 A B t room .room) (inputH n (bit A) (bit B) x k))
+      (one-bit (λ i. bit (tableIn (tryOutcome e n K 1 A B t room .answer .d) i) (gather n (readsD (bit A) (bit B)) x)))
