@@ -6,10 +6,10 @@ use Rattle.pelzurivan.proofs.find_several.pelzurivan_find_several.Tie a
 
 returns : tie.Need-returns
 returns c =
-    rw (c .before .before .number-of .ensures, ← c .before .before .before .before .before .find-several .ensures)
+    rw (c .before .before .before .number-of .ensures, ← c .before .before .before .before .before .before .find-several .ensures)
     (refl, refl)
 
 pub pelzurivan-find-several-spec : {M : Type 1} → statement M
 pelzurivan-find-several-spec =
     tie.close (tie.spec (λ c κs. search needs) (λ c κs. search needs) (λ c. search needs) (λ c. search needs)
-    (λ c. search needs) (λ c. search needs) returns)
+    (λ c. search needs) (λ c. search needs) (λ c. search needs) returns)
