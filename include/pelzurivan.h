@@ -16,7 +16,8 @@
  *    2  k outside 2 to 6
  *    3  table, read or to be rebuilt, has a wrong length
  *    4  n below 3 and a spare bit set
- *    5  own or shared names a position from n up; they overlap; own below 2; both together above k; a desk above 4
+ *    5  own or shared names a position from n up; they overlap; own below 2 (with r first cells, own not above r, or r
+ *       outside 1 to 3); both together above k; a desk above 4
  *    6  room for H shorter than its table, room for the sheet under 240 bytes, a work area under 16,384 bytes, or room
  *       for a text under 1,024 bytes
  *    7  at most k inputs count, so nothing to split
@@ -56,6 +57,8 @@ enum { PELZURIVAN_RECORD = 16, PELZURIVAN_SHEET = 240, PELZURIVAN_WORK = 16384, 
 
 typedef struct { uint64_t number, d, b, columns; } pelzurivan_tried;
 typedef struct { uint64_t number, own, shared; } pelzurivan_sought;
+typedef struct { uint64_t number, first, second, third, b, columns; } pelzurivan_tried_several;
+typedef struct { uint64_t number, r, own, shared; } pelzurivan_sought_several;
 typedef struct { uint64_t number, count; } pelzurivan_made;
 typedef struct { uint64_t number, bit, index; } pelzurivan_ran;
 typedef struct { uint64_t number, index; } pelzurivan_rebuilt;
@@ -158,6 +161,19 @@ pelzurivan_turned pelzurivan_turn(uint8_t first, uint8_t second);
 
 /* Looks a three-input table up in the book: the least table that it can be turned into. */
 uint8_t pelzurivan_look_up(uint8_t table);
+
+/* Tries a named split with r first cells, 1 to 3: for each assignment of shared the columns are numbered in order of
+ * first appearance over own, and first cell i gives bit i of the number. Their tables come back in first, second and
+ * third (0 from r up), H, whose last r inputs are their outputs, in the first bytes of room. 1 to 6, 8: b is then the
+ * least assignment of shared with more than 2^r different columns. With r = 1 it is pelzurivan_try. */
+pelzurivan_tried_several pelzurivan_try_several(uint64_t n, uint64_t k, uint64_t r, uint64_t own, uint64_t shared,
+                                                const uint8_t *table, size_t table_length, uint8_t *room,
+                                                size_t room_length);
+
+/* Finds the best split of the inputs that count with 1, 2 or 3 first cells: the largest own less r, then the least r,
+ * then as in find. The work area as in find. 1 to 4, 6, 7, 8. */
+pelzurivan_sought_several pelzurivan_find_several(uint64_t n, uint64_t k, const uint8_t *table, size_t table_length,
+                                                  uint8_t *work, size_t work_length);
 
 #ifdef __cplusplus
 }

@@ -260,11 +260,42 @@ static void look_up(void) {
     put(1, entry);
 }
 
+static void try_several(void) {
+    uint64_t n = number(8), k = number(8), r = number(8), own = number(2), shared = number(2);
+    area table = handed(TABLE), room = lent(TABLE);
+    if (!whole()) return;
+    start();
+    pelzurivan_tried_several a = pelzurivan_try_several(n, k, r, own, shared, table.bytes, table.length, room.bytes,
+                                                        room.length);
+    stop();
+    put(1, a.number);
+    put(8, a.first);
+    put(8, a.second);
+    put(8, a.third);
+    put(2, a.b);
+    put(2, a.columns);
+    put_area(room);
+}
+
+static void find_several(void) {
+    uint64_t n = number(8), k = number(8);
+    area table = handed(TABLE), work = lent(WORK);
+    if (!whole()) return;
+    start();
+    pelzurivan_sought_several a = pelzurivan_find_several(n, k, table.bytes, table.length, work.bytes, work.length);
+    stop();
+    put(1, a.number);
+    put(1, a.r);
+    put(2, a.own);
+    put(2, a.shared);
+    put_mark(work);
+}
+
 static const call CALLS[] = {
-    {0x01, try_split},     {0x02, find},          {0x03, make},  {0x04, run},      {0x05, rebuild},
-    {0x06, check},         {0x07, settle},        {0x08, slack}, {0x09, shorter},  {0x0A, read_formula},
-    {0x0B, write_formula}, {0x0C, make_for_desk}, {0x0D, load},  {0x0E, run_desk}, {0x0F, load_cut},
-    {0x19, turn},          {0x1A, look_up},       {0x1C, load_store},
+    {0x01, try_split},     {0x02, find},          {0x03, make},        {0x04, run},          {0x05, rebuild},
+    {0x06, check},         {0x07, settle},        {0x08, slack},       {0x09, shorter},      {0x0A, read_formula},
+    {0x0B, write_formula}, {0x0C, make_for_desk}, {0x0D, load},        {0x0E, run_desk},     {0x0F, load_cut},
+    {0x10, try_several},   {0x11, find_several},  {0x19, turn},        {0x1A, look_up},      {0x1C, load_store},
 };
 
 const call *call_of(int code) {

@@ -193,13 +193,13 @@ module _ (n r : ℕ) (F : ℕ → Bool) (K : ℕ) where
           nothing (split A B) q = let b = counting-split A B q in absurd (best-none n r F K e A B (b .candidate) (b .possible))
 
 -- where the table over the inputs that count stands in front of a list of bytes, the search there finds it
-pub counting-found : (n K S : ℕ) (F : ℕ → Bool) (work : List ℕ) (c len : ℕ) → S ≡ support n F → c ≡ size n (bit S) → 2 ^ c ≤ 8 * len
+pub counting-found : (n r K S : ℕ) (F : ℕ → Bool) (work : List ℕ) (c len : ℕ) → S ≡ support n F → c ≡ size n (bit S) → 2 ^ c ≤ 8 * len
     → number (2 ^ size n (bit S)) (tableBit work) ≡ tableOver n (bit S) F
-    → spreadAnswer n (bit S) (best c 1 (tableBit (take len work)) K) ≡ bestCounting n 1 F K
+    → spreadAnswer n (bit S) (best c r (tableBit (take len work)) K) ≡ bestCounting n r F K
 unfolding bestCounting
-counting-found n K S F work c len is count long over =
-    ap (spreadAnswer n (bit S)) (best-ext c 1 K G (bit (tableOver n (bit S) F)) same ∙ ap (λ (k : ℕ). best k 1 (bit (tableOver n (bit S) F)) K) count)
-    ∙ ap (λ (s : ℕ). spreadAnswer n (bit s) (best (size n (bit s)) 1 (bit (tableOver n (bit s) F)) K)) is
+counting-found n r K S F work c len is count long over =
+    ap (spreadAnswer n (bit S)) (best-ext c r K G (bit (tableOver n (bit S) F)) same ∙ ap (λ (k : ℕ). best k r (bit (tableOver n (bit S) F)) K) count)
+    ∙ ap (λ (s : ℕ). spreadAnswer n (bit s) (best (size n (bit s)) r (bit (tableOver n (bit s) F)) K)) is
   where
     G : ℕ → Bool
     G = tableBit (take len work)

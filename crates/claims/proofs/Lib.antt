@@ -4,6 +4,7 @@ pub mod Tables
 pub mod Sheets
 pub mod TrySplit
 pub mod FindBest
+pub mod FindSeveral
 pub mod RunSheet
 pub mod RebuildTable
 pub mod Made

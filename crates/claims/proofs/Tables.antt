@@ -1,9 +1,10 @@
--- Laws on tables that the claims need: bytes are the table of their bits, a table's spare bits are zero, and the pair of a split as bytes gives
--- the table. Assumes nothing.
-use mathlib.Core.Path.{_≡_, sym, ap, ap₂, _∙_, subst}
-use mathlib.Core.Bool.{Bool, true, false, not, _&&_, _||_}
+-- Laws on tables that the claims need: bytes are the table of their bits, a table's spare bits are zero, and the tables of a split as they are handed
+-- back give the table. Assumes nothing.
+use mathlib.Core.Path.{_≡_, refl, sym, ap, ap₂, _∙_, subst}
+use mathlib.Core.Bool.{Bool, true, false, not, cond, _&&_, _||_}
 use mathlib.Core.List.{List, _++_}
-use Prim.Native.Nat.{ℕ, _+_, _-_, _*_, _/_, _%_, _^_, _≤_, _<_}
+use Prim.Native.Nat.{ℕ, zero, suc, _+_, _-_, _*_, _/_, _%_, _^_, _≤_, _<_}
+use native.Mathlib.Nat.{suc-mul, mul-comm, mul-le-mul-right}
 use native.Mathlib.Decide.{decLt}
 use native.Mathlib.Omega.{arith}
 use lib.Dec.{ltb}
@@ -11,16 +12,17 @@ use lib.Pow.{pow-add}
 use lib.ListN.{length, getD, List·getD-append}
 use lib.Seq.{ext-getD}
 use borrow.Author.Tests.{lt-ltb, le-ltb, not-true}
-use Rattle.bits.specs.Numbers.{bit, val}
+use Rattle.bits.specs.Numbers.{bit, number}
 use Rattle.bits.specs.Sets.{size, gather}
-use Rattle.bits.proofs.Numbers.{bit-number, number-ext, number-bit, val-bit, val-mul-le}
+use Rattle.bits.proofs.Numbers.{bit-number, number-ext, number-bit}
 use Rattle.bits.proofs.Spreading.{gather-lt}
 use Rattle.bits.proofs.Below.{every-at}
 use Rattle.tables.specs.Table.{tableLength, tableBit, spareClear, tableOf, bytesOf}
 use Rattle.tables.proofs.Bytes.{table-bytes, byte-at, length-bytes, length-holds, length-table, table-of}
 use Rattle.splits.specs.Split.{readsD, readsH, inputH}
-use Rattle.splits.specs.Columns.{fewColumns}
+use Rattle.splits.specs.Columns.{mostFirst, fewColumns}
 use Rattle.splits.specs.Pair.{codeAt, tableD, bitH, inputsH, bytesH}
+use Rattle.splits.specs.Cells.{firstTable, firstCells, tableIn}
 use Rattle.splits.proofs.Few.{codeAt-gather, column-there, pair-gives}
 use Rattle.splits.proofs.Codes.{few-at}
 use Rattle.claims.specs.Words.{AllBytes}
@@ -68,38 +70,53 @@ unfolding tableOf
 spare-zero n f x h l =
     table-bytes (tableLength n) (λ y. ltb y (2 ^ n) && f y) x (omega arith) ∙ ap (λ (b : Bool). b && f x) (le-ltb x (2 ^ n) h)
 
--- ---- the pair of a possible split, as try returns it: H in the first bytes of a room, and D as a number
+-- ---- the tables of a possible split, as try returns them: H in the first bytes of a room, the first cells' as numbers
 
-module _ (n : ℕ) (F : ℕ → Bool) (A B : ℕ → Bool) (few : fewColumns n F A B 2 ≡ true) (rest : List ℕ) (x : ℕ) (below : x < 2 ^ n) where
-  v : ℕ
-  v = gather n (readsD A B) x
+-- first cell t, of r
+pub table-in : (n : ℕ) (F : ℕ → Bool) (A B : ℕ → Bool) (r : ℕ) → r ≤ mostFirst → (t : ℕ) → tableIn (firstCells n F A B r) t ≡ firstTable n F A B r t
+table-in n F A B r most zero = refl
+table-in n F A B r most (suc zero) = refl
+table-in n F A B r most (suc (suc zero)) = refl
+table-in n F A B r most (suc (suc (suc t))) = sym (ap (λ (b : Bool). cond b (tableD n F A B (suc (suc (suc t)))) 0) (le-ltb (suc (suc (suc t))) r (omega arith)))
 
-  d : Bool
-  d = bit (tableD n F A B 0) v
+module _ (n : ℕ) (F : ℕ → Bool) (A B : ℕ → Bool) (r : ℕ) (most : r ≤ mostFirst) (few : fewColumns n F A B (2 ^ r) ≡ true) (rest : List ℕ) (x : ℕ) (below : x < 2 ^ n) where
+  -- what the first cells give
+  outputs : ℕ
+  outputs = number r (λ t. bit (tableIn (firstCells n F A B r) t) (gather n (readsD A B) x))
 
-  -- D's bit is the code
-  bit-D : val d ≡ codeAt n F A B v
-  unfolding d tableD v
-  bit-D =
-      let c = codeAt n F A B v in
-      let l : c < 2 = omega (arith, codeAt-gather n F A B x, column-there n F A B (gather n B x) (gather n A x) (gather-lt n A x), few-at n F A B 2 few (gather n B x) (gather-lt n B x)) in
-      ap val (bit-number (2 ^ size n (readsD A B)) (λ u. bit (codeAt n F A B u) 0) v (gather-lt n (readsD A B) x)) ∙ val-bit c 0 ∙ low c l
-    where
-      low : (c : ℕ) → c < 2 → c / 2 ^ 0 % 2 ≡ c
-      low c l = omega arith
+  code-lt : codeAt n F A B (gather n (readsD A B) x) < 2 ^ r
+  code-lt =
+      omega (
+        arith,
+        codeAt-gather n F A B x,
+        column-there n F A B (gather n B x) (gather n A x) (gather-lt n A x),
+        few-at n F A B (2 ^ r) few (gather n B x) (gather-lt n B x),
+      )
+
+  -- is the code
+  is-code : outputs ≡ codeAt n F A B (gather n (readsD A B) x)
+  unfolding outputs tableD
+  is-code =
+      number-ext r (λ t. bit (tableIn (firstCells n F A B r) t) (gather n (readsD A B) x)) (bit (codeAt n F A B (gather n (readsD A B) x))) (λ t l.
+      ap (λ (d : ℕ). bit d (gather n (readsD A B) x)) (table-in n F A B r most t ∙ ap (λ (b : Bool). cond b (tableD n F A B t) 0) (lt-ltb t r l))
+      ∙ bit-number (2 ^ size n (readsD A B)) (λ u. bit (codeAt n F A B u) t) (gather n (readsD A B) x) (gather-lt n (readsD A B) x))
+      ∙ number-bit r (codeAt n F A B (gather n (readsD A B) x)) code-lt
 
   at : ℕ
-  at = inputH n A B x (val d)
+  at = inputH n A B x outputs
 
-  at-lt : at < 2 ^ inputsH n F A B 1
+  at-lt : at < 2 ^ inputsH n F A B r
   unfolding at
-  at-lt = omega (arith, gather-lt n (readsH A B) x, val-mul-le d (2 ^ size n (readsH A B)), pow-add 2 (size n (readsH A B)) 1)
+  at-lt =
+      let k = size n (readsH A B) in
+      let l : outputs < 2 ^ r = omega (arith, is-code, code-lt) in
+      omega (arith, gather-lt n (readsH A B) x, mul-le-mul-right (2 ^ k) l, suc-mul outputs (2 ^ k), pow-add 2 k r, mul-comm (2 ^ k) (2 ^ r))
 
-  pub pair-works : F x ≡ tableBit (bytesH n F A B 1 ++ rest) (inputH n A B x (val (bit (tableD n F A B 0) (gather n (readsD A B) x))))
-  unfolding bytesH at d v
+  pub pair-works : F x ≡ tableBit (bytesH n F A B r ++ rest) (inputH n A B x (number r (λ t. bit (tableIn (firstCells n F A B r) t) (gather n (readsD A B) x))))
+  unfolding bytesH at outputs
   pair-works =
       pair-gives n F A B x below
-      ∙ ap (λ (c : ℕ). bitH n F A B (inputH n A B x c)) (sym bit-D)
-      ∙ sym (table-of (inputsH n F A B 1) (bitH n F A B) at at-lt)
-      ∙ ap (λ (b : ℕ). bit b (at % 8)) (sym (List·getD-append (bytesH n F A B 1) rest 0 (at / 8)
-      (omega (arith, at-lt, length-table (inputsH n F A B 1) (bitH n F A B), length-holds (inputsH n F A B 1)))))
+      ∙ ap (λ (c : ℕ). bitH n F A B (inputH n A B x c)) (sym is-code)
+      ∙ sym (table-of (inputsH n F A B r) (bitH n F A B) at at-lt)
+      ∙ ap (λ (b : ℕ). bit b (at % 8)) (sym (List·getD-append (bytesH n F A B r) rest 0 (at / 8)
+      (omega (arith, at-lt, length-table (inputsH n F A B r) (bitH n F A B), length-holds (inputsH n F A B r)))))

@@ -52,7 +52,7 @@ lentText = replicate mostText 0xAA
 -- the number, D, where it broke and how many columns there are, the room
 abbrev pub sayTry : TryOutcome → List ℕ
 sayTry o =
-    numberOf (o .answer .verdict) ∷ o .answer .d ∷ placeOf (o .answer .verdict) ∷ o .answer .columns ∷ o .room
+    numberOf (o .answer .verdict) ∷ o .answer .d .first ∷ placeOf (o .answer .verdict) ∷ o .answer .columns ∷ o .room
 
 -- the number and the masks
 abbrev pub sayFind : FindOutcome → List ℕ
@@ -80,7 +80,7 @@ sayWrite o = numberOf (o .answer .verdict) ∷ placeOf (o .answer .verdict) ∷ 
 
 -- what the definitions answer, in the first edition; what is made is for bench use
 abbrev pub answer : Question → List ℕ
-answer (trying n K A B t room) = sayTry (tryOutcome firstEdition n K A B t room)
+answer (trying n K A B t room) = sayTry (tryOutcome firstEdition n K 1 A B t room)
 answer (finding n K t) = sayFind (findOutcome firstEdition n K t lentWork)
 answer (making n K t) = sayMake (makeOutcome firstEdition 0 n K t lentSheet lentWork)
 answer (running n s x) = sayRun (runOwn firstEdition n s x)

@@ -7,7 +7,7 @@ use Rattle.pelzurivan.specs.declared.try_split.TriedC.{TriedC}
 abbrev pub triedC : TryOutcome → TriedC
 triedC o = record {
   number = numberOf (o .answer .verdict);
-  d = o .answer .d;
+  d = o .answer .d .first;
   b = placeOf (o .answer .verdict);
   columns = o .answer .columns;
 }

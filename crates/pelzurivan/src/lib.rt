@@ -2,6 +2,7 @@
 // The header is include/pelzurivan.h.
 pub mod check_sheet;
 pub mod find_best;
+pub mod find_several;
 pub mod input_times;
 pub mod load_cut;
 pub mod load_desk;
@@ -15,6 +16,7 @@ pub mod run_sheet;
 pub mod settle;
 pub mod shorter;
 pub mod slack;
+pub mod try_several;
 pub mod try_split;
 pub mod turn;
 pub mod write_formula;

@@ -27,15 +27,15 @@ pub extern "C" fn pelzurivan_try(
     room: &mut [u8],
 ) -> TriedC
     ensures { λ r. ⌜
-        (r ≡ triedC (tryOutcome firstEdition n k own shared (now (t .entry)) (now (room .entry))))
-        × (now (room .exit) ≡ tryOutcome firstEdition n k own shared (now (t .entry)) (now (room .entry)) .room)
+        (r ≡ triedC (tryOutcome firstEdition n k 1 own shared (now (t .entry)) (now (room .entry))))
+        × (now (room .exit) ≡ tryOutcome firstEdition n k 1 own shared (now (t .entry)) (now (room .entry)) .room)
         ⌝ }
 {
     let answer = try_split(n, k, own, shared, t, room);
     let verdict = answer.verdict;
     TriedC {
         number: number_of(verdict) as u64,
-        d: answer.d,
+        d: answer.d.first,
         b: place_of(verdict),
         columns: answer.columns as u64,
     }

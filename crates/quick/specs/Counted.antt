@@ -26,9 +26,9 @@ splitIn Few = none
 splitIn (Split own shared) = split own shared
 splitIn Nothing = none
 
--- few exactly if at most K inputs count, and then the work area is as it was; else the best split over them, and the
--- work area is zeros
-pub record FoundCounting (n K : ℕ) (t work : List ℕ) (r : Counted) (work′ : List ℕ) : Type 0 where
-  pub few : isFew r ≡ leb (size n (bit (support n (tableBit t)))) K
-  pub answer : splitIn r ≡ cond (isFew r) none (bestCounting n 1 (tableBit t) K)
-  pub left : work′ ≡ cond (isFew r) work (replicate (length work) 0)
+-- few exactly if at most K inputs count, and then the work area is as it was; else the best split with r first cells
+-- over them, and the work area is zeros
+pub record FoundCounting (n r K : ℕ) (t work : List ℕ) (f : Counted) (work′ : List ℕ) : Type 0 where
+  pub few : isFew f ≡ leb (size n (bit (support n (tableBit t)))) K
+  pub answer : splitIn f ≡ cond (isFew f) none (bestCounting n r (tableBit t) K)
+  pub left : work′ ≡ cond (isFew f) work (replicate (length work) 0)

@@ -1,5 +1,5 @@
 // The best split over the inputs that count.
-use crate::search::find;
+use crate::search::find_with;
 use best::Found;
 use bits::sets::members;
 use bits::sets::spread_out;
@@ -15,6 +15,7 @@ ghost use Rattle.bits.specs.Numbers.{bit};
 ghost use Rattle.tables.specs.Table.{mostInputs, tableLength};
 ghost use Rattle.best.specs.Answers.{answerOf};
 ghost use Rattle.best.specs.Counting.{spreadAnswer};
+ghost use Rattle.best.specs.Walk.{mostFirst};
 ghost use Rattle.quick.specs.Counted.{isFew, splitIn, FoundCounting};
 
 // What a search over the inputs that count finds: that at most k of them do; an own and a shared mask in the caller's
@@ -38,12 +39,12 @@ fn spread_back(n: u32, mask: u16, found: Found) -> Counted
     Counted::Split(a as u16, b as u16)
 }
 
-// The best split with one first cell of k inputs over the inputs that count, in a work area, which is then cleared;
+// The best split with r first cells of k inputs over the inputs that count, in a work area, which is then cleared;
 // where at most k inputs count nothing is looked for, and the work area stays.
-pub fn find_counting(t: &[u8], n: u32, k: u32, work: &mut [u8]) -> Counted
-    requires { ⌜ (length (now t) ≡ tableLength n) × (n ≤ mostInputs) × (k ≤ mostInputs)
+pub fn find_counting(t: &[u8], n: u32, r: u32, k: u32, work: &mut [u8]) -> Counted
+    requires { ⌜ (length (now t) ≡ tableLength n) × (n ≤ mostInputs) × (r ≤ mostFirst) × (k ≤ mostInputs)
         × (length (now t) ≤ length (now work)) ⌝ }
-    ensures { λ r. ⌜ FoundCounting n k (now (t .entry)) (now (work .entry)) r (now (work .exit)) ⌝ }
+    ensures { λ f. ⌜ FoundCounting n r k (now (t .entry)) (now (work .entry)) f (now (work .exit)) ⌝ }
 {
     let mask = support_of(t, n);
     let m = members(mask);
@@ -52,7 +53,7 @@ pub fn find_counting(t: &[u8], n: u32, k: u32, work: &mut [u8]) -> Counted
     }
     set_aside(t, n, mask, work);
     let len = length_for(m);
-    let found = find(&work[..len], m, k);
+    let found = find_with(&work[..len], m, r, k);
     clear(work);
     spread_back(n, mask, found)
 }

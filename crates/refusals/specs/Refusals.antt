@@ -11,7 +11,7 @@ use Rattle.bits.specs.Numbers.{bit}
 use Rattle.bits.specs.Sets.{disjoint, size}
 use Rattle.tables.specs.Table.{mostInputs, tableLength, tableBit, spareClear}
 use Rattle.tables.specs.Counting.{support}
-use Rattle.splits.specs.Columns.{fewColumns, firstBroken}
+use Rattle.splits.specs.Columns.{mostFirst, fewColumns, firstBroken}
 use Rattle.splits.specs.Pair.{inputsH}
 use Rattle.best.specs.Search.{Answer, none, split}
 use Rattle.sheets.specs.declared.kinds.Edition.{Edition}
@@ -39,19 +39,20 @@ badTable n t = line 3 (not (eqb (length t) (tableLength n)))
 abbrev pub badSpare : ℕ → List ℕ → Line
 badSpare n t = line 4 (ltb n 3 && not (spareClear n t))
 
--- 5: A or B names a position from n up; they overlap; A below 2; A and B together above K
-abbrev pub badSets : ℕ → ℕ → ℕ → ℕ → Line
-badSets n K A B =
-    line 5 (leb (2 ^ n) A || (leb (2 ^ n) B ||
-    (not (disjoint n (bit A) (bit B)) || (ltb (size n (bit A)) 2 || ltb K (size n (bit A) + size n (bit B))))))
+-- 5: a split with r first cells: r outside 1 to 3; A or B names a position from n up; they overlap; A not above r (with
+-- one first cell, A below 2); A and B together above K
+abbrev pub badSets : ℕ → ℕ → ℕ → ℕ → ℕ → Line
+badSets n K r A B =
+    line 5 (not (leb 1 r && leb r mostFirst) || (leb (2 ^ n) A || (leb (2 ^ n) B ||
+    (not (disjoint n (bit A) (bit B)) || (leb (size n (bit A)) r || ltb K (size n (bit A) + size n (bit B)))))))
 
 -- 5: a desk above 4
 abbrev pub badDesk : ℕ → Line
 badDesk d = line 5 (ltb mostDesk d)
 
 -- 6: room for H shorter than its table
-abbrev pub shortRoom : ℕ → ℕ → ℕ → List ℕ → List ℕ → Line
-shortRoom n A B t room = line 6 (ltb (length room) (tableLength (inputsH n (tableBit t) (bit A) (bit B) 1)))
+abbrev pub shortRoom : ℕ → ℕ → ℕ → ℕ → List ℕ → List ℕ → Line
+shortRoom n r A B t room = line 6 (ltb (length room) (tableLength (inputsH n (tableBit t) (bit A) (bit B) r)))
 
 -- 6: a lent work area under 16,384 bytes
 abbrev pub shortWork : List ℕ → Line
@@ -65,10 +66,10 @@ shortSheet e sheet work = line 6 (ltb (length sheet) (e .size * mostRecords) || 
 abbrev pub nothingToSplit : ℕ → ℕ → List ℕ → Line
 nothingToSplit n K t = line 7 (leb (size n (bit (support n (tableBit t)))) K)
 
--- 8: the named split isn't possible: some b has more than two columns; the least such is named
-abbrev pub notPossible : ℕ → ℕ → ℕ → List ℕ → Line
-notPossible n A B t = naming 8 (firstBroken n (tableBit t) (bit A) (bit B) 2)
-    (not (fewColumns n (tableBit t) (bit A) (bit B) 2))
+-- 8: the named split isn't possible with r first cells: some b has more than 2 ^ r columns; the least such is named
+abbrev pub notPossible : ℕ → ℕ → ℕ → ℕ → List ℕ → Line
+notPossible n r A B t = naming 8 (firstBroken n (tableBit t) (bit A) (bit B) (2 ^ r))
+    (not (fewColumns n (tableBit t) (bit A) (bit B) (2 ^ r)))
 
 -- whether there is no split
 abbrev pub isNone : Answer → Bool

@@ -1,4 +1,4 @@
--- Try a named split: D as a number, H into a lent room.
+-- Try a named split with r first cells: their tables as numbers, H into a lent room. Document 01's call has one.
 use mathlib.Core.Bool.{cond}
 use mathlib.Core.List.{List, [], _∷_, _++_}
 use Prim.Native.Nat.{ℕ}
@@ -7,7 +7,8 @@ use lib.ListN.{length}
 use Rattle.bits.specs.Numbers.{bit}
 use Rattle.tables.specs.Table.{tableBit}
 use Rattle.splits.specs.Columns.{columns}
-use Rattle.splits.specs.Pair.{tableD, bytesH}
+use Rattle.splits.specs.Pair.{bytesH}
+use Rattle.splits.specs.Cells.{firstCells, noCells}
 use Rattle.sheets.specs.declared.kinds.Edition.{Edition}
 use Rattle.refusals.specs.declared.verdicts.Refusal.{Refusal}
 use Rattle.refusals.specs.declared.verdicts.Verdict.the-variants.{Fine, Refused}
@@ -17,12 +18,12 @@ use Rattle.refusals.specs.Lent.{into}
 use Rattle.splitting.specs.declared.try_split.TryAnswer.{TryAnswer}
 
 -- form and room: 1 to 6
-abbrev pub tryForm : Edition → ℕ → ℕ → ℕ → ℕ → List ℕ → List ℕ → List Line
-tryForm e n K A B t room = gateLines e n K t ++ (badSets n K A B ∷ shortRoom n A B t room ∷ [])
+abbrev pub tryForm : Edition → ℕ → ℕ → ℕ → ℕ → ℕ → List ℕ → List ℕ → List Line
+tryForm e n K r A B t room = gateLines e n K t ++ (badSets n K r A B ∷ shortRoom n r A B t room ∷ [])
 
 -- and 8
-abbrev pub tryLines : Edition → ℕ → ℕ → ℕ → ℕ → List ℕ → List ℕ → List Line
-tryLines e n K A B t room = tryForm e n K A B t room ++ (notPossible n A B t ∷ [])
+abbrev pub tryLines : Edition → ℕ → ℕ → ℕ → ℕ → ℕ → List ℕ → List ℕ → List Line
+tryLines e n K r A B t room = tryForm e n K r A B t room ++ (notPossible n r A B t ∷ [])
 
 -- the answer, and the room for H afterwards
 pub record TryOutcome : Type 0 where
@@ -31,24 +32,25 @@ pub record TryOutcome : Type 0 where
 
 -- after 8, how many different columns the named b has
 abbrev pub columnsNamed : ℕ → ℕ → ℕ → List ℕ → Refusal → ℕ
-columnsNamed n A B t r = cond (eqb (r .number) 8) (length (columns n (tableBit t) (bit A) (bit B) (r .place))) 0
+columnsNamed n A B t why =
+    cond (eqb (why .number) 8) (length (columns n (tableBit t) (bit A) (bit B) (why .place))) 0
 
--- done: D, and H into the room; its bytes past H's table stay
-abbrev pub tryDone : ℕ → ℕ → ℕ → List ℕ → List ℕ → TryOutcome
-tryDone n A B t room = record {
-  answer = record { verdict = Fine; d = tableD n (tableBit t) (bit A) (bit B) 0; columns = 0 };
-  room = into (bytesH n (tableBit t) (bit A) (bit B) 1) room;
+-- done: the first cells' tables, and H into the room; its bytes past H's table stay
+abbrev pub tryDone : ℕ → ℕ → ℕ → ℕ → List ℕ → List ℕ → TryOutcome
+tryDone n r A B t room = record {
+  answer = record { verdict = Fine; d = firstCells n (tableBit t) (bit A) (bit B) r; columns = 0 };
+  room = into (bytesH n (tableBit t) (bit A) (bit B) r) room;
 }
 
--- refused: D is 0, and the room is as it was lent; 8 tells where and how many
+-- refused: the tables are 0, and the room is as it was lent; 8 tells where and how many
 abbrev pub tryNot : ℕ → ℕ → ℕ → List ℕ → List ℕ → Refusal → TryOutcome
-tryNot n A B t room r = record {
-  answer = record { verdict = Refused r; d = 0; columns = columnsNamed n A B t r };
+tryNot n A B t room why = record {
+  answer = record { verdict = Refused why; d = noCells; columns = columnsNamed n A B t why };
   room = room;
 }
 
 -- what try is to return and leave, whatever is handed over
-unfoldable pub tryOutcome : Edition → ℕ → ℕ → ℕ → ℕ → List ℕ → List ℕ → TryOutcome
-tryOutcome e n K A B t room =
-    reply (verdict (tryLines e n K A B t room)) (tryDone n A B t room)
+unfoldable pub tryOutcome : Edition → ℕ → ℕ → ℕ → ℕ → ℕ → List ℕ → List ℕ → TryOutcome
+tryOutcome e n K r A B t room =
+    reply (verdict (tryLines e n K r A B t room)) (tryDone n r A B t room)
     (tryNot n A B t room)

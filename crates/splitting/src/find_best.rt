@@ -24,7 +24,7 @@ pub struct FindAnswer {
 }
 
 // Lines 1 to 4, and 6.
-fn find_form<'a>(e: Edition, n: u64, k: u64, t: &'a [u8], work: &'a [u8]) -> Verdict
+pub fn find_form<'a>(e: Edition, n: u64, k: u64, t: &'a [u8], work: &'a [u8]) -> Verdict
     ensures { λ r. ⌜ r ≡ verdict (findForm e n k (now (t .entry)) (now (work .entry))) ⌝ }
 {
     let gate = form::gate(e, n, k, t);
@@ -48,7 +48,7 @@ fn search(n: u32, k: u32, t: &[u8], work: &mut [u8]) -> FindAnswer
         (findDone (bestFor n k (now (t .entry))) (now (work .entry))) (findNot (now (work .entry)))
         ⌝ }
 {
-    let found = find_counting(t, n, k, work);
+    let found = find_counting(t, n, 1, k, work);
     match found {
         Counted::Few => FindAnswer {
             verdict: refuse(Refusal::NOTHING),

@@ -53,7 +53,7 @@ set-aside-requires : tie.Need-set-aside-requires
 set-aside-requires c κs =
     let m = c .before .before in
     let g = m .before .before .before .before in
-    (g .pre .0, g .pre .1, within m, g .pre .3)
+    (g .pre .0, g .pre .1, within m, g .pre .4)
 
 length-for-requires : tie.Need-length-for-requires
 length-for-requires c κs =
@@ -65,31 +65,32 @@ module _ (c : tie.After-length-for) where
   short : c .length-for .result ≤ length (c .before .before .before .before .before .before .before .before .before .before .args .work .now)
   short = let m = c .before .before .before .before .before .before in
       let g = m .before .before .before .before in
-      omega (arith, c .length-for .ensures, g .pre .0, g .pre .3, pow-mono {i = m .members .result - 3} {j = g .args .n - 3} (omega (arith, few m)))
+      omega (arith, c .length-for .ensures, g .pre .0, g .pre .4, pow-mono {i = m .members .result - 3} {j = g .args .n - 3} (omega (arith, few m)))
 
   -- and it lies in the work area
   fits : c .length-for .result ≤ length (c .before .before .before .set-aside .last .1 .1 .1 .0)
   fits = omega (arith, short, c .before .before .before .set-aside .kept .1 .1 .1 .0)
 
-slice-reshare-prefix-find : tie.Need-slice-reshare-prefix-find
-slice-reshare-prefix-find c = fits c
+slice-reshare-prefix-find-with : tie.Need-slice-reshare-prefix-find-with
+slice-reshare-prefix-find-with c = fits c
 
-slice-aggregate-find : tie.Need-slice-aggregate-find
-slice-aggregate-find c = let l = c .before in sym (length-take-le (l .length-for .result) (l .before .before .before .set-aside .last .1 .1 .1 .0) (fits l))
+slice-aggregate-find-with : tie.Need-slice-aggregate-find-with
+slice-aggregate-find-with c = let l = c .before in sym (length-take-le (l .length-for .result) (l .before .before .before .set-aside .last .1 .1 .1 .0) (fits l))
 
-find-requires : tie.Need-find-requires
-find-requires c κs =
+find-with-requires : tie.Need-find-with-requires
+find-with-requires c κs =
     let l = c .before in
     let m = l .before .before .before .before .before .before in
     let g = m .before .before .before .before in (
       omega (arith, few m, g .pre .1),
+      g .pre .2,
       omega (
         arith,
         length-take-le (l .length-for .result) (l .before .before .before .set-aside .last .1 .1 .1 .0) (fits l),
         l .length-for .ensures,
         length-holds (m .members .result),
       ),
-      g .pre .2,
+      g .pre .3,
     )
 
 same-length : tie.Need-same-length
@@ -111,11 +112,11 @@ returns-2 c =
     let not-few = c .spread-back .ensures .0 in
     record {
       few = not-few ∙ sym (lt-leb (size (a .n) (bit (support (a .n) F))) (a .k) (omega (arith, all m, i .if1 .left)));
-      answer = c .spread-back .ensures .1 ∙ ap (spreadAnswer (a .n) (bit S)) (f .find .ensures)
-          ∙ counting-found (a .n) (a .k) S F (s .set-aside .last .1 .1 .1 .0) (m .members .result) (l .length-for .result) (m .before .support-of .ensures)
+      answer = c .spread-back .ensures .1 ∙ ap (spreadAnswer (a .n) (bit S)) (f .find-with .ensures)
+          ∙ counting-found (a .n) (a .r) (a .k) S F (s .set-aside .last .1 .1 .1 .0) (m .members .result) (l .length-for .result) (m .before .support-of .ensures)
           (many m)
           (omega (arith, l .length-for .ensures, length-holds (m .members .result))) (s .set-aside .ensures)
-          ∙ ap (λ (t : Bool). cond t none (bestCounting (a .n) 1 F (a .k))) (sym not-few);
+          ∙ ap (λ (t : Bool). cond t none (bestCounting (a .n) (a .r) F (a .k))) (sym not-few);
       left = k .clear .ensures ∙ ap (λ (z : ℕ). replicate z 0) (s .set-aside .kept .1 .1 .1 .0)
           ∙ ap (λ (t : Bool). cond t (a .work .now) (replicate (length (a .work .now)) 0)) (sym not-few);
     }
@@ -123,5 +124,5 @@ returns-2 c =
 pub find-counting-spec : {M : Type 1} → statement M
 find-counting-spec =
     tie.close (tie.spec (λ c κs. search needs) (λ c κs. search needs) returns set-aside-requires length-for-requires
-    slice-reshare-prefix-find slice-aggregate-find find-requires (λ c κs. search needs) (λ c κs. search needs)
+    slice-reshare-prefix-find-with slice-aggregate-find-with find-with-requires (λ c κs. search needs) (λ c κs. search needs)
     same-length returns-2)

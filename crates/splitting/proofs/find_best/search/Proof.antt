@@ -22,14 +22,14 @@ abbrev answered : List ℕ → Bool → Answer → FindOutcome
 answered work few a = reply (verdict (line 7 few ∷ noneBest a ∷ [])) (findDone a work) (findNot work)
 
 -- what was found, told by its case
-told : {n K : ℕ} {t work work′ : List ℕ} {r : Counted} (s : Counted) → r ≡ s → FoundCounting n K t work r work′ → FoundCounting n K t work s work′
-told {n} {K} {t} {work} {work′} s e w = subst (λ (r : Counted). FoundCounting n K t work r work′) e w
+told : {n K : ℕ} {t work work′ : List ℕ} {r : Counted} (s : Counted) → r ≡ s → FoundCounting n 1 K t work r work′ → FoundCounting n 1 K t work s work′
+told {n} {K} {t} {work} {work′} s e w = subst (λ (r : Counted). FoundCounting n 1 K t work r work′) e w
 
 find-counting-requires : tie.Need-find-counting-requires
 find-counting-requires c κs =
     let s = c .before .before .before in
     let p = s .pre in
-    (p .2, p .0, p .1, omega (arith, p .2, p .3, half-holds (s .args .n) (p .0)))
+    (p .2, p .0, omega arith, p .1, omega (arith, p .2, p .3, half-holds (s .args .n) (p .0)))
 
 returns : tie.Need-returns
 returns c =

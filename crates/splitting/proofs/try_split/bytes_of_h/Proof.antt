@@ -21,8 +21,8 @@ returns c =
     let s = c .before .before in
     let m = c .before .members in
     let h = m .ensures (s .args .n) (s .pre .1) in (
-      c .length-for .ensures ∙ ap (λ (k : ℕ). tableLength (s .args .n + 1 - k)) h,
-      omega (arith, c .length-for .ensures, pow-mono {i = s .args .n + 1 - m .result - 3} {j = mostInputs - 3} (omega (arith, s .pre .0, s .pre .2, h))),
+      c .length-for .ensures ∙ ap (λ (k : ℕ). tableLength (s .args .n + s .args .r - k)) h,
+      omega (arith, c .length-for .ensures, pow-mono {i = s .args .n + s .args .r - m .result - 3} {j = mostInputs - 3} (omega (arith, s .pre .0, s .pre .2, h))),
     )
 
 pub bytes-of-h-spec : {M : Type 1} → statement M

@@ -1,5 +1,5 @@
 -- `try_in` meets its contract: what form and room refuse, else the fixed pair. Assumes nothing.
-use mathlib.Core.Path.{_≡_, refl, sym, ap, _∙_, subst}
+use mathlib.Core.Path.{_≡_, refl, sym, ap, ap₂, _∙_, subst}
 use mathlib.Core.Bool.{Bool, cond}
 use mathlib.Core.List.{List, [], _∷_}
 use Prim.Native.Nat.{ℕ, _+_, _-_, _≤_}
@@ -11,7 +11,9 @@ use borrow.Author.Tests.{ltb-false, ne-eqb}
 use Rattle.bits.specs.Numbers.{bit}
 use Rattle.bits.specs.Sets.{size}
 use Rattle.tables.specs.Table.{mostInputs, tableLength, tableBit}
-use Rattle.splits.specs.Columns.{columns}
+use Rattle.splits.specs.Columns.{mostFirst, columns}
+use Rattle.splits.specs.declared.pair.FirstCells.{FirstCells}
+use Rattle.splits.specs.Cells.{noCells}
 use Rattle.best.specs.Best.{Candidate}
 use Rattle.sheets.specs.declared.kinds.Edition.{Edition}
 use Rattle.sheets.specs.Edition.{largestCell}
@@ -20,51 +22,52 @@ use Rattle.refusals.specs.declared.verdicts.Verdict.{Verdict}
 use Rattle.refusals.specs.declared.verdicts.Verdict.the-variants.{Fine, Refused}
 use Rattle.refusals.specs.Lines.{verdict, reply}
 use Rattle.refusals.specs.Refusals.{badSets, shortRoom, notPossible}
+use Rattle.splitting.specs.TrySplit.{tryForm, columnsNamed, tryDone, tryNot, tryOutcome}
 use Rattle.refusals.proofs.Lines.{in-order, refused-by, left-to, another}
 use Rattle.refusals.proofs.Tests.{Sound, sound-before}
-use Rattle.splitting.specs.TrySplit.{tryForm, columnsNamed, tryDone, tryNot, tryOutcome}
-use Rattle.splitting.proofs.Sets.{candidate, carried, bytes-H}
+use Rattle.splitting.proofs.Sets.{candidate, most-first, carried, bytes-H}
 use Rattle.splitting.proofs.try_split.try_in.Statement.{statement}
 use Rattle.splitting.proofs.try_split.try_in.Tie as tie
 
 -- what form and room let through
-record Through (e : Edition) (n K A B : ℕ) (t room : List ℕ) : Type 0 where
+record Through (e : Edition) (n K r A B : ℕ) (t room : List ℕ) : Type 0 where
   gate : Sound e n K t
-  sets : Candidate n largestCell 1 A B
-  long : tableLength (n + 1 - size n (bit A)) ≤ length room
+  sets : Candidate n largestCell r A B
+  most : r ≤ mostFirst
+  long : tableLength (n + r - size n (bit A)) ≤ length room
 
-through : (e : Edition) (n K A B : ℕ) (t room : List ℕ) → e .most ≤ largestCell → verdict (tryForm e n K A B t room) ≡ Fine → Through e n K A B t room
-through e n K A B t room most h =
-    let w = in-order (tryForm e n K A B t room) h .1 .1 .1 .1 in
-    let g = sound-before e n K t (badSets n K A B ∷ shortRoom n A B t room ∷ []) _ (sym h) refl in
-    let s = candidate n K A B (w .0) largestCell (omega (arith, g .largest)) in
-    record { gate = g; sets = s; long = subst (λ (m : ℕ). m ≤ length room) (sym (bytes-H s (tableBit t))) (ltb-false (length room) _ (w .1 .0)) }
+through : (e : Edition) (n K r A B : ℕ) (t room : List ℕ) → e .most ≤ largestCell → verdict (tryForm e n K r A B t room) ≡ Fine → Through e n K r A B t room
+through e n K r A B t room most h =
+    let w = in-order (tryForm e n K r A B t room) h .1 .1 .1 .1 in
+    let g = sound-before e n K t (badSets n K r A B ∷ shortRoom n r A B t room ∷ []) _ (sym h) refl in
+    let s = candidate n K r A B (w .0) largestCell (omega (arith, g .largest)) in
+    record { gate = g; sets = s; most = most-first n K r A B (w .0); long = subst (λ (m : ℕ). m ≤ length room) (sym (bytes-H s (tableBit t))) (ltb-false (length room) _ (w .1 .0)) }
 
 -- no line of form and room is 8, so no columns are counted
-no-columns : (e : Edition) (n K A B : ℕ) (t room : List ℕ) (r : Refusal) → verdict (tryForm e n K A B t room) ≡ Refused r → columnsNamed n A B t r ≡ 0
-no-columns e n K A B t room r h =
-    ap (λ (b : Bool). cond b (length (columns n (tableBit t) (bit A) (bit B) (r .place))) 0)
-    (ne-eqb (r .number) 8 (another (tryForm e n K A B t room) 8 r refl h))
+no-columns : (e : Edition) (n K r A B : ℕ) (t room : List ℕ) (why : Refusal) → verdict (tryForm e n K r A B t room) ≡ Refused why → columnsNamed n A B t why ≡ 0
+no-columns e n K r A B t room why h =
+    ap (λ (b : Bool). cond b (length (columns n (tableBit t) (bit A) (bit B) (why .place))) 0)
+    (ne-eqb (why .number) 8 (another (tryForm e n K r A B t room) 8 why refl h))
 
 returns : tie.Need-returns
 unfolding tryOutcome
 returns c =
-    let f = c .before .before in
+    let f = c .before .before .before in
     let a = f .before .before .before .before .args in
-    let r = c .enum-told2 .given .0 .0 in
-    let e = c .enum-told2 .given .1 in
-    ap (λ (v : Verdict). record { answer = record { verdict = v; d = 0; columns = 0 }; room = a .room .now }) e
-    ∙ ap (λ (k : ℕ). record { answer = record { verdict = Refused r; d = 0; columns = k }; room = a .room .now })
-    (sym (no-columns (a .e) (a .n) (a .k) (a .own) (a .shared) (a .t .now) (a .room .now) r (sym (f .try-form .ensures) ∙ e)))
-    ∙ refused-by (tryForm (a .e) (a .n) (a .k) (a .own) (a .shared) (a .t .now) (a .room .now)) (notPossible (a .n) (a .own) (a .shared) (a .t .now) ∷ [])
-    (tryDone (a .n) (a .own) (a .shared) (a .t .now) (a .room .now)) (tryNot (a .n) (a .own) (a .shared) (a .t .now) (a .room .now)) (f .try-form .result) r (f .try-form .ensures) e
+    let r = c .before .enum-told2 .given .0 .0 in
+    let e = c .before .enum-told2 .given .1 in
+    ap₂ (λ (v : Verdict) (d : FirstCells). record { answer = record { verdict = v; d = d; columns = 0 }; room = a .room .now }) e (c .none .ensures)
+    ∙ ap (λ (k : ℕ). record { answer = record { verdict = Refused r; d = noCells; columns = k }; room = a .room .now })
+    (sym (no-columns (a .e) (a .n) (a .k) (a .r) (a .own) (a .shared) (a .t .now) (a .room .now) r (sym (f .try-form .ensures) ∙ e)))
+    ∙ refused-by (tryForm (a .e) (a .n) (a .k) (a .r) (a .own) (a .shared) (a .t .now) (a .room .now)) (notPossible (a .n) (a .r) (a .own) (a .shared) (a .t .now) ∷ [])
+    (tryDone (a .n) (a .r) (a .own) (a .shared) (a .t .now) (a .room .now)) (tryNot (a .n) (a .own) (a .shared) (a .t .now) (a .room .now)) (f .try-form .result) r (f .try-form .ensures) e
 
 of-requires : tie.Need-of-requires
 of-requires c κs =
     let f = c .before .before in
     let s = f .before .before .before .before in
     let a = s .args in
-    let w = through (a .e) (a .n) (a .k) (a .own) (a .shared) (a .t .now) (a .room .now) (s .pre .1) (sym (f .try-form .ensures) ∙ c .enum-told .given .1) in
+    let w = through (a .e) (a .n) (a .k) (a .r) (a .own) (a .shared) (a .t .now) (a .room .now) (s .pre .1) (sym (f .try-form .ensures) ∙ c .enum-told .given .1) in
     (w .gate .most, w .sets .belowA, w .sets .belowB, w .sets .apart)
 
 cast-of-2 : tie.Need-cast-of-2
@@ -73,6 +76,14 @@ cast-of-2 c = let w = of-requires c _ in omega (arith, w .1, pow-mono {i = c .be
 cast-of-3 : tie.Need-cast-of-3
 cast-of-3 c = let w = of-requires c _ in omega (arith, w .2, pow-mono {i = c .before .before .before .before .before .before .args .n} {j = mostInputs} (w .0))
 
+cast-pair-of : tie.Need-cast-pair-of
+cast-pair-of c =
+    let i = c .before in
+    let f = i .before .before in
+    let s = f .before .before .before .before in
+    let a = s .args in
+    omega (arith, through (a .e) (a .n) (a .k) (a .r) (a .own) (a .shared) (a .t .now) (a .room .now) (s .pre .1) (sym (f .try-form .ensures) ∙ i .enum-told .given .1) .most)
+
 pair-of-requires : tie.Need-pair-of-requires
 pair-of-requires c κs =
     let o = c .before .of .ensures in
@@ -80,9 +91,9 @@ pair-of-requires c κs =
     let f = i .before .before in
     let s = f .before .before .before .before in
     let a = s .args in
-    let w = through (a .e) (a .n) (a .k) (a .own) (a .shared) (a .t .now) (a .room .now) (s .pre .1) (sym (f .try-form .ensures) ∙ i .enum-told .given .1) in (
-      (o .0, carried (λ (n A B : ℕ). Candidate n largestCell 1 A B) (sym (o .1)) (sym (o .2)) (sym (o .3)) (w .sets), w .gate .long ∙ ap tableLength (sym (o .1))),
-      carried (λ (n A B : ℕ). tableLength (n + 1 - size n (bit A)) ≤ length (a .room .now)) (sym (o .1)) (sym (o .2)) (sym (o .3)) (w .long),
+    let w = through (a .e) (a .n) (a .k) (a .r) (a .own) (a .shared) (a .t .now) (a .room .now) (s .pre .1) (sym (f .try-form .ensures) ∙ i .enum-told .given .1) in (
+      (o .0, carried (λ (n A B : ℕ). Candidate n largestCell (a .r) A B) (sym (o .1)) (sym (o .2)) (sym (o .3)) (w .sets), w .gate .long ∙ ap tableLength (sym (o .1)), w .most),
+      carried (λ (n A B : ℕ). tableLength (n + a .r - size n (bit A)) ≤ length (a .room .now)) (sym (o .1)) (sym (o .2)) (sym (o .3)) (w .long),
     )
 
 returns-2 : tie.Need-returns-2
@@ -95,14 +106,14 @@ returns-2 c =
     let a = f .before .before .before .before .args in
     carried
     (λ (n A B : ℕ).
-    record { answer = r .pair-of .result; room = r .pair-of .last .1 .1 .0 }
-    ≡ reply (verdict (notPossible n A B (a .t .now) ∷ [])) (tryDone n A B (a .t .now) (a .room .now)) (tryNot n A B (a .t .now) (a .room .now)))
+    record { answer = r .pair-of .result; room = r .pair-of .last .1 .1 .1 .0 }
+    ≡ reply (verdict (notPossible n (a .r) A B (a .t .now) ∷ [])) (tryDone n (a .r) A B (a .t .now) (a .room .now)) (tryNot n A B (a .t .now) (a .room .now)))
     (o .1) (o .2) (o .3) (r .pair-of .ensures)
-    ∙ left-to (tryForm (a .e) (a .n) (a .k) (a .own) (a .shared) (a .t .now) (a .room .now)) (notPossible (a .n) (a .own) (a .shared) (a .t .now) ∷ [])
-    (tryDone (a .n) (a .own) (a .shared) (a .t .now) (a .room .now)) (tryNot (a .n) (a .own) (a .shared) (a .t .now) (a .room .now)) (f .try-form .result) (f .try-form .ensures) (i .enum-told .given .1)
+    ∙ left-to (tryForm (a .e) (a .n) (a .k) (a .r) (a .own) (a .shared) (a .t .now) (a .room .now)) (notPossible (a .n) (a .r) (a .own) (a .shared) (a .t .now) ∷ [])
+    (tryDone (a .n) (a .r) (a .own) (a .shared) (a .t .now) (a .room .now)) (tryNot (a .n) (a .own) (a .shared) (a .t .now) (a .room .now)) (f .try-form .result) (f .try-form .ensures) (i .enum-told .given .1)
 
 pub try-in-spec : {M : Type 1} → statement M
 try-in-spec =
-    tie.close (tie.spec (λ c κs. search needs) (λ c. search needs) (λ c. search needs) (λ c. search needs) returns
-    (λ c. omega (arith, of-requires c _ .0)) cast-of-2 cast-of-3 of-requires pair-of-requires (λ c. search needs)
-    returns-2)
+    tie.close (tie.spec (λ c κs. search needs) (λ c. search needs) (λ c. search needs) (λ c κs. search needs)
+    (λ c. search needs) returns (λ c. omega (arith, of-requires c _ .0)) cast-of-2 cast-of-3 of-requires cast-pair-of
+    pair-of-requires (λ c. search needs) returns-2)

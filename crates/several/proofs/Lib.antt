@@ -1,0 +1,3 @@
+-- The laws of the best split over r.
+pub mod Best
+pub mod Choosing

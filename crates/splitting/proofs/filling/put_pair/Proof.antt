@@ -1,0 +1,70 @@
+-- `put_pair` meets its contract: the chart has room for the columns of every shared assignment. Assumes nothing.
+use mathlib.Core.Path.{_≡_, sym, subst}
+use mathlib.Core.Bool.{Bool, true}
+use mathlib.Core.List.{List}
+use Prim.Native.Nat.{ℕ, _+_, _*_, _%_, _^_, _≤_}
+use native.Mathlib.Omega.{arith}
+use lib.Pow.{pow-add, pow-mono}
+use borrow.Author.Needs.{needs}
+use Rattle.bits.specs.Numbers.{bit}
+use Rattle.bits.specs.Sets.{size}
+use Rattle.bits.proofs.Machine.{shl-one}
+use Rattle.tables.specs.Table.{tableBit}
+use Rattle.splits.specs.declared.split.Split.{Split}
+use Rattle.splits.specs.Columns.{mostFirst, fewColumns}
+use Rattle.splits.specs.Reading.{Chart, chartRoom}
+use Rattle.splits.proofs.Respect.{reads-D}
+use Rattle.best.specs.Best.{Candidate}
+use Rattle.sheets.specs.Edition.{largestCell}
+use Rattle.splitting.proofs.filling.put_pair.Statement.{statement}
+use Rattle.splitting.proofs.filling.put_pair.Tie as tie
+
+-- r and the shared inputs make fewer than the cell has
+room : {n r A B m : ℕ} → Candidate n largestCell r A B → 2 ^ r ≡ m → m * 2 ^ size n (bit B) ≤ chartRoom
+room {n} {r} {A} {B} k e =
+    subst (λ (m : ℕ). m * 2 ^ size n (bit B) ≤ chartRoom) e
+    (omega (arith, pow-add 2 r (size n (bit B)), pow-mono {i = r + size n (bit B)} {j = 7} (omega (arith, k .more, k .most))))
+
+-- the limit as the code makes it
+power : {r : ℕ} → r ≤ mostFirst → 2 ^ r ≡ 1 * 2 ^ r % 2 ^ 64
+power {r} h = sym (shl-one 64 r (omega arith))
+
+charted : {s : Split} {F : ℕ → Bool} {r : ℕ} {seen : List ℕ} → r ≤ mostFirst → Chart s F (1 * 2 ^ r % 2 ^ 64) seen → Chart s F (2 ^ r) seen
+charted {s} {F} {r} {seen} h w = subst (λ (m : ℕ). Chart s F m seen) (sym (power h)) w
+
+chart-requires : tie.Need-chart-requires
+chart-requires c κs =
+    let g = c .before .before .before .before in
+    let s = g .args .s in
+    let p = g .pre .0 in
+    let b = c .before .blank .ensures in
+    let e = power (p .3) in (
+      (p .0, omega (arith, e, pow-mono {i = g .args .r} {j = mostFirst} (p .3)), p .1),
+      (
+        (omega (arith, b .0, room (p .2) e), b .1),
+        subst (λ (m : ℕ). fewColumns (s .n) (tableBit (g .args .t .now)) (bit (s .own)) (bit (s .shared)) m ≡ true) e (g .pre .1 .1),
+      ),
+    )
+
+store-h-requires : tie.Need-store-h-requires
+store-h-requires c κs =
+    let h = c .before .before .before in
+    let g = h .before .before .before .before .before in
+    let p = g .pre .0 in
+    ((p .0, p .1, charted (p .3) (h .chart .ensures), p .3, p .4, p .5), g .pre .1 .0)
+
+first-cells-requires : tie.Need-first-cells-requires
+first-cells-requires c κs =
+    let h = c .before .before .before .before .before .before .before in
+    let g = h .before .before .before .before .before in
+    let s = g .args .s in
+    let p = g .pre .0 in (
+      (p .0, omega (arith, p .2 .most, reads-D (s .n) (bit (s .own)) (bit (s .shared)) (p .2 .apart)), p .1, p .3),
+      (charted (p .3) (h .chart .ensures), g .pre .1 .1),
+    )
+
+pub put-pair-spec : {M : Type 1} → statement M
+put-pair-spec =
+    tie.close (tie.spec (λ c κs. search needs) (λ c. search needs) (λ c. search needs) chart-requires
+    (λ c. search needs) store-h-requires (λ c. search needs) first-cells-requires (λ c. search needs)
+    (λ c. (c .first-cells .ensures, c .before .before .before .before .store-h .ensures)))
