@@ -3,6 +3,7 @@
 pub mod check;
 pub mod cut_load;
 pub mod find;
+pub mod find_several;
 pub mod load;
 pub mod look_up;
 pub mod make;
@@ -15,6 +16,7 @@ pub mod run_desk;
 pub mod settle;
 pub mod shorter;
 pub mod slack;
+pub mod try_several;
 pub mod try_split;
 pub mod turn;
 pub mod write_formula;
@@ -39,6 +41,8 @@ pub static TABLE: &[&Call] = &[
     &load::CALL,
     &run_desk::CALL,
     &cut_load::CALL,
+    &try_several::CALL,
+    &find_several::CALL,
     &one_store::CALL,
     &turn::CALL,
     &look_up::CALL,
