@@ -1,24 +1,21 @@
--- What reading a text once says of it, and the words of its table. Assumes nothing.
+-- What reading a text once says of it, and the stretches of its values. Assumes nothing.
 use mathlib.Core.Path.{_≡_, refl, sym, ap, _∙_, subst}
-use mathlib.Core.Bool.{Bool, true, false, cond, _&&_}
+use mathlib.Core.Bool.{Bool, true, false, cond}
 use mathlib.Core.List.{List, [], _∷_}
 use Prim.Native.Nat.{ℕ, _+_, _*_, _^_, _<_, _≤_}
 use native.Mathlib.Omega.{arith}
-use lib.Dec.{eqb, ltb}
+use lib.Dec.{eqb}
 use lib.ListN.{length}
 use borrow.Author.Tests.{eq-eqb, ne-eqb}
-use Rattle.bits.specs.Numbers.{bit, number}
-use Rattle.bits.proofs.Numbers.{bit-number}
-use Rattle.tables.specs.Words.{gateWord}
-use Rattle.runs.proofs.Choosing.{first-of}
 use Rattle.refusals.specs.declared.verdicts.Verdict.the-variants.{Fine, Refused}
 use Rattle.refusals.specs.Lines.{refusal, naming, verdict}
+use Rattle.formulas.specs.declared.stretches.Stretch.{Stretch}
 use Rattle.formulas.specs.declared.reading.Found.{Found}
-use Rattle.formulas.specs.declared.reading.Found.the-variants.{Word, Stuck}
+use Rattle.formulas.specs.declared.reading.Found.the-variants.{Read, Stuck}
 use Rattle.formulas.specs.Formula.{Formula, value}
 use Rattle.formulas.specs.Text.{byteAt, mostText, mostLevels}
 use Rattle.formulas.specs.Reading.{Reading, upTo, stuck, reads, Answer, formula, refused, ended, textOf, valueIn, Told, enough}
-use Rattle.formulas.specs.Words.{wordOf, foundOf, Gives}
+use Rattle.formulas.specs.Words.{stretchOf, foundOf, Gives}
 use Rattle.formulas.specs.Refusals.{isRefused, placeIn, badText}
 use Rattle.formulas.proofs.Steps.{Run, runs}
 use Rattle.formulas.proofs.Place.{told, whole-run, text-of, short-text}
@@ -55,47 +52,39 @@ module _ (n : ℕ) (s : List ℕ) (h : length s ≤ mostText) where
   pub text-bad : {r : Found} {p w : ℕ} → r ≡ Stuck p → Gives s n 3 mostLevels 0 w r → textOf n s ≡ refused p
   text-bad e g = text-to (runs (byteAt s) n (read-no e g enough (omega arith)))
 
-  pub text-left : {r : Found} {v q w : ℕ} → r ≡ Word v q → Gives s n 3 mostLevels 0 w r → q < length s → textOf n s ≡ refused q
+  pub text-left : {r : Found} {v : Stretch} {q w : ℕ} → r ≡ Read v q → Gives s n 3 mostLevels 0 w r → q < length s → textOf n s ≡ refused q
   text-left {r} {v} {q} {w} e g l = go (read-value e g enough (omega arith))
     where
-      go : (F : Formula) × Run (byteAt s) n enough 3 mostLevels 0 (upTo F q) × (v ≡ wordOf F w) → textOf n s ≡ refused q
+      go : (F : Formula) × Run (byteAt s) n enough 3 mostLevels 0 (upTo F q) × (v ≡ stretchOf (value F) w) → textOf n s ≡ refused q
       go x = text-to (runs (byteAt s) n (x .1)) ∙ ap (λ (t : Bool). cond t (formula (x .0)) (refused q)) (ne-eqb q (length s) (λ z. omega arith))
 
-  pub text-good : {r : Found} {v q w : ℕ} → r ≡ Word v q → Gives s n 3 mostLevels 0 w r → length s ≤ q → Good n s
+  pub text-good : {r : Found} {v : Stretch} {q w : ℕ} → r ≡ Read v q → Gives s n 3 mostLevels 0 w r → length s ≤ q → Good n s
   text-good {r} {v} {q} {w} e g l = go (read-value e g enough (omega arith)) (ahead e g (omega arith))
     where
-      go : (F : Formula) × Run (byteAt s) n enough 3 mostLevels 0 (upTo F q) × (v ≡ wordOf F w) → (0 < q) × (q ≤ length s) → Good n s
+      go : (F : Formula) × Run (byteAt s) n enough 3 mostLevels 0 (upTo F q) × (v ≡ stretchOf (value F) w) → (0 < q) × (q ≤ length s) → Good n s
       go x y = record {
         tree = x .0;
         is = text-to (runs (byteAt s) n (x .1)) ∙ ap (λ (t : Bool). cond t (formula (x .0)) (refused q)) (eq-eqb q (length s) (omega arith));
         short = h;
       }
 
--- ---- the words of a text's table
+-- ---- the stretches of a text
 
 module _ (n : ℕ) (s : List ℕ) (g : Good n s) where
   good-reading : reads (byteAt s) n enough 3 mostLevels 0 ≡ upTo (g .tree) (length s)
   good-reading =
       runs (byteAt s) n (whole-run n s (g .tree) (subst (Told n s) (g .is) (told n s (g .short))) enough (omega (arith, g .short)))
 
-  pub word-stuck : {r : Found} {p w : ℕ} → r ≡ Stuck p → Gives s n 3 mostLevels 0 w r → ⊥
-  word-stuck e k =
+  pub stretch-stuck : {r : Found} {p w : ℕ} → r ≡ Stuck p → Gives s n 3 mostLevels 0 w r → ⊥
+  stretch-stuck e k =
       let a = sym good-reading ∙ runs (byteAt s) n (read-no e k enough (omega (arith, g .short))) in
       let z : _≡_ {A = ℕ} 0 1 = cc in omega arith
 
-  tree-word : (w : ℕ) → 64 * w < 2 ^ n
-      → number 64 (λ i. ltb i (2 ^ n) && bit (wordOf (g .tree) w) i) ≡ gateWord n (valueIn (textOf n s)) w
-  unfolding wordOf
-  tree-word w l =
-      first-of n w (wordOf (g .tree) w) (value (g .tree)) l (λ i m o. sym (bit-number 64 (λ i. value (g .tree) (64 * w + i)) i m))
-      ∙ ap (λ (a : Answer). gateWord n (valueIn a) w) (sym (g .is))
-
-  pub word-found : {r : Found} {v q w x : ℕ} → 64 * w < 2 ^ n → r ≡ Word v q → Gives s n 3 mostLevels 0 w r
-      → x ≡ number 64 (λ i. ltb i (2 ^ n) && bit v i) → x ≡ gateWord n (valueIn (textOf n s)) w
-  word-found {r} {v} {q} {w} {x} l e k f = go (read-value e k enough (omega (arith, g .short)))
+  pub stretch-found : {r : Found} {v : Stretch} {q w : ℕ} → r ≡ Read v q → Gives s n 3 mostLevels 0 w r → v ≡ stretchOf (valueIn (textOf n s)) w
+  stretch-found {r} {v} {q} {w} e k = go (read-value e k enough (omega (arith, g .short)))
     where
-      go : (F : Formula) × Run (byteAt s) n enough 3 mostLevels 0 (upTo F q) × (v ≡ wordOf F w) → x ≡ gateWord n (valueIn (textOf n s)) w
+      go : (F : Formula) × Run (byteAt s) n enough 3 mostLevels 0 (upTo F q) × (v ≡ stretchOf (value F) w) → v ≡ stretchOf (valueIn (textOf n s)) w
       go y =
           let a = sym good-reading ∙ runs (byteAt s) n (y .1) in
           let b : g .tree ≡ y .0 = cc in
-          f ∙ ap (λ (o : ℕ). number 64 (λ i. ltb i (2 ^ n) && bit o i)) (y .2 ∙ ap (λ (F : Formula). wordOf F w) (sym b)) ∙ tree-word w l
+          y .2 ∙ ap (λ (F : Formula). stretchOf (value F) w) (sym b) ∙ ap (λ (a : Answer). stretchOf (valueIn a) w) (sym (g .is))

@@ -1,4 +1,4 @@
--- The readers' steps, on words of 64 values: each way in which a reading goes is a way of the code. Assumes nothing.
+-- The readers' steps, on stretches of 256 values: each way in which a reading goes is a way of the code. Assumes nothing.
 use mathlib.Core.Path.{_≡_, refl, sym, ap, ap₂, _∙_, subst}
 use mathlib.Core.Bool.{Bool, true, false, cond, not}
 use mathlib.Core.List.{List}
@@ -6,64 +6,30 @@ use Prim.Native.Nat.{ℕ, zero, suc, _+_, _-_, _*_, _^_, _<_, _≤_}
 use native.Mathlib.Numerals.{add-one}
 use native.Mathlib.Omega.{arith}
 use native.Mathlib.Decide.{decLt}
-use lib.Bits.{bitAnd, bitOr, bitXor}
 use lib.Dec.{eqb}
 use lib.ListN.{length, List·getD-eq-default}
 use borrow.Author.Tests.{eq-eqb, ne-eqb, eqb-true, eqb-false}
-use Rattle.bits.specs.Numbers.{number}
-use Rattle.bits.proofs.Numbers.{none-zero}
-use Rattle.bits.proofs.Sums.{all-ones}
-use Rattle.runs.specs.Words.{inputWord}
+use Rattle.formulas.specs.declared.stretches.Stretch.{Stretch}
 use Rattle.formulas.specs.declared.reading.Found.{Found}
-use Rattle.formulas.specs.declared.reading.Found.the-variants.{Word, Stuck}
+use Rattle.formulas.specs.declared.reading.Found.the-variants.{Read, Stuck}
 use Rattle.formulas.specs.Formula.{Formula, letter, constant, negated, joined, value}
 use Rattle.formulas.specs.Text.{byteAt, mark}
 use Rattle.formulas.specs.Reading.{Kind, bang, opening, digit, input, other, kind, Reading, upTo, stuck, reads}
-use Rattle.formulas.specs.Words.{wordOf, foundOf, Gives, closedAt}
+use Rattle.formulas.specs.Words.{stretchOf, inEach, foundOf, Gives, closedAt}
 use Rattle.formulas.proofs.Steps.{Run, run, runs, r-other, r-digit, r-input, r-deep-not, r-deep-open, r-not-bad, r-not, r-open-bad, r-open-left, r-open, r-first-bad, r-last, r-next-bad, r-next}
 use Rattle.formulas.proofs.Grammar.{mark-pos, sound, spells-lt, spells-bytes}
-use Rattle.formulas.proofs.Bitwise.{number-and, number-or, number-xor, number-not}
+use Rattle.formulas.proofs.Bitwise.{not-stretch}
 
 -- ---- `)`
 
-pub closes : (s : List ℕ) (v q : ℕ) → byteAt s q ≡ 41 → Word v (q + 1) ≡ closedAt s v q
-closes s v q e = sym (ap (λ (t : Bool). cond t (Word v (q + 1)) (Stuck q)) (eq-eqb (byteAt s q) 41 e))
+pub closes : (s : List ℕ) (v : Stretch) (q : ℕ) → byteAt s q ≡ 41 → Read v (q + 1) ≡ closedAt s v q
+closes s v q e = sym (ap (λ (t : Bool). cond t (Read v (q + 1)) (Stuck q)) (eq-eqb (byteAt s q) 41 e))
 
-pub closes-not : (s : List ℕ) (v q : ℕ) → (byteAt s q ≡ 41 → ⊥) → Stuck q ≡ closedAt s v q
-closes-not s v q e = sym (ap (λ (t : Bool). cond t (Word v (q + 1)) (Stuck q)) (ne-eqb (byteAt s q) 41 e))
+pub closes-not : (s : List ℕ) (v : Stretch) (q : ℕ) → (byteAt s q ≡ 41 → ⊥) → Stuck q ≡ closedAt s v q
+closes-not s v q e = sym (ap (λ (t : Bool). cond t (Read v (q + 1)) (Stuck q)) (ne-eqb (byteAt s q) 41 e))
 
-pub closes-end : (s : List ℕ) (v q : ℕ) → length s ≤ q → Stuck q ≡ closedAt s v q
+pub closes-end : (s : List ℕ) (v : Stretch) (q : ℕ) → length s ≤ q → Stuck q ≡ closedAt s v q
 closes-end s v q h = closes-not s v q (λ e. omega (arith, e, List·getD-eq-default s 0 h))
-
--- ---- words
-
-pub and-word : (F G : Formula) (w : ℕ) → bitAnd (wordOf F w) (wordOf G w) ≡ wordOf (joined 0 F G) w
-unfolding wordOf value
-and-word F G w = number-and 64 (λ i. value F (64 * w + i)) (λ i. value G (64 * w + i))
-
-pub xor-word : (F G : Formula) (w : ℕ) → bitXor (wordOf F w) (wordOf G w) ≡ wordOf (joined 1 F G) w
-unfolding wordOf value
-xor-word F G w = number-xor 64 (λ i. value F (64 * w + i)) (λ i. value G (64 * w + i))
-
-pub or-word : (F G : Formula) (w : ℕ) → bitOr (wordOf F w) (wordOf G w) ≡ wordOf (joined 2 F G) w
-unfolding wordOf value
-or-word F G w = number-or 64 (λ i. value F (64 * w + i)) (λ i. value G (64 * w + i))
-
-pub not-word : (F : Formula) (w : ℕ) → 2 ^ 64 - 1 - wordOf F w ≡ wordOf (negated F) w
-unfolding wordOf value
-not-word F w = number-not 64 (λ i. value F (64 * w + i))
-
-pub zero-word : (w : ℕ) → 0 ≡ wordOf (constant false) w
-unfolding wordOf value
-zero-word w = sym (none-zero 64)
-
-pub one-word : (w : ℕ) → 2 ^ 64 - 1 - 0 ≡ wordOf (constant true) w
-unfolding wordOf value
-one-word w = omega (arith, all-ones 64)
-
-pub letter-word : (j w : ℕ) → inputWord j w ≡ wordOf (letter j) w
-unfolding wordOf value
-letter-word j w = refl
 
 -- ---- what an answer says of the reading
 
@@ -71,26 +37,26 @@ got-no : (i : ℕ) (g : Reading) (q : ℕ) → foundOf i g ≡ Stuck q → g ≡
 got-no i (stuck p) q e = cc
 got-no i (upTo F p) q e = cc
 
-got-value : (i : ℕ) (g : Reading) (v q : ℕ) → foundOf i g ≡ Word v q → (F : Formula) × (g ≡ upTo F q) × (v ≡ wordOf F i)
-got-value i (upTo F p) v q e = let a : p ≡ q = cc in let b : v ≡ wordOf F i = cc in (F, ap (upTo F) a, b)
+got-value : (i : ℕ) (g : Reading) (v : Stretch) (q : ℕ) → foundOf i g ≡ Read v q → (F : Formula) × (g ≡ upTo F q) × (v ≡ stretchOf (value F) i)
+got-value i (upTo F p) v q e = let a : p ≡ q = cc in let b : v ≡ stretchOf (value F) i = cc in (F, ap (upTo F) a, b)
 got-value i (stuck p) v q e = absurd (let z : _≡_ {A = ℕ} 0 1 = cc in omega arith)
 
 pub read-no : {s : List ℕ} {n k d p i : ℕ} {r : Found} {q : ℕ} → r ≡ Stuck q → Gives s n k d p i r → (m : ℕ) → 4 * (length s - p) + k < m → Run (byteAt s) n m k d p (stuck q)
 read-no {s} {n} {k} {d} {p} {i} {r} {q} e h m l =
     subst (Run (byteAt s) n m k d p) (got-no i (reads (byteAt s) n m k d p) q (sym (h .gives m l) ∙ e)) (run (byteAt s) n m k d p)
 
-pub read-value : {s : List ℕ} {n k d p i : ℕ} {r : Found} {v q : ℕ} → r ≡ Word v q → Gives s n k d p i r → (m : ℕ) → 4 * (length s - p) + k < m
-    → (F : Formula) × Run (byteAt s) n m k d p (upTo F q) × (v ≡ wordOf F i)
+pub read-value : {s : List ℕ} {n k d p i : ℕ} {r : Found} {v : Stretch} {q : ℕ} → r ≡ Read v q → Gives s n k d p i r → (m : ℕ) → 4 * (length s - p) + k < m
+    → (F : Formula) × Run (byteAt s) n m k d p (upTo F q) × (v ≡ stretchOf (value F) i)
 read-value {s} {n} {k} {d} {p} {i} {r} {v} {q} e h m l = go (got-value i (reads (byteAt s) n m k d p) v q (sym (h .gives m l) ∙ e))
   where
-    go : (F : Formula) × (reads (byteAt s) n m k d p ≡ upTo F q) × (v ≡ wordOf F i) → (F : Formula) × Run (byteAt s) n m k d p (upTo F q) × (v ≡ wordOf F i)
+    go : (F : Formula) × (reads (byteAt s) n m k d p ≡ upTo F q) × (v ≡ stretchOf (value F) i) → (F : Formula) × Run (byteAt s) n m k d p (upTo F q) × (v ≡ stretchOf (value F) i)
     go x = (x .0, subst (Run (byteAt s) n m k d p) (x .1) (run (byteAt s) n m k d p), x .2)
 
 -- it goes forward, and stays within the text
-pub ahead : {s : List ℕ} {n k d p i : ℕ} {r : Found} {v q : ℕ} → r ≡ Word v q → Gives s n k d p i r → p ≤ length s → (p < q) × (q ≤ length s)
+pub ahead : {s : List ℕ} {n k d p i : ℕ} {r : Found} {v : Stretch} {q : ℕ} → r ≡ Read v q → Gives s n k d p i r → p ≤ length s → (p < q) × (q ≤ length s)
 ahead {s} {n} {k} {d} {p} {i} {r} {v} {q} e h l = go (read-value e h (4 * (length s - p) + k + 1) (omega arith))
   where
-    go : {m : ℕ} → (F : Formula) × Run (byteAt s) n m k d p (upTo F q) × (v ≡ wordOf F i) → (p < q) × (q ≤ length s)
+    go : {m : ℕ} → (F : Formula) × Run (byteAt s) n m k d p (upTo F q) × (v ≡ stretchOf (value F) i) → (p < q) × (q ≤ length s)
     go x =
         let y = sound (byteAt s) n (x .1) in (
           spells-lt (byteAt s) n y,
@@ -120,36 +86,41 @@ module _ (s : List ℕ) (n i : ℕ) where
   pub first-bad : {k d p : ℕ} {r : Found} {q : ℕ} → r ≡ Stuck q → Gives s n k d p i r → Gives s n (suc k) d p i (Stuck q)
   first-bad {k} {d} {p} {r} {q} e h = by-run (suc k) d p (Stuck q) (λ m l. (stuck q, r-first-bad (read-no e h m (omega arith)), refl))
 
-  pub last : {k d p : ℕ} {r : Found} {v q : ℕ} → r ≡ Word v q → Gives s n k d p i r → (byteAt s q ≡ mark k → ⊥) → Gives s n (suc k) d p i (Word v q)
-  last {k} {d} {p} {r} {v} {q} e h x = by-run (suc k) d p (Word v q) (λ m l. go m (read-value e h m (omega arith)))
+  pub last : {k d p : ℕ} {r : Found} {v : Stretch} {q : ℕ} → r ≡ Read v q → Gives s n k d p i r → (byteAt s q ≡ mark k → ⊥) → Gives s n (suc k) d p i (Read v q)
+  last {k} {d} {p} {r} {v} {q} e h x = by-run (suc k) d p (Read v q) (λ m l. go m (read-value e h m (omega arith)))
     where
-      go : (m : ℕ) → (F : Formula) × Run (byteAt s) n m k d p (upTo F q) × (v ≡ wordOf F i)
-          → (g : Reading) × Run (byteAt s) n (suc m) (suc k) d p g × (Word v q ≡ foundOf i g)
-      go m y = (upTo (y .0) q, r-last (y .1) x, ap (λ (w : ℕ). Word w q) (y .2))
+      go : (m : ℕ) → (F : Formula) × Run (byteAt s) n m k d p (upTo F q) × (v ≡ stretchOf (value F) i)
+          → (g : Reading) × Run (byteAt s) n (suc m) (suc k) d p g × (Read v q ≡ foundOf i g)
+      go m y = (upTo (y .0) q, r-last (y .1) x, ap (λ (w : Stretch). Read w q) (y .2))
 
-  pub last-end : {k d p : ℕ} {r : Found} {v q : ℕ} → r ≡ Word v q → Gives s n k d p i r → length s ≤ q → Gives s n (suc k) d p i (Word v q)
+  pub last-end : {k d p : ℕ} {r : Found} {v : Stretch} {q : ℕ} → r ≡ Read v q → Gives s n k d p i r → length s ≤ q → Gives s n (suc k) d p i (Read v q)
   last-end {k} e h l = last e h (λ f. omega (arith, mark-pos k, f, List·getD-eq-default s 0 l))
 
-  pub next-bad : {k d p : ℕ} {r r′ : Found} {v q x : ℕ} → r ≡ Word v q → Gives s n k d p i r → p ≤ length s → byteAt s q ≡ mark k
+  pub next-bad : {k d p : ℕ} {r r′ : Found} {v : Stretch} {q x : ℕ} → r ≡ Read v q → Gives s n k d p i r → p ≤ length s → byteAt s q ≡ mark k
       → r′ ≡ Stuck x → Gives s n (suc k) d (q + 1) i r′ → Gives s n (suc k) d p i (Stuck x)
   next-bad {k} {d} {p} {r} {r′} {v} {q} {x} e h b a f j =
       by-run (suc k) d p (Stuck x) (λ m l. (let y = ahead e h b in go m (read-value e h m (omega arith)) (read-no f (subst (λ (z : ℕ). Gives s n (suc k) d z i r′) (add-one q) j) m (omega arith))))
     where
-      go : (m : ℕ) → (F : Formula) × Run (byteAt s) n m k d p (upTo F q) × (v ≡ wordOf F i) → Run (byteAt s) n m (suc k) d (suc q) (stuck x)
+      go : (m : ℕ) → (F : Formula) × Run (byteAt s) n m k d p (upTo F q) × (v ≡ stretchOf (value F) i) → Run (byteAt s) n m (suc k) d (suc q) (stuck x)
           → (g : Reading) × Run (byteAt s) n (suc m) (suc k) d p g × (Stuck x ≡ foundOf i g)
       go m y z = (stuck x, r-next-bad (y .0) (y .1) a z, refl)
 
-  pub next : {k d p : ℕ} {r r′ : Found} {v w q x : ℕ} → (op : ℕ → ℕ → ℕ) → ((F G : Formula) → op (wordOf F i) (wordOf G i) ≡ wordOf (joined k F G) i)
-      → r ≡ Word v q → Gives s n k d p i r → p ≤ length s → byteAt s q ≡ mark k
-      → r′ ≡ Word w x → Gives s n (suc k) d (q + 1) i r′ → Gives s n (suc k) d p i (Word (op v w) x)
-  next {k} {d} {p} {r} {r′} {v} {w} {q} {x} op u e h b a f j =
-      by-run (suc k) d p (Word (op v w) x)
+  pub next : {k d p : ℕ} {r r′ : Found} {v w z : Stretch} {q x : ℕ} (op : Stretch → Stretch → Stretch)
+      → ((F G : Formula) → op (stretchOf (value F) i) (stretchOf (value G) i) ≡ stretchOf (value (joined k F G)) i)
+      → r ≡ Read v q → Gives s n k d p i r → p ≤ length s → byteAt s q ≡ mark k
+      → r′ ≡ Read w x → Gives s n (suc k) d (q + 1) i r′ → z ≡ op v w → Gives s n (suc k) d p i (Read z x)
+  next {k} {d} {p} {r} {r′} {v} {w} {z} {q} {x} op u e h b a f j c =
+      by-run (suc k) d p (Read z x)
       (λ m l. (let y = ahead e h b in go m (read-value e h m (omega arith)) (read-value f (subst (λ (z : ℕ). Gives s n (suc k) d z i r′) (add-one q) j) m (omega arith))))
     where
-      go : (m : ℕ) → (F : Formula) × Run (byteAt s) n m k d p (upTo F q) × (v ≡ wordOf F i)
-          → (G : Formula) × Run (byteAt s) n m (suc k) d (suc q) (upTo G x) × (w ≡ wordOf G i)
-          → (g : Reading) × Run (byteAt s) n (suc m) (suc k) d p g × (Word (op v w) x ≡ foundOf i g)
-      go m y z = (upTo (joined k (y .0) (z .0)) x, r-next (y .1) a (z .1), ap (λ (t : ℕ). Word t x) (ap₂ op (y .2) (z .2) ∙ u (y .0) (z .0)))
+      go : (m : ℕ) → (F : Formula) × Run (byteAt s) n m k d p (upTo F q) × (v ≡ stretchOf (value F) i)
+          → (G : Formula) × Run (byteAt s) n m (suc k) d (suc q) (upTo G x) × (w ≡ stretchOf (value G) i)
+          → (g : Reading) × Run (byteAt s) n (suc m) (suc k) d p g × (Read z x ≡ foundOf i g)
+      go m y t = (
+        upTo (joined k (y .0) (t .0)) x,
+        r-next (y .1) a (t .1),
+        ap (λ (t : Stretch). Read t x) (c ∙ ap₂ op (y .2) (t .2) ∙ u (y .0) (t .0)),
+      )
 
   -- ---- a factor
 
@@ -159,13 +130,13 @@ module _ (s : List ℕ) (n i : ℕ) where
   pub f-end : {d p : ℕ} → length s ≤ p → Gives s n 0 d p i (Stuck p)
   f-end {d} {p} h = f-other (ap (kind n) (List·getD-eq-default s 0 h))
 
-  pub f-digit : {d p v : ℕ} (t : Bool) → kind n (byteAt s p) ≡ digit t → v ≡ wordOf (constant t) i → Gives s n 0 d p i (Word v (p + 1))
+  pub f-digit : {d p : ℕ} {v : Stretch} (t : Bool) → kind n (byteAt s p) ≡ digit t → v ≡ stretchOf (value (constant t)) i → Gives s n 0 d p i (Read v (p + 1))
   f-digit {d} {p} {v} t e f =
-      by-run 0 d p (Word v (p + 1)) (λ m l. (upTo (constant t) (suc p), r-digit t e, ap₂ Word f (add-one p)))
+      by-run 0 d p (Read v (p + 1)) (λ m l. (upTo (constant t) (suc p), r-digit t e, ap₂ Read f (add-one p)))
 
-  pub f-input : {d p v : ℕ} (j : ℕ) → kind n (byteAt s p) ≡ input j → v ≡ wordOf (letter j) i → Gives s n 0 d p i (Word v (p + 1))
+  pub f-input : {d p : ℕ} {v : Stretch} (j : ℕ) → kind n (byteAt s p) ≡ input j → v ≡ stretchOf (value (letter j)) i → Gives s n 0 d p i (Read v (p + 1))
   f-input {d} {p} {v} j e f =
-      by-run 0 d p (Word v (p + 1)) (λ m l. (upTo (letter j) (suc p), r-input j e, ap₂ Word f (add-one p)))
+      by-run 0 d p (Read v (p + 1)) (λ m l. (upTo (letter j) (suc p), r-input j e, ap₂ Read f (add-one p)))
 
   f-deep : {p : ℕ} (d : ℕ) → d ≡ 0 → Gives s n 0 0 p i (Stuck p) → Gives s n 0 d p i (Stuck p)
   f-deep {p} d e h = subst (λ (x : ℕ). Gives s n 0 x p i (Stuck p)) (sym e) h
@@ -187,20 +158,24 @@ module _ (s : List ℕ) (n i : ℕ) where
       go zero b h = absurd (b refl)
       go (suc d) b h = by-run 0 (suc d) p (Stuck q) (λ m y. (stuck q, r-not-bad a (read-no e (down 0 d h) m (omega arith)), refl))
 
-  pub f-not : {d p v q : ℕ} {r : Found} → kind n (byteAt s p) ≡ bang → (d ≡ 0 → ⊥) → p < length s → r ≡ Word v q → Gives s n 0 (d - 1) (p + 1) i r
-      → Gives s n 0 d p i (Word (2 ^ 64 - 1 - v) q)
-  f-not {d} {p} {v} {q} {r} a b l e h = go d b (subst (λ (z : ℕ). Gives s n 0 (d - 1) z i r) (add-one p) h)
+  pub f-not : {d p q : ℕ} {v z : Stretch} {r : Found} → kind n (byteAt s p) ≡ bang → (d ≡ 0 → ⊥) → p < length s → r ≡ Read v q → Gives s n 0 (d - 1) (p + 1) i r
+      → z ≡ inEach (λ x. 2 ^ 64 - 1 - x) v → Gives s n 0 d p i (Read z q)
+  f-not {d} {p} {q} {v} {z} {r} a b l e h c = go d b (subst (λ (x : ℕ). Gives s n 0 (d - 1) x i r) (add-one p) h)
     where
       down : (k d : ℕ) → Gives s n k (suc d - 1) (suc p) i r → Gives s n k d (suc p) i r
       down k d h = subst (λ (x : ℕ). Gives s n k x (suc p) i r) (one-less d) h
 
-      on : (m d : ℕ) → (F : Formula) × Run (byteAt s) n m 0 d (suc p) (upTo F q) × (v ≡ wordOf F i)
-          → (g : Reading) × Run (byteAt s) n (suc m) 0 (suc d) p g × (Word (2 ^ 64 - 1 - v) q ≡ foundOf i g)
-      on m d y = (upTo (negated (y .0)) q, r-not a (y .1), ap (λ (t : ℕ). Word t q) (ap (λ (t : ℕ). 2 ^ 64 - 1 - t) (y .2) ∙ not-word (y .0) i))
+      on : (m d : ℕ) → (F : Formula) × Run (byteAt s) n m 0 d (suc p) (upTo F q) × (v ≡ stretchOf (value F) i)
+          → (g : Reading) × Run (byteAt s) n (suc m) 0 (suc d) p g × (Read z q ≡ foundOf i g)
+      on m d y = (
+        upTo (negated (y .0)) q,
+        r-not a (y .1),
+        ap (λ (t : Stretch). Read t q) (c ∙ ap (inEach (λ x. 2 ^ 64 - 1 - x)) (y .2) ∙ not-stretch (y .0) i),
+      )
 
-      go : (d : ℕ) → (d ≡ 0 → ⊥) → Gives s n 0 (d - 1) (suc p) i r → Gives s n 0 d p i (Word (2 ^ 64 - 1 - v) q)
+      go : (d : ℕ) → (d ≡ 0 → ⊥) → Gives s n 0 (d - 1) (suc p) i r → Gives s n 0 d p i (Read z q)
       go zero b h = absurd (b refl)
-      go (suc d) b h = by-run 0 (suc d) p (Word (2 ^ 64 - 1 - v) q) (λ m y. on m d (read-value e (down 0 d h) m (omega arith)))
+      go (suc d) b h = by-run 0 (suc d) p (Read z q) (λ m y. on m d (read-value e (down 0 d h) m (omega arith)))
 
   pub f-open-bad : {d p q : ℕ} {r : Found} → kind n (byteAt s p) ≡ opening → (d ≡ 0 → ⊥) → p < length s → r ≡ Stuck q → Gives s n 3 (d - 1) (p + 1) i r → Gives s n 0 d p i (Stuck q)
   f-open-bad {d} {p} {q} {r} a b l e h = go d b (subst (λ (z : ℕ). Gives s n 3 (d - 1) z i r) (add-one p) h)
@@ -212,14 +187,14 @@ module _ (s : List ℕ) (n i : ℕ) where
       go zero b h = absurd (b refl)
       go (suc d) b h = by-run 0 (suc d) p (Stuck q) (λ m y. (stuck q, r-open-bad a (read-no e (down 3 d h) m (omega arith)), refl))
 
-  pub f-open-left : {d p v q : ℕ} {r : Found} → kind n (byteAt s p) ≡ opening → (d ≡ 0 → ⊥) → p < length s → r ≡ Word v q → Gives s n 3 (d - 1) (p + 1) i r
+  pub f-open-left : {d p q : ℕ} {v : Stretch} {r : Found} → kind n (byteAt s p) ≡ opening → (d ≡ 0 → ⊥) → p < length s → r ≡ Read v q → Gives s n 3 (d - 1) (p + 1) i r
       → (byteAt s q ≡ 41 → ⊥) → Gives s n 0 d p i (Stuck q)
-  f-open-left {d} {p} {v} {q} {r} a b l e h x = go d b (subst (λ (z : ℕ). Gives s n 3 (d - 1) z i r) (add-one p) h)
+  f-open-left {d} {p} {q} {v} {r} a b l e h x = go d b (subst (λ (z : ℕ). Gives s n 3 (d - 1) z i r) (add-one p) h)
     where
       down : (k d : ℕ) → Gives s n k (suc d - 1) (suc p) i r → Gives s n k d (suc p) i r
       down k d h = subst (λ (x : ℕ). Gives s n k x (suc p) i r) (one-less d) h
 
-      on : (m d : ℕ) → (F : Formula) × Run (byteAt s) n m 3 d (suc p) (upTo F q) × (v ≡ wordOf F i)
+      on : (m d : ℕ) → (F : Formula) × Run (byteAt s) n m 3 d (suc p) (upTo F q) × (v ≡ stretchOf (value F) i)
           → (g : Reading) × Run (byteAt s) n (suc m) 0 (suc d) p g × (Stuck q ≡ foundOf i g)
       on m d y = (stuck q, r-open-left (y .0) a (y .1) x, refl)
 
@@ -227,26 +202,26 @@ module _ (s : List ℕ) (n i : ℕ) where
       go zero b h = absurd (b refl)
       go (suc d) b h = by-run 0 (suc d) p (Stuck q) (λ m y. on m d (read-value e (down 3 d h) m (omega arith)))
 
-  pub f-open : {d p v q : ℕ} {r : Found} → kind n (byteAt s p) ≡ opening → (d ≡ 0 → ⊥) → p < length s → r ≡ Word v q → Gives s n 3 (d - 1) (p + 1) i r
-      → byteAt s q ≡ 41 → Gives s n 0 d p i (Word v (q + 1))
-  f-open {d} {p} {v} {q} {r} a b l e h x = go d b (subst (λ (z : ℕ). Gives s n 3 (d - 1) z i r) (add-one p) h)
+  pub f-open : {d p q : ℕ} {v : Stretch} {r : Found} → kind n (byteAt s p) ≡ opening → (d ≡ 0 → ⊥) → p < length s → r ≡ Read v q → Gives s n 3 (d - 1) (p + 1) i r
+      → byteAt s q ≡ 41 → Gives s n 0 d p i (Read v (q + 1))
+  f-open {d} {p} {q} {v} {r} a b l e h x = go d b (subst (λ (z : ℕ). Gives s n 3 (d - 1) z i r) (add-one p) h)
     where
       down : (k d : ℕ) → Gives s n k (suc d - 1) (suc p) i r → Gives s n k d (suc p) i r
       down k d h = subst (λ (x : ℕ). Gives s n k x (suc p) i r) (one-less d) h
 
-      on : (m d : ℕ) → (F : Formula) × Run (byteAt s) n m 3 d (suc p) (upTo F q) × (v ≡ wordOf F i)
-          → (g : Reading) × Run (byteAt s) n (suc m) 0 (suc d) p g × (Word v (q + 1) ≡ foundOf i g)
-      on m d y = (upTo (y .0) (suc q), r-open a (y .1) x, ap₂ Word (y .2) (add-one q))
+      on : (m d : ℕ) → (F : Formula) × Run (byteAt s) n m 3 d (suc p) (upTo F q) × (v ≡ stretchOf (value F) i)
+          → (g : Reading) × Run (byteAt s) n (suc m) 0 (suc d) p g × (Read v (q + 1) ≡ foundOf i g)
+      on m d y = (upTo (y .0) (suc q), r-open a (y .1) x, ap₂ Read (y .2) (add-one q))
 
-      go : (d : ℕ) → (d ≡ 0 → ⊥) → Gives s n 3 (d - 1) (suc p) i r → Gives s n 0 d p i (Word v (q + 1))
+      go : (d : ℕ) → (d ≡ 0 → ⊥) → Gives s n 3 (d - 1) (suc p) i r → Gives s n 0 d p i (Read v (q + 1))
       go zero b h = absurd (b refl)
-      go (suc d) b h = by-run 0 (suc d) p (Word v (q + 1)) (λ m y. on m d (read-value e (down 3 d h) m (omega arith)))
+      go (suc d) b h = by-run 0 (suc d) p (Read v (q + 1)) (λ m y. on m d (read-value e (down 3 d h) m (omega arith)))
 
   -- closed, or not
-  pub f-closed : {d p v q : ℕ} {r r′ : Found} → kind n (byteAt s p) ≡ opening → (d ≡ 0 → ⊥) → p < length s → r ≡ Word v q → Gives s n 3 (d - 1) (p + 1) i r
+  pub f-closed : {d p q : ℕ} {v : Stretch} {r r′ : Found} → kind n (byteAt s p) ≡ opening → (d ≡ 0 → ⊥) → p < length s → r ≡ Read v q → Gives s n 3 (d - 1) (p + 1) i r
       → r′ ≡ closedAt s v q → Gives s n 0 d p i r′
-  f-closed {d} {p} {v} {q} {r} {r′} a b l e h c = subst (Gives s n 0 d p i) (sym c) (go (eqb (byteAt s q) 41) refl)
+  f-closed {d} {p} {q} {v} {r} {r′} a b l e h c = subst (Gives s n 0 d p i) (sym c) (go (eqb (byteAt s q) 41) refl)
     where
-      go : (t : Bool) → eqb (byteAt s q) 41 ≡ t → Gives s n 0 d p i (cond t (Word v (q + 1)) (Stuck q))
+      go : (t : Bool) → eqb (byteAt s q) 41 ≡ t → Gives s n 0 d p i (cond t (Read v (q + 1)) (Stuck q))
       go true x = f-open a b l e h (eqb-true (byteAt s q) 41 x)
       go false x = f-open-left a b l e h (eqb-false (byteAt s q) 41 x)

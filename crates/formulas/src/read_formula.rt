@@ -1,6 +1,9 @@
 // Reading a formula into a table.
 use crate::reading::Found;
 use crate::reading::sum;
+use crate::stretches::Stretch;
+use crate::stretches::same;
+use crate::stretches::word_in;
 use refusals::form;
 use refusals::verdicts::Refusal;
 use refusals::verdicts::Verdict;
@@ -10,12 +13,12 @@ use runs::words::first_bits;
 ghost use mathlib.Core.Path.{_≡_};
 ghost use mathlib.Core.Bool.{false};
 ghost use mathlib.Core.List.{[], _∷_};
-ghost use Prim.Native.Nat.{_*_, _^_, _<_, _≤_};
+ghost use Prim.Native.Nat.{_≤_};
 ghost use lib.ListN.{length};
 ghost use Rattle.tables.specs.Table.{mostInputs, tableLength, tableOf};
-ghost use Rattle.tables.specs.Words.{gateWord};
 ghost use Rattle.refusals.specs.Lines.{verdict};
 ghost use Rattle.formulas.specs.Reading.{textOf, valueIn};
+ghost use Rattle.formulas.specs.Words.{stretchOf};
 ghost use Rattle.formulas.specs.Refusals.{badText};
 ghost use Rattle.formulas.specs.ReadFormula.{readLines, readOutcome};
 
@@ -24,7 +27,7 @@ const MOST_TEXT: usize = 1024;
 // Nesting goes to so many levels.
 const MOST_LEVELS: usize = 32;
 
-// Line 16: the text is read once, at the first 64 assignments.
+// Line 16: the text is read once, at the first stretch.
 fn look(n: u32, t: &[u8]) -> Verdict
     requires { ⌜ n ≤ mostInputs ⌝ }
     ensures { λ r. ⌜ r ≡ verdict (badText n (now (t .entry)) ∷ []) ⌝ }
@@ -37,7 +40,7 @@ fn look(n: u32, t: &[u8]) -> Verdict
         Found::Stuck(p) => {
             return refuse_at(Refusal::TEXT, p as u64);
         }
-        Found::Word(_, q) => {
+        Found::Read(_, q) => {
             if q < len {
                 return refuse_at(Refusal::TEXT, q as u64);
             }
@@ -46,17 +49,17 @@ fn look(n: u32, t: &[u8]) -> Verdict
     }
 }
 
-// Word w of the table of a text that is a formula.
-fn text_word(n: u32, t: &[u8], w: u32) -> u64
-    requires { ⌜ (n ≤ mostInputs) × (64 * w < 2 ^ n) × (badText n (now t) .holds ≡ false) ⌝ }
-    ensures { λ r. ⌜ r ≡ gateWord n (valueIn (textOf n (now (t .entry)))) w ⌝ }
+// Stretch w of the values of a text that is a formula.
+fn text_stretch(n: u32, t: &[u8], w: u32) -> Stretch
+    requires { ⌜ (n ≤ mostInputs) × (badText n (now t) .holds ≡ false) ⌝ }
+    ensures { λ r. ⌜ r ≡ stretchOf (valueIn (textOf n (now (t .entry)))) w ⌝ }
 {
     match sum(t, 0, MOST_LEVELS, n, w) {
         Found::Stuck(_) => {
-            return 0;
+            return same(0);
         }
-        Found::Word(v, _) => {
-            return first_bits(n, v);
+        Found::Read(v, _) => {
+            return v;
         }
     }
 }
@@ -68,14 +71,14 @@ fn fill(n: u32, t: &[u8], table: &mut [u8])
         ⌝ }
     ensures { λ r. ⌜ now (table .exit) ≡ tableOf n (valueIn (textOf n (now (t .entry)))) ⌝ }
 {
-    let mut o: u64 = 0;
+    let mut v = same(0);
     let mut i: usize = 0;
     while i < table.len() {
-        let j = i % 8;
-        if j == 0 {
-            o = text_word(n, t, (i / 8) as u32);
+        if i % 32 == 0 {
+            v = text_stretch(n, t, (i / 32) as u32);
         }
-        table[i] = ((o >> (8 * j)) % 256) as u8;
+        let o = first_bits(n, word_in(v, (i / 8) % 4));
+        table[i] = ((o >> (8 * (i % 8))) % 256) as u8;
         i += 1;
     }
 }

@@ -1,15 +1,21 @@
 // The readers of sum, term, part and factor, which call each other in a cycle: each call has a byte less before it, or
-// goes one step down. They work on 64 assignments at a time: bit i of a word is the value at assignment 64 w + i.
-use runs::words::input_word;
+// goes one step down. They work on a stretch of 256 assignments at a time, the one from 256 w on.
+use crate::stretches::Stretch;
+use crate::stretches::both;
+use crate::stretches::either;
+use crate::stretches::of_input;
+use crate::stretches::one_of;
+use crate::stretches::same;
+use crate::stretches::turned;
 ghost use mathlib.Core.Path.{_≡_};
 ghost use Prim.Native.Nat.{_<_, _≤_};
 ghost use lib.ListN.{length};
 ghost use Rattle.tables.specs.Table.{mostInputs};
 ghost use Rattle.formulas.specs.Words.{Gives, Single, closedAt};
 
-// What a reader found: a word of values and the place after it, or the place at which the text can't be continued.
+// What a reader found: a stretch of values and the place after it, or the place at which the text can't be continued.
 pub enum Found {
-    Word(u64, usize),
+    Read(Stretch, usize),
     Stuck(usize),
 }
 
@@ -22,20 +28,20 @@ pub fn sum(t: &[u8], at: usize, left: usize, n: u32, w: u32) -> Found
         Found::Stuck(p) => {
             return Found::Stuck(p);
         }
-        Found::Word(v, q) => {
+        Found::Read(v, q) => {
             if q < t.len() {
                 if t[q] == b'|' {
                     match sum(t, q + 1, left, n, w) {
                         Found::Stuck(p) => {
                             return Found::Stuck(p);
                         }
-                        Found::Word(x, r) => {
-                            return Found::Word(v | x, r);
+                        Found::Read(x, r) => {
+                            return Found::Read(either(v, x), r);
                         }
                     }
                 }
             }
-            return Found::Word(v, q);
+            return Found::Read(v, q);
         }
     }
 }
@@ -49,20 +55,20 @@ fn term(t: &[u8], at: usize, left: usize, n: u32, w: u32) -> Found
         Found::Stuck(p) => {
             return Found::Stuck(p);
         }
-        Found::Word(v, q) => {
+        Found::Read(v, q) => {
             if q < t.len() {
                 if t[q] == b'^' {
                     match term(t, q + 1, left, n, w) {
                         Found::Stuck(p) => {
                             return Found::Stuck(p);
                         }
-                        Found::Word(x, r) => {
-                            return Found::Word(v ^ x, r);
+                        Found::Read(x, r) => {
+                            return Found::Read(one_of(v, x), r);
                         }
                     }
                 }
             }
-            return Found::Word(v, q);
+            return Found::Read(v, q);
         }
     }
 }
@@ -76,20 +82,20 @@ fn part(t: &[u8], at: usize, left: usize, n: u32, w: u32) -> Found
         Found::Stuck(p) => {
             return Found::Stuck(p);
         }
-        Found::Word(v, q) => {
+        Found::Read(v, q) => {
             if q < t.len() {
                 if t[q] == b'&' {
                     match part(t, q + 1, left, n, w) {
                         Found::Stuck(p) => {
                             return Found::Stuck(p);
                         }
-                        Found::Word(x, r) => {
-                            return Found::Word(v & x, r);
+                        Found::Read(x, r) => {
+                            return Found::Read(both(v, x), r);
                         }
                     }
                 }
             }
-            return Found::Word(v, q);
+            return Found::Read(v, q);
         }
     }
 }
@@ -101,30 +107,29 @@ fn single(t: &[u8], at: usize, n: u32, w: u32) -> Found
 {
     let b = t[at];
     if b == b'0' {
-        return Found::Word(0, at + 1);
+        return Found::Read(same(0), at + 1);
     }
     if b == b'1' {
-        return Found::Word(!0, at + 1);
+        return Found::Read(same(!0), at + 1);
     }
     if b < b'a' {
         return Found::Stuck(at);
     }
     if b < b'a' + n as u8 {
-        let v = input_word((b - b'a') as u32, w);
-        return Found::Word(v, at + 1);
+        return Found::Read(of_input((b - b'a') as u32, w), at + 1);
     }
     Found::Stuck(at)
 }
 
-// `)` after the word v that was read up to q.
-fn closed(t: &[u8], v: u64, q: usize) -> Found
+// `)` after the values v that were read up to q.
+fn closed(t: &[u8], v: Stretch, q: usize) -> Found
     ensures { λ r. ⌜ r ≡ closedAt (now (t .entry)) v q ⌝ }
 {
     if t.len() <= q {
         return Found::Stuck(q);
     }
     if t[q] == b')' {
-        return Found::Word(v, q + 1);
+        return Found::Read(v, q + 1);
     }
     Found::Stuck(q)
 }
@@ -146,8 +151,8 @@ fn factor(t: &[u8], at: usize, left: usize, n: u32, w: u32) -> Found
             Found::Stuck(p) => {
                 return Found::Stuck(p);
             }
-            Found::Word(v, q) => {
-                return Found::Word(!v, q);
+            Found::Read(v, q) => {
+                return Found::Read(turned(v), q);
             }
         }
     }
@@ -159,7 +164,7 @@ fn factor(t: &[u8], at: usize, left: usize, n: u32, w: u32) -> Found
             Found::Stuck(p) => {
                 return Found::Stuck(p);
             }
-            Found::Word(v, q) => {
+            Found::Read(v, q) => {
                 return closed(t, v, q);
             }
         }

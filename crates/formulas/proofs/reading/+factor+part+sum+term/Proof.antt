@@ -7,7 +7,9 @@ use borrow.Author.Needs.{needs}
 use lib.ListN.{length}
 use lib.Bits.{bitAnd, bitOr, bitXor}
 use Rattle.formulas.proofs.Grammar.{kind-bang, kind-open}
-use Rattle.formulas.proofs.Words.{and-word, or-word, xor-word, ahead, first-bad, last, last-end, next-bad, next, f-end, f-deep-not, f-deep-open, f-not-bad, f-not, f-open-bad, f-closed}
+use Rattle.formulas.specs.Words.{inBoth}
+use Rattle.formulas.proofs.Bitwise.{number-and, number-or, number-xor, joined-stretch}
+use Rattle.formulas.proofs.Words.{ahead, first-bad, last, last-end, next-bad, next, f-end, f-deep-not, f-deep-open, f-not-bad, f-not, f-open-bad, f-closed}
 use borrow.Fn.Kinds.{In}
 use borrow.Fn.PlainCycle.{Measures, is, falls, and}
 use Rattle.formulas.proofs.reading.factor.Reads as factor
@@ -24,6 +26,10 @@ use Rattle.formulas.proofs.reading.term.Kinds as term-kinds
 use Rattle.formulas.proofs.reading.+factor+part+sum+term.Lts-term as term-lts
 use Rattle.formulas.proofs.reading.closed.Reads as closed-reads
 use Rattle.formulas.proofs.reading.single.Reads as single-reads
+use Rattle.formulas.proofs.stretches.turned.Reads as turned-reads
+use Rattle.formulas.proofs.stretches.both.Reads as both-reads
+use Rattle.formulas.proofs.stretches.one_of.Reads as one-of-reads
+use Rattle.formulas.proofs.stretches.either.Reads as either-reads
 use Rattle.formulas.proofs.reading.+factor+part+sum+term.{statement}
 use Rattle.formulas.proofs.reading.+factor+part+sum+term.Tie.{close}
 
@@ -68,6 +74,8 @@ abbrev factor-beside : ℕ → factor-lts.Claims
 factor-beside t = (
   factor-below t,
   factor.Post,
+  turned-reads.Asked,
+  turned-reads.Learnt,
   sum-below t,
   sum.Post,
   closed-reads.Asked,
@@ -82,13 +90,15 @@ part-beside t = (
   factor.Post,
   part-below t,
   part.Post,
+  both-reads.Asked,
+  both-reads.Learnt,
 )
 
 abbrev sum-beside : ℕ → sum-lts.Claims
-sum-beside t = (term-below t, term.Post, sum-below t, sum.Post)
+sum-beside t = (term-below t, term.Post, sum-below t, sum.Post, either-reads.Asked, either-reads.Learnt)
 
 abbrev term-beside : ℕ → term-lts.Claims
-term-beside t = (part-below t, part.Post, term-below t, term.Post)
+term-beside t = (part-below t, part.Post, term-below t, term.Post, one-of-reads.Asked, one-of-reads.Learnt)
 
 factor-returns : (t : ℕ) → factor-lts.Need-returns (factor-beside t) (factor-at t) factor.Post
 factor-returns t c = f-end _ _ _ (c .if1 .taken)
@@ -100,7 +110,7 @@ factor-returns-3 : (t : ℕ) → factor-lts.Need-returns-3 (factor-beside t) (fa
 factor-returns-3 t c = f-not-bad _ _ _ (kind-bang _ _ (c .before .before .before .before .before .if2 .taken)) (c .before .before .before .before .if3 .left) (c .before .before .before .before .before .before .before .if1 .left) (c .before .p .given .1) (c .before .before .before .factor .ensures)
 
 factor-returns-4 : (t : ℕ) → factor-lts.Need-returns-4 (factor-beside t) (factor-at t) factor.Post
-factor-returns-4 t c = f-not _ _ _ (kind-bang _ _ (c .before .before .before .before .before .if2 .taken)) (c .before .before .before .before .if3 .left) (c .before .before .before .before .before .before .before .if1 .left) (c .before .v .given .1) (c .before .before .before .factor .ensures)
+factor-returns-4 t c = f-not _ _ _ (kind-bang _ _ (c .before .before .before .before .before .before .if2 .taken)) (c .before .before .before .before .before .if3 .left) (c .before .before .before .before .before .before .before .before .if1 .left) (c .before .before .v .given .1) (c .before .before .before .before .factor .ensures) (c .turned .ensures)
 
 factor-returns-5 : (t : ℕ) → factor-lts.Need-returns-5 (factor-beside t) (factor-at t) factor.Post
 factor-returns-5 t c = f-deep-open _ _ _ (kind-open _ _ (c .before .if4 .taken)) (c .if5 .taken)
@@ -127,7 +137,7 @@ part-returns-2 : (t : ℕ) → part-lts.Need-returns-2 (part-beside t) (part-at 
 part-returns-2 t c = next-bad _ _ _ (c .before .before .before .before .before .before .before .before .v .given .1) (c .before .before .before .before .before .before .before .before .before .before .factor .ensures) (search needs) (c .before .before .before .before .if2 .taken) (c .before .p2 .given .1) (c .before .before .before .part .ensures)
 
 part-returns-3 : (t : ℕ) → part-lts.Need-returns-3 (part-beside t) (part-at t) part.Post
-part-returns-3 t c = next _ _ _ bitAnd (λ F G. and-word F G _) (c .before .before .before .before .before .before .before .before .v .given .1) (c .before .before .before .before .before .before .before .before .before .before .factor .ensures) (search needs) (c .before .before .before .before .if2 .taken) (c .before .x .given .1) (c .before .before .before .part .ensures)
+part-returns-3 t c = next _ _ _ (inBoth bitAnd) (λ F G. joined-stretch 0 bitAnd (number-and 64) F G _) (c .before .before .before .before .before .before .before .before .before .v .given .1) (c .before .before .before .before .before .before .before .before .before .before .before .factor .ensures) (search needs) (c .before .before .before .before .before .if2 .taken) (c .before .before .x .given .1) (c .before .before .before .before .part .ensures) (c .both .ensures)
 
 part-returns-4 : (t : ℕ) → part-lts.Need-returns-4 (part-beside t) (part-at t) part.Post
 part-returns-4 t c = last _ _ _ (c .before .before .before .before .v .given .1) (c .before .before .before .before .before .before .factor .ensures) (c .if2 .left)
@@ -151,7 +161,7 @@ sum-returns-2 t c = next-bad _ _ _ (c .before .before .before .before .before .b
 sum-returns-3 :
     (t : ℕ) →
     sum-lts.Need-returns-3 (sum-beside t) (sum-at t) sum.Post
-sum-returns-3 t c = next _ _ _ bitOr (λ F G. or-word F G _) (c .before .before .before .before .before .before .before .before .v .given .1) (c .before .before .before .before .before .before .before .before .before .before .term .ensures) (search needs) (c .before .before .before .before .if2 .taken) (c .before .x .given .1) (c .before .before .before .sum .ensures)
+sum-returns-3 t c = next _ _ _ (inBoth bitOr) (λ F G. joined-stretch 2 bitOr (number-or 64) F G _) (c .before .before .before .before .before .before .before .before .before .v .given .1) (c .before .before .before .before .before .before .before .before .before .before .before .term .ensures) (search needs) (c .before .before .before .before .before .if2 .taken) (c .before .before .x .given .1) (c .before .before .before .before .sum .ensures) (c .either .ensures)
 
 sum-returns-4 :
     (t : ℕ) →
@@ -175,7 +185,7 @@ term-returns-2 : (t : ℕ) → term-lts.Need-returns-2 (term-beside t) (term-at 
 term-returns-2 t c = next-bad _ _ _ (c .before .before .before .before .before .before .before .before .v .given .1) (c .before .before .before .before .before .before .before .before .before .before .part .ensures) (search needs) (c .before .before .before .before .if2 .taken) (c .before .p2 .given .1) (c .before .before .before .term .ensures)
 
 term-returns-3 : (t : ℕ) → term-lts.Need-returns-3 (term-beside t) (term-at t) term.Post
-term-returns-3 t c = next _ _ _ bitXor (λ F G. xor-word F G _) (c .before .before .before .before .before .before .before .before .v .given .1) (c .before .before .before .before .before .before .before .before .before .before .part .ensures) (search needs) (c .before .before .before .before .if2 .taken) (c .before .x .given .1) (c .before .before .before .term .ensures)
+term-returns-3 t c = next _ _ _ (inBoth bitXor) (λ F G. joined-stretch 1 bitXor (number-xor 64) F G _) (c .before .before .before .before .before .before .before .before .before .v .given .1) (c .before .before .before .before .before .before .before .before .before .before .before .part .ensures) (search needs) (c .before .before .before .before .before .if2 .taken) (c .before .before .x .given .1) (c .before .before .before .before .term .ensures) (c .one-of .ensures)
 
 term-returns-4 : (t : ℕ) → term-lts.Need-returns-4 (term-beside t) (term-at t) term.Post
 term-returns-4 t c = last _ _ _ (c .before .before .before .before .v .given .1) (c .before .before .before .before .before .before .part .ensures) (c .if2 .left)
@@ -195,6 +205,7 @@ pub +factor+part+sum+term-spec : {M : Type 1} → statement M
     (λ c. search needs)
     (factor-returns-3 t)
     (λ c. search needs)
+    (λ c κs. search needs)
     (factor-returns-4 t)
     (factor-returns-5 t)
     (λ c. search needs)
@@ -219,6 +230,7 @@ pub +factor+part+sum+term-spec : {M : Type 1} → statement M
     (λ c. search needs)
     (part-returns-2 t)
     (λ c. search needs)
+    (λ c κs. search needs)
     (part-returns-3 t)
     (part-returns-4 t)
     (part-returns-5 t))
@@ -234,6 +246,7 @@ pub +factor+part+sum+term-spec : {M : Type 1} → statement M
     (λ c. search needs)
     (sum-returns-2 t)
     (λ c. search needs)
+    (λ c κs. search needs)
     (sum-returns-3 t)
     (sum-returns-4 t)
     (sum-returns-5 t))
@@ -249,6 +262,7 @@ pub +factor+part+sum+term-spec : {M : Type 1} → statement M
     (λ c. search needs)
     (term-returns-2 t)
     (λ c. search needs)
+    (λ c κs. search needs)
     (term-returns-3 t)
     (term-returns-4 t)
     (term-returns-5 t)
