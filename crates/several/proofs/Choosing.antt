@@ -12,7 +12,7 @@ use Rattle.bits.specs.Sets.{size}
 use Rattle.tables.specs.Table.{tableBit}
 use Rattle.tables.specs.Counting.{support}
 use Rattle.splits.specs.Columns.{mostFirst}
-use Rattle.best.specs.declared.counted.Counted.{Counted}
+use Rattle.quick.specs.declared.counted.Counted.{Counted}
 use Rattle.best.specs.Search.{none, split}
 use Rattle.best.specs.Counting.{bestCounting}
 use Rattle.quick.specs.Counted.{isFew, splitIn, FoundCounting}

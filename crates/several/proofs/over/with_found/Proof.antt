@@ -1,7 +1,7 @@
 -- `with_found` meets its contract: what is no split leaves the choice. Assumes nothing.
 use mathlib.Core.Path.{sym, ap, _∙_, subst}
 use borrow.Author.Needs.{needs}
-use Rattle.best.specs.declared.counted.Counted.{Counted}
+use Rattle.quick.specs.declared.counted.Counted.{Counted}
 use Rattle.quick.specs.Counted.{splitIn}
 use Rattle.several.specs.Search.{better}
 use Rattle.several.specs.Chosen.{choiceOf, SplitBelow}
