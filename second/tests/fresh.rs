@@ -21,7 +21,10 @@ fn any_two_faults_of_a_call_meet_in_some_case() {
         // What chance draws, the plan must have too.
         let drawn: Vec<Vec<String>> = (0..100).map(|_| (call.fresh)(&mut random).tags).collect();
         let all: BTreeSet<&str> = drawn.iter().flat_map(|tags| faults(tags)).collect();
-        assert!(all.len() > 4, "{}: {all:?}", call.name);
+        // A call that takes any bytes there are has no faults.
+        if call.gives.len() > 2 {
+            assert!(all.len() > 4, "{}: {all:?}", call.name);
+        }
         for one in &all {
             for two in all.iter().filter(|two| *two != one) {
                 let met = cases.iter().any(|case| case.contains(one) && case.contains(two));

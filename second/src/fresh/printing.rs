@@ -27,14 +27,19 @@ pub fn draw(random: &mut Random, n: usize) -> Ask {
     let (cells, kind) = match random.below(6) {
         0 => (made(random, n), "made with K = 2"),
         1 => (chained(random, n), "one-input and two-input cells in a row"),
-        2 => {
+        // Where faults are planned, they are those of this call.
+        2 if random.planned.is_none() => {
             let mut ask = sheet::draw(random, n);
             ask.room = any_room(random);
             return ask;
         }
         _ => (wired(random, n), "cells that are each read once"),
     };
+    // A planned fault comes last, on a sheet that has none.
+    let planned = random.planned;
+    random.planned = planned.map(|_| [usize::MAX; 2]);
     let mut ask = sheet::draw(random, n);
+    random.planned = planned;
     ask.sheet = write_sheet(&cells);
     ask.room = any_room(random);
     ask.tags = vec![format!("sheet: {kind}")];
