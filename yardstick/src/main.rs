@@ -3,8 +3,9 @@
 //!
 //! ```text
 //! yardstick            the stored tables: ours against the two
-//! yardstick grow [S]   how each kind grows with n, as lines 'kind,k,n,tables,ours,quick,plain' in nanoseconds a table;
-//!                      plain is left out (0) where it would take more than S seconds a kind (20)
+//! yardstick grow [S [K]]  how each kind grows with n, as lines 'kind,k,n,tables,ours,quick,plain' in nanoseconds a
+//!                      table, for cells of K inputs or of 2 to 6; plain is left out (0) where it would take more than
+//!                      S seconds a kind (20)
 //! yardstick store      makes the stored tables anew, from a fixed seed
 //! yardstick plot FILE  a drawing of such lines
 //! ```
@@ -115,7 +116,7 @@ fn stored() {
 
 type Kind = fn(u32, u32, &mut Random) -> Vec<u8>;
 
-fn grow(most: f64) {
+fn grow(most: f64, cells: std::ops::RangeInclusive<u32>) {
     let kinds: [(&str, Kind, usize); 5] = [
         ("random", kinds::random, 20),
         ("near misses", kinds::near_miss, 20),
@@ -124,7 +125,7 @@ fn grow(most: f64) {
         ("few ones", kinds::sparse, 20),
     ];
     for (name, kind, count) in kinds {
-        for k in 2..=6 {
+        for k in cells.clone() {
             let mut before = 0.0;
             for n in [8, 10, 12, 14, 16] {
                 let tables = without_split(kind, n, k, count);
@@ -185,12 +186,16 @@ fn main() -> std::io::Result<()> {
     let words: Vec<String> = std::env::args().skip(1).collect();
     match words.iter().map(String::as_str).collect::<Vec<_>>()[..] {
         [] => stored(),
-        ["grow"] => grow(20.0),
-        ["grow", most] => grow(most.parse().expect("seconds")),
+        ["grow"] => grow(20.0, 2..=K),
+        ["grow", most] => grow(most.parse().expect("seconds"), 2..=K),
+        ["grow", most, k] => {
+            let k = k.parse().expect("K");
+            grow(most.parse().expect("seconds"), k..=k)
+        }
         ["store"] => store()?,
         ["plot", file] => print!("{}", plot::drawing(&std::fs::read_to_string(file)?)),
         _ => {
-            eprintln!("usage: yardstick [grow [SECONDS] | store | plot FILE]");
+            eprintln!("usage: yardstick [grow [SECONDS [K]] | store | plot FILE]");
             std::process::exit(64);
         }
     }
