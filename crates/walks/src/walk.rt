@@ -30,7 +30,7 @@ use witness::shrink::shrink;
 use witness::six::shows;
 
 // Looks for many points, told apart at two free positions, against a pair of masks, and keeps what they rule out;
-// whether that is the pair itself.
+// whether that is the pair itself. With nothing shared the test of the columns takes no longer than that.
 fn learn_many(t: &[u8], n: u32, r: u32, own: u16, shared: u16, notes: &mut [u32]) -> bool
     requires { ⌜ Known n r (now t) (now notes) ⌝ }
     requires { ⌜ (own < 2 ^ n) × (shared < 2 ^ n) × Apart n (bit own) (bit shared) ⌝ }
@@ -39,6 +39,9 @@ fn learn_many(t: &[u8], n: u32, r: u32, own: u16, shared: u16, notes: &mut [u32]
         × Known n r (now (t .entry)) (now (notes .exit))
         ⌝ }
 {
+    if shared == 0 {
+        return false;
+    }
     let both = (own as u32) | (shared as u32);
     let p = highest(own, r + 1);
     let q = two(n, p as u32, both);
