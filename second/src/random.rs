@@ -2,11 +2,13 @@
 
 pub struct Random {
     state: u64,
+    /// The faults that a question is to have, where they aren't left to chance.
+    pub planned: Option<[usize; 2]>,
 }
 
 impl Random {
     pub fn new(seed: u64) -> Random {
-        Random { state: seed }
+        Random { state: seed, planned: None }
     }
 
     /// A seed nobody chose.

@@ -3,6 +3,7 @@
 use std::collections::BTreeSet;
 
 use second::calls::TABLE;
+use second::fresh;
 use second::random::Random;
 
 /// The faults among the words that a case is counted under.
@@ -13,12 +14,16 @@ fn faults(tags: &[String]) -> BTreeSet<&str> {
 #[test]
 fn any_two_faults_of_a_call_meet_in_some_case() {
     let mut random = Random::new(31);
+    let pairs = fresh::pairs(&mut random);
     for call in TABLE {
-        let drawn: Vec<Vec<String>> = (0..3000).map(|_| (call.fresh)(&mut random).tags).collect();
-        let cases: Vec<BTreeSet<&str>> = drawn.iter().map(|tags| faults(tags)).collect();
-        let all: BTreeSet<&str> = cases.iter().flatten().copied().collect();
+        let own = pairs.iter().filter(|fresh| fresh.case.call.code == call.code);
+        let cases: Vec<BTreeSet<&str>> = own.map(|fresh| faults(&fresh.tags)).collect();
+        // What chance draws, the plan must have too.
+        let drawn: Vec<Vec<String>> = (0..100).map(|_| (call.fresh)(&mut random).tags).collect();
+        let all: BTreeSet<&str> = drawn.iter().flat_map(|tags| faults(tags)).collect();
+        assert!(all.len() > 4, "{}: {all:?}", call.name);
         for one in &all {
-            for two in &all {
+            for two in all.iter().filter(|two| *two != one) {
                 let met = cases.iter().any(|case| case.contains(one) && case.contains(two));
                 assert!(met, "{}: {one} and {two}", call.name);
             }

@@ -31,12 +31,14 @@ pub struct Fresh {
     pub tags: Vec<String>,
 }
 
-/// So many fresh cases, the calls in turn; besides, a few large ones, splits that
-/// break at a known place, tables that ignore inputs in every place, every rule
-/// of the records broken, every bit of some sheets flipped, cells that nobody
-/// reads at every place, records of other desks, cuts of a load and damaged cards.
+/// So many fresh cases, the calls in turn; besides, every two faults of a call at once,
+/// a few large ones, splits that break at a known place, tables that ignore inputs in
+/// every place, every rule of the records broken, every bit of some sheets flipped,
+/// cells that nobody reads at every place, records of other desks, cuts of a load and
+/// damaged cards.
 pub fn cases(random: &mut Random, count: usize) -> Vec<Fresh> {
     let mut list: Vec<Fresh> = (0..count).map(|i| (TABLE[i % TABLE.len()].fresh)(random)).collect();
+    list.extend(pairs(random));
     list.extend(large::cases(random));
     list.extend(breaks::cases(random));
     list.extend(ignored::cases(random));
@@ -49,6 +51,29 @@ pub fn cases(random: &mut Random, count: usize) -> Vec<Fresh> {
     for fresh in &mut list {
         fresh.tags.extend(size_tag(&fresh.case));
     }
+    list
+}
+
+/// No call has more faults than that.
+const MOST_FAULTS: usize = 12;
+
+/// For each call every two of its faults at once, so that one sees which number wins.
+pub fn pairs(random: &mut Random) -> Vec<Fresh> {
+    let mut list = Vec::new();
+    for call in TABLE {
+        for two in 1..MOST_FAULTS {
+            for one in 0..two {
+                random.planned = Some([one, two]);
+                let fresh = (call.fresh)(random);
+                let faults = fresh.tags.iter().filter(|tag| tag.starts_with("fault: "));
+                // A plan beyond the call's faults comes to fewer.
+                if faults.count() > 1 {
+                    list.extend([fresh, (call.fresh)(random)]);
+                }
+            }
+        }
+    }
+    random.planned = None;
     list
 }
 
@@ -80,21 +105,30 @@ pub type Fault<Ask> = (&'static str, fn(&mut Random, &mut Ask));
 /// No fault in so many of twelve cases, else one, now and then two or more at
 /// once (so that one sees that the lowest number wins).
 fn spoil<Ask: Tagged>(random: &mut Random, ask: &mut Ask, faults: &[Fault<Ask>], sound: usize) {
-    let plan = random.below(12);
-    if plan < sound {
-        return;
-    }
-    let (one, two) = (random.below(faults.len()), random.below(faults.len()));
     let mut names = Vec::new();
-    for (i, (name, fault)) in faults.iter().enumerate() {
-        if i == one || (plan >= 10 && i == two) || (plan == 11 && random.one_in(4)) {
-            fault(random, ask);
-            names.push(*name);
-        }
+    for at in chosen(random, faults.len(), sound) {
+        let (name, fault) = faults[at];
+        fault(random, ask);
+        names.push(name);
     }
     let tags = ask.tags();
     tags.extend(names.iter().map(|name| format!("fault: {name}")));
     if names.len() > 1 {
         tags.push("several faults at once".to_string());
     }
+}
+
+/// Which of so many faults, in their order.
+fn chosen(random: &mut Random, many: usize, sound: usize) -> Vec<usize> {
+    if let Some(planned) = random.planned {
+        return planned.into_iter().filter(|&at| at < many).collect();
+    }
+    let plan = random.below(12);
+    if plan < sound {
+        return Vec::new();
+    }
+    let (one, two) = (random.below(many), random.below(many));
+    let mut all =
+        |at: &usize| *at == one || (plan >= 10 && *at == two) || (plan == 11 && random.one_in(4));
+    (0..many).filter(|at| all(at)).collect()
 }

@@ -30,7 +30,11 @@ pub fn draw(random: &mut Random) -> Two {
     if random.coin() {
         std::mem::swap(&mut ask.sheet, &mut other.sheet);
     }
+    // Where faults are planned, those of both are numbered behind those of a sheet.
+    let planned = random.planned;
+    random.planned = planned.map(|two| two.map(|at| at.wrapping_sub(OF_A_SHEET.len())));
     super::spoil(random, &mut ask, &OF_BOTH, 9);
+    random.planned = planned;
     let Ask { n, table, sheet, mut tags, .. } = ask;
     tags.extend(other.tags);
     tags.sort();
