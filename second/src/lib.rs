@@ -12,6 +12,7 @@ pub mod network;
 pub mod printing;
 pub mod refusals;
 pub mod sets;
+pub mod several;
 pub mod split;
 pub mod table;
 pub mod text;

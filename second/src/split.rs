@@ -26,7 +26,7 @@ impl Split {
 
 /// What is left of the table when the own and the shared inputs are those of
 /// x: one bit for each assignment of the free ones.
-fn column(table: &Table, x: usize, free: &[usize]) -> Vec<bool> {
+pub fn column(table: &Table, x: usize, free: &[usize]) -> Vec<bool> {
     free.iter().map(|c| table.bits[x | c]).collect()
 }
 
@@ -55,16 +55,17 @@ pub fn possible(table: &Table, split: Split) -> bool {
     assignments(split.shared).iter().all(|&b| two_colours(table, &own, b, &free))
 }
 
-/// Where a split breaks: the least b with more than two different columns, as
-/// its members in increasing position number it, and how many it has.
+/// Where a split breaks: the least b with too many different columns (more than
+/// two, with one first cell), as its members in increasing position number it,
+/// and how many it has.
 #[derive(Clone, Copy, Debug, PartialEq, Eq)]
 pub struct Break {
     pub b: usize,
     pub columns: usize,
 }
 
-/// Collects the different columns of each b; nothing if no b breaks the split.
-pub fn first_break(table: &Table, split: Split) -> Option<Break> {
+/// Collects the different columns of each b; nothing if no b has more than `most`.
+pub fn first_break(table: &Table, split: Split, most: usize) -> Option<Break> {
     let own = assignments(split.own);
     let free = assignments(split.free(table.inputs));
     let count = |b: usize| {
@@ -72,7 +73,7 @@ pub fn first_break(table: &Table, split: Split) -> Option<Break> {
         columns.collect::<BTreeSet<_>>().len()
     };
     let counts = assignments(split.shared).into_iter().map(count);
-    counts.enumerate().map(|(b, columns)| Break { b, columns }).find(|at| at.columns > 2)
+    counts.enumerate().map(|(b, columns)| Break { b, columns }).find(|at| at.columns > most)
 }
 
 /// The one fixed pair (D, H) that document 01 names, if the split is possible.
@@ -83,7 +84,7 @@ pub fn pair(table: &Table, split: Split) -> Option<(Table, Table)> {
 /// Walks all assignments in increasing order and stops at those that are 0
 /// outside a set: they come in the order in which a table that reads the set's
 /// members in increasing position counts its entries.
-fn walk(inputs: usize, set: u16) -> impl Iterator<Item = usize> {
+pub fn walk(inputs: usize, set: u16) -> impl Iterator<Item = usize> {
     (0..1usize << inputs).filter(move |x| x & !usize::from(set) == 0)
 }
 

@@ -11,6 +11,7 @@ use second::fresh::{every_rule, networks, sheets, tables};
 use second::network::{rebuild, run};
 use second::random::Random;
 use second::sets::{all, assignments, gather, size};
+use second::several::MOST_FIRST;
 use second::split::{first_break, pair, possible, Split};
 use second::table::Table;
 
@@ -55,7 +56,7 @@ fn a_split_is_possible_exactly_if_nothing_breaks_it() {
     for i in 0..200 {
         let table = tables::KINDS[i % tables::KINDS.len()].draw(&mut random, 5).table;
         for &split in candidates(table.inputs, 4) {
-            let at = first_break(&table, split);
+            let at = first_break(&table, split, 2);
             assert_eq!(possible(&table, split), at.is_none());
             broken += usize::from(at.is_some());
         }
@@ -67,8 +68,10 @@ fn a_split_is_possible_exactly_if_nothing_breaks_it() {
 fn a_split_breaks_where_it_was_broken() {
     let mut random = Random::new(15);
     for _ in 0..5 {
-        for Broken { table, split, at } in breaks::splits(&mut random) {
-            assert_eq!(first_break(&table, split), Some(at));
+        for r in 1..=MOST_FIRST {
+            for Broken { table, split, at } in breaks::splits(&mut random, r) {
+                assert_eq!(first_break(&table, split, 1 << r), Some(at));
+            }
         }
     }
 }

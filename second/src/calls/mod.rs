@@ -3,6 +3,7 @@
 pub mod check;
 pub mod cut_load;
 pub mod find;
+pub mod find_several;
 pub mod load;
 pub mod make;
 pub mod make_for_desk;
@@ -14,6 +15,7 @@ pub mod run_desk;
 pub mod settle;
 pub mod shorter;
 pub mod slack;
+pub mod try_several;
 pub mod try_split;
 pub mod write_formula;
 
@@ -37,6 +39,8 @@ pub static TABLE: &[&Call] = &[
     &load::CALL,
     &run_desk::CALL,
     &cut_load::CALL,
+    &try_several::CALL,
+    &find_several::CALL,
     &one_store::CALL,
 ];
 

@@ -38,9 +38,9 @@ pub fn case(n: u64, k: u64, split: Split, table: Vec<u8>, room: usize) -> Case {
 }
 
 /// A refusal: its number, and where the split breaks if it is 8.
-struct No {
-    number: u8,
-    at: Break,
+pub struct No {
+    pub number: u8,
+    pub at: Break,
 }
 
 impl From<u8> for No {
@@ -66,7 +66,7 @@ fn try_split(
     if room < Table::byte_length(split.inputs_of_h(gate.inputs)) {
         return Err(NO_ROOM.into());
     }
-    match first_break(&gate, split) {
+    match first_break(&gate, split, 2) {
         Some(at) => Err(No { number: NO_SPLIT, at }),
         None => Ok(pair(&gate, split).expect("a split that nothing breaks")),
     }

@@ -21,6 +21,12 @@ pub fn desk(random: &mut Random, sound: u64) -> u64 {
     random.pick(&[5, 5, 6, 8, 128, 255, wrapped, wrapped, u64::MAX])
 }
 
+/// An r outside 1 to 3.
+pub fn first_cells(random: &mut Random, sound: u64) -> u64 {
+    let wrapped = sound + (1 << random.pick(&[8, 16, 31, 32, 63]));
+    random.pick(&[0, 0, 4, 4, 5, 8, 255, wrapped, wrapped, u64::MAX])
+}
+
 /// A length that is enough: exact, a little more, or as much as can be named.
 pub fn enough(random: &mut Random, needed: usize, most: usize) -> (usize, &'static str) {
     match random.below(20) {

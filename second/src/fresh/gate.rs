@@ -16,6 +16,8 @@ pub struct Ask {
     pub k: u64,
     /// The desk to make a sheet for.
     pub desk: u64,
+    /// How many first cells, for a call that is told.
+    pub r: u64,
     pub split: Split,
     pub table: Vec<u8>,
     /// How much room is needed, and how much is lent.
@@ -54,27 +56,34 @@ pub fn draw(random: &mut Random, cheap: bool) -> Ask {
     };
     let kind = random.pick(&KINDS);
     let drawn = kind.draw(random, n);
-    let k = suitable_cell_size(random, &drawn);
-    let split = choose_sets(random, &drawn, k);
-    let (work, work_tag) = bad::enough(random, WORK_BYTES, WORK_BUFFER);
-    let mut tags = vec![format!("table: {}", kind.name())];
+    let mut ask = about(random, &drawn, MOST_READS);
+    let work_tag = std::mem::replace(&mut ask.tags, vec![format!("table: {}", kind.name())]);
     if !cheap {
-        tags.push(format!("work area: {work_tag}"));
+        ask.tags.extend(work_tag);
     }
+    ask
+}
+
+/// A sound question about a table, for cells of at most so many places.
+pub fn about(random: &mut Random, drawn: &Drawn, places: usize) -> Ask {
+    let k = suitable_cell_size(random, drawn, places);
+    let split = choose_sets(random, drawn, k);
+    let (work, work_tag) = bad::enough(random, WORK_BYTES, WORK_BUFFER);
     let table = drawn.table.to_bytes();
     let n = drawn.table.inputs as u64;
     let desk = random.below(5) as u64;
-    Ask { n, k: k as u64, desk, split, table, needed: 0, room: 0, work, tags }
+    let tags = vec![format!("work area: {work_tag}")];
+    Ask { n, k: k as u64, desk, r: 1, split, table, needed: 0, room: 0, work, tags }
 }
 
 /// Mostly a cell size that leaves something to split, and one that suits the
 /// table if it was built for one.
-fn suitable_cell_size(random: &mut Random, drawn: &Drawn) -> usize {
+fn suitable_cell_size(random: &mut Random, drawn: &Drawn, places: usize) -> usize {
     let n = drawn.table.inputs;
     match drawn.suits {
-        Some(suits) if !random.one_in(4) => random.between(suits, MOST_READS),
-        _ if n > 2 && !random.one_in(4) => random.between(2, MOST_READS.min(n - 1)),
-        _ => random.between(2, MOST_READS),
+        Some(suits) if !random.one_in(4) => random.between(suits, places),
+        _ if n > 2 && !random.one_in(4) => random.between(2, places.min(n - 1)),
+        _ => random.between(2, places),
     }
 }
 

@@ -12,6 +12,7 @@ pub mod ignored;
 mod large;
 pub mod networks;
 pub mod printing;
+pub mod several;
 pub mod sheet;
 pub mod sheets;
 pub mod tables;
@@ -32,15 +33,16 @@ pub struct Fresh {
 }
 
 /// So many fresh cases, the calls in turn; besides, every two faults of a call at once,
-/// a few large ones, splits that break at a known place, tables that ignore inputs in
-/// every place, every rule of the records broken, every bit of some sheets flipped,
-/// cells that nobody reads at every place, records of other desks, cuts of a load and
-/// damaged cards.
+/// a few large ones, splits that break at a known place, every split of some small
+/// tables with several first cells, tables that ignore inputs in every place, every
+/// rule of the records broken, every bit of some sheets flipped, cells that nobody
+/// reads at every place, records of other desks, cuts of a load and damaged cards.
 pub fn cases(random: &mut Random, count: usize) -> Vec<Fresh> {
     let mut list: Vec<Fresh> = (0..count).map(|i| (TABLE[i % TABLE.len()].fresh)(random)).collect();
     list.extend(pairs(random));
     list.extend(large::cases(random));
     list.extend(breaks::cases(random));
+    list.extend(several::cases(random));
     list.extend(ignored::cases(random));
     list.extend(every_rule::cases(random));
     list.extend(every_bit::cases(random));

@@ -194,6 +194,24 @@ fn compose_with(
     Drawn { table, planted: Some(split), suits: Some(size(both)) }
 }
 
+/// H over the outputs of r first cells, which read own and shared inputs.
+pub fn compose_several(
+    random: &mut Random,
+    n: usize,
+    [own, shared]: [usize; 2],
+    r: usize,
+) -> Drawn {
+    let both = random.part_of(all(n), own + shared);
+    let shared = random.part_of(both, shared);
+    let split = Split { own: both & !shared, shared };
+    let rest = all(n) & !split.own;
+    let first: Vec<usize> = (0..1 << size(both)).map(|_| random.below(1 << r)).collect();
+    let h = any(random, size(rest) + r);
+    let table =
+        Table::from_rule(n, |x| h.bits[gather(x, rest) | first[gather(x, both)] << size(rest)]);
+    Drawn { table, planted: Some(split), suits: Some(size(both)) }
+}
+
 /// The table of a random chain: one composition after the other down to K inputs.
 fn chain(random: &mut Random, n: usize) -> Drawn {
     let k = random.between(2, MOST_READS);
