@@ -5,35 +5,52 @@ use super::sheets::middling;
 use super::tables::any;
 use super::Fresh;
 use crate::calls;
-use crate::cell::{LAST_DESK, MOST_RECORDS, RECORD_BYTES, UNUSED};
+use crate::cell::{Edition, FIRST, LAST_DESK, MOST_RECORDS, SECOND, UNUSED};
 use crate::random::Random;
-use crate::table::Table;
 
 /// A rule broken: what it is, the byte of the record, and the value to put there,
 /// from the record and the first signal that it may not read.
-type Break = (&'static str, fn(&[u8]) -> usize, fn(&[u8], u8) -> u8);
+type Break = (&'static str, fn(&Edition, &[u8]) -> usize, fn(&Edition, &[u8], u8) -> u8);
 
 /// For records that read 2 to 5 signals.
 const BREAKS: [Break; 15] = [
-    ("k is 0", |_| 0, |_, _| 0),
-    ("k above 6", |_| 0, |_, _| 7),
-    ("k is 255", |_| 0, |_, _| 255),
-    ("reads its own signal", last, |_, limit| limit),
-    ("reads a signal far above", last, |_, _| 200),
-    ("a used place is 255", last, |_, _| UNUSED),
-    ("a signal twice", |_| 2, |record, _| record[1]),
-    ("signals that fall", |_| 1, |record, _| record[2] + 1),
-    ("first unused place", |record| last(record) + 1, |_, _| 254),
-    ("first unused place a signal", |record| last(record) + 1, |_, limit| limit - 1),
-    ("last unused place", |_| 6, |_, _| 0),
-    ("no desk", |_| 7, |_, _| LAST_DESK + 1),
-    ("byte 7 is 255", |_| 7, |_, _| 255),
+    ("k is 0", |_, _| 0, |_, _, _| 0),
+    ("k too large", |_, _| 0, |edition, _, _| edition.most_reads as u8 + 1),
+    ("k is 255", |_, _| 0, |_, _, _| 255),
+    ("reads its own signal", |_, record| last(record), |_, _, limit| limit),
+    ("reads a signal far above", |_, record| last(record), |_, _, _| 200),
+    ("a used place is 255", |_, record| last(record), |_, _, _| UNUSED),
+    ("a signal twice", |_, _| 2, |_, record, _| record[1]),
+    ("signals that fall", |_, _| 1, |_, record, _| record[2] + 1),
+    ("first unused place", |_, record| last(record) + 1, |_, _, _| 254),
+    ("first unused place a signal", |_, record| last(record) + 1, |_, _, limit| limit - 1),
+    ("last unused place", |edition, _| edition.most_reads, |_, _, _| 0),
+    ("no desk", |edition, _| edition.desk_at, |_, _, _| LAST_DESK + 1),
+    ("desk is 255", |edition, _| edition.desk_at, |_, _, _| 255),
     (
         "first bit from 2^k up",
-        |record| 8 + spare(record) / 8,
-        |record, _| record[8 + spare(record) / 8] | 1 << (spare(record) % 8),
+        |edition, record| edition.table_at + spare(record) / 8,
+        |edition, record, _| {
+            record[edition.table_at + spare(record) / 8] | 1 << (spare(record) % 8)
+        },
     ),
-    ("last bit of the table", |_| 15, |record, _| record[15] | 128),
+    (
+        "last bit of the table",
+        |edition, _| edition.record_bytes - 1,
+        |edition, record, _| record[edition.record_bytes - 1] | 128,
+    ),
+];
+
+/// What the second edition has besides: zeros before the table, and a table of 32 bytes.
+const BREAKS_OF_THE_SECOND: [Break; 8] = [
+    ("byte 10", |_, _| 10, |_, _, _| 1),
+    ("byte 11", |_, _| 11, |_, _, _| 255),
+    ("byte 12", |_, _| 12, |_, _, _| 2),
+    ("byte 13", |_, _| 13, |_, _, _| 4),
+    ("byte 14", |_, _| 14, |_, _, _| 255),
+    ("byte 15", |_, _| 15, |_, _, _| 128),
+    ("bit 64 of the table", |_, _| 24, |_, _, _| 1),
+    ("bit 128 of the table", |_, _| 32, |_, _, _| 1),
 ];
 
 /// The place of the last signal that a record reads.
@@ -54,16 +71,17 @@ pub struct Broken {
     tags: Vec<String>,
 }
 
-pub fn sheets(random: &mut Random) -> Vec<Broken> {
+pub fn sheets(random: &mut Random, edition: &Edition) -> Vec<Broken> {
     let mut list = Vec::new();
-    for (name, byte, value) in BREAKS {
+    let more = if *edition == SECOND { &BREAKS_OF_THE_SECOND[..] } else { &[] };
+    for (name, byte, value) in BREAKS.iter().chain(more) {
         for (place, nth) in ["first", "middle", "last"].into_iter().enumerate() {
             let n = random.between(2, 8);
             let records = random.between(3, MOST_RECORDS);
             let index = [0, random.between(1, records - 2), records - 1][place];
-            let mut sheet = middling(random, n, records);
-            let record = &mut sheet[index * RECORD_BYTES..][..RECORD_BYTES];
-            record[byte(record)] = value(record, (n + index) as u8);
+            let mut sheet = middling(random, edition, n, records);
+            let record = &mut sheet[index * edition.record_bytes..][..edition.record_bytes];
+            record[byte(edition, record)] = value(edition, record, (n + index) as u8);
             let tags = vec![format!("rule broken: {name}"), format!("rule broken: {nth} record")];
             list.push(Broken { n, index, sheet, tags });
         }
@@ -74,13 +92,13 @@ pub fn sheets(random: &mut Random) -> Vec<Broken> {
 /// The calls that look at a sheet's records.
 pub fn cases(random: &mut Random) -> Vec<Fresh> {
     let mut list = Vec::new();
-    for Broken { n, sheet, tags, .. } in sheets(random) {
-        let x = random.below(1 << n) as u64;
-        let run = calls::run::case(n as u64, x, sheet.clone());
-        let rebuild = calls::rebuild::case(n as u64, sheet.clone(), Table::byte_length(n));
-        let check = calls::check::case(n as u64, any(random, n).to_bytes(), sheet);
-        let cases = [run, rebuild, check];
-        list.extend(cases.map(|case| Fresh { case, tags: tags.clone() }));
+    for edition in [&FIRST, &SECOND] {
+        for Broken { n, sheet, tags, .. } in sheets(random, edition) {
+            let x = random.below(1 << n) as u64;
+            let table = any(random, n).to_bytes();
+            let cases = calls::all_that_read(edition, [n as u64, x], &table, &sheet);
+            list.extend(cases.into_iter().map(|case| Fresh { case, tags: tags.clone() }));
+        }
     }
     list
 }

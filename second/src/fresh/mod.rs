@@ -79,12 +79,13 @@ pub fn pairs(random: &mut Random) -> Vec<Fresh> {
     list
 }
 
-/// The range in which n lies, for a call whose first field is n.
+/// The range in which n lies, for a call that is told n.
 fn size_tag(case: &Case) -> Option<String> {
-    if !matches!(case.call.asks.first(), Some(Field::Number("n", _))) {
-        return None;
-    }
-    let range = match case.numbers[0] {
+    let mut names = case.call.asks.iter().filter_map(|field| match field {
+        Field::Number(name, _) => Some(*name),
+        _ => None,
+    });
+    let range = match case.numbers[names.position(|name| name == "n")?] {
         0 => "0",
         1..=3 => "01 to 03",
         4..=8 => "04 to 08",

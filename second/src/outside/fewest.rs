@@ -2,13 +2,12 @@
 //! The sheets are then handed back to the command, which must accept each.
 
 use super::arguments::Arguments;
-use super::asking::{ask, carried_count, make_case, next_answer, nothing_left};
+use super::asking::{ask, carried_count, check_case, make_case, next_answer, nothing_left};
 use super::parallel::each_of;
 use crate::batch::case_bytes;
-use crate::calls::check;
 use crate::carry::Networks;
 use crate::case::Case;
-use crate::cell::{MOST_READS, RECORD_BYTES};
+use crate::cell::{MOST_READS, SECOND};
 use crate::describe::{answer_text, case_text, hex};
 use crate::fresh::networks;
 use crate::fresh::tables::{any, flip_bits, spread, KINDS};
@@ -91,7 +90,7 @@ fn all_tables(n: usize) -> Vec<Asked> {
 }
 
 /// Every table up to 3 inputs; samples at 4 and 5 for K up to 4, and beyond
-/// that at each n that two cells of size K can read, up to 9.
+/// that at each n that two cells of size K can read, up to 9; for K = 7 and 8 up to 10.
 fn groups(random: &mut Random, sample: usize) -> Vec<Group> {
     let mut list = Vec::new();
     for n in 1..=3 {
@@ -100,7 +99,10 @@ fn groups(random: &mut Random, sample: usize) -> Vec<Group> {
     let small = (4..=5).flat_map(|n| (2..=4).map(move |k| (n, k, sample)));
     let large = (4..=MOST_READS)
         .flat_map(|k| (6.max(k + 1)..=9.min(2 * k - 1)).map(move |n| (n, k, sample / 4)));
-    for (n, k, count) in small.chain(large) {
+    // Two cells of the second edition read more, and it takes longer to wire them.
+    let second = (MOST_READS + 1..=SECOND.most_reads)
+        .flat_map(|k| (k + 1..=10).map(move |n| (n, k, sample / 8)));
+    for (n, k, count) in small.chain(large).chain(second) {
         let tables = (0..count).map(|i| sampled(random, n, k, i)).collect();
         list.push(Group { n, k, tables });
     }
@@ -144,13 +146,13 @@ fn judge_group(group: &Group, left: &mut &[u8], sheets: &mut Vec<Case>) -> Resul
     for (asked, fewest) in group.tables.iter().zip(fewest) {
         let answer = next_answer(&make_case(group.k, &asked.table), left)?;
         let table = asked.table.to_bytes();
-        judge_one(asked, fewest, answer, &mut counts).map_err(|what| {
+        judge_one(group.k, asked, fewest, answer, &mut counts).map_err(|what| {
             let (n, k, table) = (group.n, group.k, hex(&table));
             format!("n={n} K={k} table {table}: {what}\n  make answered {}", hex(answer))
         })?;
         if answer[0] == DONE {
-            let sheet = &answer[2..][..usize::from(answer[1]) * RECORD_BYTES];
-            sheets.push(check::case(group.n as u64, table, sheet.to_vec()));
+            let count = usize::from(answer[1]);
+            sheets.push(check_case(group.k, &asked.table, count, &answer[2..]));
         }
     }
     Ok(counts)
@@ -160,6 +162,7 @@ fn judge_group(group: &Group, left: &mut &[u8], sheets: &mut Vec<Case>) -> Resul
 /// give two. Where neither do it may give three, which are then the fewest, or
 /// more, or refuse.
 fn judge_one(
+    k: usize,
     asked: &Asked,
     fewest: Option<usize>,
     answer: &[u8],
@@ -169,7 +172,7 @@ fn judge_one(
         return Err("made of two cells, and the second program itself says more".to_string());
     }
     let made = match (answer[0], answer[1] as usize) {
-        (DONE, count) => Some(carried_count(&asked.table, count, &answer[2..])?),
+        (DONE, count) => Some(carried_count(k, &asked.table, count, &answer[2..])?),
         (NO_SPLIT, 0) => None,
         (number, count) => return Err(format!("number {number}, count {count}")),
     };
