@@ -8,6 +8,7 @@ pub mod calls;
 pub mod card;
 pub mod cell;
 pub mod chain;
+pub mod least;
 pub mod network;
 pub mod printing;
 pub mod refusals;

@@ -6,6 +6,7 @@ pub mod cut_load;
 pub mod find;
 pub mod find_in;
 pub mod find_several;
+pub mod least_cells;
 pub mod load;
 pub mod make;
 pub mod make_for_desk;
@@ -57,6 +58,7 @@ pub static TABLE: &[&Call] = &[
     &rebuild_in::CALL,
     &check_in::CALL,
     &rewrite::CALL,
+    &least_cells::CALL,
     &one_store::CALL,
 ];
 

@@ -3,6 +3,7 @@
 
 mod desks;
 mod editions;
+mod least;
 pub mod requests;
 mod several;
 
@@ -189,6 +190,7 @@ fn example_11() -> Vec<Example> {
 pub fn all() -> Vec<Example> {
     let base = [examples_1_to_5(), examples_6_to_9(), example_10(), example_11()];
     let list = base.into_iter().flatten().chain(requests::all());
-    let list = list.chain(desks::all()).chain(several::all()).chain(editions::all());
+    let list =
+        list.chain(desks::all()).chain(several::all()).chain(editions::all()).chain(least::all());
     list.filter(|example| calls::call_of(example.case.call.code).is_some()).collect()
 }

@@ -10,6 +10,7 @@ pub mod every_rule;
 pub mod gate;
 pub mod ignored;
 mod large;
+pub mod least;
 pub mod networks;
 pub mod printing;
 pub mod several;
@@ -36,7 +37,8 @@ pub struct Fresh {
 /// a few large ones, splits that break at a known place, every split of some small
 /// tables with several first cells, tables that ignore inputs in every place, every
 /// rule of the records broken, every bit of some sheets flipped, cells that nobody
-/// reads at every place, records of other desks, cuts of a load and damaged cards.
+/// reads at every place, records of other desks, cuts of a load and damaged cards, and
+/// the least number of cells for every K and n.
 pub fn cases(random: &mut Random, count: usize) -> Vec<Fresh> {
     let mut list: Vec<Fresh> = (0..count).map(|i| (TABLE[i % TABLE.len()].fresh)(random)).collect();
     list.extend(pairs(random));
@@ -49,6 +51,7 @@ pub fn cases(random: &mut Random, count: usize) -> Vec<Fresh> {
     list.extend(unread::cases(random));
     list.extend(desks::cases(random));
     list.extend(cards::cases(random));
+    list.extend(least::cases(random));
     list.retain(|fresh| call_of(fresh.case.call.code).is_some());
     for fresh in &mut list {
         fresh.tags.extend(size_tag(&fresh.case));
