@@ -9,6 +9,7 @@ pub mod find_several;
 pub mod least_cells;
 pub mod load;
 pub mod make;
+pub mod make_any;
 pub mod make_for_desk;
 pub mod make_in;
 pub mod one_store;
@@ -60,6 +61,7 @@ pub static TABLE: &[&Call] = &[
     &rewrite::CALL,
     &least_cells::CALL,
     &one_store::CALL,
+    &make_any::CALL,
 ];
 
 pub fn call_of(code: u8) -> Option<&'static Call> {

@@ -14,6 +14,7 @@ pub mod least;
 pub mod networks;
 pub mod printing;
 pub mod several;
+pub mod several_chains;
 pub mod sheet;
 pub mod sheets;
 pub mod tables;
@@ -38,7 +39,7 @@ pub struct Fresh {
 /// tables with several first cells, tables that ignore inputs in every place, every
 /// rule of the records broken, every bit of some sheets flipped, cells that nobody
 /// reads at every place, records of other desks, cuts of a load and damaged cards, and
-/// the least number of cells for every K and n.
+/// the least number of cells and counting gates for every K and n.
 pub fn cases(random: &mut Random, count: usize) -> Vec<Fresh> {
     let mut list: Vec<Fresh> = (0..count).map(|i| (TABLE[i % TABLE.len()].fresh)(random)).collect();
     list.extend(pairs(random));
@@ -52,6 +53,7 @@ pub fn cases(random: &mut Random, count: usize) -> Vec<Fresh> {
     list.extend(desks::cases(random));
     list.extend(cards::cases(random));
     list.extend(least::cases(random));
+    list.extend(several_chains::cases(random));
     list.retain(|fresh| call_of(fresh.case.call.code).is_some());
     for fresh in &mut list {
         fresh.tags.extend(size_tag(&fresh.case));
