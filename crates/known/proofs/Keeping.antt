@@ -23,7 +23,7 @@ use Rattle.known.specs.Notes.{Learned, Meets, Skips, Needs, BadPairs, Ad
 use Rattle.witness.proofs.Members.{power-bit, rules-more}
 
 -- ---- masks
-and-off : (p q j : ℕ) → bitAnd p q ≡ 0 → bit p j ≡ true → bit q j ≡ false
+pub and-off : (p q j : ℕ) → bitAnd p q ≡ 0 → bit p j ≡ true → bit q j ≡ false
 and-off p q j e h = sym (ap (λ (t : Bool). t && bit q j) h) ∙ sym (bit-and p q j) ∙ ap (λ (m : ℕ). bit m j) e ∙ bit-zero j
 
 pub and-meets : (p q own both : ℕ) → p < 4294967296 → own < 4294967296 → bitAnd p (4294967295 - own) ≡ 0 → bitAnd q both ≡ 0 → Meets p q own both

@@ -80,15 +80,15 @@ module _ (n k : ℕ) (enough : k ≤ n) where
       ∙ ap₂ split (h .sameA) (h .sameB)
 
 -- ---- no two inputs can be own
-module _ (n : ℕ) (F : ℕ → Bool) (k : ℕ) where
-  never-best : ((A B : ℕ) → Candidate n k 1 A B → fewColumns n F (bit A) (bit B) 2 ≡ false) → best n 1 F k ≡ none
-  never-best h = go (best n 1 F k) refl
+module _ (n r : ℕ) (F : ℕ → Bool) (k : ℕ) where
+  pub never-best : ((A B : ℕ) → Candidate n k r A B → fewColumns n F (bit A) (bit B) (2 ^ r) ≡ false) → best n r F k ≡ none
+  never-best h = go (best n r F k) refl
     where
-      go : (a : Answer) → best n 1 F k ≡ a → a ≡ none
+      go : (a : Answer) → best n r F k ≡ a → a ≡ none
       go none e = refl
       go (split A B) e =
-          let w = best-split n 1 F k A B e in
-          absurd (clash (possible-iff n F (bit A) (bit B) (w .candidate .apart) 1 .1 (w .possible)) (h A B (w .candidate)))
+          let w = best-split n r F k A B e in
+          absurd (clash (possible-iff n F (bit A) (bit B) (w .candidate .apart) r .1 (w .possible)) (h A B (w .candidate)))
 
 one-member : (n : ℕ) (s : ℕ → Bool) → 0 < size n s → (j : ℕ) × (j < n) × (s j ≡ true)
 unfolding size
@@ -186,7 +186,7 @@ module _ {n : ℕ} {F : ℕ → Bool} (k : ℕ) (l : List ℕ) (most : n ≤ 16)
                   ))
 
   pub dead-none : best n 1 F k ≡ none
-  dead-none = never-best n F k fails
+  dead-none = never-best n 1 F k fails
 
 -- ---- as the code says it
 dead-other : (mask i p j : ℕ) → i < 16 → p ≡ 2 ^ i → bit (bitAnd mask (65535 - p)) i ≡ false

@@ -1,2 +1,3 @@
 -- The answers without a walk.
 pub mod Early
+pub mod Taking

@@ -2,4 +2,5 @@
 // count.
 pub mod counted;
 mod dead;
+mod owning;
 pub mod search;

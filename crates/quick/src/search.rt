@@ -10,6 +10,7 @@ ghost use Rattle.walks.specs.Known.{Known};
 ghost use Rattle.witness.specs.Points.{Wide};
 ghost use Rattle.known.specs.Notes.{BadPairs};
 use crate::dead::all_dead;
+use crate::owning::none_owns;
 use best::Found;
 use best::pair::attempt;
 use known::notes::blank;
@@ -108,6 +109,9 @@ pub fn find_with(t: &[u8], n: u32, r: u32, k: u32) -> Found
         if r == 1 {
             return by_pairs(t, n, k);
         }
+    }
+    if none_owns(t, n, r, k, n, 0, r + 1) {
+        return Found::Nothing;
     }
     let pairs = unknown();
     walk_all(t, n, r, &pairs, k)

@@ -20,14 +20,45 @@ use known::notes::keep;
 use known::notes::meets;
 use known::notes::ruled;
 use splits::split::Split;
+use witness::crowd::many_somewhere;
 use witness::hint::NONE;
 use witness::hint::look;
+use witness::pick::highest;
+use witness::pick::two;
 use witness::shrink::own_of;
 use witness::shrink::shrink;
 use witness::six::shows;
 
+// Looks for many points, told apart at two free positions, against a pair of masks, and keeps what they rule out;
+// whether that is the pair itself. With nothing shared the test of the columns takes no longer than that.
+fn learn_many(t: &[u8], n: u32, r: u32, own: u16, shared: u16, notes: &mut [u32]) -> bool
+    requires { ⌜ Known n r (now t) (now notes) ⌝ }
+    requires { ⌜ (own < 2 ^ n) × (shared < 2 ^ n) × Apart n (bit own) (bit shared) ⌝ }
+    ensures { λ f. ⌜
+        (f ≡ true → fewColumns n (tableBit (now (t .entry))) (bit own) (bit shared) (2 ^ r) ≡ false)
+        × Known n r (now (t .entry)) (now (notes .exit))
+        ⌝ }
+{
+    if shared == 0 {
+        return false;
+    }
+    let both = (own as u32) | (shared as u32);
+    let p = highest(own, r + 1);
+    let q = two(n, p as u32, both);
+    if q == 0 {
+        return false;
+    }
+    let f = q & (q - 1);
+    let e = q ^ f;
+    if !many_somewhere(t, n, 1 << r, p, e, f) {
+        return false;
+    }
+    keep(notes, p as u32, e | f);
+    meets(p as u32, e | f, own as u32, both)
+}
+
 // Looks for six bits against a pair of masks, and keeps what they rule out, made small; whether that is the pair
-// itself. Of more first cells than one six bits say nothing.
+// itself. Of more first cells than one six bits say nothing: there many points are asked.
 fn learn(t: &[u8], n: u32, r: u32, own: u16, shared: u16, notes: &mut [u32]) -> bool
     requires { ⌜ Known n r (now t) (now notes) ⌝ }
     requires { ⌜ (own < 2 ^ n) × (shared < 2 ^ n) × Apart n (bit own) (bit shared) ⌝ }
@@ -37,7 +68,7 @@ fn learn(t: &[u8], n: u32, r: u32, own: u16, shared: u16, notes: &mut [u32]) -> 
         ⌝ }
 {
     if r != 1 {
-        return false;
+        return learn_many(t, n, r, own, shared, notes);
     }
     let found = look(t, Split::of(n, own, shared));
     if found.d == NONE {

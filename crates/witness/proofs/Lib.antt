@@ -3,3 +3,4 @@ pub mod Law
 pub mod Members
 pub mod Points
 pub mod Corners
+pub mod Many

@@ -1,7 +1,9 @@
 // A few bits of a table that rule out splits.
-// Only `triple::bad` and `six::shows` say what is ruled out; what looks for six bits promises nothing, and needs no
-// promise.
+// Only `triple::bad`, `six::shows` and `crowd::shows_many` say what is ruled out; what looks for bits promises nothing,
+// and needs no promise.
+pub mod crowd;
 pub mod hint;
+pub mod pick;
 pub mod shrink;
 pub mod six;
 pub mod triple;

@@ -1,12 +1,14 @@
--- Each way out is one law: too few inputs, the first candidate, the walk. Assumes nothing.
+-- Each way out is one law: too few inputs, the first candidate, no own inputs, the walk. Assumes nothing.
 use mathlib.Core.Path.{_≡_, sym, ap, _∙_}
 use Prim.Native.Nat.{ℕ, _^_}
 use native.Mathlib.Omega.{arith}
+use lib.Pow.{pow-pos}
 use borrow.Author.Needs.{needs}
 use Rattle.tables.specs.Table.{tableBit}
 use Rattle.best.specs.Search.{best}
 use Rattle.best.specs.Answers.{answerOf}
 use Rattle.quick.proofs.Early.{best-small}
+use Rattle.quick.proofs.Taking.{owns-none}
 use Rattle.quick.proofs.search.find_with.Statement.{statement}
 use Rattle.quick.proofs.search.find_with.Tie as tie
 
@@ -26,9 +28,15 @@ returns-3 c =
     let a = c .before .before .before .before .before .before .before .before .args in
     c .by-pairs .ensures ∙ ap (λ (r : ℕ). best (a .n) r (tableBit (a .t .now)) (a .k)) (sym (c .before .if3 .taken))
 
+none-owns-requires : tie.Need-none-owns-requires
+none-owns-requires c κs = let s = c .before .before .before .before .before .before in (s .pre .0, s .pre .1, s .pre .2, s .pre .3, pow-pos (s .args .n), omega arith)
+
+returns-4 : tie.Need-returns-4
+returns-4 c = sym (owns-none (c .before .none-owns .ensures (c .if4 .taken)))
+
 walk-all-requires : tie.Need-walk-all-requires
 walk-all-requires c κs =
-    let s = c .before .before .before .before .before .before .before .before in
+    let s = c .before .before .before .before .before .before .before .before .before .before in
     ((s .pre .0, s .pre .1, s .pre .2, s .pre .3), c .before .unknown .ensures (s .args .n) (2 ^ s .args .r) (tableBit (s .args .t .now)))
 
 pub find-with-spec : {M : Type 1} → statement M
@@ -42,6 +50,9 @@ find-with-spec =
     (λ c. search needs)
     by-pairs-requires
     returns-3
+    (λ c. search needs)
+    none-owns-requires
+    returns-4
     (λ c κs. search needs)
     (λ c. search needs)
     walk-all-requires

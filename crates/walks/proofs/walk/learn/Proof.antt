@@ -1,5 +1,5 @@
--- What is kept was shown by six bits. Assumes nothing.
-use mathlib.Core.Path.{_≡_, sym, subst}
+-- What is kept was shown by six bits, or by many points. Assumes nothing.
+use mathlib.Core.Path.{_≡_, sym, _∙_, subst}
 use mathlib.Core.Bool.{Bool}
 use Prim.Native.Nat.{ℕ, _*_, _^_, _≤_}
 use lib.ListN.{length}
@@ -44,7 +44,9 @@ pub learn-spec : {M : Type 1} → statement M
 learn-spec =
     tie.close
     (tie.spec
-    (λ c. (said-no, c .before .before .before .pre .0))
+    (λ c κs. c .before .before .before .before .pre)
+    (λ c. c .before .before .learn-many .ensures .1 .learned .long ∙ sym (c .before .before .before .before .before .before .before .pre .0 .learned .long))
+    (λ c. c .before .before .learn-many .ensures)
     (λ c κs. let s = c .before .before .before in (s .pre .0 .most, s .pre .1 .0, s .pre .1 .1, s .pre .1 .2))
     look-requires
     (λ c. (said-no, c .before .before .before .before .before .before .before .pre .0))
