@@ -40,6 +40,7 @@
  *   16  text is no formula of n inputs; place is the first byte at which it can't be continued (a letter beyond n and
  *       a 33rd level are such bytes), its length if it ends too soon or is over 1,024 bytes; or no formula is printed
  *       for the sheet: place is 0
+ *   17  the chain with several first cells has a split at every step, but would take more than 15 records
  *   18  the desk is closed: its mark isn't 1
  *   19  the desk is outside 1 to 4, or at a load the sheet, of 16 bytes or more, has another desk in its byte 7
  *   20  the card isn't 1,024 bytes
@@ -213,6 +214,12 @@ pelzurivan_checked pelzurivan_check_told(uint64_t edition, uint64_t n, const uin
  * 1, 6, 9, 10, 15. */
 pelzurivan_rewritten pelzurivan_rewrite(uint64_t n, const uint8_t *sheet, size_t sheet_length, uint8_t *room,
                                         size_t room_length);
+
+/* As pelzurivan_make_for_desk; but where that gives 8, with several first cells: at each step the best split as
+ * pelzurivan_find_several has it, and its r first cells as the next r records, the first cell's first. After 0, 8 and
+ * 17 the work area is zeros, else as it was. 1 to 6, 8, 17. */
+pelzurivan_made pelzurivan_make_any(uint64_t n, uint64_t k, uint64_t desk, const uint8_t *table, size_t table_length,
+                                    uint8_t *sheet, size_t sheet_length, uint8_t *work, size_t work_length);
 
 #ifdef __cplusplus
 }

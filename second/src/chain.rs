@@ -3,6 +3,7 @@
 use crate::best::best;
 use crate::cell::Cell;
 use crate::sets::members;
+use crate::several::best_several;
 use crate::split::pair;
 use crate::table::Table;
 
@@ -21,6 +22,27 @@ pub fn chain(gate: &Table, k: usize) -> Option<Vec<Cell>> {
         signals = pick(&signals, !split.own);
         signals.push(n + cells.len());
         cells.push(Cell { reads, table: d });
+        (signals, table) = set_aside(signals, &h);
+    }
+    cells.push(last_cell(signals, &table));
+    Some(cells)
+}
+
+/// The same with the best choice of one, two or three first cells at each step;
+/// as many cells as that takes.
+pub fn chain_any(gate: &Table, k: usize) -> Option<Vec<Cell>> {
+    let n = gate.inputs;
+    let (mut signals, mut table) = set_aside((0..n).collect(), gate);
+    let mut cells: Vec<Cell> = Vec::new();
+    while signals.len() > k {
+        let several = best_several(&table, k)?;
+        let (first, h) = several.tables(&table)?;
+        let reads = pick(&signals, several.split.own | several.split.shared);
+        signals = pick(&signals, !several.split.own);
+        for table in first {
+            signals.push(n + cells.len());
+            cells.push(Cell { reads: reads.clone(), table });
+        }
         (signals, table) = set_aside(signals, &h);
     }
     cells.push(last_cell(signals, &table));

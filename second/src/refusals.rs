@@ -24,6 +24,7 @@ pub const NO_TIME: u8 = 13;
 pub const NO_SLACK: u8 = 14;
 pub const NO_READER: u8 = 15;
 pub const NO_TEXT: u8 = 16;
+pub const TOO_MANY: u8 = 17;
 pub const CLOSED: u8 = 18;
 pub const NO_DESK: u8 = 19;
 pub const NO_CARD: u8 = 20;
@@ -134,9 +135,9 @@ pub fn each_read(n: usize, cells: &[Cell]) -> Result<(), Refusal> {
     }
 }
 
-/// The work area afterwards: 1 to 7 leave it as found, 0 and 8 leave zeros.
+/// The work area afterwards: 1 to 7 leave it as found, 0, 8 and 17 leave zeros.
 pub fn clear_work(number: u8, work: &mut [u8]) {
-    if number == DONE || number == NO_SPLIT {
+    if [DONE, NO_SPLIT, TOO_MANY].contains(&number) {
         work.fill(0);
     }
 }

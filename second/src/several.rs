@@ -22,11 +22,16 @@ pub struct Several {
 /// The different columns of one b in the order in which they first appear as A's
 /// assignments go up, each told by the assignment of A where it does; nothing
 /// once they are more than so many.
-fn first_seen(table: &Table, split: Split, b: usize, most: usize) -> Option<Vec<usize>> {
-    let free = assignments(split.free(table.inputs));
+fn first_seen(
+    table: &Table,
+    own: &[usize],
+    b: usize,
+    free: &[usize],
+    most: usize,
+) -> Option<Vec<usize>> {
     let mut seen: Vec<(usize, Vec<bool>)> = Vec::new();
-    for a in assignments(split.own) {
-        let this = column(table, a | b, &free);
+    for &a in own {
+        let this = column(table, a | b, free);
         if seen.iter().all(|(_, known)| *known != this) {
             seen.push((a, this));
         }
@@ -45,19 +50,21 @@ impl Several {
 
     /// At most 2^r different columns for each b.
     pub fn possible(&self, table: &Table) -> bool {
+        let own = assignments(self.split.own);
+        let free = assignments(self.split.free(table.inputs));
         let mut shared = assignments(self.split.shared).into_iter();
-        shared.all(|b| first_seen(table, self.split, b, 1 << self.r).is_some())
+        shared.all(|b| first_seen(table, &own, b, &free, 1 << self.r).is_some())
     }
 
     /// The tables of the first cells, the first cell's first, and H, if the split is possible.
     pub fn tables(&self, table: &Table) -> Option<(Vec<Table>, Table)> {
         let Several { r, split } = *self;
         let n = table.inputs;
+        let (own, free) = (assignments(split.own), assignments(split.free(n)));
         let mut seen = vec![Vec::new(); 1 << n];
         for b in assignments(split.shared) {
-            seen[b] = first_seen(table, split, b, 1 << r)?;
+            seen[b] = first_seen(table, &own, b, &free, 1 << r)?;
         }
-        let free = assignments(split.free(n));
         let both = split.own | split.shared;
         let code = |x: usize| {
             let b = x & usize::from(split.shared);

@@ -103,6 +103,32 @@ static void unused_inputs(void) {
 }
 
 /* The majority of three out of cells of two, which no chain of splits makes: inputs 0 and 1 are each read twice. */
+static void a_sheet_for_any_gate(void) {
+    static const uint8_t two_of_four[] = {0xE8, 0xFE}, majority[] = {0xE8};
+    uint8_t sheet[PELZURIVAN_SHEET], work[PELZURIVAN_WORK], same[PELZURIVAN_SHEET];
+    memset(sheet, PRESET, sizeof sheet);
+    memset(work, PRESET, sizeof work);
+    pelzurivan_made made = pelzurivan_make(4, 3, two_of_four, sizeof two_of_four, sheet, sizeof sheet, work, sizeof work);
+    expect(made.number == 8 && made.count == 0, "make: at least 2 of 4 with cells of 3 is 8");
+    memset(work, PRESET, sizeof work);
+    made = pelzurivan_make_any(4, 3, 2, two_of_four, sizeof two_of_four, sheet, sizeof sheet, work, sizeof work);
+    expect(made.number == 0 && made.count == 3, "make_any: three cells");
+    expect(sheet[7] == 2 && all_are(PRESET, sheet + 3 * PELZURIVAN_RECORD, sizeof sheet - 3 * PELZURIVAN_RECORD),
+           "make_any: for the desk, and the bytes after the records stay");
+    expect(all_are(0, work, sizeof work), "make_any: the work area is zeros");
+    pelzurivan_checked checked = pelzurivan_check(4, two_of_four, sizeof two_of_four, sheet, sizeof EXAMPLE_2 / 2 * 3);
+    expect(checked.number == 0, "make_any: the check accepts the sheet");
+    memset(sheet, PRESET, sizeof sheet);
+    made = pelzurivan_make_any(3, 2, 0, majority, sizeof majority, sheet, sizeof sheet, work, sizeof work);
+    expect(made.number == 8 && made.count == 0 && all_are(PRESET, sheet, sizeof sheet), "make_any: 8 touches no byte");
+    made = pelzurivan_make_any(3, 2, 1, AND_OF_3, sizeof AND_OF_3, sheet, sizeof sheet, work, sizeof work);
+    memset(same, PRESET, sizeof same);
+    pelzurivan_made as_make = pelzurivan_make_for_desk(3, 2, 1, AND_OF_3, sizeof AND_OF_3, same, sizeof same, work,
+                                                       sizeof work);
+    expect(made.number == as_make.number && made.count == as_make.count && !memcmp(sheet, same, sizeof same),
+           "make_any: make's sheet where there is one");
+}
+
 static void check_a_suppliers_sheet(void) {
     static const uint8_t majority[] = {0xE8};
     uint8_t sheet[] = {
@@ -287,6 +313,7 @@ int main(void) {
     a_sheet_for_a_desk();
     find_and_try();
     unused_inputs();
+    a_sheet_for_any_gate();
     check_a_suppliers_sheet();
     where_a_split_breaks();
     settle_and_slack();

@@ -50,6 +50,17 @@ static void make_for_desk(void) {
     put_made(a, sheet, work);
 }
 
+static void make_any(void) {
+    uint64_t n = number(8), k = number(8), desk = number(8);
+    area table = handed(TABLE), sheet = lent(SHEET), work = lent(WORK);
+    if (!whole()) return;
+    start();
+    pelzurivan_made a = pelzurivan_make_any(n, k, desk, table.bytes, table.length, sheet.bytes, sheet.length,
+                                            work.bytes, work.length);
+    stop();
+    put_made(a, sheet, work);
+}
+
 static void run(void) {
     uint64_t n = number(8), x = number(8);
     area sheet = handed(SHEET);
@@ -280,7 +291,7 @@ static const call CALLS[] = {
     {0x0B, write_formula}, {0x0C, make_for_desk}, {0x0D, load},         {0x0E, run_desk},   {0x0F, load_cut},
     {0x10, try_several},   {0x11, find_several},  {0x12, try_told},     {0x13, find_told},  {0x14, make_told},
     {0x15, run_told},      {0x16, rebuild_told},  {0x17, check_told},   {0x18, rewrite},    {0x19, turn},
-    {0x1A, look_up},       {0x1C, load_store},
+    {0x1A, look_up},       {0x1C, load_store},    {0x1D, make_any},
 };
 
 const call *call_of(int code) {

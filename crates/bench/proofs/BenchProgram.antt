@@ -12,7 +12,7 @@ use Rattle.sheets.specs.Edition.{recordSize, firstEdition}
 use Rattle.sheets.specs.Network.{Cell}
 use Rattle.sheets.specs.Writing.{sheetBytes}
 use Rattle.sheets.proofs.Wholes.{length-sheet}
-use Rattle.chains.specs.Area.{workLength}
+use Rattle.making.specs.Area.{workLength}
 use Rattle.refusals.specs.declared.verdicts.Verdict.{Verdict}
 use Rattle.refusals.specs.declared.verdicts.Verdict.the-variants.{Fine, Refused}
 use Rattle.refusals.specs.Lines.{verdict, numberOf, reply}

@@ -4,7 +4,7 @@ use Prim.Native.Nat.{ℕ, _+_, _*_}
 use lib.ListN.{getD, take, drop, replicate}
 use Rattle.tables.specs.Table.{mostInputs, tableLength}
 use Rattle.sheets.specs.Edition.{recordSize, mostRecords, firstEdition}
-use Rattle.chains.specs.Area.{workLength}
+use Rattle.making.specs.Area.{workLength}
 use Rattle.refusals.specs.Lines.{numberOf}
 use Rattle.bench.specs.MakeSheet.{MakeOutcome, makeOutcome}
 

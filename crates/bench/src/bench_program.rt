@@ -1,14 +1,14 @@
 // The bench program but for its reading and writing: n, K and the table come in as bytes, and the answer number and
 // the sheet go out.
 use crate::make_sheet::make_sheet;
-use chains::area::HALF;
+use making::area::HALF;
 use refusals::verdicts::number_of;
 use sheets::kinds::Sheet;
 use tables::clear;
 ghost use mathlib.Core.Path.{_≡_};
 ghost use Prim.Native.Nat.{_≤_};
 ghost use lib.ListN.{length, getD, take, drop};
-ghost use Rattle.chains.specs.Area.{workLength};
+ghost use Rattle.making.specs.Area.{workLength};
 ghost use Rattle.bench.specs.BenchProgram.{mostWritten, programOutcome};
 
 // n, K, the longest table and one byte more: a table with that byte has a wrong length, however long it is.

@@ -1,6 +1,6 @@
 // Making a sheet of best splits.
-use chains::area::WORK;
-use chains::chaining::chain_of;
+use making::area::WORK;
+use making::chaining::chain_of;
 use refusals::form;
 use refusals::verdicts::Refusal;
 use refusals::verdicts::Verdict;
@@ -14,7 +14,7 @@ ghost use Prim.Native.Nat.{_*_, _≤_};
 ghost use lib.ListN.{length};
 ghost use Rattle.tables.specs.Table.{mostInputs, tableLength};
 ghost use Rattle.sheets.specs.Edition.{IsEdition, mostRecords, firstEdition};
-ghost use Rattle.chains.specs.Area.{workLength};
+ghost use Rattle.making.specs.Area.{workLength};
 ghost use Rattle.refusals.specs.Lines.{verdict, reply};
 ghost use Rattle.refusals.specs.Refusals.{chainStuck};
 ghost use Rattle.bench.specs.MakeSheet.{sheetFor, cellsIn, makeForm, makeDone, makeNot, makeOutcome};

@@ -4,12 +4,12 @@
 use bench::bench_program::MOST_READ;
 use bench::bench_program::MOST_WRITTEN;
 use bench::bench_program::answer_input;
-use chains::area::WORK;
 use libc::STDIN_FILENO;
 use libc::STDOUT_FILENO;
+use making::area::WORK;
 ghost use mathlib.Core.Path.{_≡_};
 ghost use lib.ListN.{length};
-ghost use Rattle.chains.specs.Area.{workLength};
+ghost use Rattle.making.specs.Area.{workLength};
 ghost use Rattle.bench.specs.BenchProgram.{mostRead, mostWritten};
 
 fn input_room() -> [u8; MOST_READ]

@@ -1,5 +1,5 @@
--- Inputs are set aside before the first step only, since each later table depends on all its signals (`next-counts`,
--- best): the chain is document 01's chain over what is kept. Assumes nothing.
+-- Inputs are set aside before the first step only, since each later table depends on all its signals (`upto-counts`,
+-- choices): the chain is the chain over what is kept. Assumes nothing.
 use mathlib.Core.Path.{_≡_, refl, sym, ap₂, _∙_, subst}
 use mathlib.Core.Bool.{Bool, true, cond}
 use mathlib.Core.List.{List, [], _∷_, _++_}
@@ -14,13 +14,13 @@ use Rattle.tables.specs.Counting.{Counting, AllCount, kept}
 use Rattle.tables.proofs.Depending.{support-counting}
 use Rattle.tables.proofs.Over.{over-full, over-counts}
 use Rattle.tables.proofs.Keeping.{kept-sees, two-kept, all-kept}
-use Rattle.best.specs.Search.{split, best}
-use Rattle.best.proofs.Best.{best-split}
-use Rattle.best.proofs.Next.{next-counts}
-use Rattle.chains.specs.Chain.{pick, nextSignals, nextTable, turn, chain}
+use Rattle.choices.specs.Search.{choice, bestUpTo}
+use Rattle.choices.proofs.Best.{upto-best}
+use Rattle.choices.proofs.Counts.{upto-counts}
+use Rattle.chains.specs.Chain.{pick, signalsAfter, tableAfter, turn, chain}
 use Rattle.chains.specs.Aside.{keptSignals, keptTable, chainAside}
 use Rattle.chains.proofs.Lists.{pick-length}
-use Rattle.chains.proofs.View.{next-inputs, next-small, turn-same}
+use Rattle.chains.proofs.View.{after-inputs, after-small, turn-same}
 
 pick-all : (n : ℕ) (s : ℕ → Bool) (l : List ℕ) → n ≤ length l → ((j : ℕ) → j < n → s j ≡ true) → pick n s l ≡ take n l
 unfolding pick
@@ -60,26 +60,27 @@ module _ (l : List ℕ) (T : ℕ) where
     unfolding keptTable
     table-all h = over-full n (bit m) (bit T) (all-kept n (bit T) all) ∙ number-bit (2 ^ n) T h
 
-next-all : (K i : ℕ) (l : List ℕ) (T A B : ℕ) → AllCount (length l) (bit T) → best (length l) 1 (bit T) K ≡ split A B
-    → AllCount (length (nextSignals l A B i)) (bit (nextTable l T A B))
-next-all K i l T A B all e =
-    subst (λ (c : ℕ). AllCount c (bit (nextTable l T A B))) (sym (next-inputs l A B i))
-    (next-counts (length l) K (bit T) A B (best-split (length l) 1 (bit T) K A B e) all)
+next-all : (m K i : ℕ) (l : List ℕ) (T r A B : ℕ) → AllCount (length l) (bit T) → bestUpTo (length l) (bit T) K m ≡ choice r A B
+    → AllCount (length (signalsAfter l r A B i)) (bit (tableAfter l T r A B))
+next-all m K i l T r A B all e =
+    subst (λ (c : ℕ). AllCount c (bit (tableAfter l T r A B))) (sym (after-inputs l r A B i))
+    (upto-counts (length l) K m (bit T) r A B (upto-best (length l) K (bit T) m r A B .0 e) all)
 
--- where the table depends on each of its signals nothing is set aside: it is document 01's chain
-pub aside-plain : (k K i : ℕ) (l : List ℕ) (T : ℕ) → T < 2 ^ (2 ^ length l) → AllCount (length l) (bit T) → chainAside k K i l T ≡ chain k K i l T
+-- where the table depends on each of its signals nothing is set aside
+pub aside-plain : (m k K i : ℕ) (l : List ℕ) (T : ℕ) → T < 2 ^ (2 ^ length l) → AllCount (length l) (bit T) → chainAside m k K i l T ≡ chain m k K i l T
 unfolding chainAside chain
-aside-plain zero K i l T small all = refl
-aside-plain (suc k) K i l T small all =
-    ap₂ (turn K i (chainAside k K (suc i))) (signals-all l T all) (table-all l T all small)
-    ∙ turn-same K i (chainAside k K (suc i)) (chain k K (suc i)) l T (λ _ A B e.
-    aside-plain k K (suc i) (nextSignals l A B i) (nextTable l T A B) (next-small l T A B i) (next-all K i l T A B all e))
+aside-plain m zero K i l T small all = refl
+aside-plain m (suc k) K i l T small all =
+    ap₂ (turn m K i (chainAside m k K)) (signals-all l T all) (table-all l T all small)
+    ∙ turn-same m K i (chainAside m k K) (chain m k K) l T (λ _ r A B e.
+    aside-plain m k K (i + r) (signalsAfter l r A B i) (tableAfter l T r A B) (after-small l T r A B i) (next-all m K i l T r A B all e))
 
--- set aside once, then document 01's chain
-pub aside-once : (k K i : ℕ) (l : List ℕ) (T : ℕ) → 1 ≤ K → chainAside (suc k) K i l T ≡ chain (suc k) K i (keptSignals l T) (keptTable l T)
+-- set aside once, then the chain that sets nothing aside
+pub aside-once : (m k K i : ℕ) (l : List ℕ) (T : ℕ) → 1 ≤ K → chainAside m (suc k) K i l T ≡ chain m (suc k) K i (keptSignals l T) (keptTable l T)
 unfolding chainAside chain
-aside-once k K i l T p =
-    let m = keptSignals l T in
+aside-once m k K i l T p =
+    let s = keptSignals l T in
     let U = keptTable l T in
-    turn-same K i (chainAside k K (suc i)) (chain k K (suc i)) m U (λ h A B e.
-    aside-plain k K (suc i) (nextSignals m A B i) (nextTable m U A B) (next-small m U A B i) (next-all K i m U A B (kept-counts l T (omega arith)) e))
+    turn-same m K i (chainAside m k K) (chain m k K) s U (λ h r A B e.
+    aside-plain m k K (i + r) (signalsAfter s r A B i) (tableAfter s U r A B) (after-small s U r A B i)
+    (next-all m K i s U r A B (kept-counts l T (omega arith)) e))

@@ -15,11 +15,15 @@ keptSignals l T = pick (length l) (bit (kept (length l) (bit T))) l
 unfoldable pub keptTable : List ℕ → ℕ → ℕ
 keptTable l T = tableOver (length l) (bit (kept (length l) (bit T))) (bit T)
 
--- at most k cells of size K, the first giving signal i, for the table T over the signals l
-unfoldable pub chainAside : ℕ → ℕ → ℕ → List ℕ → ℕ → Made
-chainAside zero K i l T = stuck
-chainAside (suc k) K i l T = turn K i (chainAside k K (suc i)) (keptSignals l T) (keptTable l T)
+-- at most k turns with up to m first cells of size K, the first giving signal i, for the table T over the signals l
+unfoldable pub chainAside : ℕ → ℕ → ℕ → ℕ → List ℕ → ℕ → Made
+chainAside m zero K i l T = stuck
+chainAside m (suc k) K i l T = turn m K i (chainAside m k K) (keptSignals l T) (keptTable l T)
 
--- the sheet of the table T of a gate of n inputs
-unfoldable pub sheetAside : ℕ → ℕ → ℕ → Made
-sheetAside n K T = chainAside n K n (inputs n) T
+-- the cells of the table T of a gate of n inputs, with up to m first cells at each step
+unfoldable pub cellsAside : ℕ → ℕ → ℕ → ℕ → Made
+cellsAside m n K T = chainAside m n K n (inputs n) T
+
+-- its sheet: one first cell at each step
+abbrev pub sheetAside : ℕ → ℕ → ℕ → Made
+sheetAside n K T = cellsAside 1 n K T

@@ -13,7 +13,7 @@ use Rattle.tables.specs.Table.{mostInputs, tableLength, tableBit}
 use Rattle.sheets.specs.Edition.{recordSize, mostRecords, firstEdition}
 use Rattle.sheets.specs.Network.{Carries}
 use Rattle.sheets.proofs.Keeping.{first-edition}
-use Rattle.chains.specs.Area.{workLength}
+use Rattle.making.specs.Area.{workLength}
 use Rattle.refusals.specs.declared.verdicts.Verdict.the-variants.{Fine}
 use Rattle.refusals.specs.Lines.{InOrder, verdict, numberOf}
 use Rattle.refusals.specs.Refusals.{badInputs, badCell, badDesk, gateLines, shortSheet, chainStuck}

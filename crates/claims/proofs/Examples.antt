@@ -20,8 +20,9 @@ use Rattle.sheets.specs.Network.{output, run}
 use Rattle.sheets.specs.Record.{cellOf, spareOk, byteOk, keeps}
 use Rattle.sheets.specs.Sheet.{cellsFrom, sheetBit, rebuilt}
 use Rattle.sheets.specs.Writing.{recordByte, encode}
+use Rattle.choices.specs.Search.{firstOver}
 use Rattle.chains.specs.Chain.{pick, turn}
-use Rattle.chains.specs.Aside.{keptSignals, keptTable, chainAside, sheetAside}
+use Rattle.chains.specs.Aside.{keptSignals, keptTable, chainAside, cellsAside}
 use Rattle.splitting.specs.TrySplit.{tryOutcome}
 use Rattle.splitting.specs.FindBest.{findOutcome}
 use Rattle.sheets.specs.Desk.{deskOf}
@@ -138,5 +139,5 @@ listing =
     ∷ []
 
 pub examples : answers listing ≡ expected listing
-unfolding listing asked deskOf readOutcome textOf reads value writeOutcome inTurn printed tryOutcome findOutcome makeOutcome runOutcome rebuildOutcome sheetAside chainAside turn keptSignals keptTable kept support counts tableOver bestCounting pick listOf best first tryA tryB disjoint fewColumns firstBroken tableD tableH bytesH codeAt code bitH columns column assign firsts number size gather spread least spareClear tableOf joined output run cellOf spareOk byteOk keeps cellsFrom sheetBit rebuilt recordByte encode
+unfolding listing asked deskOf readOutcome textOf reads value writeOutcome inTurn printed tryOutcome findOutcome makeOutcome runOutcome rebuildOutcome cellsAside chainAside turn firstOver keptSignals keptTable kept support counts tableOver bestCounting pick listOf best first tryA tryB disjoint fewColumns firstBroken tableD tableH bytesH codeAt code bitH columns column assign firsts number size gather spread least spareClear tableOf joined output run cellOf spareOk byteOk keeps cellsFrom sheetBit rebuilt recordByte encode
 examples = refl

@@ -17,12 +17,12 @@ use Rattle.sheets.specs.Network.{Cell, Carries}
 use Rattle.sheets.specs.Reading.{reads}
 use Rattle.chains.specs.Chain.{made}
 use Rattle.chains.specs.Aside.{sheetAside}
-use Rattle.chains.specs.Fewest.{Fewest, Filled}
-use Rattle.chains.specs.Joining.{Joining, joined, joinTable}
-use Rattle.chains.proofs.Reach.{reach}
-use Rattle.chains.proofs.Enough.{filled-fewest}
-use Rattle.chains.proofs.Fewest.{table-three, table-enough, pairs-fewest}
-use Rattle.chains.proofs.Joining.{joining-fewest}
+use Rattle.fewest.specs.Fewest.{Fewest, Filled}
+use Rattle.fewest.specs.Joining.{Joining, joined, joinTable}
+use Rattle.fewest.proofs.Reach.{reach}
+use Rattle.fewest.proofs.Enough.{filled-fewest}
+use Rattle.fewest.proofs.Fewest.{table-three, table-enough, pairs-fewest}
+use Rattle.fewest.proofs.Joining.{joining-fewest}
 use Rattle.refusals.specs.declared.verdicts.Verdict.the-variants.{Fine}
 use Rattle.refusals.specs.Lines.{InOrder}
 use Rattle.bench.specs.MakeSheet.{sheetFor, makeForm, makeOutcome}

@@ -26,10 +26,10 @@ use Rattle.splitting.specs.FindBest.{bestFor, findForm}
 use Rattle.refusals.proofs.Lines.{in-order, passes, held}
 use Rattle.refusals.proofs.Lent.{work-found}
 use Rattle.several.specs.declared.find_several.FindSeveralAnswer.{FindSeveralAnswer}
-use Rattle.several.specs.Best.{Works, BestOver}
-use Rattle.several.specs.Search.{Choice, nothing, choice}
+use Rattle.choices.specs.Best.{Works, BestOver}
+use Rattle.choices.specs.Search.{Choice, nothing, choice}
 use Rattle.several.specs.FindSeveral.{FindSeveralOutcome, bestSeveral, isNothing, noneSeveral, firstOf, ownOf, sharedOf, severalSays, severalLines, severalDone, severalNot, findSeveralOutcome}
-use Rattle.several.proofs.Best.{over-best, over-none, over-own, over-unique}
+use Rattle.choices.proofs.Best.{over-best, over-none, over-own, over-unique}
 use Rattle.claims.specs.Words.{ByLines}
 use Rattle.claims.proofs.Verdicts.{says-verdict, is-done, is-refused, by-lines, work-cleared}
 

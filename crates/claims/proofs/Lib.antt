@@ -1,4 +1,4 @@
--- What an inspector reads: one file a call, the five tries, the examples. Verdicts, Sheets and Tables are the steps that these share.
+-- What an inspector reads: one file a call, the five tries, the examples. Verdicts, Sheets, Tables and Written are the steps that these share.
 pub mod Verdicts
 pub mod Tables
 pub mod Sheets
@@ -12,8 +12,10 @@ pub mod RebuildTable
 pub mod RunTold
 pub mod RebuildTold
 pub mod Rewrite
+pub mod Written
 pub mod Made
 pub mod MakeSheet
+pub mod MakeAny
 pub mod CheckSheet
 pub mod CheckTold
 pub mod Shorter

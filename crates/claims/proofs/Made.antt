@@ -1,26 +1,21 @@
 -- What a done make has behind it: the chain made cells, and these are what is counted and written. Assumes nothing.
-use mathlib.Core.Path.{_≡_, refl, sym, ap, ap₂, _∙_}
+use mathlib.Core.Path.{_≡_, refl, sym, ap, _∙_}
 use mathlib.Core.Bool.{false}
 use mathlib.Core.List.{List, [], _∷_}
-use Prim.Native.Nat.{ℕ, _*_, _≤_}
+use Prim.Native.Nat.{ℕ, _≤_}
 use native.Mathlib.Omega.{arith}
-use lib.ListN.{length, drop}
-use lib.Seq.{take-at}
+use lib.ListN.{length}
 use borrow.Author.Tests.{ltb-false}
 use Rattle.bits.proofs.Bools.{clash}
 use Rattle.tables.specs.Table.{tableBit}
 use Rattle.sheets.specs.declared.kinds.Edition.{Edition}
 use Rattle.sheets.specs.Edition.{IsEdition, mostDesk}
 use Rattle.sheets.specs.Network.{Cell, Gives}
-use Rattle.sheets.specs.Sheet.{sheetCells, Good}
+use Rattle.sheets.specs.Sheet.{Good}
 use Rattle.sheets.specs.Writing.{FitsFrom, sheetBytes}
 use Rattle.sheets.specs.Reading.{EachRead}
-use Rattle.sheets.proofs.Wholes.{length-sheet, cells-back}
-use Rattle.sheets.proofs.Unread.{written-read}
 use Rattle.chains.specs.Chain.{Made, stuck, made}
-use Rattle.chains.proofs.Aside.{table-gives, table-fits, table-records}
-use Rattle.chains.proofs.Read.{table-read}
-use Rattle.chains.proofs.Written.{written-good}
+use Rattle.chains.proofs.Aside.{table-gives, table-fits, table-read, table-records}
 use Rattle.refusals.specs.declared.verdicts.Verdict.{Verdict}
 use Rattle.refusals.specs.declared.verdicts.Verdict.the-variants.{Fine}
 use Rattle.refusals.specs.Lines.{InOrder, verdict, reply}
@@ -30,6 +25,7 @@ use Rattle.refusals.proofs.Tests.{Sound, sound}
 use Rattle.bench.specs.MakeSheet.{MakeOutcome, sheetFor, cellsIn, makeForm, makeLines, makeDone, makeNot, makeOutcome}
 use Rattle.claims.specs.Words.{recordsOf, networkOf}
 use Rattle.claims.proofs.Verdicts.{says-verdict, is-done}
+use Rattle.claims.proofs.Written.{IsWritten, outcome-records, outcome-good, outcome-read, outcome-network}
 
 module _ (e : Edition) (d n K : ℕ) (t sheet work : List ℕ) where
   pub make-says : makeOutcome e d n K t sheet work .answer .verdict ≡ verdict (makeLines e d n K t sheet work)
@@ -88,34 +84,46 @@ module _ (e : Edition) (d n K : ℕ) (t sheet work : List ℕ) where
   )
 
   module _ (w : IsMade) where
-    -- the first bytes are the sheet of these cells
-    pub made-records : recordsOf e (makeOutcome e d n K t sheet work) ≡ sheetBytes e d (w .cells)
-    made-records =
-        ap (recordsOf e) (w .outcome)
-        ∙ take-at (sheetBytes e d (w .cells)) (drop (length (sheetBytes e d (w .cells))) sheet) (e .size * length (w .cells)) (length-sheet e d (w .cells))
-
     abbrev one : 1 ≤ K
     one = omega (arith, w .gate .two)
 
+    -- the cells of the chain are written
+    pub made-written : IsWritten e d n K t sheet work (makeOutcome e d n K t sheet work)
+    made-written = record {
+      gate = w .gate;
+      cells = w .cells;
+      outcome = w .outcome;
+      fits = table-fits n K (tableBit t) (w .gate .some) one (w .cells) (w .chain) e (w .gate .largest);
+      give = table-gives n K (tableBit t) (w .gate .some) one (w .cells) (w .chain);
+      read = table-read n K (tableBit t) (w .gate .some) one (w .cells) (w .chain);
+      few = table-records n K (tableBit t) (w .gate .some) one (w .cells) (w .chain) (omega (arith, w .gate .most, w .gate .two));
+    }
+
+    -- the first bytes are the sheet of these cells
+    pub made-records : recordsOf e (makeOutcome e d n K t sheet work) ≡ sheetBytes e d (w .cells)
+    unfolding made-written
+    made-records = outcome-records e d n K t sheet work (makeOutcome e d n K t sheet work) made-written
+
     -- each cell fits its record, and their network gives the table
     pub made-fits : FitsFrom e n (w .cells)
-    made-fits = table-fits n K (tableBit t) (w .gate .some) one (w .cells) (w .chain) e (w .gate .largest)
+    unfolding made-written
+    made-fits = made-written .fits
 
     pub cells-give : Gives n K (tableBit t) (w .cells)
-    cells-give = table-gives n K (tableBit t) (w .gate .some) one (w .cells) (w .chain)
+    unfolding made-written
+    cells-give = made-written .give
 
     module _ (ok : IsEdition e) where
       pub made-good : Good e d n (sheetBytes e d (w .cells)) (length (w .cells))
-      made-good =
-          written-good e ok d n K (tableBit t) (w .cells) made-fits cells-give
-          (table-records n K (tableBit t) (w .gate .some) one (w .cells) (w .chain) (omega (arith, w .gate .most, w .gate .two)))
+      unfolding made-written
+      made-good = outcome-good e d n K t sheet work (makeOutcome e d n K t sheet work) made-written ok
 
       -- each record but the last is read
       pub made-read : EachRead e n (sheetBytes e d (w .cells)) (length (w .cells))
-      made-read = written-read e ok d n (w .cells) made-fits (table-read n K (tableBit t) (w .gate .some) one (w .cells) (w .chain))
+      unfolding made-written
+      made-read = outcome-read e d n K t sheet work (makeOutcome e d n K t sheet work) made-written ok
 
       -- read as a network, they are the cells
       pub made-network : networkOf e (makeOutcome e d n K t sheet work) ≡ w .cells
-      made-network =
-          ap₂ (sheetCells e) made-records (ap (λ o. o .answer .count) (w .outcome))
-          ∙ cells-back e d ok n (w .cells) made-fits
+      unfolding made-written
+      made-network = outcome-network e d n K t sheet work (makeOutcome e d n K t sheet work) made-written ok

@@ -18,14 +18,12 @@ use Rattle.sheets.specs.Edition.{IsEdition}
 use Rattle.sheets.specs.Network.{Cell, Gives, Carries}
 use Rattle.sheets.specs.Sheet.{records}
 use Rattle.sheets.specs.Reading.{EachRead}
-use Rattle.sheets.specs.Writing.{sheetBytes}
 use Rattle.chains.specs.Chain.{Made, stuck, made, pick, inputs, lastCell}
 use Rattle.chains.specs.Words.{Blocked}
-use Rattle.chains.specs.Fewest.{Fewest}
+use Rattle.fewest.specs.Fewest.{Fewest}
 use Rattle.chains.proofs.Aside.{sheet-stuck, sheet-plain}
-use Rattle.chains.proofs.Fewest.{table-fewest}
-use Rattle.chains.proofs.Picked.{first-reads, sheet-constant}
-use Rattle.chains.proofs.Written.{written-bit, written-table}
+use Rattle.fewest.proofs.Fewest.{table-fewest}
+use Rattle.chains.proofs.FirstReads.{first-reads, sheet-constant}
 use Rattle.refusals.specs.declared.verdicts.Refusal.{Refusal}
 use Rattle.refusals.specs.declared.verdicts.Verdict.{Verdict}
 use Rattle.refusals.specs.declared.verdicts.Verdict.the-variants.{Fine, Refused}
@@ -34,21 +32,17 @@ use Rattle.refusals.specs.Refusals.{chainStuck, isStuck}
 use Rattle.refusals.specs.Lent.{workAfter}
 use Rattle.refusals.proofs.Lines.{passed, passes, held}
 use Rattle.refusals.proofs.Lent.{work-found}
-use Rattle.refusals.proofs.Sheets.{counted}
 use Rattle.splitting.specs.FindBest.{findOutcome}
-use Rattle.running.specs.RunSheet.{runForm, runOutcome}
-use Rattle.running.specs.RebuildTable.{rebuildForm, rebuildOutcome}
+use Rattle.running.specs.RunSheet.{runOutcome}
+use Rattle.running.specs.RebuildTable.{rebuildOutcome}
 use Rattle.bench.specs.declared.make_sheet.MakeAnswer.{MakeAnswer}
 use Rattle.bench.specs.MakeSheet.{MakeOutcome, sheetFor, cellsIn, makeForm, makeLines, makeDone, makeNot, makeOutcome}
 use Rattle.claims.specs.Words.{ByLines, AllBytes, recordsOf, networkOf}
 use Rattle.claims.specs.Before.{makeBefore}
 use Rattle.claims.proofs.Verdicts.{is-refused, by-lines, work-cleared}
-use Rattle.claims.proofs.Tables.{table-back}
 use Rattle.claims.proofs.FindBest.{found-more, found-best}
-use Rattle.claims.proofs.Sheets.{good-run, good-rebuild, read-never}
-use Rattle.claims.proofs.RunSheet.{run-says}
-use Rattle.claims.proofs.RebuildTable.{rebuild-says}
-use Rattle.claims.proofs.Made.{IsMade, make-says, make-sound, is-made, not-stuck, made-records, made-fits, cells-give, made-good, made-read, made-network}
+use Rattle.claims.proofs.Written.{IsWritten, outcome-runs, outcome-rebuilds, outcome-each-read, outcome-never-unread, outcome-gives}
+use Rattle.claims.proofs.Made.{IsMade, make-says, make-sound, is-made, not-stuck, made-written, made-network}
 
 module _ (e : Edition) (d n K : ℕ) (t sheet work : List ℕ) where
   -- the inputs that are kept of the gate's, as signals, and the table over them
@@ -100,43 +94,33 @@ module _ (e : Edition) (d n K : ℕ) (t sheet work : List ℕ) where
     w : IsMade e d n K t sheet work
     w = is-made e d n K t sheet work done
 
+    abbrev o : MakeOutcome
+    o = makeOutcome e d n K t sheet work
+
+    written : IsWritten e d n K t sheet work (makeOutcome e d n K t sheet work)
+    written = made-written e d n K t sheet work w
+
     -- running s at any assignment gives the table's own bit (`written-bit`, chains)
     pub made-runs : (x : ℕ) → x < 2 ^ n → runOutcome e d n (recordsOf e (makeOutcome e d n K t sheet work)) x ≡ record { verdict = Fine; bit = tableBit t x }
-    made-runs x h =
-        let cs = w .cells in
-        let same = written-bit e ok d n K (tableBit t) cs (made-fits e d n K t sheet work w) (cells-give e d n K t sheet work w) x h in
-        ap (λ (s : List ℕ). runOutcome e d n s x) (made-records e d n K t sheet work w)
-        ∙ good-run e ok d n (sheetBytes e d cs) (length cs) (w .gate .some) (w .gate .most) (made-good e d n K t sheet work w ok) (made-read e d n K t sheet work w ok) x h
-        ∙ ap (λ (b : Bool). record { verdict = Fine; bit = b }) same
+    made-runs = outcome-runs e d n K t sheet work o written ok
 
     -- rebuilding from s, into any lent table of the right length, gives the table back, byte for byte (`written-table`, chains)
     pub made-rebuilds : AllBytes t → (table : List ℕ) → length table ≡ tableLength n
         → rebuildOutcome e d n (recordsOf e (makeOutcome e d n K t sheet work)) table ≡ record { verdict = Fine; table = t }
-    made-rebuilds bytes table h =
-        let cs = w .cells in
-        let back = written-table e ok d n K (tableBit t) cs (made-fits e d n K t sheet work w) (cells-give e d n K t sheet work w) in
-        ap (λ (s : List ℕ). rebuildOutcome e d n s table) (made-records e d n K t sheet work w)
-        ∙ good-rebuild e ok d n (sheetBytes e d cs) (length cs) (w .gate .some) (w .gate .most) (made-good e d n K t sheet work w ok) (made-read e d n K t sheet work w ok) table h
-        ∙ ap (λ (l : List ℕ). record { verdict = Fine; table = l }) (back ∙ table-back n (tableBit t) t bytes (w .gate .long) (w .gate .spare) (λ x l. refl))
+    made-rebuilds = outcome-rebuilds e d n K t sheet work o written ok
 
     -- each record of s but the last is read (`table-read`, chains): neither run, at any assignment, nor rebuild, into any lent table, refuses s as 15
     pub records-read : EachRead e n (recordsOf e (makeOutcome e d n K t sheet work)) (records e (recordsOf e (makeOutcome e d n K t sheet work)))
-    records-read =
-        let s = sheetBytes e d (w .cells) in
-        rw (made-records e d n K t sheet work w, counted e d n s ok (length (w .cells)) (made-good e d n K t sheet work w ok)) (made-read e d n K t sheet work w ok)
+    records-read = outcome-each-read e d n K t sheet work o written ok
 
     pub made-never-unread : (x : ℕ) (table : List ℕ)
         → (numberOf (runOutcome e d n (recordsOf e (makeOutcome e d n K t sheet work)) x .verdict) ≡ 15 → ⊥)
         × (numberOf (rebuildOutcome e d n (recordsOf e (makeOutcome e d n K t sheet work)) table .verdict) ≡ 15 → ⊥)
-    made-never-unread x table =
-        let s = recordsOf e (makeOutcome e d n K t sheet work) in (
-          read-never e n s (runForm e d n s x) refl (runOutcome e d n s x .verdict) (run-says e d n s x) records-read,
-          read-never e n s (rebuildForm e d n s table) refl (rebuildOutcome e d n s table .verdict) (rebuild-says e d n s table) records-read,
-        )
+    made-never-unread = outcome-never-unread e d n K t sheet work o written ok
 
     -- s is a network of cells of at most K inputs, each reading signals given before it, that gives the table (`table-gives`, chains)
     pub made-gives : Gives n K (tableBit t) (networkOf e (makeOutcome e d n K t sheet work))
-    made-gives = rw (made-network e d n K t sheet work w ok) (cells-give e d n K t sheet work w)
+    made-gives = outcome-gives e d n K t sheet work o written ok
 
   -- ---- demand 3
 

@@ -11,7 +11,7 @@ use Rattle.sheets.specs.declared.kinds.Edition.{Edition}
 use Rattle.sheets.specs.Edition.{firstEdition, editionOf}
 use Rattle.sheets.specs.Network.{Gives, Carries}
 use Rattle.sheets.proofs.Keeping.{is-edition, edition-one}
-use Rattle.chains.specs.Fewest.{Fewest}
+use Rattle.fewest.specs.Fewest.{Fewest}
 use Rattle.refusals.specs.declared.verdicts.Refusal.{Refusal}
 use Rattle.refusals.specs.declared.verdicts.Verdict.{Verdict}
 use Rattle.refusals.specs.declared.verdicts.Verdict.the-variants.{Fine, Refused}

@@ -6,7 +6,7 @@ use lib.ListN.{replicate, take}
 use Rattle.bits.specs.Numbers.{val}
 use Rattle.tables.specs.Cells.{tableNumber}
 use Rattle.sheets.specs.Edition.{recordSize, mostRecords, firstEdition}
-use Rattle.chains.specs.Area.{workLength}
+use Rattle.making.specs.Area.{workLength}
 use Rattle.refusals.specs.Lines.{numberOf, placeOf}
 use Rattle.splitting.specs.TrySplit.{TryOutcome, tryOutcome}
 use Rattle.splitting.specs.FindBest.{FindOutcome, findOutcome}

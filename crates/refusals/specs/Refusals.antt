@@ -1,7 +1,7 @@
 -- The table of refusals: each line under its number, with its words and what it names besides (nothing, where nothing
 -- is said). The code has the numbers in src/verdicts.rt. 13 and 14 stand with the times (settling, Refusals), 16
--- with texts (formulas, Refusals; printing, Printable), 18 to 20 with the cards (cards, Refusals), 21 with the book
--- (book, Turn); 17 is free.
+-- with texts (formulas, Refusals; printing, Printable), 17 with the sheet for any gate (any_gate, MakeAny), 18 to 20
+-- with the cards (cards, Refusals), 21 with the book (book, Turn).
 use mathlib.Core.Bool.{Bool, true, false, not, _&&_, _||_}
 use mathlib.Core.List.{List, [], _∷_, _++_}
 use Prim.Native.Nat.{ℕ, _+_, _-_, _*_, _^_}
@@ -19,7 +19,7 @@ use Rattle.sheets.specs.Edition.{mostRecords, mostDesk, lastEdition}
 use Rattle.sheets.specs.Sheet.{badLength, records, firstBad}
 use Rattle.sheets.specs.Reading.{firstUnread}
 use Rattle.runs.specs.Checking.{firstDifference}
-use Rattle.chains.specs.Area.{workLength}
+use Rattle.making.specs.Area.{workLength}
 use Rattle.chains.specs.Chain.{Made, stuck, made}
 use Rattle.refusals.specs.Lines.{Line, line, naming}
 

@@ -46,6 +46,8 @@ impl Refusal {
     pub const UNREAD: u8 = 15;
     // the text is no formula: the first place at which it can't be continued; or no formula is printed for the sheet
     pub const TEXT: u8 = 16;
+    // the chain with several first cells takes more records than a sheet has
+    pub const LONG: u8 = 17;
     // the desk is closed: its mark isn't 1
     pub const CLOSED: u8 = 18;
     // the desk is outside 1 to 4, or the sheet is another desk's

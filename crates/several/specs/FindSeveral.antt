@@ -12,7 +12,7 @@ use Rattle.refusals.specs.Refusals.{nothingToSplit}
 use Rattle.refusals.specs.Lent.{workAfter}
 use Rattle.splitting.specs.FindBest.{findForm}
 use Rattle.several.specs.declared.find_several.FindSeveralAnswer.{FindSeveralAnswer}
-use Rattle.several.specs.Search.{Choice, nothing, choice, bestOver}
+use Rattle.choices.specs.Search.{Choice, nothing, choice, bestOver}
 
 -- the best split of a gate's table with 1 to 3 first cells
 abbrev pub bestSeveral : ℕ → ℕ → List ℕ → Choice

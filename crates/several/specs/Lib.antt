@@ -1,5 +1,2 @@
--- Several first cells: the best split over how many there are, and what the two calls answer.
-pub mod Best
-pub mod Search
-pub mod Chosen
+-- Several first cells: what the call that finds the best split over how many there are answers.
 pub mod FindSeveral

@@ -1,6 +1,6 @@
 // Finding the best split with several first cells.
-use crate::over::find_over;
 use bits::sets::members;
+use choices::counted::find_over;
 use refusals::verdicts::Refusal;
 use refusals::verdicts::Verdict;
 use refusals::verdicts::refuse;
@@ -12,7 +12,7 @@ ghost use Prim.Native.Nat.{_≤_};
 ghost use lib.ListN.{length};
 ghost use Rattle.tables.specs.Table.{mostInputs, tableLength};
 ghost use Rattle.sheets.specs.Edition.{firstEdition};
-ghost use Rattle.chains.specs.Area.{workLength};
+ghost use Rattle.making.specs.Area.{workLength};
 ghost use Rattle.refusals.specs.Lines.{verdict, reply};
 ghost use Rattle.several.specs.FindSeveral.{bestSeveral, severalSays, severalDone, severalNot};
 ghost use Rattle.several.specs.FindSeveral.{findSeveralOutcome};

@@ -1,4 +1,3 @@
 // Several first cells: a named split tried with them, and the best split over how many there are.
 pub mod find_several;
-pub mod over;
 pub mod try_several;

@@ -1,5 +1,5 @@
 // Finding the best split.
-use chains::area::WORK;
+use making::area::WORK;
 use quick::counted::Counted;
 use quick::counted::find_counting;
 use refusals::form;
@@ -12,7 +12,7 @@ ghost use Prim.Native.Nat.{_≤_};
 ghost use lib.ListN.{length};
 ghost use Rattle.tables.specs.Table.{mostInputs, tableLength};
 ghost use Rattle.sheets.specs.Edition.{IsEdition, firstEdition};
-ghost use Rattle.chains.specs.Area.{workLength};
+ghost use Rattle.making.specs.Area.{workLength};
 ghost use Rattle.refusals.specs.Lines.{verdict, reply};
 ghost use Rattle.splitting.specs.FindBest.{bestFor, findForm, findSays, findDone, findNot, findOutcome};
 

@@ -27,7 +27,7 @@ use Rattle.chains.specs.Chain.{pick, firstCell, nextSignals, nextTable, lastCel
 use Rattle.chains.specs.Aside.{sheetAside}
 use Rattle.chains.specs.Words.{Makes, ends, goes}
 use Rattle.chains.proofs.Lists.{pick-length}
-use Rattle.chains.proofs.View.{next-inputs, next-shorter}
+use Rattle.chains.proofs.One.{next-inputs, next-shorter}
 use Rattle.chains.proofs.Aside.{sheet-made}
 use Rattle.trees.specs.Tree.{Tree, TreeOf}
 use Rattle.trees.proofs.Graft.{graft, Computes}

@@ -28,8 +28,8 @@ use Rattle.sheets.specs.Reading.{times, reads}
 use Rattle.chains.specs.Chain.{pick, firstCell, lastCell, nextSignals, nextTable}
 use Rattle.chains.specs.Words.{Makes, ends, goes}
 use Rattle.chains.proofs.Lists.{AllBelow, pick-length, pick-below}
-use Rattle.chains.proofs.Right.{first-count, next-below}
-use Rattle.chains.proofs.View.{next-inputs}
+use Rattle.chains.proofs.Right.{first-count}
+use Rattle.chains.proofs.One.{next-inputs, next-below}
 use Rattle.trees.proofs.Pairs.{pair-of, not-a, not-b}
 use Rattle.printing.proofs.Lengths.{times-none}
 
@@ -103,7 +103,7 @@ makes-both (ends {l = l} {T = T} h) all =
 makes-both (goes {i = i} {l = l} {T = T} {A = A} {B = B} h b m) all =
     let every = all (omega arith) in
     let two : size (length l) (readsD (bit A) (bit B)) ≡ 2 =
-    omega (arith, first-count l b, pick-length (length l) (readsD (bit A) (bit B)) l, b .candidate .more, b .candidate .most) in (
+    omega (arith, first-count l (b .candidate), pick-length (length l) (readsD (bit A) (bit B)) l, b .candidate .more, b .candidate .most) in (
       λ q j g. subst (λ (k : ℕ). DependsOn k (bit (tableD (length l) (bit T) (bit A) (bit B) 0)) j) two
           (own-counts (length l) (bit T) A B (b .candidate) (b .possible) every j (omega arith)),
       makes-both m (λ _. subst (λ (k : ℕ). AllCount k (bit (nextTable l T A B))) (sym (next-inputs l A B i)) (next-counts (length l) 2 (bit T) A B b every)),
@@ -145,7 +145,7 @@ pub record ReadOnce (i : ℕ) (l : List ℕ) (cs : List Cell) (x : ℕ) : Type 0
 pub makes-once : {i : ℕ} {l : List ℕ} {T : ℕ} {cs : List Cell} → Makes 2 i l T cs → AllBelow i l → (x : ℕ) → ReadOnce i l cs x
 makes-once (ends {i = i} {l = l} {T = T} h) low x = record { listed = λ g. omega arith; given = λ g. omega (arith, times-none l i x low g) }
 makes-once (goes {i = i} {l = l} {T = T} {A = A} {B = B} {cs = cs} h b m) low x =
-    step (makes-once m (next-below i l T b low) x)
+    step (makes-once m (next-below A B i l low) x)
   where
     apart : (j : ℕ) → j < length l → readsD (bit A) (bit B) j ≡ true → readsH (bit A) (bit B) j ≡ true → ⊥
     apart j g d e =

@@ -25,7 +25,7 @@ use Rattle.chains.specs.Chain.{pick, inputs, lastCell, made}
 use Rattle.chains.specs.Aside.{sheetAside}
 use Rattle.chains.proofs.Lists.{inputs-at, inputs-length}
 use Rattle.chains.proofs.Aside.{table-gives, table-fits}
-use Rattle.chains.proofs.Picked.{sheet-constant}
+use Rattle.chains.proofs.FirstReads.{sheet-constant}
 use Rattle.formulas.specs.Formula.{Formula, letter, constant, negated, joined, join}
 use Rattle.formulas.specs.Formula as formula
 use Rattle.printing.specs.Forms.{flipsLow, flipsHigh}

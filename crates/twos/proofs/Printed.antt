@@ -21,7 +21,7 @@ use Rattle.chains.specs.Aside.{sheetAside}
 use Rattle.chains.specs.Words.{Makes}
 use Rattle.chains.proofs.Lists.{AllBelow, pick-length, pick-below, inputs-length, inputs-below}
 use Rattle.chains.proofs.Aside.{sheet-made, table-few, table-fits}
-use Rattle.chains.proofs.Read.{table-read}
+use Rattle.chains.proofs.Aside.{table-read}
 use Rattle.printing.specs.Printable.{AllPlain, Printable}
 use Rattle.twos.proofs.Cells.{AllBoth, makes-both, ReadOnce, makes-once}
 

@@ -9,6 +9,7 @@ pub mod find_several;
 pub mod load;
 pub mod look_up;
 pub mod make;
+pub mod make_any;
 pub mod make_for_desk;
 pub mod make_in;
 pub mod one_store;
@@ -62,6 +63,7 @@ pub static TABLE: &[&Call] = &[
     &one_store::CALL,
     &turn::CALL,
     &look_up::CALL,
+    &make_any::CALL,
 ];
 
 pub fn call_of(code: u8) -> Option<&'static Call> {

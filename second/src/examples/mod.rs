@@ -1,6 +1,7 @@
 //! The bench examples 1 to 11 of document 01, with its answers as literals (6 and
 //! 9 as document 02 has them), and some for the requests of document 02.
 
+mod any;
 mod desks;
 mod editions;
 pub mod requests;
@@ -10,7 +11,7 @@ use crate::batch::answer_length;
 use crate::calls;
 use crate::case::{Case, Part, PRESET};
 use crate::cell::SHEET_BYTES;
-use crate::refusals::{NO_SPLIT, WORK_BYTES};
+use crate::refusals::{NO_SPLIT, TOO_MANY, WORK_BYTES};
 use crate::split::Split;
 
 pub struct Example {
@@ -71,15 +72,15 @@ fn sheet(name: &'static str, case: Case, records: &str) -> Example {
     example(name, case, expected)
 }
 
-/// A refusal: zeros for every value, lent bytes as they were. After 8 the work
-/// area is zeros, after 1 to 7 it is as it was.
+/// A refusal: zeros for every value, lent bytes as they were. After 8 and 17 the
+/// work area is zeros, after 1 to 7 it is as it was.
 fn refusal(name: &'static str, case: Case, number: u8) -> Example {
     let mut expected = Vec::new();
     for part in case.call.answers {
         match part {
             Part::Number(_, width) => expected.extend(vec![0; *width]),
             Part::Lent(area) => expected.extend(&case.preset(PRESET)[*area]),
-            Part::Mark(_) => expected.push(u8::from(number != NO_SPLIT)),
+            Part::Mark(_) => expected.push(u8::from(![NO_SPLIT, TOO_MANY].contains(&number))),
         }
     }
     expected[case.call.number_at()] = number;
@@ -189,6 +190,7 @@ fn example_11() -> Vec<Example> {
 pub fn all() -> Vec<Example> {
     let base = [examples_1_to_5(), examples_6_to_9(), example_10(), example_11()];
     let list = base.into_iter().flatten().chain(requests::all());
-    let list = list.chain(desks::all()).chain(several::all()).chain(editions::all());
+    let list =
+        list.chain(desks::all()).chain(several::all()).chain(editions::all()).chain(any::all());
     list.filter(|example| calls::call_of(example.case.call.code).is_some()).collect()
 }

@@ -14,6 +14,7 @@ pub mod networks;
 pub mod printing;
 pub mod rewritten;
 pub mod several;
+pub mod several_chains;
 pub mod sheet;
 pub mod sheets;
 pub mod tables;
@@ -39,7 +40,7 @@ pub struct Fresh {
 /// tables with several first cells, tables that ignore inputs in every place, every
 /// rule of the records broken, every bit of some sheets flipped, cells that nobody
 /// reads at every place, records of other desks, cuts of a load and damaged cards,
-/// sheets rewritten for every desk.
+/// sheets rewritten for every desk, counting gates for every K and n.
 pub fn cases(random: &mut Random, count: usize) -> Vec<Fresh> {
     let mut list: Vec<Fresh> = (0..count).map(|i| (TABLE[i % TABLE.len()].fresh)(random)).collect();
     list.extend(pairs(random));
@@ -53,6 +54,7 @@ pub fn cases(random: &mut Random, count: usize) -> Vec<Fresh> {
     list.extend(desks::cases(random));
     list.extend(cards::cases(random));
     list.extend(rewritten::cases(random));
+    list.extend(several_chains::cases(random));
     list.retain(|fresh| call_of(fresh.case.call.code).is_some());
     for fresh in &mut list {
         fresh.tags.extend(size_tag(&fresh.case));

@@ -4,6 +4,7 @@ use crate::cell::{Cell, MOST_READS};
 use crate::network::rebuild;
 use crate::random::Random;
 use crate::sets::{all, gather, size};
+use crate::several::MOST_FIRST;
 use crate::split::Split;
 use crate::table::Table;
 
@@ -236,6 +237,27 @@ pub fn chain_for(random: &mut Random, n: usize, k: usize) -> Drawn {
     }
     cells.push(Cell { table: any(random, signals.len()), reads: signals });
     Drawn { table: rebuild(n, &cells), planted: None, suits: Some(k) }
+}
+
+/// The table of a random chain with several first cells at each step: so many,
+/// with so many own inputs, or any numbers.
+pub fn several_for(random: &mut Random, n: usize, k: usize, each: Option<[usize; 2]>) -> Table {
+    let mut signals: Vec<usize> = (0..n).collect();
+    let mut cells = Vec::new();
+    while signals.len() > k {
+        let any_r = random.between(1, MOST_FIRST.min(k - 1));
+        let [r, own] = each.unwrap_or([any_r, random.between(any_r + 1, k)]);
+        let shared = random.below((k - own).min(signals.len() - own).min(1) + 1);
+        random.shuffle(&mut signals);
+        let reads = signals[..own + shared].to_vec();
+        signals.drain(..own);
+        for _ in 0..r {
+            signals.push(n + cells.len());
+            cells.push(Cell { table: any(random, reads.len()), reads: reads.clone() });
+        }
+    }
+    cells.push(Cell { table: any(random, signals.len()), reads: signals });
+    rebuild(n, &cells)
 }
 
 /// One or two bits flipped.

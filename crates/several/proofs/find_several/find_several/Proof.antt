@@ -8,7 +8,7 @@ use borrow.Author.Needs.{needs}
 use borrow.Author.Tests.{ltb-false}
 use Rattle.sheets.specs.declared.kinds.Edition.{Edition}
 use Rattle.sheets.specs.Edition.{firstEdition}
-use Rattle.chains.specs.Area.{workLength}
+use Rattle.making.specs.Area.{workLength}
 use Rattle.refusals.specs.declared.verdicts.Verdict.{Verdict}
 use Rattle.refusals.specs.declared.verdicts.Verdict.the-variants.{Fine, Refused}
 use Rattle.refusals.specs.Lines.{Line, verdict}

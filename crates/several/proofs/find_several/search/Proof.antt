@@ -11,14 +11,14 @@ use Rattle.bits.specs.Sets.{size}
 use Rattle.bits.proofs.Numbers.{number-lt}
 use Rattle.tables.specs.Table.{tableBit}
 use Rattle.tables.specs.Counting.{counts, support}
-use Rattle.chains.proofs.Halves.{half-holds}
+use Rattle.making.proofs.Halves.{half-holds}
 use Rattle.refusals.specs.declared.verdicts.Verdict.{Verdict}
 use Rattle.refusals.specs.declared.verdicts.Verdict.the-variants.{Fine}
 use Rattle.refusals.specs.Lines.{line, verdict, reply}
 use Rattle.several.specs.declared.find_several.FindSeveralAnswer.{FindSeveralAnswer}
-use Rattle.several.specs.Search.{Choice}
+use Rattle.choices.specs.Search.{Choice}
 use Rattle.several.specs.FindSeveral.{FindSeveralOutcome, bestSeveral, noneSeveral, severalDone, severalNot}
-use Rattle.several.proofs.Choosing.{is-nothing, is-choice}
+use Rattle.choices.proofs.Choosing.{is-nothing, is-choice}
 use Rattle.several.proofs.find_several.search.Statement.{statement}
 use Rattle.several.proofs.find_several.search.Tie as tie
 
@@ -58,7 +58,7 @@ find-over-requires c κs =
     let i = c .before in
     let m = i .before in
     let p = g m .pre in
-    (p .2, p .0, p .1, omega (arith, p .2, p .3, half-holds (g m .args .n) (p .0)), omega (arith, all m, i .if1 .left))
+    (p .2, p .0, p .1, omega (arith, p .2, p .3, half-holds (g m .args .n) (p .0)))
 
 returns-2 : tie.Need-returns-2
 returns-2 c =

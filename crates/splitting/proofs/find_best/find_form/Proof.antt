@@ -4,7 +4,7 @@ use mathlib.Core.List.{[], _∷_}
 use lib.ListN.{length}
 use borrow.Author.Needs.{needs}
 use borrow.Author.Tests.{lt-ltb, le-ltb}
-use Rattle.chains.specs.Area.{workLength}
+use Rattle.making.specs.Area.{workLength}
 use Rattle.refusals.specs.Refusals.{gateLines, shortWork}
 use Rattle.refusals.proofs.Lines.{fine, here, later, stopped, decided}
 use Rattle.splitting.proofs.find_best.find_form.Statement.{statement}

@@ -8,7 +8,7 @@ use borrow.Author.Needs.{needs}
 use Rattle.quick.specs.declared.counted.Counted.{Counted}
 use Rattle.best.specs.Search.{Answer}
 use Rattle.quick.specs.Counted.{FoundCounting}
-use Rattle.chains.proofs.Halves.{half-holds}
+use Rattle.making.proofs.Halves.{half-holds}
 use Rattle.refusals.specs.declared.verdicts.Verdict.{Verdict}
 use Rattle.refusals.specs.declared.verdicts.Verdict.the-variants.{Fine}
 use Rattle.refusals.specs.Lines.{line, verdict, reply}

@@ -1,0 +1,2 @@
+-- The laws of make_any's answer.
+pub mod Answers

@@ -1,0 +1,2 @@
+-- A sheet for any gate: what the call answers.
+pub mod MakeAny

@@ -1,0 +1,8 @@
+-- The laws of the best split over r. First: the first over r of whatever works. Best: alone, and over the inputs that
+-- count. Fewer, Counts: each output of a first cell is one that H asks for. Choosing, Spread: what the code holds.
+pub mod First
+pub mod Best
+pub mod Fewer
+pub mod Counts
+pub mod Choosing
+pub mod Spread

@@ -1,0 +1,3 @@
+-- What fewest cells means, and tables that join all their inputs.
+pub mod Fewest
+pub mod Joining

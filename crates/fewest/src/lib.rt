@@ -1,0 +1,1 @@
+// Where a sheet has the fewest cells: theorems alone. Nothing here runs.

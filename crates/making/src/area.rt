@@ -1,0 +1,65 @@
+// The work area: the table at hand in the first half, the next one in the second.
+ghost use mathlib.Core.Path.{_≡_};
+ghost use Prim.Native.Nat.{ℕ, _+_, _*_, _^_, _<_, _≤_};
+ghost use lib.ListN.{length, getD};
+ghost use Rattle.tables.specs.Table.{mostInputs};
+ghost use Rattle.splits.specs.Columns.{mostFirst};
+ghost use Rattle.splits.specs.Reading.{Held, Chart};
+ghost use Rattle.making.specs.Area.{half, workLength, atHand, nextInputs, NextStored, NextTable};
+use crate::signals::Signals;
+use splits::pair::h_byte;
+use splits::split::Split;
+use tables::length_for;
+
+// The table of as many inputs as a gate can have fills a half.
+pub const HALF: usize = 1 << (Signals::MOST - 3);
+
+// A work area has two halves.
+pub const WORK: usize = 2 * HALF;
+
+// The first len bytes of H's table, with r first cells, into the second half.
+fn store_next(work: &mut [u8], s: Split, r: u32, seen: &[u16], len: usize)
+    requires { ⌜
+        Held s × (len ≤ half) × (workLength ≤ length (now work)) × Chart s (atHand (now work)) (2 ^ r) (now seen)
+        × (r ≤ mostFirst)
+        ⌝ }
+    ensures { λ _. ⌜ NextStored s r len (now (work .entry)) (now (work .exit)) ⌝ }
+{
+    let limit: usize = 1 << r;
+    let mut i: usize = 0;
+    while i < len {
+        let b = h_byte(&work[..HALF], s, limit, seen, i as u32);
+        let at = HALF + i;
+        work[at] = b;
+        i += 1;
+    }
+}
+
+// The first len bytes of the second half, back to the first.
+fn take_next(work: &mut [u8], len: usize)
+    requires { ⌜ (len ≤ half) × (workLength ≤ length (now work)) ⌝ }
+    ensures { λ r. ⌜
+        ((i : ℕ) → i < len → getD (now (work .exit)) i 0 ≡ getD (now (work .entry)) (half + i) 0)
+        × (length (now (work .exit)) ≡ length (now (work .entry)))
+        ⌝ }
+{
+    let mut i: usize = 0;
+    while i < len {
+        let from = HALF + i;
+        work[i] = work[from];
+        i += 1;
+    }
+}
+
+// H becomes the table at hand, by the chart of the columns; it has m inputs.
+pub fn next_table(work: &mut [u8], s: Split, r: u32, seen: &[u16], m: u32)
+    requires { ⌜
+        Held s × (workLength ≤ length (now work)) × (m ≤ mostInputs) × (m ≡ nextInputs s r (now work))
+        × Chart s (atHand (now work)) (2 ^ r) (now seen) × (r ≤ mostFirst)
+        ⌝ }
+    ensures { λ _. ⌜ NextTable s r (now (work .entry)) (now (work .exit)) ⌝ }
+{
+    let len = length_for(m);
+    store_next(work, s, r, seen, len);
+    take_next(work, len);
+}
