@@ -4,7 +4,7 @@
 //! signals and has any table. A cell may ignore what it reads, so it is enough
 //! to look at cells that read as many signals as they may, each once.
 
-use crate::sets::{all, gather, size};
+use crate::sets::{all, members, size};
 use crate::table::Table;
 
 /// Up to this cell size every table of the first cell is tried in turn.
@@ -14,12 +14,15 @@ pub const MOST_TRIED: usize = 3;
 /// cell's table at which those inputs stand.
 pub struct Reads {
     set: u16,
-    entries: Vec<usize>,
+    entries: Vec<u8>,
 }
 
 impl Reads {
     pub fn new(n: usize, set: u16) -> Reads {
-        Reads { set, entries: (0..1 << n).map(|x| gather(x, set)).collect() }
+        // A cell has at most 8 inputs, so 256 entries.
+        let places: Vec<(usize, usize)> = members(set).into_iter().enumerate().collect();
+        let entry = |x: usize| places.iter().map(|(i, j)| ((x >> j) & 1) << i).sum::<usize>();
+        Reads { set, entries: (0..1 << n).map(|x| entry(x) as u8).collect() }
     }
 
     /// All that a cell with this many places may read.
@@ -47,7 +50,7 @@ impl Networks {
         self.full.iter().any(|reads| {
             let mut cell: Vec<Option<bool>> = vec![None; 1 << size(reads.set)];
             let mut demands = reads.entries.iter().zip(&table.bits);
-            demands.all(|(&entry, &bit)| *cell[entry].get_or_insert(bit) == bit)
+            demands.all(|(&entry, &bit)| *cell[usize::from(entry)].get_or_insert(bit) == bit)
         })
     }
 
@@ -87,7 +90,8 @@ impl Wiring<'_> {
     /// of the entry of the second, and the bit that must come out.
     fn demands(&self) -> impl Iterator<Item = (usize, usize, bool)> + '_ {
         let entries = self.first.entries.iter().zip(&self.second.entries);
-        entries.zip(&self.table.bits).map(|((&first, &second), &bit)| (first, second, bit))
+        let entries = entries.map(|(&first, &second)| (usize::from(first), usize::from(second)));
+        entries.zip(&self.table.bits).map(|((first, second), &bit)| (first, second, bit))
     }
 
     /// Tries every table of the first cell in turn; the second cell's table is

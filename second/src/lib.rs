@@ -9,6 +9,7 @@ pub mod calls;
 pub mod card;
 pub mod cell;
 pub mod chain;
+pub mod least;
 pub mod network;
 pub mod printing;
 pub mod refusals;
@@ -25,6 +26,7 @@ pub mod case;
 pub mod describe;
 pub mod inspect;
 
+pub mod brute;
 pub mod carry;
 pub mod examples;
 pub mod fresh;

@@ -9,7 +9,7 @@ use second::case::PRESET;
 use second::inspect::inspect;
 use second::outside::arguments::Arguments;
 use second::outside::{
-    cards, compare, compare_bench, compare_inspect, fewest, gates, measure, programs, trees,
+    bound, cards, compare, compare_bench, compare_inspect, fewest, gates, measure, programs, trees,
 };
 
 const USAGE: &str =
@@ -20,6 +20,7 @@ second compare [--seed S] [--cases N] [--fault] -- COMMAND ARGS..
 second compare-bench [--seed S] [--cases N] [--fault] -- COMMAND ARGS..
 second compare-inspect [--seed S] [--cases N] [--fault] -- COMMAND ARGS..
 second fewest [--seed S] [--cases N] [--all-of-4] [--fault] -- COMMAND ARGS..
+second bound [--seed S] [--cases N] [--fault] -- COMMAND ARGS..
 second gates [--few] [--fault] -- COMMAND ARGS..
 second trees [--seed S] [--cases N] -- COMMAND ARGS..
 second cards [--seed S] [--cases N] -- COMMAND ARGS..
@@ -53,6 +54,7 @@ fn obey(words: &[String]) -> Result<(), String> {
         "compare-bench" => compare_program(&compare_bench::PROGRAM),
         "compare-inspect" => compare_program(&compare_inspect::PROGRAM),
         "fewest" => fewest::fewest(&options(&["--seed", "--cases"], &["--all-of-4", "--fault"])?),
+        "bound" => bound::bound(&options(&["--seed", "--cases"], &["--fault"])?),
         "gates" => gates::gates(&options(&["--seed"], &["--few", "--fault"])?),
         "trees" => trees::trees(&options(&["--seed", "--cases"], &[])?),
         "cards" => cards::cards(&options(&["--seed", "--cases"], &[])?),

@@ -1,4 +1,5 @@
-//! Which tables have a tree of two-input nodes, by brute force: every tree is built.
+//! Which tables have a tree of two-input nodes, by brute force: every tree is
+//! built, or every way to part the inputs at the top is looked at.
 //!
 //! Nothing here knows of splits, cells or chains.
 
@@ -86,4 +87,39 @@ impl Trees {
             !self.computes(&Table::from_rule(self.inputs, |x| table.bits[at[x]]))
         })
     }
+}
+
+/// Whether a table that depends on each of its inputs has a tree, from the top: a
+/// constant, or one input, or some way to part the inputs such that the table is
+/// a function of two bits, each of one part and with a tree of its own.
+pub fn from_the_top(table: &Table) -> bool {
+    if table.inputs < 2 {
+        return true;
+    }
+    // Input 0 is in the second part; the parts could change places otherwise.
+    let parts = (2..=all(table.inputs)).step_by(2);
+    parts.into_iter().any(|part| {
+        let rest = all(table.inputs) & !part;
+        match (bit_of(table, part), bit_of(table, rest)) {
+            (Some(one), Some(two)) => from_the_top(&one) && from_the_top(&two),
+            _ => false,
+        }
+    })
+}
+
+/// The one bit of a part through which the table depends on it: whether what is
+/// left of the table differs from what is left at 0. Nothing if one bit won't do.
+fn bit_of(table: &Table, part: u16) -> Option<Table> {
+    let others = assignments(all(table.inputs) & !part);
+    let same = |x: usize, y: usize| others.iter().all(|z| table.bits[x | z] == table.bits[y | z]);
+    let mut other = None;
+    let mut bits = Vec::new();
+    for x in assignments(part) {
+        let differs = !same(x, 0);
+        if differs && !same(x, *other.get_or_insert(x)) {
+            return None;
+        }
+        bits.push(differs);
+    }
+    Some(Table { inputs: size(part), bits })
 }

@@ -37,7 +37,7 @@ static inline void put_checked(pelzurivan_checked a) {
     put(8, a.place);
 }
 
-/* The calls that are told the edition, and the one that rewrites a sheet. */
+/* The calls that are told the edition, and the one that rewrites a sheet. The glue of each stands in told.c. */
 void try_told(void);
 void find_told(void);
 void make_told(void);
@@ -45,5 +45,6 @@ void run_told(void);
 void rebuild_told(void);
 void check_told(void);
 void rewrite(void);
+void bound(void);
 
 #endif

@@ -82,3 +82,15 @@ void rewrite(void) {
     put(1, a.count);
     put_area(room);
 }
+
+void bound(void) {
+    uint64_t edition = number(8), n = number(8), k = number(8);
+    area table = handed(TABLE), work = lent(WORK);
+    if (!whole()) return;
+    start();
+    pelzurivan_bounded a = pelzurivan_bound(edition, n, k, table.bytes, table.length, work.bytes, work.length);
+    stop();
+    put(1, a.number);
+    put(1, a.least);
+    put_mark(work);
+}

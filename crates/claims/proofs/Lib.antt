@@ -33,6 +33,7 @@ pub mod Turn
 pub mod Book
 pub mod Fewest
 pub mod Trees
+pub mod Bound
 pub mod BenchProgram
 pub mod Tries
 pub mod Examples

@@ -4,6 +4,7 @@ pub mod TryTold
 pub mod FindBest
 pub mod TrySeveral
 pub mod FindSeveral
+pub mod Bound
 pub mod MakeSheet
 pub mod RunSheet
 pub mod RebuildTable

@@ -1,5 +1,6 @@
 // The calls for C, one file for each: the answer is a struct of the paper's number and the values, all of 64 bits.
 // The header is include/pelzurivan.h.
+pub mod bound;
 pub mod check_sheet;
 pub mod check_told;
 pub mod find_best;

@@ -6,6 +6,7 @@ pub mod cut_load;
 pub mod find;
 pub mod find_in;
 pub mod find_several;
+pub mod least_cells;
 pub mod load;
 pub mod look_up;
 pub mod make;
@@ -60,6 +61,7 @@ pub static TABLE: &[&Call] = &[
     &rebuild_in::CALL,
     &check_in::CALL,
     &rewrite::CALL,
+    &least_cells::CALL,
     &one_store::CALL,
     &turn::CALL,
     &look_up::CALL,

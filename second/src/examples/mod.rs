@@ -4,6 +4,7 @@
 mod any;
 mod desks;
 mod editions;
+mod least;
 pub mod requests;
 mod several;
 
@@ -192,5 +193,6 @@ pub fn all() -> Vec<Example> {
     let list = base.into_iter().flatten().chain(requests::all());
     let list =
         list.chain(desks::all()).chain(several::all()).chain(editions::all()).chain(any::all());
+    let list = list.chain(least::all());
     list.filter(|example| calls::call_of(example.case.call.code).is_some()).collect()
 }

@@ -10,6 +10,7 @@ pub mod every_rule;
 pub mod gate;
 pub mod ignored;
 mod large;
+pub mod least;
 pub mod networks;
 pub mod printing;
 pub mod rewritten;
@@ -40,7 +41,8 @@ pub struct Fresh {
 /// tables with several first cells, tables that ignore inputs in every place, every
 /// rule of the records broken, every bit of some sheets flipped, cells that nobody
 /// reads at every place, records of other desks, cuts of a load and damaged cards,
-/// sheets rewritten for every desk, counting gates for every K and n.
+/// sheets rewritten for every desk, counting gates and the least number of cells for
+/// every K and n.
 pub fn cases(random: &mut Random, count: usize) -> Vec<Fresh> {
     let mut list: Vec<Fresh> = (0..count).map(|i| (TABLE[i % TABLE.len()].fresh)(random)).collect();
     list.extend(pairs(random));
@@ -55,6 +57,7 @@ pub fn cases(random: &mut Random, count: usize) -> Vec<Fresh> {
     list.extend(cards::cases(random));
     list.extend(rewritten::cases(random));
     list.extend(several_chains::cases(random));
+    list.extend(least::cases(random));
     list.retain(|fresh| call_of(fresh.case.call.code).is_some());
     for fresh in &mut list {
         fresh.tags.extend(size_tag(&fresh.case));

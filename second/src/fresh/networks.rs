@@ -20,6 +20,26 @@ pub fn two_cells(random: &mut Random, n: usize, k: usize) -> Table {
     rebuild(n, &cells)
 }
 
+/// The table of so many cells of k places over n inputs, wired in any way: each
+/// input is read by some cell, and each cell but the last by a later one.
+pub fn planted(random: &mut Random, n: usize, k: usize, cells: usize) -> Table {
+    let mut reads: Vec<Vec<usize>> = vec![Vec::new(); cells];
+    for cell in 0..cells - 1 {
+        // The next may be full of cells before; the last never is.
+        let later: Vec<usize> = (cell + 1..cells).filter(|&at| reads[at].len() < k).collect();
+        reads[random.pick(&later)].push(n + cell);
+    }
+    for input in 0..n {
+        let open: Vec<usize> = (0..cells).filter(|&at| reads[at].len() < k).collect();
+        reads[random.pick(&open)].push(input);
+    }
+    let wired = reads.into_iter().enumerate().map(|(i, reads)| filled(random, reads, n + i, k));
+    let wired: Vec<Vec<usize>> = wired.collect();
+    let cells: Vec<Cell> =
+        wired.into_iter().map(|reads| Cell { table: any(random, k), reads }).collect();
+    rebuild(n, &cells)
+}
+
 /// Fills k places up with signals below a limit, and mixes them.
 fn filled(random: &mut Random, mut reads: Vec<usize>, limit: usize, k: usize) -> Vec<usize> {
     while reads.len() < k {

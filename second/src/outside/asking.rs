@@ -19,7 +19,7 @@ pub fn ask(wanted: &[String], batch: &[u8]) -> Result<Vec<u8>, String> {
 }
 
 /// The first edition, or the second where cells are too large for it.
-fn edition_for(k: usize) -> &'static Edition {
+pub fn edition_for(k: usize) -> &'static Edition {
     if k <= FIRST.most_reads {
         &FIRST
     } else {

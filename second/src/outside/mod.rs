@@ -2,6 +2,7 @@
 
 pub mod arguments;
 mod asking;
+pub mod bound;
 mod broken;
 pub mod cards;
 pub mod command;

@@ -1,0 +1,66 @@
+-- What the code finds, in the words of the bound: how many inputs count, and the own set of the best split. Assumes
+-- nothing.
+use mathlib.Core.Path.{_≡_, refl, sym, ap, _∙_, subst}
+use mathlib.Core.Bool.{Bool, false, cond}
+use mathlib.Core.List.{List}
+use Prim.Native.Nat.{ℕ, _+_, _^_, _<_, _≤_, max}
+use native.Mathlib.Omega.{arith}
+use lib.Dec.{leb}
+use lib.ListN.{length, replicate}
+use lib.Pow.{pow-pos}
+use borrow.Author.Tests.{le-leb, lt-leb}
+use Rattle.bits.specs.Numbers.{bit}
+use Rattle.bits.specs.Sets.{size}
+use Rattle.bits.proofs.Numbers.{number-lt}
+use Rattle.bits.proofs.Sizes.{size-le}
+use Rattle.tables.specs.Table.{tableBit}
+use Rattle.tables.specs.Counting.{counts, support}
+use Rattle.quick.specs.declared.counted.Counted.{Counted}
+use Rattle.quick.specs.Counted.{isFew, splitIn, FoundCounting}
+use Rattle.best.specs.Search.{Answer, none, split}
+use Rattle.best.specs.Counting.{bestCounting}
+use Rattle.best.proofs.Counting.{counting-split}
+use Rattle.splitting.specs.FindBest.{ownOf}
+use Rattle.bounds.specs.Bound.{counted}
+use Rattle.bounds.specs.Least.{reaching, bySplit}
+
+-- the members of the mask of the inputs that count, as the machine counts them
+pub counted-is : (n m S : ℕ) (F : ℕ → Bool) → S ≡ support n F → ((p : ℕ) → S < 2 ^ p → m ≡ size p (bit S)) → m ≡ counted n F
+unfolding support
+counted-is n m S F is count =
+    count n (subst (λ (s : ℕ). s < 2 ^ n) (sym is) (number-lt n (counts n F))) ∙ ap (λ (s : ℕ). size n (bit s)) is
+
+-- ---- where more than K inputs count
+module _ (n K c : ℕ) (t work work′ : List ℕ) (f : Counted) (w : FoundCounting n 1 K t work f work′) (is : c ≡ counted n (tableBit t)) (more : K < c) where
+  abbrev a : Answer
+  a = bestCounting n 1 (tableBit t) K
+
+  not-few : isFew f ≡ false
+  not-few = w .few ∙ lt-leb (counted n (tableBit t)) K (omega arith)
+
+  searched : splitIn f ≡ a
+  searched = w .answer ∙ ap (λ (b : Bool). cond b none (bestCounting n 1 (tableBit t) K)) not-few
+
+  pub cleared : work′ ≡ replicate (length work) 0
+  cleared = w .left ∙ ap (λ (b : Bool). cond b work (replicate (length work) 0)) not-few
+
+  -- the own mask is one of n inputs
+  own-below : (a : Answer) → bestCounting n 1 (tableBit t) K ≡ a → ownOf a < 2 ^ n
+  own-below none e = pow-pos n
+  own-below (split A B) e = counting-split n 1 (tableBit t) K A B e .candidate .belowA
+
+  -- its members, as the machine counts them
+  module _ (m own : ℕ) (found : own ≡ ownOf (splitIn f)) (count : (p : ℕ) → own < 2 ^ p → m ≡ size p (bit own)) where
+    own-size : m ≡ size n (bit (ownOf a))
+    own-size =
+        let same : own ≡ ownOf a = found ∙ ap ownOf searched in
+        count n (subst (λ (o : ℕ). o < 2 ^ n) (sym same) (own-below a refl)) ∙ ap (λ (o : ℕ). size n (bit o)) same
+
+    pub own-few : m ≤ n
+    own-few = omega (arith, own-size, size-le n (bit (ownOf a)))
+
+    pub fits : c + 1 ≤ K + m → 2 ≡ bySplit n K c a
+    fits h = ap (λ (b : Bool). cond b 2 (max 3 (reaching c K))) (sym (le-leb (c + 1) (K + size n (bit (ownOf a))) (omega (arith, own-size))))
+
+    pub fits-not : K + m < c + 1 → max 3 (reaching c K) ≡ bySplit n K c a
+    fits-not h = ap (λ (b : Bool). cond b 2 (max 3 (reaching c K))) (sym (lt-leb (c + 1) (K + size n (bit (ownOf a))) (omega (arith, own-size))))

@@ -1,0 +1,99 @@
+// A lower bound on the cells of a table.
+use bits::sets::members;
+use making::chaining::chain_of;
+use quick::counted::Counted;
+use quick::counted::find_counting;
+use tables::clear;
+use tables::counting::support_of;
+ghost use mathlib.Core.Path.{_≡_};
+ghost use Prim.Native.Nat.{_+_, _^_, _<_, _≤_, max};
+ghost use lib.ListN.{length, replicate};
+ghost use Rattle.bits.specs.Numbers.{number};
+ghost use Rattle.tables.specs.Table.{mostInputs, tableLength, tableBit};
+ghost use Rattle.best.specs.Counting.{bestCounting};
+ghost use Rattle.quick.specs.Counted.{splitIn};
+ghost use Rattle.chains.specs.Aside.{sheetAside};
+ghost use Rattle.making.specs.Area.{workLength};
+ghost use Rattle.splitting.specs.FindBest.{ownOf};
+ghost use Rattle.bounds.specs.Bound.{counted};
+ghost use Rattle.bounds.specs.Least.{reaching, bySplit, byChain, leastCells};
+
+// The greater of 3 and the least number of cells of k inputs that can bring c of them to one output.
+fn by_reach(c: u32, k: u32) -> u32
+    requires { ⌜ (2 ≤ k) × (k < c) × (c ≤ mostInputs) ⌝ }
+    ensures { λ m. ⌜ m ≡ max 3 (reaching c k) ⌝ }
+{
+    let m = (c + k - 3) / (k - 1);
+    if m < 3 {
+        return 3;
+    }
+    m
+}
+
+// With cells of two inputs: the chain tells whether there is a tree, and a tree has one node fewer than inputs.
+fn by_chain(t: &[u8], n: u32, c: u32, work: &mut [u8]) -> u32
+    requires { ⌜
+        (1 ≤ n) × (n ≤ mostInputs) × (length (now t) ≡ tableLength n) × (workLength ≤ length (now work)) × (2 < c)
+        ⌝ }
+    ensures { λ r. ⌜
+        (r ≡ byChain c (sheetAside n 2 (number (2 ^ n) (tableBit (now (t .entry))))))
+        × (now (work .exit) ≡ replicate (length (now (work .entry))) 0)
+        ⌝ }
+{
+    let end = chain_of(t, n, 2, work);
+    if end.finished {
+        return c - 1;
+    }
+    c
+}
+
+// The own mask of what was found, and 0 where that is no split.
+fn own_in(found: Counted) -> u16
+    ensures { λ r. ⌜ r ≡ ownOf (splitIn found) ⌝ }
+{
+    match found {
+        Counted::Few => 0,
+        Counted::Split(own, _) => own,
+        Counted::Nothing => 0,
+    }
+}
+
+// Else one look for the best split: two cells do where H is left with at most k inputs.
+fn by_split(t: &[u8], n: u32, k: u32, c: u32, work: &mut [u8]) -> u32
+    requires { ⌜
+        (n ≤ mostInputs) × (2 ≤ k) × (k < c) × (c ≤ mostInputs) × (length (now t) ≡ tableLength n)
+        × (workLength ≤ length (now work)) × (c ≡ counted n (tableBit (now t)))
+        ⌝ }
+    ensures { λ r. ⌜
+        (r ≡ bySplit n k c (bestCounting n 1 (tableBit (now (t .entry))) k))
+        × (now (work .exit) ≡ replicate (length (now (work .entry))) 0)
+        ⌝ }
+{
+    let found = find_counting(t, n, 1, k, work);
+    if c + 1 <= k + members(own_in(found)) {
+        return 2;
+    }
+    by_reach(c, k)
+}
+
+// The bound, in a work area, which is then cleared.
+pub fn least_cells(t: &[u8], n: u32, k: u32, work: &mut [u8]) -> u32
+    requires { ⌜
+        (1 ≤ n) × (n ≤ mostInputs) × (2 ≤ k) × (k ≤ mostInputs) × (length (now t) ≡ tableLength n)
+        × (workLength ≤ length (now work))
+        ⌝ }
+    ensures { λ r. ⌜
+        (r ≡ leastCells n k (tableBit (now (t .entry))))
+        × (now (work .exit) ≡ replicate (length (now (work .entry))) 0)
+        ⌝ }
+{
+    let c = members(support_of(t, n));
+    if c <= k {
+        clear(work);
+        return 1;
+    }
+    if k == 2 {
+        return by_chain(t, n, c, work);
+    }
+    by_split(t, n, k, c, work)
+}
