@@ -1,35 +1,16 @@
 -- `put_pair` meets its contract: the chart has room for the columns of every shared assignment. Assumes nothing.
-use mathlib.Core.Path.{_≡_, sym, subst}
-use mathlib.Core.Bool.{Bool, true}
-use mathlib.Core.List.{List}
-use Prim.Native.Nat.{ℕ, _+_, _*_, _%_, _^_, _≤_}
+use mathlib.Core.Path.{_≡_, subst}
+use mathlib.Core.Bool.{true}
+use Prim.Native.Nat.{ℕ, _^_}
 use native.Mathlib.Omega.{arith}
-use lib.Pow.{pow-add, pow-mono}
+use lib.Pow.{pow-mono}
 use borrow.Author.Needs.{needs}
 use Rattle.bits.specs.Numbers.{bit}
-use Rattle.bits.specs.Sets.{size}
-use Rattle.bits.proofs.Machine.{shl-one}
 use Rattle.tables.specs.Table.{tableBit}
-use Rattle.splits.specs.declared.split.Split.{Split}
 use Rattle.splits.specs.Columns.{mostFirst, fewColumns}
-use Rattle.splits.specs.Reading.{Chart, chartRoom}
-use Rattle.best.specs.Best.{Candidate}
-use Rattle.sheets.specs.Edition.{largestCell}
+use Rattle.making.proofs.Charting.{chart-room, power, charted}
 use Rattle.splitting.proofs.filling.put_pair.Statement.{statement}
 use Rattle.splitting.proofs.filling.put_pair.Tie as tie
-
--- r and the shared inputs make fewer than the cell has
-room : {n r A B m : ℕ} → Candidate n largestCell r A B → 2 ^ r ≡ m → m * 2 ^ size n (bit B) ≤ chartRoom
-room {n} {r} {A} {B} k e =
-    subst (λ (m : ℕ). m * 2 ^ size n (bit B) ≤ chartRoom) e
-    (omega (arith, pow-add 2 r (size n (bit B)), pow-mono {i = r + size n (bit B)} {j = 7} (omega (arith, k .more, k .most))))
-
--- the limit as the code makes it
-power : {r : ℕ} → r ≤ mostFirst → 2 ^ r ≡ 1 * 2 ^ r % 2 ^ 64
-power {r} h = sym (shl-one 64 r (omega arith))
-
-charted : {s : Split} {F : ℕ → Bool} {r : ℕ} {seen : List ℕ} → r ≤ mostFirst → Chart s F (1 * 2 ^ r % 2 ^ 64) seen → Chart s F (2 ^ r) seen
-charted {s} {F} {r} {seen} h w = subst (λ (m : ℕ). Chart s F m seen) (sym (power h)) w
 
 chart-requires : tie.Need-chart-requires
 chart-requires c κs =
@@ -40,7 +21,7 @@ chart-requires c κs =
     let e = power (p .3) in (
       (p .0, omega (arith, e, pow-mono {i = g .args .r} {j = mostFirst} (p .3)), p .1),
       (
-        (omega (arith, b .0, room (p .2) e), b .1),
+        (omega (arith, b .0, chart-room (p .2) e), b .1),
         subst (λ (m : ℕ). fewColumns (s .n) (tableBit (g .args .t .now)) (bit (s .own)) (bit (s .shared)) m ≡ true) e (g .pre .1 .1),
       ),
     )

@@ -10,13 +10,13 @@ use lib.Pow.{pow-mono}
 use borrow.Author.Needs.{needs}
 use Rattle.bits.specs.Numbers.{bit}
 use Rattle.bits.specs.Lists.{listOf}
-use Rattle.bits.proofs.Machine.{shl-one}
 use Rattle.tables.specs.Table.{tableLength, tableBit, bytesOf, tableOf}
 use Rattle.tables.proofs.Bytes.{written-more, length-bytes}
 use Rattle.splits.specs.declared.split.Split.{Split}
 use Rattle.splits.specs.Columns.{mostFirst}
 use Rattle.splits.specs.Pair.{inputsH, bitH, bytesH}
 use Rattle.splits.specs.Reading.{Chart}
+use Rattle.making.proofs.Charting.{power}
 use Rattle.splitting.proofs.filling.store_h.Statement.{statement}
 use Rattle.splitting.proofs.filling.store_h.Tie as tie
 
@@ -31,10 +31,6 @@ Inv-loop t s r seen end room₀ limit i₀ room i = (i ≤ end) × (length room 
 abbrev μ-loop : tie.MeasureT-loop
 μ-loop t s r seen end room₀ limit i₀ room i = end - i
 
--- the limit is 2 ^ r
-power : (r : ℕ) → r ≤ mostFirst → 1 * 2 ^ r % 2 ^ 64 ≡ 2 ^ r
-power r h = shl-one 64 r (omega arith)
-
 loop-holds : tie.Need-loop-holds Inv-loop μ-loop
 unfolding listOf
 loop-holds c = (omega arith, refl, refl)
@@ -43,7 +39,7 @@ h-byte-requires : tie.Need-h-byte-requires Inv-loop μ-loop
 h-byte-requires c κs =
     let g = c .before .before .before .before .before in
     let p = g .pre .0 in
-    let e = power (g .args .r) (p .3) in (
+    let e = sym (power (p .3)) in (
       p .0,
       p .1,
       subst (λ (m : ℕ). Chart (g .args .s) (tableBit (g .args .t .now)) m (g .args .seen .now)) (sym e) (p .2),
@@ -58,7 +54,7 @@ loop-again c =
     let a = g .args in (
       omega arith,
       length-set (q .room) (q .i) (c .h-byte .result) ∙ q .inv .1,
-      written-more (q .i) (bits (a .t .now) (a .s) (a .r)) (q .room) (a .room .now) (c .h-byte .result) (omega arith) (q .inv .2) (c .h-byte .ensures (a .r) (power (a .r) (g .pre .0 .3))),
+      written-more (q .i) (bits (a .t .now) (a .s) (a .r)) (q .room) (a .room .now) (c .h-byte .result) (omega arith) (q .inv .2) (c .h-byte .ensures (a .r) (sym (power (g .pre .0 .3)))),
     )
 
 returns : tie.Need-returns Inv-loop μ-loop
