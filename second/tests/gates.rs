@@ -2,7 +2,8 @@
 
 use second::calls::make_any::make_any;
 use second::cell::SHEET_BYTES;
-use second::outside::family::{at_least, family, multiple, Gate};
+use second::outside::counts::{answers, LARGE_4, LARGE_6, SMALL_4, SMALL_6};
+use second::outside::family::{at_least, family, larger, multiple, Gate};
 use second::refusals::WORK_BYTES;
 
 /// How many cells, or the number of the refusal.
@@ -26,4 +27,13 @@ fn near_the_limit_of_15_records() {
     assert_eq!(cells(&multiple(3, 11), 3), Err(17));
     assert_eq!(cells(&at_least(2, 9), 3), Err(8));
     assert_eq!(cells(&at_least(2, 7), 6), Ok(3));
+}
+
+#[test]
+fn there_is_a_count_for_each_gate() {
+    for counts in [SMALL_4, SMALL_6] {
+        assert_eq!(answers(counts).count(), 69);
+    }
+    assert_eq!(answers(LARGE_4).count(), family(13..=16).len());
+    assert_eq!(answers(LARGE_6).count(), larger().len());
 }

@@ -6,6 +6,7 @@ use std::collections::BTreeMap;
 
 use super::arguments::Arguments;
 use super::asking::{ask, carried_count, next_answer, nothing_left, seen};
+use super::counts::{answers, LARGE_4, LARGE_6, SMALL_4, SMALL_6};
 use super::family::{at_least, family, larger, multiple, Gate};
 use super::parallel::each_of;
 use crate::batch::{answer_bytes, answer_length, case_bytes};
@@ -16,11 +17,11 @@ use crate::describe::hex;
 use crate::network::first_unread;
 use crate::refusals::{DONE, NO_SPLIT, TOO_MANY, WORK_BYTES};
 
-/// A gate with a cell size, and what the answer must be where that is known by heart.
+/// A gate with a cell size, and the number and the count that are written down for it.
 struct Asked {
     gate: Gate,
     k: usize,
-    known: Option<(u8, u8)>,
+    known: (u8, u8),
 }
 
 impl Asked {
@@ -71,14 +72,12 @@ pub fn gates(arguments: &Arguments) -> Result<(), String> {
 /// The 69 gates of 7 to 12 inputs, larger ones, and some near the limit of 15
 /// records; or only a few of the first, and the last.
 fn parts(few: bool) -> Vec<Part> {
-    let of = |k: usize, gates: Vec<Gate>| -> Vec<Asked> {
-        gates.into_iter().map(|gate| Asked { gate, k, known: None }).collect()
+    let of = |k: usize, gates: Vec<Gate>, counts: &str| -> Vec<Asked> {
+        let known = gates.into_iter().zip(answers(counts));
+        known.map(|(gate, known)| Asked { gate, k, known }).collect()
     };
-    let known = |gate: Gate, k: usize, number: u8, count: u8| Asked {
-        gate,
-        k,
-        known: Some((number, count)),
-    };
+    let known =
+        |gate: Gate, k: usize, number: u8, count: u8| Asked { gate, k, known: (number, count) };
     let near = vec![
         known(multiple(3, 10), 3, DONE, 15),
         known(multiple(3, 11), 3, TOO_MANY, 0),
@@ -87,14 +86,16 @@ fn parts(few: bool) -> Vec<Part> {
     ];
     let part = |name: &str, list| Part { name: name.to_string(), list };
     let most = if few { 8 } else { 12 };
-    let small = |k| part(&format!("7 to {most} inputs, K = {k}"), of(k, family(7..=most)));
-    let mut list: Vec<Part> = [4, 6].map(small).into();
+    let small = |(k, counts)| {
+        part(&format!("7 to {most} inputs, K = {k}"), of(k, family(7..=most), counts))
+    };
+    let mut list: Vec<Part> = [(4, SMALL_4), (6, SMALL_6)].map(small).into();
     if few {
         list.push(part("near the limit", near));
         return list;
     }
-    list.push(part("13 to 16 inputs, K = 4", of(4, family(13..=16))));
-    list.push(part("13 to 16 inputs, K = 6", of(6, larger())));
+    list.push(part("13 to 16 inputs, K = 4", of(4, family(13..=16), LARGE_4)));
+    list.push(part("13 to 16 inputs, K = 6", of(6, larger(), LARGE_6)));
     list.push(part("near the limit", near));
     list
 }
@@ -149,11 +150,9 @@ fn judge_one(asked: &Asked, ours: [Vec<u8>; 2], left: &mut &[u8]) -> Result<Coun
             counts.made[at] = 1;
             counts.cells[at] = usize::from(got.1);
         }
-        match asked.known {
-            Some(known) if at == 1 && known != got => {
-                return Err(format!("number and count {got:?}, and known is {known:?}"));
-            }
-            _ => {}
+        if at == 1 && got != asked.known {
+            let known = asked.known;
+            return Err(format!("number and count {got:?}, and written down is {known:?}"));
         }
     }
     Ok(counts)

@@ -9,6 +9,7 @@ pub mod command;
 pub mod compare;
 pub mod compare_bench;
 pub mod compare_inspect;
+pub mod counts;
 pub mod family;
 pub mod fewest;
 pub mod gates;
