@@ -223,9 +223,9 @@ pelzurivan_made pelzurivan_make_any(uint64_t n, uint64_t k, uint64_t desk, const
                                     uint8_t *sheet, size_t sheet_length, uint8_t *work, size_t work_length);
 
 /* A lower bound, told the edition: no network of cells of at most k inputs that carries the table, wired in any way,
- * has fewer than least. It is 1 if at most k inputs count; 2 if more do and two cells carry the table; else the greater of 3 and the
- * least m for which m cells can read the inputs that count, which are at most m(k - 1) + 1. With k = 2 a table that is
- * no tree of two-input nodes has as many as inputs count. The work area as in find. 1 to 4, 6. */
+ * has fewer than least. It is 1 if at most k inputs count; 2 if more do and two cells carry the table; else the greater
+ * of 3 and the least m for which m cells can read the inputs that count, which are at most m(k - 1) + 1. With k = 2 a
+ * table that is no tree of two-input nodes has as many as inputs count. The work area as in find. 1 to 4, 6. */
 pelzurivan_bounded pelzurivan_bound(uint64_t edition, uint64_t n, uint64_t k, const uint8_t *table,
                                     size_t table_length, uint8_t *work, size_t work_length);
 

@@ -1,0 +1,10 @@
+//! A drawing of a sheet from left to right: the inputs, the cells by their depth, the output.
+
+mod layout;
+mod svg;
+
+use crate::listed::Listed;
+
+pub fn svg(shown: &Listed, title: &str) -> String {
+    svg::write(shown, &layout::Layout::of(shown), title)
+}
