@@ -6,27 +6,26 @@ use Prim.Native.Nat.{ℕ, _+_, _*_, _/_, _%_, _^_, _<_, _≤_}
 use native.Mathlib.Nat.{mod-lt}
 use native.Mathlib.Omega.{arith}
 use lib.Dec.{ltb, lit<}
-use lib.ListN.{length, getD}
+use lib.ListN.{getD}
 use Rattle.bits.specs.Numbers.{bit, number}
 use Rattle.bits.specs.Lists.{listOf}
 use Rattle.bits.proofs.Numbers.{number-ext, number-mod, bit-number, bit-shr}
-use Rattle.bits.proofs.Lists.{length-list, list-at}
+use Rattle.bits.proofs.Lists.{list-at}
 use Rattle.tables.specs.declared.cell.CellTable.{CellTable}
 use Rattle.tables.specs.Words.{gateWord}
 use Rattle.tables.specs.Cells.{cellWords, joined, wordsOf}
 use Rattle.tables.proofs.Digits.{cut-number}
 
 -- a bit of them
-pub joined-bit : (ws : List ℕ) (x : ℕ) → x < 64 * length ws → bit (joined ws) x ≡ bit (getD ws (x / 64) 0) (x % 64)
+pub joined-bit : (c : ℕ) (ws : List ℕ) (x : ℕ) → x < 64 * c → bit (joined c ws) x ≡ bit (getD ws (x / 64) 0) (x % 64)
 unfolding joined
-joined-bit ws x h = bit-number (64 * length ws) (λ y. bit (getD ws (y / 64) 0) (y % 64)) x h
+joined-bit c ws x h = bit-number (64 * c) (λ y. bit (getD ws (y / 64) 0) (y % 64)) x h
 
 -- words that have room for all 2 ^ k bits make the table
-pub words-joined : (c k : ℕ) (F : ℕ → Bool) → 2 ^ k ≤ 64 * c → joined (wordsOf c k F) ≡ number (2 ^ k) F
+pub words-joined : (c k : ℕ) (F : ℕ → Bool) → 2 ^ k ≤ 64 * c → joined c (wordsOf c k F) ≡ number (2 ^ k) F
 unfolding joined
 words-joined c k F h =
-    ap (λ (m : ℕ). number (64 * m) (λ x. bit (getD (wordsOf c k F) (x / 64) 0) (x % 64))) (length-list c (gateWord k F))
-    ∙ number-ext (64 * c) (λ x. bit (getD (wordsOf c k F) (x / 64) 0) (x % 64)) f at ∙ cut-number (2 ^ k) (64 * c) F h
+    number-ext (64 * c) (λ x. bit (getD (wordsOf c k F) (x / 64) 0) (x % 64)) f at ∙ cut-number (2 ^ k) (64 * c) F h
   where
     f : ℕ → Bool
     f x = ltb x (2 ^ k) && F x
@@ -38,13 +37,13 @@ words-joined c k F h =
         ∙ bit-number 64 (λ i. f (64 * (x / 64) + i)) (x % 64) (mod-lt x (lit< tt)) ∙ ap f e
 
 -- a byte of them
-pub joined-byte : (ws : List ℕ) (i : ℕ) → i < 8 * length ws
-    → getD ws (i / 8) 0 / 2 ^ (8 * (i % 8)) % 2 ^ 8 ≡ number 8 (λ j. bit (joined ws) (8 * i + j))
-joined-byte ws i h =
-    sym (number-mod 8 (w / 2 ^ s)) ∙ number-ext 8 (bit (w / 2 ^ s)) (λ j. bit (joined ws) (8 * i + j)) (λ j l.
+pub joined-byte : (c : ℕ) (ws : List ℕ) (i : ℕ) → i < 8 * c
+    → getD ws (i / 8) 0 / 2 ^ (8 * (i % 8)) % 2 ^ 8 ≡ number 8 (λ j. bit (joined c ws) (8 * i + j))
+joined-byte c ws i h =
+    sym (number-mod 8 (w / 2 ^ s)) ∙ number-ext 8 (bit (w / 2 ^ s)) (λ j. bit (joined c ws) (8 * i + j)) (λ j l.
     let p : i / 8 ≡ (8 * i + j) / 64 = omega arith in
     let q : s + j ≡ (8 * i + j) % 64 = omega arith in
-    bit-shr w s j ∙ ap₂ (λ (a b : ℕ). bit (getD ws a 0) b) p q ∙ sym (joined-bit ws (8 * i + j) (omega arith)))
+    bit-shr w s j ∙ ap₂ (λ (a b : ℕ). bit (getD ws a 0) b) p q ∙ sym (joined-bit c ws (8 * i + j) (omega arith)))
   where
     w : ℕ
     w = getD ws (i / 8) 0

@@ -2,7 +2,7 @@
 use mathlib.Core.Bool.{Bool}
 use mathlib.Core.List.{List}
 use Prim.Native.Nat.{ℕ, _*_, _/_, _%_}
-use lib.ListN.{length, getD, replicate}
+use lib.ListN.{getD, replicate}
 use Rattle.bits.specs.Numbers.{bit, number}
 use Rattle.bits.specs.Lists.{listOf}
 use Rattle.tables.specs.declared.cell.CellTable.{CellTable}
@@ -12,9 +12,9 @@ use Rattle.tables.specs.Words.{gateWord}
 abbrev pub cellWords : ℕ
 cellWords = 4
 
--- the number that words make, the first as its lowest 64 bits
-unfoldable pub joined : List ℕ → ℕ
-joined ws = number (64 * length ws) (λ x. bit (getD ws (x / 64) 0) (x % 64))
+-- the number that c words make, the first as its lowest 64 bits
+unfoldable pub joined : ℕ → List ℕ → ℕ
+joined c ws = number (64 * c) (λ x. bit (getD ws (x / 64) 0) (x % 64))
 
 -- the first c words of the table of k inputs, 0 from 2 ^ k on
 abbrev pub wordsOf : ℕ → ℕ → (ℕ → Bool) → List ℕ
@@ -25,8 +25,8 @@ abbrev pub heldTable : ℕ → (ℕ → Bool) → CellTable
 heldTable k F = record { words = wordsOf cellWords k F }
 
 -- a table so held, as a number
-abbrev pub tableIn : CellTable → ℕ
-tableIn c = joined (c .words)
+abbrev pub tableNumber : CellTable → ℕ
+tableNumber c = joined cellWords (c .words)
 
 -- no bit is set
 abbrev pub noTable : CellTable

@@ -7,7 +7,7 @@ ghost use lib.ListN.{length};
 ghost use Rattle.bits.specs.Numbers.{bit, number};
 ghost use Rattle.tables.specs.Table.{mostInputs, tableBit};
 ghost use Rattle.tables.specs.Words.{gateWord};
-ghost use Rattle.tables.specs.Cells.{joined, noTable, heldTable};
+ghost use Rattle.tables.specs.Cells.{cellWords, tableNumber, noTable, heldTable};
 
 // Bit x is bit x mod 64 of word x div 64. A cell of up to 6 inputs uses the first word alone; the others are then 0.
 pub struct CellTable {
@@ -25,6 +25,15 @@ impl CellTable {
         CellTable {
             words: [0; CellTable::WORDS],
         }
+    }
+
+    // Byte i.
+    pub fn byte(self, i: usize) -> u8
+        requires { ⌜ i < 8 * cellWords ⌝ }
+        ensures { λ r. ⌜ r ≡ number 8 (λ j. bit (tableNumber self) (8 * i + j)) ⌝ }
+    {
+        let at = i / 8;
+        ((self.words[at] >> (8 * (i % 8))) % 256) as u8
     }
 
     // The first 2 ^ k bits of a table.
@@ -53,12 +62,4 @@ fn word_or_zero(t: &[u8], n: u32, w: usize) -> u64
         return 0;
     }
     word_of(t, n, w)
-}
-
-// Byte i of a cell's table, which stands in some words.
-pub fn byte_in(words: &[u64], i: usize) -> u8
-    requires { ⌜ i < 8 * length (now words) ⌝ }
-    ensures { λ r. ⌜ r ≡ number 8 (λ j. bit (joined (now (words .entry))) (8 * i + j)) ⌝ }
-{
-    ((words[i / 8] >> (8 * (i % 8))) % 256) as u8
 }
