@@ -71,3 +71,16 @@ within-words n = elim (decLt n 6) [
 -- and past those there is nothing
 pub past-words : (n w : ℕ) (F : ℕ → Bool) → 2 ^ (n - 6) ≤ w → gateWord n F w ≡ 0
 past-words n w F h = cut-none (2 ^ n) (64 * w) 64 F (omega (arith, within-words n))
+
+-- the bits of one word that lie in the table
+pub part-word : (n w stop : ℕ) (F : ℕ → Bool) → stop ≤ 64 → 64 * w + stop ≤ 2 ^ n → (stop < 64 → 2 ^ n ≤ 64 * w + stop)
+    → number stop (λ i. F (64 * w + i)) ≡ gateWord n F w
+part-word n w stop F most within rest =
+    sym (number-ext 64 (λ i. ltb (64 * w + i) (2 ^ n) && F (64 * w + i)) (λ i. ltb i stop && F (64 * w + i))
+    (λ i l. ap (λ (t : Bool). t && F (64 * w + i)) (same i l)) ∙ cut-number stop 64 (λ i. F (64 * w + i)) most)
+  where
+    same : (i : ℕ) → i < 64 → ltb (64 * w + i) (2 ^ n) ≡ ltb i stop
+    same i l = elim (decLt i stop) [
+      | yes g ↦ lt-ltb (64 * w + i) (2 ^ n) (omega arith) ∙ sym (lt-ltb i stop g)
+      | no g ↦ let r = rest (omega arith) in le-ltb (64 * w + i) (2 ^ n) (omega arith) ∙ sym (le-ltb i stop (omega arith))
+    ]
