@@ -10,11 +10,11 @@ use lib.ListN.{length, getD}
 use Rattle.bits.specs.Numbers.{bit, number}
 use Rattle.bits.specs.Sets.{size}
 use Rattle.bits.proofs.Numbers.{number-ext}
-use Rattle.splits.specs.declared.split.Split.{Split}
+use Rattle.columns.specs.declared.split.Split.{Split}
 use Rattle.splits.specs.Split.{readsD, readsH}
 use Rattle.splits.specs.Pair.{tableD, tableH, bitH}
 use Rattle.splits.specs.Columns.{fewColumns}
-use Rattle.splits.specs.Reading.{Held}
+use Rattle.columns.specs.Reading.{Held}
 use Rattle.splits.proofs.Possible.{possible-iff}
 use Rattle.best.specs.Search.{none, split, best}
 use Rattle.best.specs.Best.{Best}

@@ -22,9 +22,9 @@ use Rattle.tables.proofs.Bytes.{table-bytes, byte-at, length-bytes, length-hold
 use Rattle.splits.specs.Split.{readsD, readsH, inputH}
 use Rattle.splits.specs.Columns.{mostFirst, fewColumns}
 use Rattle.splits.specs.Pair.{codeAt, tableD, bitH, inputsH, bytesH}
-use Rattle.splits.specs.Cells.{firstTable, firstCells, tableIn}
+use Rattle.answers.specs.Cells.{firstTable, firstCells, tableIn}
 use Rattle.splits.proofs.Few.{codeAt-gather, column-there, pair-gives}
-use Rattle.splits.proofs.Codes.{few-at}
+use Rattle.answers.proofs.Codes.{few-at}
 use Rattle.claims.specs.Words.{AllBytes}
 
 -- ---- a table of the right length, its spare bits clear, is the table of its bits

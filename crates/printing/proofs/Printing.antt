@@ -28,7 +28,7 @@ use Rattle.refusals.proofs.Sheets.{good-sheet}
 use Rattle.formulas.specs.Formula.{value}
 use Rattle.formulas.specs.Text.{mostText, ReadAs}
 use Rattle.printing.specs.Forms.{markOf}
-use Rattle.printing.specs.Print.{flipped, printed, sheetText, formulaOf}
+use Rattle.printing.specs.Print.{flippedText, printed, sheetText, formulaOf}
 use Rattle.printing.specs.Printable.{Plain, AllPlain, Printable, plainCell, allPlain, onceRead, notPrinted}
 use Rattle.printing.specs.Put.{Put, Written, Room}
 use Rattle.printing.specs.WriteFormula.{writeForm, writeLines, writeDone}

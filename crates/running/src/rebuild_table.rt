@@ -1,10 +1,10 @@
 // Rebuilding a table from a sheet.
+use readers::desk::desk_of;
 use refusals::form;
 use refusals::verdicts::Refusal;
 use refusals::verdicts::Verdict;
 use refusals::verdicts::refuse;
 use runs::running::rebuild;
-use sheets::desk::desk_of;
 use sheets::kinds::Edition;
 ghost use mathlib.Core.Path.{_≡_};
 ghost use Rattle.sheets.specs.Edition.{IsEdition, firstEdition};

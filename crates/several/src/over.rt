@@ -1,8 +1,8 @@
 // The best split over how many first cells there are: of the best of each r, the first in the order.
 use bits::sets::members;
+use columns::split::Split;
 use quick::counted::Counted;
 use quick::counted::find_counting;
-use splits::split::Split;
 ghost use mathlib.Core.Path.{_≡_};
 ghost use Prim.Native.Nat.{_+_, _^_, _<_, _≤_};
 ghost use lib.ListN.{length, replicate};

@@ -13,7 +13,7 @@ use Rattle.refusals.specs.Lines.{Line, verdict}
 use Rattle.refusals.specs.Refusals.{badAssignment}
 use Rattle.refusals.proofs.Lines.{fine, here, later, decides, in-order, stopped, decided}
 use Rattle.refusals.proofs.Tests.{inside}
-use Rattle.cards.specs.Card.{mark, inputs, sheetOn}
+use Rattle.cards.specs.Card.{openMark, inputs, sheetOn}
 use Rattle.cards.specs.Refusals.{filedLines}
 use Rattle.cards.specs.RunDesk.{deskLines}
 use Rattle.cards.proofs.Desks.{open-lines}
@@ -24,7 +24,7 @@ returns : tie.Need-returns
 returns c =
     let s = c .before .before .before .before in
     let o = s .args .o .now in
-    c .refuse .ensures ∙ decides (deskLines o (s .args .d) (s .args .x)) (later (s .pre .1) (here (ap not (ne-eqb (mark o) 1 (c .before .if1 .taken)))))
+    c .refuse .ensures ∙ decides (deskLines o (s .args .d) (s .args .x)) (later (s .pre .1) (here (ap not (ne-eqb (openMark o) 1 (c .before .if1 .taken)))))
 
 -- after the look at its sheet
 module _ (c : tie.After-filed) where

@@ -7,7 +7,7 @@ use lib.Pow.{pow-mono}
 use Rattle.bits.specs.Numbers.{bit}
 use Rattle.bits.proofs.Masks.{mask-lt}
 use Rattle.splits.specs.Split.{readsD}
-use Rattle.splits.proofs.Reading.{below-mask}
+use Rattle.columns.proofs.Reading.{below-mask}
 use Rattle.splits.proofs.Respect.{reads-D}
 use Rattle.chains.specs.Stage.{signalsOf}
 use Rattle.chains.proofs.Picking.{picked-set, picked-count}

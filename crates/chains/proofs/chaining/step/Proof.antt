@@ -9,7 +9,7 @@ use Rattle.bits.specs.Numbers.{bit}
 use Rattle.bits.specs.Sets.{size}
 use Rattle.bits.proofs.Masks.{mask-lt}
 use Rattle.splits.specs.Split.{readsH}
-use Rattle.splits.proofs.Reading.{beside-mask}
+use Rattle.columns.proofs.Reading.{beside-mask}
 use Rattle.splits.proofs.Respect.{reads-H}
 use Rattle.sheets.specs.Network.{Cell}
 use Rattle.sheets.specs.Held.{cellsOf}

@@ -10,9 +10,9 @@ use Rattle.bits.specs.Numbers.{bit}
 use Rattle.bits.specs.Sets.{size}
 use Rattle.bits.proofs.Machine.{shl-one}
 use Rattle.tables.specs.Table.{tableBit}
-use Rattle.splits.specs.declared.split.Split.{Split}
+use Rattle.columns.specs.declared.split.Split.{Split}
 use Rattle.splits.specs.Columns.{mostFirst, fewColumns}
-use Rattle.splits.specs.Reading.{Chart, chartRoom}
+use Rattle.columns.specs.Reading.{Chart, chartRoom}
 use Rattle.splits.proofs.Respect.{reads-D}
 use Rattle.best.specs.Best.{Candidate}
 use Rattle.sheets.specs.Edition.{largestCell}

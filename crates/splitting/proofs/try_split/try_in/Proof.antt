@@ -12,8 +12,8 @@ use Rattle.bits.specs.Numbers.{bit}
 use Rattle.bits.specs.Sets.{size}
 use Rattle.tables.specs.Table.{mostInputs, tableLength, tableBit}
 use Rattle.splits.specs.Columns.{mostFirst, columns}
-use Rattle.splits.specs.declared.pair.FirstCells.{FirstCells}
-use Rattle.splits.specs.Cells.{noCells}
+use Rattle.answers.specs.declared.pair.FirstCells.{FirstCells}
+use Rattle.answers.specs.Cells.{noCells}
 use Rattle.best.specs.Best.{Candidate}
 use Rattle.sheets.specs.declared.kinds.Edition.{Edition}
 use Rattle.sheets.specs.Edition.{largestCell}

@@ -1,0 +1,2 @@
+// The fixed answer to a split: the tables of the first cells, and the last cell's.
+pub mod pair;
