@@ -66,6 +66,10 @@ shortWork work = line 6 (ltb (length work) workLength)
 abbrev pub shortSheet : Edition → List ℕ → List ℕ → Line
 shortSheet e sheet work = line 6 (ltb (length sheet) (e .size * mostRecords) || ltb (length work) workLength)
 
+-- 6: room for the sheet under the bytes of the most records
+abbrev pub shortRecords : Edition → List ℕ → Line
+shortRecords e room = line 6 (ltb (length room) (e .size * mostRecords))
+
 -- 7: at most K inputs count, so nothing to split
 abbrev pub nothingToSplit : ℕ → ℕ → List ℕ → Line
 nothingToSplit n K t = line 7 (leb (size n (bit (support n (tableBit t)))) K)
@@ -124,6 +128,10 @@ gateLines e n K t = badInputs n ∷ badCell e K ∷ badTable n t ∷ badSpare n 
 -- a sheet: 9 and 10
 abbrev pub sheetLines : Edition → ℕ → ℕ → List ℕ → List Line
 sheetLines e d n s = badSheet e s ∷ badRecord e d n s ∷ []
+
+-- a sheet each of whose records but the last is read: 9, 10 and 15
+abbrev pub readLines : Edition → ℕ → ℕ → List ℕ → List Line
+readLines e d n s = sheetLines e d n s ++ (unreadRecord e n s ∷ [])
 
 -- a call that is told the edition: n, then the edition
 abbrev pub toldForm : ℕ → ℕ → List Line

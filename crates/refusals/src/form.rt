@@ -16,7 +16,7 @@ ghost use Rattle.tables.specs.Table.{mostInputs};
 ghost use Rattle.sheets.specs.Edition.{IsEdition};
 ghost use Rattle.refusals.specs.Lines.{verdict, InOrder};
 ghost use Rattle.refusals.specs.Refusals.{badInputs, badCell, badEdition, badTable};
-ghost use Rattle.refusals.specs.Refusals.{gateLines, sheetLines, unreadRecord, toldForm};
+ghost use Rattle.refusals.specs.Refusals.{gateLines, sheetLines, unreadRecord, readLines, toldForm};
 
 // Whether a number is outside its limits.
 pub fn outside(low: u64, x: u64, high: u64) -> bool
@@ -114,4 +114,16 @@ pub fn all_read(e: Edition, d: u8, n: u32, s: &[u8]) -> Verdict
         return refuse_at(Refusal::UNREAD, i as u64);
     }
     Verdict::Fine
+}
+
+// Lines 9, 10 and 15.
+pub fn read_sheet(e: Edition, d: u8, n: u32, s: &[u8]) -> Verdict
+    requires { ⌜ IsEdition e × (n ≤ mostInputs) ⌝ }
+    ensures { λ r. ⌜ r ≡ verdict (readLines e d n (now (s .entry))) ⌝ }
+{
+    let seen = sheet(e, d, n, s);
+    let Verdict::Fine = seen else {
+        return seen;
+    };
+    all_read(e, d, n, s)
 }

@@ -23,11 +23,7 @@ fn rebuild_form<'a>(e: Edition, d: u8, n: u64, s: &'a [u8], table: &'a [u8]) -> 
     if form::bad_table(inputs, table) {
         return refuse(Refusal::TABLE);
     }
-    let seen = form::sheet(e, d, inputs, s);
-    let Verdict::Fine = seen else {
-        return seen;
-    };
-    form::all_read(e, d, inputs, s)
+    form::read_sheet(e, d, inputs, s)
 }
 
 // Rebuilds the table of a sheet of an edition, which is to be the desk d's, into a lent one, which is written whole.
