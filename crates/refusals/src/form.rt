@@ -1,4 +1,4 @@
-// Lines that several calls share: 1 to 4 of a gate, 9, 10 and 15 of a sheet.
+// Lines that several calls share: 1 to 4 of a gate, 1 and 2 of a told edition, 9, 10 and 15 of a sheet.
 use crate::verdicts::Refusal;
 use crate::verdicts::Verdict;
 use crate::verdicts::refuse;
@@ -15,7 +15,8 @@ ghost use lib.Dec.{leb};
 ghost use Rattle.tables.specs.Table.{mostInputs};
 ghost use Rattle.sheets.specs.Edition.{IsEdition};
 ghost use Rattle.refusals.specs.Lines.{verdict, InOrder};
-ghost use Rattle.refusals.specs.Refusals.{badInputs, badCell, badTable, gateLines, sheetLines, unreadRecord};
+ghost use Rattle.refusals.specs.Refusals.{badInputs, badCell, badEdition, badTable};
+ghost use Rattle.refusals.specs.Refusals.{gateLines, sheetLines, unreadRecord, toldForm};
 
 // Whether a number is outside its limits.
 pub fn outside(low: u64, x: u64, high: u64) -> bool
@@ -65,6 +66,26 @@ pub fn gate(e: Edition, n: u64, k: u64, t: &[u8]) -> Verdict
     }
     if !tables::spare_clear(inputs, t) {
         return refuse(Refusal::SPARE);
+    }
+    Verdict::Fine
+}
+
+// Line 2: the number of the edition is neither 1 nor 2.
+fn bad_edition(w: u64) -> bool
+    ensures { λ r. ⌜ r ≡ badEdition w .holds ⌝ }
+{
+    outside(1, w, Edition::LAST)
+}
+
+// Lines 1 and 2 of a call that is told the edition.
+pub fn told(w: u64, n: u64) -> Verdict
+    ensures { λ r. ⌜ r ≡ verdict (toldForm w n) ⌝ }
+{
+    if bad_inputs(n) {
+        return refuse(Refusal::INPUTS);
+    }
+    if bad_edition(w) {
+        return refuse(Refusal::EDITION);
     }
     Verdict::Fine
 }
