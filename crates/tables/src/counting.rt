@@ -1,5 +1,5 @@
 // The inputs that count, tested on whole words, and the table over some of the inputs.
-use crate::words::cell_table;
+use crate::words::short_word;
 use crate::words::table_word;
 use bits::patterns::of_input;
 use bits::sets::next;
@@ -17,7 +17,7 @@ pub fn word_of(t: &[u8], n: u32, w: usize) -> u64
     ensures { λ r. ⌜ r ≡ gateWord n (tableBit (now (t .entry))) w ⌝ }
 {
     if n < 6 {
-        return cell_table(t, n as usize);
+        return short_word(t, n as usize);
     }
     table_word(t, w)
 }

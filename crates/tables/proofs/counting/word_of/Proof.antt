@@ -14,7 +14,7 @@ returns : tie.Need-returns
 returns c =
     let a = c .before .before .before .args in
     let one : a .w ≡ 0 = omega (arith, pow-mono {i = a .n - 6} {j = 0} (omega arith)) in
-    c .cell-table .ensures ∙ short-word (a .n) (tableBit (a .t .now)) (omega arith) ∙ ap (gateWord (a .n) (tableBit (a .t .now))) (sym one)
+    c .short-word .ensures ∙ short-word (a .n) (tableBit (a .t .now)) (omega arith) ∙ ap (gateWord (a .n) (tableBit (a .t .now))) (sym one)
 
 sixes : (n : ℕ) → 6 ≤ n → n ≡ 6 + (n - 6)
 sixes n h = omega arith
