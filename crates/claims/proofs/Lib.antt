@@ -7,9 +7,13 @@ pub mod FindBest
 pub mod FindSeveral
 pub mod RunSheet
 pub mod RebuildTable
+pub mod RunTold
+pub mod RebuildTold
+pub mod Rewrite
 pub mod Made
 pub mod MakeSheet
 pub mod CheckSheet
+pub mod CheckTold
 pub mod Shorter
 pub mod Settle
 pub mod Slack

@@ -1,7 +1,8 @@
 -- Write a sheet of the edition e in the edition f.
 use mathlib.Core.Path.{_≡_}
 use mathlib.Core.List.{List, [], _∷_, _++_}
-use Prim.Native.Nat.{ℕ}
+use Prim.Native.Nat.{ℕ, _*_}
+use lib.ListN.{take}
 use Rattle.sheets.specs.declared.kinds.Edition.{Edition}
 use Rattle.sheets.specs.Desk.{deskOf}
 use Rattle.sheets.specs.Sheet.{sheetCells, records, rebuilt, Good}
@@ -42,6 +43,10 @@ rewriteLines e f d n s room = rewriteForm e f d n s room ++ (unreadRecord e n s 
 pub record RewriteOutcome : Type 0 where
   pub answer : RewriteAnswer
   pub room : List ℕ
+
+-- the records that were written: so many of the room's first bytes, as they are afterwards
+abbrev pub newRecords : Edition → RewriteOutcome → List ℕ
+newRecords f o = take (f .size * o .answer .count) (o .room)
 
 -- done: how many records; the bytes after the last stay
 abbrev pub rewriteDone : Edition → Edition → ℕ → List ℕ → List ℕ → RewriteOutcome
