@@ -8,7 +8,13 @@ ghost use Rattle.pelzurivan.specs.FindBest.{soughtC};
 
 // Finds the best split into cells of the edition with the number `edition`: two masks.
 #[no_mangle]
-pub extern "C" fn pelzurivan_find_told(edition: u64, n: u64, k: u64, t: &[u8], work: &mut [u8]) -> SoughtC
+pub extern "C" fn pelzurivan_find_told(
+    edition: u64,
+    n: u64,
+    k: u64,
+    t: &[u8],
+    work: &mut [u8],
+) -> SoughtC
     ensures { λ r. ⌜
         (r ≡ soughtC (findTold edition n k (now (t .entry)) (now (work .entry))))
         × (now (work .exit) ≡ findTold edition n k (now (t .entry)) (now (work .entry)) .work)

@@ -8,8 +8,14 @@ returns : tie.Need-returns
 returns c =
     let w = c .before .before .before in
     let n = w .before in
-    rw (n .number-of .ensures, w .word .ensures, c .before .before .word2 .ensures, c .before .word3 .ensures, c .place-of .ensures,
-    ← n .before .before .before .before .try-several .ensures)
+    rw (
+      n .number-of .ensures,
+      w .word .ensures,
+      c .before .before .word2 .ensures,
+      c .before .word3 .ensures,
+      c .place-of .ensures,
+      ← n .before .before .before .before .try-several .ensures,
+    )
     (refl, refl)
 
 pub pelzurivan-try-several-spec : {M : Type 1} → statement M

@@ -8,8 +8,15 @@ returns : tie.Need-returns
 returns c =
     let w = c .before .before .before .before in
     let n = w .before in
-    rw (n .number-of .ensures, w .word .ensures, c .before .before .before .word2 .ensures, c .before .before .word3 .ensures, c .before .word4 .ensures,
-    c .place-of .ensures, ← n .before .before .before .before .before .try-told .ensures)
+    rw (
+      n .number-of .ensures,
+      w .word .ensures,
+      c .before .before .before .word2 .ensures,
+      c .before .before .word3 .ensures,
+      c .before .word4 .ensures,
+      c .place-of .ensures,
+      ← n .before .before .before .before .before .try-told .ensures,
+    )
     (refl, refl)
 
 pub pelzurivan-try-told-spec : {M : Type 1} → statement M
