@@ -67,6 +67,7 @@ typedef struct { uint64_t number, count; } pelzurivan_made;
 typedef struct { uint64_t number, bit, index; } pelzurivan_ran;
 typedef struct { uint64_t number, index; } pelzurivan_rebuilt;
 typedef struct { uint64_t number, place; } pelzurivan_checked;
+typedef struct { uint64_t number, index, count; } pelzurivan_rewritten;
 typedef struct { uint64_t number, place; } pelzurivan_formula_read;
 typedef struct { uint64_t number, place, length; } pelzurivan_formula_written;
 
@@ -122,6 +123,18 @@ pelzurivan_rebuilt pelzurivan_rebuild(uint64_t n, const uint8_t *sheet, size_t s
  * the two differ (12). 1, 3, 4, 9, 10, 12, 15. */
 pelzurivan_checked pelzurivan_check(uint64_t n, const uint8_t *table, size_t table_length, const uint8_t *sheet,
                                     size_t sheet_length);
+
+/* Run, rebuild and check in a told edition. The numbers are those of the call itself, and 2 of the edition. */
+pelzurivan_ran pelzurivan_run_told(uint64_t edition, uint64_t n, const uint8_t *sheet, size_t sheet_length, uint64_t x);
+pelzurivan_rebuilt pelzurivan_rebuild_told(uint64_t edition, uint64_t n, const uint8_t *sheet, size_t sheet_length,
+                                           uint8_t *table, size_t table_length);
+pelzurivan_checked pelzurivan_check_told(uint64_t edition, uint64_t n, const uint8_t *table, size_t table_length,
+                                         const uint8_t *sheet, size_t sheet_length);
+
+/* Writes a first-edition sheet in the second edition, for the same desk: count records of 48 bytes, the bytes after
+ * them stay. They rebuild the same table. The room has 720 bytes or more. 1, 6, 9, 10, 15. */
+pelzurivan_rewritten pelzurivan_rewrite(uint64_t n, const uint8_t *sheet, size_t sheet_length, uint8_t *room,
+                                        size_t room_length);
 
 /* When the output settles: its earliest and latest time, where each cell takes the same delay. 1, 9, 10, 13. */
 pelzurivan_settled pelzurivan_settle(uint64_t n, const uint8_t *sheet, size_t sheet_length, double delay,

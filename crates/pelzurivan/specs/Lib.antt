@@ -7,6 +7,7 @@ pub mod FindSeveral
 pub mod MakeSheet
 pub mod RunSheet
 pub mod RebuildTable
+pub mod Rewrite
 pub mod CheckSheet
 pub mod Shorter
 pub mod InputTimes

@@ -1,6 +1,7 @@
 // The calls for C, one file for each: the answer is a struct of the paper's number and the values, all of 64 bits.
 // The header is include/pelzurivan.h.
 pub mod check_sheet;
+pub mod check_told;
 pub mod find_best;
 pub mod find_several;
 pub mod find_told;
@@ -13,8 +14,11 @@ pub mod make_sheet;
 pub mod make_told;
 pub mod read_formula;
 pub mod rebuild_table;
+pub mod rebuild_told;
+pub mod rewrite;
 pub mod run_desk;
 pub mod run_sheet;
+pub mod run_told;
 pub mod settle;
 pub mod shorter;
 pub mod slack;
