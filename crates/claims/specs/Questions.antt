@@ -53,8 +53,8 @@ lentText = replicate mostText 0xAA
 -- the number, D, where it broke and how many columns there are, the room
 abbrev pub sayTry : TryOutcome → List ℕ
 sayTry o =
-    numberOf (o .answer .verdict) ∷ tableNumber (o .answer .d .first) ∷ placeOf (o .answer .verdict) ∷ o .answer .columns
-    ∷ o .room
+    numberOf (o .answer .verdict) ∷ tableNumber (o .answer .d .first) ∷ placeOf (o .answer .verdict)
+    ∷ o .answer .columns ∷ o .room
 
 -- the number and the masks
 abbrev pub sayFind : FindOutcome → List ℕ

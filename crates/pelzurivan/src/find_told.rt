@@ -6,7 +6,7 @@ ghost use mathlib.Core.Path.{_≡_};
 ghost use Rattle.splitting.specs.FindTold.{findTold};
 ghost use Rattle.pelzurivan.specs.FindBest.{soughtC};
 
-// Finds the best split into cells of the edition with the number `edition`: two masks.
+// Finds the best split into cells of the edition with that number: two masks.
 #[no_mangle]
 pub extern "C" fn pelzurivan_find_told(
     edition: u64,

@@ -6,8 +6,8 @@ ghost use mathlib.Core.Path.{_≡_};
 ghost use Rattle.bench.specs.MakeTold.{makeTold};
 ghost use Rattle.pelzurivan.specs.MakeSheet.{madeC};
 
-// Makes a sheet in records of the edition with the number `edition`, for a desk, 0 being bench use, into lent bytes: how
-// many cells.
+// Makes a sheet in records of the edition with that number, for a desk, 0 being bench use, into lent bytes: how many
+// cells.
 #[no_mangle]
 pub extern "C" fn pelzurivan_make_told(
     edition: u64,

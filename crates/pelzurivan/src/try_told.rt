@@ -7,8 +7,8 @@ ghost use mathlib.Core.Path.{_≡_};
 ghost use Rattle.splitting.specs.TryTold.{tryTold};
 ghost use Rattle.pelzurivan.specs.TryTold.{triedToldC};
 
-// The number; D's 32 bytes as four words, the first being its lowest 64 bits; and after 8 where the split breaks and how
-// many different columns there are.
+// The number; D's 32 bytes as four words, the first being its lowest 64 bits; and after 8 where the split breaks and
+// how many different columns there are.
 #[repr(C)]
 pub struct TriedToldC {
     pub number: u64,
@@ -20,7 +20,7 @@ pub struct TriedToldC {
     pub columns: u64,
 }
 
-// Tries a named split into cells of the edition with the number `edition`: D, and H into the lent room.
+// Tries a named split into cells of the edition with that number: D, and H into the lent room.
 #[no_mangle]
 pub extern "C" fn pelzurivan_try_told(
     edition: u64,
