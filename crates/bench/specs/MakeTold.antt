@@ -13,5 +13,5 @@ makeToldLines w d n K t sheet work = toldLines w n (makeLines (editionOf w) d n 
 -- what it is to return and leave, whatever is handed over
 abbrev pub makeTold : ℕ → ℕ → ℕ → ℕ → List ℕ → List ℕ → List ℕ → MakeOutcome
 makeTold w d n K t sheet work =
-    reply (verdict (makeToldLines w d n K t sheet work)) (makeDone (editionOf w) d (cellsIn (sheetFor n K t)) sheet work)
-    (makeNot sheet work)
+    reply (verdict (makeToldLines w d n K t sheet work))
+    (makeDone (editionOf w) d (cellsIn (sheetFor n K t)) sheet work) (makeNot sheet work)

@@ -3,7 +3,9 @@ pub mod Verdicts
 pub mod Tables
 pub mod Sheets
 pub mod TrySplit
+pub mod TryTold
 pub mod FindBest
+pub mod FindTold
 pub mod FindSeveral
 pub mod RunSheet
 pub mod RebuildTable
@@ -21,6 +23,7 @@ pub mod ReadFormula
 pub mod WriteFormula
 pub mod Formulas
 pub mod Desks
+pub mod MakeTold
 pub mod CardsLoad
 pub mod CardsRun
 pub mod Cards

@@ -1,5 +1,6 @@
 -- What C gets of each call's outcome: the paper's number, then the values. One file for each call.
 pub mod TrySplit
+pub mod TryTold
 pub mod FindBest
 pub mod TrySeveral
 pub mod FindSeveral

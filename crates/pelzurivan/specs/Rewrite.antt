@@ -5,4 +5,8 @@ use Rattle.pelzurivan.specs.declared.rewrite.RewrittenC.{RewrittenC}
 
 -- the number, the first bad or unread record, and how many records
 abbrev pub rewrittenC : RewriteOutcome → RewrittenC
-rewrittenC o = record { number = numberOf (o .answer .verdict); index = placeOf (o .answer .verdict); count = o .answer .count }
+rewrittenC o = record {
+  number = numberOf (o .answer .verdict);
+  index = placeOf (o .answer .verdict);
+  count = o .answer .count;
+}

@@ -13,4 +13,5 @@ rebuildToldLines w n s table = toldLines w n (rebuildLines (editionOf w) (deskOf
 
 -- what it is to return and leave, whatever is handed over
 abbrev pub rebuildTold : ℕ → ℕ → List ℕ → List ℕ → RebuildOutcome
-rebuildTold w n s table = reply (verdict (rebuildToldLines w n s table)) (rebuildDone (editionOf w) n s) (rebuildNot table)
+rebuildTold w n s table =
+    reply (verdict (rebuildToldLines w n s table)) (rebuildDone (editionOf w) n s) (rebuildNot table)
