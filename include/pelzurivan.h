@@ -12,8 +12,8 @@
  * record places, then the status record, which is an open mark, n, the count of cells and 13 zero bytes.
  *
  * That is the first edition. In the second k goes up to 8, and a record has 48 bytes: byte 9 is the desk, and the table
- * starts at byte 16. The calls whose names end in _told are told the edition, 1 or 2; rewrite goes from the first to the
- * second; all others know the first alone.
+ * starts at byte 16. The calls whose names end in _told are told the edition, 1 or 2; rewrite goes from the first to
+ * the second; all others know the first alone.
  *
  * number is 0 where the call is done, else the first of these that holds:
  *    1  n outside 1 to 16
