@@ -13,7 +13,7 @@ ghost use mathlib.Core.List.{[], _∷_};
 ghost use Prim.Native.Nat.{_*_, _≤_};
 ghost use lib.ListN.{length};
 ghost use Rattle.tables.specs.Table.{mostInputs, tableLength};
-ghost use Rattle.sheets.specs.Edition.{IsEdition, largestCell, mostRecords, firstEdition};
+ghost use Rattle.sheets.specs.Edition.{IsEdition, mostRecords, firstEdition};
 ghost use Rattle.chains.specs.Area.{workLength};
 ghost use Rattle.refusals.specs.Lines.{verdict, reply};
 ghost use Rattle.refusals.specs.Refusals.{chainStuck};
@@ -64,7 +64,7 @@ fn write_chain(
     sheet: &mut [u8],
     work: &mut [u8],
 ) -> MakeAnswer
-    requires { ⌜ IsEdition e × (e .most ≤ largestCell) × (1 ≤ n) × (n ≤ mostInputs) × (2 ≤ k) × (k ≤ e .most) ⌝ }
+    requires { ⌜ IsEdition e × (1 ≤ n) × (n ≤ mostInputs) × (2 ≤ k) × (k ≤ e .most) ⌝ }
     requires { ⌜
         (length (now t) ≡ tableLength n) × (e .size * mostRecords ≤ length (now sheet))
         × (workLength ≤ length (now work))
@@ -102,7 +102,7 @@ pub fn make_in(
     sheet: &mut [u8],
     work: &mut [u8],
 ) -> MakeAnswer
-    requires { ⌜ IsEdition e × (e .most ≤ largestCell) ⌝ }
+    requires { ⌜ IsEdition e ⌝ }
     ensures { λ r. ⌜
         record { answer = r; sheet = now (sheet .exit); work = now (work .exit) } ≡ makeOutcome e d n k
         (now (t .entry)) (now (sheet .entry)) (now (work .entry))

@@ -7,7 +7,7 @@ use refusals::form::outside;
 use refusals::verdicts::Refusal;
 use refusals::verdicts::Verdict;
 use refusals::verdicts::refuse;
-use sheets::kinds::HeldCell;
+use sheets::kinds::Edition;
 use sheets::kinds::Sheet;
 ghost use mathlib.Core.Path.{_≡_};
 ghost use Prim.Native.Nat.{_-_, _≤_};
@@ -24,7 +24,7 @@ fn another_desk(d: u64, s: &[u8]) -> bool
     if s.len() < Sheet::RECORD {
         return false;
     }
-    s[HeldCell::MOST + 1] as u64 != d
+    s[Edition::MOST + 1] as u64 != d
 }
 
 // Lines 20, 19, 1, 9, 10 and 15.

@@ -178,5 +178,5 @@ split-fits s m K F inputs h e =
     (b .candidate .more, omega (arith, b .candidate .most), possible-iff (s .n) F (bit (s .own)) (bit (s .shared)) (b .candidate .apart) 1 .1 (b .possible))
 
 -- a finished chain's cells read at most K signals each
-pub chain-fits : (n K : ℕ) (l : List ℕ) (T : ℕ) (cs : List Cell) → K ≤ largestCell → chain n K n l T ≡ made cs → AtMost largestCell cs
-chain-fits n K l T cs h e = makes-few h (makes n K n l T cs e)
+pub chain-fits : (n K : ℕ) (l : List ℕ) (T : ℕ) (cs : List Cell) → chain n K n l T ≡ made cs → AtMost K cs
+chain-fits n K l T cs e = makes-few (omega arith) (makes n K n l T cs e)

@@ -10,7 +10,7 @@ use Rattle.splits.specs.declared.split.Split.{Split}
 use Rattle.splits.specs.Split.{readsD, readsH}
 use Rattle.splits.specs.Pair.{tableD}
 use Rattle.sheets.specs.Network.{Cell}
-use Rattle.sheets.specs.Edition.{largestCell, mostRecords}
+use Rattle.sheets.specs.Edition.{mostRecords}
 use Rattle.sheets.specs.Writing.{AtMost}
 use Rattle.sheets.specs.Held.{cellsOf}
 use Rattle.chains.specs.declared.chaining.Stage.{Stage}
@@ -44,11 +44,11 @@ endOf r = cond (r .finished) (made (cellsOf (r .sheet))) stuck
 pub record Followed (n K : ℕ) (l : List ℕ) (T : ℕ) (r : ChainEnd) : Type 0 where
   pub chain : endOf r ≡ chain n K n l T
   pub few : r .sheet .count ≤ mostRecords
-  pub fit : AtMost largestCell (cellsOf (r .sheet))
+  pub fit : AtMost K (cellsOf (r .sheet))
 
 -- the sheet of a gate's table, held so; the work area is zeros
 pub record Chained (n K : ℕ) (t work : List ℕ) (r : ChainEnd) (work′ : List ℕ) : Type 0 where
   pub chain : endOf r ≡ sheetAside n K (number (2 ^ n) (tableBit t))
   pub few : r .sheet .count ≤ mostRecords
-  pub fit : AtMost largestCell (cellsOf (r .sheet))
+  pub fit : AtMost K (cellsOf (r .sheet))
   pub cleared : work′ ≡ replicate (length work) 0

@@ -9,9 +9,9 @@ use sheets::kinds::Sheet;
 use splits::pair::d_table;
 use splits::split::Split;
 use tables::aside::set_aside;
+use tables::cell::CellTable;
 use tables::clear;
 use tables::counting::kept_of;
-use tables::words::cell_table;
 ghost use mathlib.Core.Path.{_≡_};
 ghost use mathlib.Core.Bool.{true};
 ghost use Prim.Native.Nat.{_+_, _*_, _^_, _<_, _≤_};
@@ -43,7 +43,8 @@ pub struct Stage {
 fn first_cell(t: &[u8], signals: Signals, s: Split) -> HeldCell
     requires { ⌜ Held s × Listed signals × (s .n ≡ signals .count) × (2 ^ s .n ≤ 8 * length (now t)) ⌝ }
     requires { ⌜
-        (size (s .n) (bit (s .own)) + size (s .n) (bit (s .shared)) ≤ largestCell)
+        (2 ≤ size (s .n) (bit (s .own)))
+        × (size (s .n) (bit (s .own)) + size (s .n) (bit (s .shared)) ≤ largestCell)
         × (fewColumns (s .n) (tableBit (now t)) (bit (s .own)) (bit (s .shared)) 2 ≡ true)
         ⌝ }
     ensures { λ r. ⌜ networkCell r ≡ dCell s (tableBit (now (t .entry))) (signalsOf signals) ⌝ }
@@ -105,7 +106,7 @@ fn follow(n: u32, start: Signals, k: u32, work: &mut [u8]) -> ChainEnd
         signals = stepped.signals;
         next += 1;
     }
-    let last = signals.cell(cell_table(&work[..HALF], signals.count));
+    let last = signals.cell(CellTable::first_of(&work[..HALF], signals.count as u32));
     ChainEnd {
         finished: true,
         sheet: sheet.with_cell(last),

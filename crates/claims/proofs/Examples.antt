@@ -10,6 +10,7 @@ use Rattle.bits.specs.Below.{least}
 use Rattle.bits.specs.Sets.{size, disjoint, gather, spread}
 use Rattle.bits.specs.Lists.{listOf}
 use Rattle.tables.specs.Table.{spareClear, tableOf}
+use Rattle.tables.specs.Cells.{joined}
 use Rattle.tables.specs.Counting.{counts, support, kept, tableOver}
 use Rattle.splits.specs.Columns.{firsts, assign, column, columns, fewColumns, firstBroken}
 use Rattle.splits.specs.Pair.{code, codeAt, tableD, bitH, tableH, bytesH}
@@ -137,5 +138,5 @@ listing =
     ∷ []
 
 pub examples : answers listing ≡ expected listing
-unfolding listing asked deskOf readOutcome textOf reads value writeOutcome inTurn printed tryOutcome findOutcome makeOutcome runOutcome rebuildOutcome sheetAside chainAside turn keptSignals keptTable kept support counts tableOver bestCounting pick listOf best first tryA tryB disjoint fewColumns firstBroken tableD tableH bytesH codeAt code bitH columns column assign firsts number size gather spread least spareClear tableOf output run cellOf spareOk byteOk keeps cellsFrom sheetBit rebuilt recordByte encode
+unfolding listing asked deskOf readOutcome textOf reads value writeOutcome inTurn printed tryOutcome findOutcome makeOutcome runOutcome rebuildOutcome sheetAside chainAside turn keptSignals keptTable kept support counts tableOver bestCounting pick listOf best first tryA tryB disjoint fewColumns firstBroken tableD tableH bytesH codeAt code bitH columns column assign firsts number size gather spread least spareClear tableOf joined output run cellOf spareOk byteOk keeps cellsFrom sheetBit rebuilt recordByte encode
 examples = refl

@@ -3,13 +3,19 @@ pub mod Verdicts
 pub mod Tables
 pub mod Sheets
 pub mod TrySplit
+pub mod TryTold
 pub mod FindBest
+pub mod FindTold
 pub mod FindSeveral
 pub mod RunSheet
 pub mod RebuildTable
+pub mod RunTold
+pub mod RebuildTold
+pub mod Rewrite
 pub mod Made
 pub mod MakeSheet
 pub mod CheckSheet
+pub mod CheckTold
 pub mod Shorter
 pub mod Settle
 pub mod Slack
@@ -17,6 +23,7 @@ pub mod ReadFormula
 pub mod WriteFormula
 pub mod Formulas
 pub mod Desks
+pub mod MakeTold
 pub mod CardsLoad
 pub mod CardsRun
 pub mod Cards

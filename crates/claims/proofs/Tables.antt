@@ -7,24 +7,30 @@ use Prim.Native.Nat.{ℕ, zero, suc, _+_, _-_, _*_, _/_, _%_, _^_, _≤_, _<_}
 use native.Mathlib.Nat.{suc-mul, mul-comm, mul-le-mul-right}
 use native.Mathlib.Decide.{decLt}
 use native.Mathlib.Omega.{arith}
-use lib.Dec.{ltb}
-use lib.Pow.{pow-add}
-use lib.ListN.{length, getD, List·getD-append}
+use lib.Dec.{ltb, lit<}
+use lib.Pow.{pow-add, pow-mono}
+use lib.ListN.{length, getD, getD-replicate, List·getD-append}
 use lib.Seq.{ext-getD}
 use borrow.Author.Tests.{lt-ltb, le-ltb, not-true}
 use Rattle.bits.specs.Numbers.{bit, number}
 use Rattle.bits.specs.Sets.{size, gather}
-use Rattle.bits.proofs.Numbers.{bit-number, number-ext, number-bit}
+use Rattle.bits.proofs.Numbers.{bit-number, number-ext, number-bit, bit-zero, none-zero}
 use Rattle.bits.proofs.Spreading.{gather-lt}
 use Rattle.bits.proofs.Below.{every-at}
+use Rattle.bits.proofs.Lists.{list-at}
 use Rattle.tables.specs.Table.{tableLength, tableBit, spareClear, tableOf, bytesOf}
+use Rattle.tables.specs.Words.{gateWord}
+use Rattle.tables.specs.Cells.{cellWords, joined, tableNumber, noTable}
+use Rattle.tables.proofs.Digits.{short-word, past-words}
 use Rattle.tables.proofs.Bytes.{table-bytes, byte-at, length-bytes, length-holds, length-table, table-of}
 use Rattle.splits.specs.Split.{readsD, readsH, inputH}
 use Rattle.splits.specs.Columns.{mostFirst, fewColumns}
 use Rattle.splits.specs.Pair.{codeAt, tableD, bitH, inputsH, bytesH}
-use Rattle.splits.specs.Cells.{firstTable, firstCells, tableIn}
+use Rattle.splits.specs.Cells.{bitD, heldD, firstTable, firstCells, tableIn}
 use Rattle.splits.proofs.Few.{codeAt-gather, column-there, pair-gives}
 use Rattle.splits.proofs.Codes.{few-at}
+use Rattle.splits.proofs.HeldCells.{table-D}
+use Rattle.sheets.specs.Edition.{largestCell, firstMost}
 use Rattle.claims.specs.Words.{AllBytes}
 
 -- ---- a table of the right length, its spare bits clear, is the table of its bits
@@ -72,14 +78,54 @@ spare-zero n f x h l =
 
 -- ---- the tables of a possible split, as try returns them: H in the first bytes of a room, the first cells' as numbers
 
--- first cell t, of r
-pub table-in : (n : ℕ) (F : ℕ → Bool) (A B : ℕ → Bool) (r : ℕ) → r ≤ mostFirst → (t : ℕ) → tableIn (firstCells n F A B r) t ≡ firstTable n F A B r t
-table-in n F A B r most zero = refl
-table-in n F A B r most (suc zero) = refl
-table-in n F A B r most (suc (suc zero)) = refl
-table-in n F A B r most (suc (suc (suc t))) = sym (ap (λ (b : Bool). cond b (tableD n F A B (suc (suc (suc t)))) 0) (le-ltb (suc (suc (suc t))) r (omega arith)))
+-- no bit set is the number 0
+no-table : tableNumber noTable ≡ 0
+unfolding joined
+no-table =
+    number-ext (64 * cellWords) (λ x. bit (getD (noTable .words) (x / 64) 0) (x % 64)) (λ x. false) (λ x h.
+    ap (λ (w : ℕ). bit w (x % 64)) (getD-replicate cellWords (x / 64) 0 0 (omega arith)) ∙ bit-zero (x % 64))
+    ∙ none-zero (64 * cellWords)
 
-module _ (n : ℕ) (F : ℕ → Bool) (A B : ℕ → Bool) (r : ℕ) (most : r ≤ mostFirst) (few : fewColumns n F A B (2 ^ r) ≡ true) (rest : List ℕ) (x : ℕ) (below : x < 2 ^ n) where
+-- first cell t, of r, where the first cells have at most so many inputs as the largest cell of any edition
+module _ (n : ℕ) (F : ℕ → Bool) (A B : ℕ → Bool) (r : ℕ) (small : size n (readsD A B) ≤ largestCell) where
+  -- its table as a number
+  first-number : (t : ℕ) → tableNumber (firstTable n F A B r t) ≡ cond (ltb t r) (tableD n F A B t) 0
+  first-number t = go (ltb t r)
+    where
+      go : (b : Bool) → tableNumber (cond b (heldD n F A B t) noTable) ≡ cond b (tableD n F A B t) 0
+      go true = table-D n F A B t small
+      go false = no-table
+
+  -- among those handed back
+  pub table-in : r ≤ mostFirst → (t : ℕ) → tableIn (firstCells n F A B r) t ≡ cond (ltb t r) (tableD n F A B t) 0
+  table-in most zero = first-number zero
+  table-in most (suc zero) = first-number (suc zero)
+  table-in most (suc (suc zero)) = first-number (suc (suc zero))
+  table-in most (suc (suc (suc t))) = sym (ap (λ (b : Bool). cond b (tableD n F A B (suc (suc (suc t)))) 0) (le-ltb (suc (suc (suc t))) r (omega arith)))
+
+-- in a cell of up to 6 inputs the first word is all of it, and the others are 0
+module _ (n : ℕ) (F : ℕ → Bool) (A B : ℕ → Bool) (r t : ℕ) (small : size n (readsD A B) ≤ firstMost) where
+  abbrev k : ℕ
+  k = size n (readsD A B)
+
+  pub table-word : getD (firstTable n F A B r t .words) 0 0 ≡ cond (ltb t r) (tableD n F A B t) 0
+  unfolding tableD
+  table-word = go (ltb t r)
+    where
+      go : (b : Bool) → getD (cond b (heldD n F A B t) noTable .words) 0 0 ≡ cond b (number (2 ^ k) (bitD n F A B t)) 0
+      go true = list-at cellWords (gateWord k (bitD n F A B t)) 0 0 (lit< tt) ∙ sym (short-word k (bitD n F A B t) small)
+      go false = refl
+
+  pub table-rest : (i : ℕ) → 1 ≤ i → i < cellWords → getD (firstTable n F A B r t .words) i 0 ≡ 0
+  table-rest i p l = go (ltb t r)
+    where
+      go : (b : Bool) → getD (cond b (heldD n F A B t) noTable .words) i 0 ≡ 0
+      go true =
+          list-at cellWords (gateWord k (bitD n F A B t)) i 0 l
+          ∙ past-words k i (bitD n F A B t) (omega (arith, pow-mono {i = k - 6} {j = 0} (omega arith)))
+      go false = getD-replicate cellWords i 0 0 l
+
+module _ (n : ℕ) (F : ℕ → Bool) (A B : ℕ → Bool) (r : ℕ) (small : size n (readsD A B) ≤ largestCell) (most : r ≤ mostFirst) (few : fewColumns n F A B (2 ^ r) ≡ true) (rest : List ℕ) (x : ℕ) (below : x < 2 ^ n) where
   -- what the first cells give
   outputs : ℕ
   outputs = number r (λ t. bit (tableIn (firstCells n F A B r) t) (gather n (readsD A B) x))
@@ -98,7 +144,7 @@ module _ (n : ℕ) (F : ℕ → Bool) (A B : ℕ → Bool) (r : ℕ) (most : r �
   unfolding outputs tableD
   is-code =
       number-ext r (λ t. bit (tableIn (firstCells n F A B r) t) (gather n (readsD A B) x)) (bit (codeAt n F A B (gather n (readsD A B) x))) (λ t l.
-      ap (λ (d : ℕ). bit d (gather n (readsD A B) x)) (table-in n F A B r most t ∙ ap (λ (b : Bool). cond b (tableD n F A B t) 0) (lt-ltb t r l))
+      ap (λ (d : ℕ). bit d (gather n (readsD A B) x)) (table-in n F A B r small most t ∙ ap (λ (b : Bool). cond b (tableD n F A B t) 0) (lt-ltb t r l))
       ∙ bit-number (2 ^ size n (readsD A B)) (λ u. bit (codeAt n F A B u) t) (gather n (readsD A B) x) (gather-lt n (readsD A B) x))
       ∙ number-bit r (codeAt n F A B (gather n (readsD A B) x)) code-lt
 

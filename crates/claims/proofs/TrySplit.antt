@@ -5,25 +5,29 @@ use mathlib.Core.Logic.{_↔_}
 use mathlib.Core.Bool.{Bool, true, false, not, cond}
 use mathlib.Core.List.{List, [], _∷_, _++_}
 use Prim.Native.Nat.{ℕ, _+_, _*_, _/_, _%_, _^_, _<_, _≤_}
-use native.Mathlib.Nat.{le-refl}
+use native.Mathlib.Nat.{le-refl, le-trans}
 use native.Mathlib.Omega.{arith}
-use lib.Dec.{eqb}
-use lib.ListN.{length, drop, List·getD-append}
+use lib.Dec.{eqb, ltb}
+use lib.ListN.{length, getD, drop, List·getD-append}
 use lib.Seq.{drop-at}
 use borrow.Author.Tests.{not-true, not-false, ne-eqb}
 use Rattle.bits.specs.Numbers.{bit, val, number}
 use Rattle.bits.specs.Sets.{size, gather}
 use Rattle.bits.proofs.Bools.{clash, false-of}
 use Rattle.tables.specs.Table.{tableLength, tableBit}
+use Rattle.tables.specs.Cells.{cellWords, tableNumber, noTable}
 use Rattle.tables.proofs.Bytes.{length-table}
 use Rattle.splits.specs.Split.{Possible, readsD, inputH}
 use Rattle.splits.specs.Columns.{mostFirst, column, columns, fewColumns, firstBroken}
 use Rattle.splits.specs.Pair.{tableD, bitH, inputsH, bytesH}
-use Rattle.splits.specs.Cells.{firstTable, noCells, tableIn}
+use Rattle.splits.specs.declared.pair.FirstCells.{FirstCells}
+use Rattle.splits.specs.Cells.{heldD, firstTable, firstCells, noCells, tableIn}
 use Rattle.splits.specs.Broken.{Several}
 use Rattle.splits.proofs.Possible.{possible-iff}
+use Rattle.splits.proofs.Respect.{reads-D}
 use Rattle.splits.proofs.Breaking.{broken-before, broken-there, broken-within, columns-several}
 use Rattle.sheets.specs.declared.kinds.Edition.{Edition}
+use Rattle.sheets.specs.Edition.{IsEdition, firstMost}
 use Rattle.refusals.specs.declared.verdicts.Refusal.{Refusal}
 use Rattle.refusals.specs.declared.verdicts.Verdict.{Verdict}
 use Rattle.refusals.specs.declared.verdicts.Verdict.the-variants.{Fine, Refused}
@@ -33,10 +37,11 @@ use Rattle.refusals.specs.Refusals.{notPossible}
 use Rattle.splitting.specs.TrySplit.{TryOutcome, tryForm, tryLines, tryDone, tryNot, tryOutcome}
 use Rattle.refusals.specs.Lent.{into}
 use Rattle.refusals.proofs.Lines.{in-order, passes, held, names-nothing}
+use Rattle.refusals.proofs.Tests.{sound}
 use Rattle.splitting.proofs.Sets.{candidate, most-first}
 use Rattle.claims.specs.Words.{ByLines, Breaks}
 use Rattle.claims.proofs.Verdicts.{says-verdict, is-done, is-refused, by-lines}
-use Rattle.claims.proofs.Tables.{spare-zero, table-in, pair-works}
+use Rattle.claims.proofs.Tables.{spare-zero, table-in, table-word, table-rest, pair-works}
 
 module _ (e : Edition) (n K r A B : ℕ) (t room : List ℕ) where
   abbrev F : ℕ → Bool
@@ -147,17 +152,34 @@ module _ (e : Edition) (n K r A B : ℕ) (t room : List ℕ) where
     unfolding H
     is-room = ap (λ o. o .room) is
 
+    -- the first cells are no larger than the edition's largest
+    cells-fit : size n (readsD (bit A) (bit B)) ≤ e .most
+    cells-fit =
+        let g = sound e n K t (lines .0, (lines .1 .0, (lines .1 .1 .0, (lines .1 .1 .1 .0, tt)))) in
+        let c = candidate n K r A B (lines .1 .1 .1 .1 .0) (e .most) (g .largest) in
+        omega (arith, c .most, reads-D n (bit A) (bit B) (c .apart))
+
     -- first cell i gives bit i of the number of its column, in order of first appearance; tables from r up are 0
-    pub tried-tables : (i : ℕ) → tableIn (tryOutcome e n K r A B t room .answer .d) i ≡ firstTable n (tableBit t) (bit A) (bit B) r i
-    tried-tables i = ap (λ (o : TryOutcome). tableIn (o .answer .d) i) is ∙ table-in n F (bit A) (bit B) r most i
+    pub tried-tables : IsEdition e → (i : ℕ) → tableIn (tryOutcome e n K r A B t room .answer .d) i ≡ cond (ltb i r) (tableD n (tableBit t) (bit A) (bit B) i) 0
+    tried-tables ok i = ap (λ (o : TryOutcome). tableIn (o .answer .d) i) is ∙ table-in n F (bit A) (bit B) r (le-trans cells-fit (ok .eight)) most i
+
+    -- they are held in words
+    pub tried-cells : tryOutcome e n K r A B t room .answer .d ≡ firstCells n (tableBit t) (bit A) (bit B) r
+    tried-cells = ap (λ (o : TryOutcome). o .answer .d) is
+
+    -- where cells have at most 6 inputs the first word of each is all of it, and the others are 0: one word is then enough to hand it back
+    pub tried-words : e .most ≤ firstMost → (i : ℕ)
+        → (getD (firstTable n (tableBit t) (bit A) (bit B) r i .words) 0 0 ≡ cond (ltb i r) (tableD n (tableBit t) (bit A) (bit B) i) 0)
+        × ((j : ℕ) → 1 ≤ j → j < cellWords → getD (firstTable n (tableBit t) (bit A) (bit B) r i .words) j 0 ≡ 0)
+    tried-words six i = let s = le-trans cells-fit six in (table-word n F (bit A) (bit B) r i s, table-rest n F (bit A) (bit B) r i s)
 
     -- demand 2: at every assignment the table's bit is H's bit at the first cells' bits (`pair-gives`, splits)
-    pub tried-works : (x : ℕ) → x < 2 ^ n
+    pub tried-works : IsEdition e → (x : ℕ) → x < 2 ^ n
         → tableBit t x
         ≡ tableBit (tryOutcome e n K r A B t room .room)
         (inputH n (bit A) (bit B) x (number r (λ i. bit (tableIn (tryOutcome e n K r A B t room .answer .d) i) (gather n (readsD (bit A) (bit B)) x))))
-    tried-works x l =
-        pair-works n F (bit A) (bit B) r most (not-false (fewColumns n F (bit A) (bit B) (2 ^ r)) (lines .1 .1 .1 .1 .1 .1 .0)) (drop (length (bytesH n F (bit A) (bit B) r)) room) x l
+    tried-works ok x l =
+        pair-works n F (bit A) (bit B) r (le-trans cells-fit (ok .eight)) most (not-false (fewColumns n F (bit A) (bit B) (2 ^ r)) (lines .1 .1 .1 .1 .1 .1 .0)) (drop (length (bytesH n F (bit A) (bit B) r)) room) x l
         ∙ ap (λ (o : TryOutcome).
         tableBit (o .room) (inputH n (bit A) (bit B) x (number r (λ i. bit (tableIn (o .answer .d) i) (gather n (readsD (bit A) (bit B)) x))))) (sym is)
 
@@ -185,16 +207,29 @@ one-bit f = go (f 0)
 
 module _ (e : Edition) (n K A B : ℕ) (t room : List ℕ) (done : tryOutcome e n K 1 A B t room .answer .verdict ≡ Fine) where
   -- D is document 01's, and there is no other table; H is document 01's, before the bytes that stay
-  pub tried-one : (tryOutcome e n K 1 A B t room .answer .d ≡ record { first = tableD n (tableBit t) (bit A) (bit B) 0; second = 0; third = 0 })
+  pub tried-one : (tryOutcome e n K 1 A B t room .answer .d ≡ record { first = heldD n (tableBit t) (bit A) (bit B) 0; second = noTable; third = noTable })
       × (tryOutcome e n K 1 A B t room .room ≡ into (bytesH n (tableBit t) (bit A) (bit B) 1) room)
   tried-one = (ap (λ o. o .answer .d) (is e n K 1 A B t room done), ap (λ o. o .room) (is e n K 1 A B t room done))
 
+  -- D's words make the number
+  pub tried-one-table : IsEdition e → tableNumber (tryOutcome e n K 1 A B t room .answer .d .first) ≡ tableD n (tableBit t) (bit A) (bit B) 0
+  tried-one-table ok = tried-tables e n K 1 A B t room done ok 0
+
+  -- and where a cell has at most 6 inputs, the first word is it, and the others are 0
+  pub tried-one-word : e .most ≤ firstMost
+      → (getD (tryOutcome e n K 1 A B t room .answer .d .first .words) 0 0 ≡ tableD n (tableBit t) (bit A) (bit B) 0)
+      × ((j : ℕ) → 1 ≤ j → j < cellWords → getD (tryOutcome e n K 1 A B t room .answer .d .first .words) j 0 ≡ 0)
+  tried-one-word six =
+      let w = tried-words e n K 1 A B t room done six 0 in
+      let is = tried-cells e n K 1 A B t room done in
+      (ap (λ (d : FirstCells). getD (d .first .words) 0 0) is ∙ w .0, λ j p l. ap (λ (d : FirstCells). getD (d .first .words) j 0) is ∙ w .1 j p l)
+
   -- demand 2: at every assignment the table's bit is H's bit at D's bit
-  pub tried-one-works : (x : ℕ) → x < 2 ^ n
+  pub tried-one-works : IsEdition e → (x : ℕ) → x < 2 ^ n
       → tableBit t x
       ≡ tableBit (tryOutcome e n K 1 A B t room .room)
-      (inputH n (bit A) (bit B) x (val (bit (tryOutcome e n K 1 A B t room .answer .d .first) (gather n (readsD (bit A) (bit B)) x))))
-  tried-one-works x l =
-      tried-works e n K 1 A B t room done x l
+      (inputH n (bit A) (bit B) x (val (bit (tableNumber (tryOutcome e n K 1 A B t room .answer .d .first)) (gather n (readsD (bit A) (bit B)) x))))
+  tried-one-works ok x l =
+      tried-works e n K 1 A B t room done ok x l
       ∙ ap (λ (k : ℕ). tableBit (tryOutcome e n K 1 A B t room .room) (inputH n (bit A) (bit B) x k))
       (one-bit (λ i. bit (tableIn (tryOutcome e n K 1 A B t room .answer .d) i) (gather n (readsD (bit A) (bit B)) x)))

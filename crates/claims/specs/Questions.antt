@@ -4,6 +4,7 @@ use mathlib.Core.List.{List, [], _∷_}
 use Prim.Native.Nat.{ℕ, _*_}
 use lib.ListN.{replicate, take}
 use Rattle.bits.specs.Numbers.{val}
+use Rattle.tables.specs.Cells.{tableNumber}
 use Rattle.sheets.specs.Edition.{recordSize, mostRecords, firstEdition}
 use Rattle.chains.specs.Area.{workLength}
 use Rattle.refusals.specs.Lines.{numberOf, placeOf}
@@ -52,7 +53,8 @@ lentText = replicate mostText 0xAA
 -- the number, D, where it broke and how many columns there are, the room
 abbrev pub sayTry : TryOutcome → List ℕ
 sayTry o =
-    numberOf (o .answer .verdict) ∷ o .answer .d .first ∷ placeOf (o .answer .verdict) ∷ o .answer .columns ∷ o .room
+    numberOf (o .answer .verdict) ∷ tableNumber (o .answer .d .first) ∷ placeOf (o .answer .verdict)
+    ∷ o .answer .columns ∷ o .room
 
 -- the number and the masks
 abbrev pub sayFind : FindOutcome → List ℕ

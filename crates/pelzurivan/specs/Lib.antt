@@ -1,11 +1,13 @@
 -- What C gets of each call's outcome: the paper's number, then the values. One file for each call.
 pub mod TrySplit
+pub mod TryTold
 pub mod FindBest
 pub mod TrySeveral
 pub mod FindSeveral
 pub mod MakeSheet
 pub mod RunSheet
 pub mod RebuildTable
+pub mod Rewrite
 pub mod CheckSheet
 pub mod Shorter
 pub mod InputTimes

@@ -1,4 +1,5 @@
 // Trying a named split with several first cells, for C.
+use crate::word::word;
 use refusals::verdicts::number_of;
 use refusals::verdicts::place_of;
 use several::try_several::try_several;
@@ -36,11 +37,12 @@ pub extern "C" fn pelzurivan_try_several(
 {
     let answer = try_several(n, k, r, own, shared, t, room);
     let verdict = answer.verdict;
+    let cells = answer.d;
     TriedSeveralC {
         number: number_of(verdict) as u64,
-        first: answer.d.first,
-        second: answer.d.second,
-        third: answer.d.third,
+        first: word(cells.first, 0),
+        second: word(cells.second, 0),
+        third: word(cells.third, 0),
         b: place_of(verdict),
         columns: answer.columns as u64,
     }

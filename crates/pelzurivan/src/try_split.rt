@@ -1,4 +1,5 @@
 // Trying a named split, for C.
+use crate::word::word;
 use refusals::verdicts::number_of;
 use refusals::verdicts::place_of;
 use splitting::try_split::try_split;
@@ -33,9 +34,10 @@ pub extern "C" fn pelzurivan_try(
 {
     let answer = try_split(n, k, own, shared, t, room);
     let verdict = answer.verdict;
+    let cells = answer.d;
     TriedC {
         number: number_of(verdict) as u64,
-        d: answer.d.first,
+        d: word(cells.first, 0),
         b: place_of(verdict),
         columns: answer.columns as u64,
     }

@@ -3,3 +3,4 @@ pub mod Lines
 pub mod Lent
 pub mod Tests
 pub mod Sheets
+pub mod Told

@@ -3,7 +3,7 @@
 -- with texts (formulas, Refusals; printing, Printable), 18 to 20 with the cards (cards, Refusals), 21 with the book
 -- (book, Turn); 17 is free.
 use mathlib.Core.Bool.{Bool, true, false, not, _&&_, _||_}
-use mathlib.Core.List.{List, [], _∷_}
+use mathlib.Core.List.{List, [], _∷_, _++_}
 use Prim.Native.Nat.{ℕ, _+_, _-_, _*_, _^_}
 use lib.Dec.{leb, ltb, eqb}
 use lib.ListN.{length}
@@ -15,7 +15,7 @@ use Rattle.splits.specs.Columns.{mostFirst, fewColumns, firstBroken}
 use Rattle.splits.specs.Pair.{inputsH}
 use Rattle.best.specs.Search.{Answer, none, split}
 use Rattle.sheets.specs.declared.kinds.Edition.{Edition}
-use Rattle.sheets.specs.Edition.{mostRecords, mostDesk}
+use Rattle.sheets.specs.Edition.{mostRecords, mostDesk, lastEdition}
 use Rattle.sheets.specs.Sheet.{badLength, records, firstBad}
 use Rattle.sheets.specs.Reading.{firstUnread}
 use Rattle.runs.specs.Checking.{firstDifference}
@@ -30,6 +30,10 @@ badInputs n = line 1 (not (leb 1 n && leb n mostInputs))
 -- 2: K outside 2 to the edition's largest cell
 abbrev pub badCell : Edition → ℕ → Line
 badCell e K = line 2 (not (leb 2 K && leb K (e .most)))
+
+-- 2: the number of the edition is neither 1 nor 2
+abbrev pub badEdition : ℕ → Line
+badEdition w = line 2 (not (leb 1 w && leb w lastEdition))
 
 -- 3: the table, read or to be rebuilt, has a wrong length
 abbrev pub badTable : ℕ → List ℕ → Line
@@ -61,6 +65,10 @@ shortWork work = line 6 (ltb (length work) workLength)
 -- 6: room for the sheet under the bytes of the most records, or such a work area
 abbrev pub shortSheet : Edition → List ℕ → List ℕ → Line
 shortSheet e sheet work = line 6 (ltb (length sheet) (e .size * mostRecords) || ltb (length work) workLength)
+
+-- 6: room for the sheet under the bytes of the most records
+abbrev pub shortRecords : Edition → List ℕ → Line
+shortRecords e room = line 6 (ltb (length room) (e .size * mostRecords))
 
 -- 7: at most K inputs count, so nothing to split
 abbrev pub nothingToSplit : ℕ → ℕ → List ℕ → Line
@@ -120,3 +128,15 @@ gateLines e n K t = badInputs n ∷ badCell e K ∷ badTable n t ∷ badSpare n 
 -- a sheet: 9 and 10
 abbrev pub sheetLines : Edition → ℕ → ℕ → List ℕ → List Line
 sheetLines e d n s = badSheet e s ∷ badRecord e d n s ∷ []
+
+-- a sheet each of whose records but the last is read: 9, 10 and 15
+abbrev pub readLines : Edition → ℕ → ℕ → List ℕ → List Line
+readLines e d n s = sheetLines e d n s ++ (unreadRecord e n s ∷ [])
+
+-- a call that is told the edition: n, then the edition
+abbrev pub toldForm : ℕ → ℕ → List Line
+toldForm w n = badInputs n ∷ badEdition w ∷ []
+
+-- and then the call's own lines in that edition, which look at n again
+abbrev pub toldLines : ℕ → ℕ → List Line → List Line
+toldLines w n ls = toldForm w n ++ ls

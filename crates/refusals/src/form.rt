@@ -1,4 +1,4 @@
-// Lines that several calls share: 1 to 4 of a gate, 9, 10 and 15 of a sheet.
+// Lines that several calls share: 1 to 4 of a gate, 1 and 2 of a told edition, 9, 10 and 15 of a sheet.
 use crate::verdicts::Refusal;
 use crate::verdicts::Verdict;
 use crate::verdicts::refuse;
@@ -15,7 +15,8 @@ ghost use lib.Dec.{leb};
 ghost use Rattle.tables.specs.Table.{mostInputs};
 ghost use Rattle.sheets.specs.Edition.{IsEdition};
 ghost use Rattle.refusals.specs.Lines.{verdict, InOrder};
-ghost use Rattle.refusals.specs.Refusals.{badInputs, badCell, badTable, gateLines, sheetLines, unreadRecord};
+ghost use Rattle.refusals.specs.Refusals.{badInputs, badCell, badEdition, badTable};
+ghost use Rattle.refusals.specs.Refusals.{gateLines, sheetLines, unreadRecord, readLines, toldForm};
 
 // Whether a number is outside its limits.
 pub fn outside(low: u64, x: u64, high: u64) -> bool
@@ -69,6 +70,26 @@ pub fn gate(e: Edition, n: u64, k: u64, t: &[u8]) -> Verdict
     Verdict::Fine
 }
 
+// Line 2: the number of the edition is neither 1 nor 2.
+fn bad_edition(w: u64) -> bool
+    ensures { λ r. ⌜ r ≡ badEdition w .holds ⌝ }
+{
+    outside(1, w, Edition::LAST)
+}
+
+// Lines 1 and 2 of a call that is told the edition.
+pub fn told(w: u64, n: u64) -> Verdict
+    ensures { λ r. ⌜ r ≡ verdict (toldForm w n) ⌝ }
+{
+    if bad_inputs(n) {
+        return refuse(Refusal::INPUTS);
+    }
+    if bad_edition(w) {
+        return refuse(Refusal::EDITION);
+    }
+    Verdict::Fine
+}
+
 // Lines 9 and 10.
 pub fn sheet(e: Edition, d: u8, n: u32, s: &[u8]) -> Verdict
     requires { ⌜ IsEdition e × (n ≤ mostInputs) ⌝ }
@@ -93,4 +114,16 @@ pub fn all_read(e: Edition, d: u8, n: u32, s: &[u8]) -> Verdict
         return refuse_at(Refusal::UNREAD, i as u64);
     }
     Verdict::Fine
+}
+
+// Lines 9, 10 and 15.
+pub fn read_sheet(e: Edition, d: u8, n: u32, s: &[u8]) -> Verdict
+    requires { ⌜ IsEdition e × (n ≤ mostInputs) ⌝ }
+    ensures { λ r. ⌜ r ≡ verdict (readLines e d n (now (s .entry))) ⌝ }
+{
+    let seen = sheet(e, d, n, s);
+    let Verdict::Fine = seen else {
+        return seen;
+    };
+    all_read(e, d, n, s)
 }

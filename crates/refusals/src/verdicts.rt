@@ -14,6 +14,8 @@ impl Refusal {
     pub const INPUTS: u8 = 1;
     // K outside 2 to the largest cell
     pub const CELL: u8 = 2;
+    // the edition is neither the first nor the second
+    pub const EDITION: u8 = 2;
     // the table, read or to be rebuilt, has a wrong length
     pub const TABLE: u8 = 3;
     // n below 3 and a spare bit set

@@ -23,11 +23,7 @@ fn rebuild_form<'a>(e: Edition, d: u8, n: u64, s: &'a [u8], table: &'a [u8]) -> 
     if form::bad_table(inputs, table) {
         return refuse(Refusal::TABLE);
     }
-    let seen = form::sheet(e, d, inputs, s);
-    let Verdict::Fine = seen else {
-        return seen;
-    };
-    form::all_read(e, d, inputs, s)
+    form::read_sheet(e, d, inputs, s)
 }
 
 // Rebuilds the table of a sheet of an edition, which is to be the desk d's, into a lent one, which is written whole.
@@ -47,6 +43,17 @@ pub fn rebuild_in(e: Edition, d: u8, n: u64, s: &[u8], table: &mut [u8]) -> Verd
     Verdict::Fine
 }
 
+// Rebuilds the table of a sheet of an edition, whatever its desk, into a lent one.
+pub fn rebuild_own(e: Edition, n: u64, s: &[u8], table: &mut [u8]) -> Verdict
+    requires { ⌜ IsEdition e ⌝ }
+    ensures { λ r. ⌜
+        record { verdict = r; table = now (table .exit) }
+        ≡ rebuildOwn e n (now (s .entry)) (now (table .entry))
+        ⌝ }
+{
+    rebuild_in(e, desk_of(e, s), n, s, table)
+}
+
 // Rebuilds the table of a sheet, whatever its desk, into a lent one.
 pub fn rebuild_table(n: u64, s: &[u8], table: &mut [u8]) -> Verdict
     ensures { λ r. ⌜
@@ -54,6 +61,5 @@ pub fn rebuild_table(n: u64, s: &[u8], table: &mut [u8]) -> Verdict
         ≡ rebuildOwn firstEdition n (now (s .entry)) (now (table .entry))
         ⌝ }
 {
-    let e = Edition::first();
-    rebuild_in(e, desk_of(e, s), n, s, table)
+    rebuild_own(Edition::first(), n, s, table)
 }

@@ -55,10 +55,17 @@ pub fn run_in(e: Edition, d: u8, n: u64, s: &[u8], x: u64) -> RunAnswer
     }
 }
 
+// Runs a sheet of an edition, whatever its desk, at the assignment x.
+pub fn run_own(e: Edition, n: u64, s: &[u8], x: u64) -> RunAnswer
+    requires { ⌜ IsEdition e ⌝ }
+    ensures { λ r. ⌜ r ≡ runOwn e n (now (s .entry)) x ⌝ }
+{
+    run_in(e, desk_of(e, s), n, s, x)
+}
+
 // Runs a sheet, whatever its desk, at the assignment x.
 pub fn run_sheet(n: u64, s: &[u8], x: u64) -> RunAnswer
     ensures { λ r. ⌜ r ≡ runOwn firstEdition n (now (s .entry)) x ⌝ }
 {
-    let e = Edition::first();
-    run_in(e, desk_of(e, s), n, s, x)
+    run_own(Edition::first(), n, s, x)
 }

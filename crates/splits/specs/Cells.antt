@@ -3,11 +3,24 @@ use mathlib.Core.Bool.{Bool, cond}
 use Prim.Native.Nat.{ℕ, zero, suc}
 use lib.Dec.{ltb}
 use Rattle.splits.specs.declared.pair.FirstCells.{FirstCells}
-use Rattle.splits.specs.Pair.{tableD}
+use Rattle.bits.specs.Numbers.{bit}
+use Rattle.bits.specs.Sets.{size}
+use Rattle.tables.specs.declared.cell.CellTable.{CellTable}
+use Rattle.tables.specs.Cells.{heldTable, noTable, tableNumber}
+use Rattle.splits.specs.Split.{readsD}
+use Rattle.splits.specs.Pair.{codeAt}
+
+-- first cell t gives bit t of the code
+abbrev pub bitD : ℕ → (ℕ → Bool) → (ℕ → Bool) → (ℕ → Bool) → ℕ → ℕ → Bool
+bitD n F A B t v = bit (codeAt n F A B v) t
+
+-- its table as it is held
+abbrev pub heldD : ℕ → (ℕ → Bool) → (ℕ → Bool) → (ℕ → Bool) → ℕ → CellTable
+heldD n F A B t = heldTable (size n (readsD A B)) (bitD n F A B t)
 
 -- the table of first cell t, of r: those from r up are 0
-abbrev pub firstTable : ℕ → (ℕ → Bool) → (ℕ → Bool) → (ℕ → Bool) → ℕ → ℕ → ℕ
-firstTable n F A B r t = cond (ltb t r) (tableD n F A B t) 0
+abbrev pub firstTable : ℕ → (ℕ → Bool) → (ℕ → Bool) → (ℕ → Bool) → ℕ → ℕ → CellTable
+firstTable n F A B r t = cond (ltb t r) (heldD n F A B t) noTable
 
 -- all of them
 abbrev pub firstCells : ℕ → (ℕ → Bool) → (ℕ → Bool) → (ℕ → Bool) → ℕ → FirstCells
@@ -19,11 +32,11 @@ firstCells n F A B r = record {
 
 -- none is there
 abbrev pub noCells : FirstCells
-noCells = record { first = 0; second = 0; third = 0 }
+noCells = record { first = noTable; second = noTable; third = noTable }
 
--- the table of first cell t among those handed back
+-- the table of first cell t among those handed back, as a number
 abbrev pub tableIn : FirstCells → ℕ → ℕ
-tableIn d zero = d .first
-tableIn d (suc zero) = d .second
-tableIn d (suc (suc zero)) = d .third
+tableIn d zero = tableNumber (d .first)
+tableIn d (suc zero) = tableNumber (d .second)
+tableIn d (suc (suc zero)) = tableNumber (d .third)
 tableIn d (suc (suc (suc t))) = 0

@@ -1,22 +1,29 @@
--- Line 5 as the code asks it, and what it lets through. Assumes nothing.
+-- Line 5 as the code asks it, and what it lets through; refusals that count no columns. Assumes nothing.
 use mathlib.Core.Path.{_≡_, ap, subst}
-use mathlib.Core.Bool.{Bool, true, false, not, _&&_}
+use mathlib.Core.Bool.{Bool, true, false, not, cond, _&&_}
+use mathlib.Core.List.{List}
 use Prim.Native.Nat.{ℕ, _+_, _-_, _^_, _<_, _≤_}
 use native.Mathlib.Nat.{le-trans}
 use native.Mathlib.Omega.{arith}
 use lib.Dec.{leb, ltb}
-use borrow.Author.Tests.{le-leb, lt-leb, leb-false, ltb-false, not-false}
+use lib.ListN.{length}
+use borrow.Author.Tests.{le-leb, lt-leb, leb-false, ltb-false, not-false, ne-eqb}
 use Rattle.bits.specs.Numbers.{bit}
 use Rattle.bits.specs.Sets.{disjoint, size}
 use Rattle.bits.proofs.Bools.{or-none}
 use Rattle.bits.proofs.Disjoint.{disjoint-apart}
-use Rattle.tables.specs.Table.{tableLength}
-use Rattle.splits.specs.Columns.{mostFirst}
+use Rattle.tables.specs.Table.{tableLength, tableBit}
+use Rattle.splits.specs.Columns.{mostFirst, columns}
 use Rattle.splits.specs.Pair.{inputsH}
 use Rattle.splits.proofs.Respect.{inputs-H}
 use Rattle.best.specs.Best.{Candidate}
+use Rattle.refusals.specs.declared.verdicts.Refusal.{Refusal}
+use Rattle.refusals.specs.declared.verdicts.Verdict.the-variants.{Refused}
+use Rattle.refusals.specs.Lines.{Line, verdict}
 use Rattle.refusals.specs.Refusals.{badSets}
+use Rattle.refusals.proofs.Lines.{others, another}
 use Rattle.refusals.proofs.Tests.{inside}
+use Rattle.splitting.specs.TrySplit.{columnsNamed}
 
 module _ (n K r A B : ℕ) where
   pub bad-first : not (leb 1 r && leb r mostFirst) ≡ true → badSets n K r A B .holds ≡ true
@@ -71,6 +78,11 @@ module _ (n K r A B : ℕ) where
 pub bytes-H : {n K r A B : ℕ} → Candidate n K r A B → (F : ℕ → Bool) → tableLength (n + r - size n (bit A)) ≡ tableLength (inputsH n F (bit A) (bit B) r)
 bytes-H {n} {K} {r} {A} {B} c F =
     let e : n + r - size n (bit A) ≡ inputsH n F (bit A) (bit B) r = omega (arith, inputs-H n (bit A) (bit B) (c .apart) F r) in ap tableLength e
+
+-- lines of which none is 8 refuse without counting columns
+pub no-columns : (ls : List Line) → others 8 ls ≡ true → (n A B : ℕ) (t : List ℕ) (why : Refusal) → verdict ls ≡ Refused why → columnsNamed n A B t why ≡ 0
+no-columns ls o n A B t why h =
+    ap (λ (b : Bool). cond b (length (columns n (tableBit t) (bit A) (bit B) (why .place))) 0) (ne-eqb (why .number) 8 (another ls 8 why o h))
 
 -- what is said of a split's numbers is said of those it was made of
 pub carried : {n n′ a a′ b b′ : ℕ} (P : ℕ → ℕ → ℕ → Type 0) → n ≡ n′ → a ≡ a′ → b ≡ b′ → P n a b → P n′ a′ b′

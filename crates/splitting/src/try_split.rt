@@ -77,7 +77,7 @@ fn try_form<'a>(
     t: &'a [u8],
     room: &'a [u8],
 ) -> Verdict
-    requires { ⌜ IsEdition e × (e .most ≤ largestCell) ⌝ }
+    requires { ⌜ IsEdition e ⌝ }
     ensures { λ v. ⌜ v ≡ verdict (tryForm e n k r own shared (now (t .entry)) (now (room .entry))) ⌝ }
 {
     let gate = form::gate(e, n, k, t);
@@ -135,7 +135,7 @@ pub fn try_in(
     t: &[u8],
     room: &mut [u8],
 ) -> TryAnswer
-    requires { ⌜ IsEdition e × (e .most ≤ largestCell) ⌝ }
+    requires { ⌜ IsEdition e ⌝ }
     ensures { λ a. ⌜
         record { answer = a; room = now (room .exit) }
         ≡ tryOutcome e n k r own shared (now (t .entry)) (now (room .entry))

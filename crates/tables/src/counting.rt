@@ -1,23 +1,23 @@
 // The inputs that count, tested on whole words, and the table over some of the inputs.
-use crate::words::cell_table;
+use crate::words::short_word;
 use crate::words::table_word;
 use bits::patterns::of_input;
 use bits::sets::next;
 use bits::sets::parts;
 ghost use mathlib.Core.Path.{_≡_};
-ghost use Prim.Native.Nat.{_-_, _^_, _<_, _≤_};
+ghost use Prim.Native.Nat.{_-_, _*_, _^_, _<_, _≤_};
 ghost use lib.ListN.{length};
 ghost use Rattle.tables.specs.Table.{mostInputs, tableLength, tableBit};
 ghost use Rattle.tables.specs.Counting.{counts, support, kept};
 ghost use Rattle.tables.specs.Words.{gateWord, LowerHalf, WordWithout, Compared, Live};
 
 // Word w of the table of n inputs, spare bits zero; with fewer than 6 inputs there is one word, and it is not full.
-fn word_of(t: &[u8], n: u32, w: usize) -> u64
-    requires { ⌜ (length (now t) ≡ tableLength n) × (w < 2 ^ (n - 6)) ⌝ }
+pub fn word_of(t: &[u8], n: u32, w: usize) -> u64
+    requires { ⌜ (2 ^ n ≤ 8 * length (now t)) × (w < 2 ^ (n - 6)) ⌝ }
     ensures { λ r. ⌜ r ≡ gateWord n (tableBit (now (t .entry))) w ⌝ }
 {
     if n < 6 {
-        return cell_table(t, n as usize);
+        return short_word(t, n as usize);
     }
     table_word(t, w)
 }
@@ -49,7 +49,7 @@ fn changes(t: &[u8], n: u32, j: u32, half: u64, w: usize) -> bool
 }
 
 // How many of n inputs number the words of a table.
-fn above_words(n: u32) -> u32
+pub fn above_words(n: u32) -> u32
     ensures { λ r. ⌜ r ≡ n - 6 ⌝ }
 {
     if n < 6 {

@@ -1,4 +1,4 @@
-// A table's bits 64 at a time: a word, and as many of the first bits as a cell's table has.
+// A table's bits 64 at a time: a word, and the one short word of a table of fewer bits.
 use crate::length_for;
 ghost use mathlib.Core.Path.{_≡_};
 ghost use Prim.Native.Nat.{ℕ, _+_, _*_, _%_, _^_, _<_, _≤_};
@@ -30,15 +30,12 @@ pub fn table_word(t: &[u8], w: usize) -> u64
     joined(t, 8 * w, 8)
 }
 
-// The first 2 ^ k bits of a table, as a cell's table.
-pub fn cell_table(t: &[u8], k: usize) -> u64
-    requires { ⌜ (k ≤ 6) × (2 ^ k ≤ 8 * length (now t)) ⌝ }
+// The first 2 ^ k bits of a table, fewer than a word has.
+pub fn short_word(t: &[u8], k: usize) -> u64
+    requires { ⌜ (k < 6) × (2 ^ k ≤ 8 * length (now t)) ⌝ }
     ensures { λ r. ⌜ r ≡ number (2 ^ k) (tableBit (now (t .entry))) ⌝ }
 {
     let word = joined(t, 0, length_for(k as u32));
-    if k == 6 {
-        return word;
-    }
     let bits: u64 = 1 << k;
     let end: u64 = 1 << bits;
     word % end

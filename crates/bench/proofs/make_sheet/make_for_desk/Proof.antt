@@ -1,17 +1,15 @@
 -- `make_for_desk` meets its contract: the edition handed down is the first. Assumes nothing.
 use mathlib.Core.Path.{sym, ap, _∙_, subst}
-use Prim.Native.Nat.{_≤_}
-use native.Mathlib.Omega.{arith}
 use borrow.Author.Needs.{needs}
 use Rattle.sheets.specs.declared.kinds.Edition.{Edition}
-use Rattle.sheets.specs.Edition.{IsEdition, largestCell}
+use Rattle.sheets.specs.Edition.{IsEdition}
 use Rattle.sheets.proofs.Keeping.{first-edition}
 use Rattle.bench.specs.MakeSheet.{makeOutcome}
 use Rattle.bench.proofs.make_sheet.make_for_desk.Statement.{statement}
 use Rattle.bench.proofs.make_sheet.make_for_desk.Tie as tie
 
 make-in-requires : tie.Need-make-in-requires
-make-in-requires c κs = subst (λ (e : Edition). IsEdition e × (e .most ≤ largestCell)) (sym (c .before .before .first .ensures)) (first-edition, omega arith)
+make-in-requires c κs = subst IsEdition (sym (c .before .before .first .ensures)) first-edition
 
 returns : tie.Need-returns
 returns c =

@@ -49,7 +49,7 @@ cast-write-chain-3 c =
     let f = c .before .before in
     let s = f .before .before .before .before .before .before in
     let a = s .args in
-    omega (arith, sound-before (a .e) (a .n) (a .k) (a .t .now) (badDesk (a .d) ∷ shortSheet (a .e) (a .sheet .now) (a .work .now) ∷ []) _ (f .make-form .ensures) (c .enum-told .given .1) .largest, s .pre .1)
+    omega (arith, sound-before (a .e) (a .n) (a .k) (a .t .now) (badDesk (a .d) ∷ shortSheet (a .e) (a .sheet .now) (a .work .now) ∷ []) _ (f .make-form .ensures) (c .enum-told .given .1) .largest, s .pre .eight)
 
 write-chain-requires : tie.Need-write-chain-requires
 write-chain-requires c κs =
@@ -59,7 +59,7 @@ write-chain-requires c κs =
     let q = sym (f .make-form .ensures) ∙ c .before .before .enum-told .given .1 in
     let w = sound-before (a .e) (a .n) (a .k) (a .t .now) (badDesk (a .d) ∷ shortSheet (a .e) (a .sheet .now) (a .work .now) ∷ []) _ (f .make-form .ensures) (c .before .before .enum-told .given .1) in
     let l = long-both (a .e) (a .sheet .now) (a .work .now) (in-order (makeForm (a .e) (a .d) (a .n) (a .k) (a .t .now) (a .sheet .now) (a .work .now)) q .1 .1 .1 .1 .1 .0) in
-    ((s .pre .0, s .pre .1, w .some, w .most, w .two, w .largest), (w .long, l .0, l .1))
+    ((s .pre, w .some, w .most, w .two, w .largest), (w .long, l .0, l .1))
 
 returns-2 : tie.Need-returns-2
 unfolding makeOutcome

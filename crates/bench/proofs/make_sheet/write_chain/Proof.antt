@@ -42,7 +42,7 @@ chain-of-requires : tie.Need-chain-of-requires
 chain-of-requires c κs =
     let s = c .before .before .before .before in
     let p = s .pre .0 in
-    (p .2, p .3, p .4, omega (arith, p .5, p .1), s .pre .1 .0, s .pre .1 .2)
+    (p .1, p .2, p .3, omega (arith, p .4, p .0 .eight), s .pre .1 .0, s .pre .1 .2)
 
 returns : tie.Need-returns
 returns c =
@@ -62,7 +62,7 @@ put-all-requires c κs =
     let p = s .pre .0 in
     let r = m .chain-of .result in
     let w = sym (m .chain-of .ensures .chain) ∙ ap (λ (b : Bool). cond b (made (cellsOf (r .sheet))) stuck) (not-false (r .finished) (i .if1 .left)) in
-    (p .0, p .1, m .chain-of .ensures .few, table-few (a .n) (a .k) (tableBit (a .t .now)) (p .2) (omega (arith, p .4)) (cellsOf (r .sheet)) w (a .e .most) (p .5), le-trans (mul-le-mul-left (a .e .size) (m .chain-of .ensures .few)) (s .pre .1 .1))
+    (p .0, m .chain-of .ensures .few, table-few (a .n) (a .k) (tableBit (a .t .now)) (p .1) (omega (arith, p .3)) (cellsOf (r .sheet)) w (a .e .most) (p .4), le-trans (mul-le-mul-left (a .e .size) (m .chain-of .ensures .few)) (s .pre .1 .1))
 
 returns-2 : tie.Need-returns-2
 returns-2 c =

@@ -4,13 +4,15 @@ use mathlib.Core.Logic.{⊎-elim}
 use Prim.Native.Nat.{ℕ, _-_, _^_}
 use native.Mathlib.Omega.{arith}
 use lib.ListN.{length}
+use lib.Pow.{pow-mono}
 use borrow.Author.Needs.{needs}
 use Rattle.bits.specs.Numbers.{number}
+use Rattle.tables.specs.Cells.{cellWords, tableNumber}
+use Rattle.tables.proofs.CellTables.{words-joined}
 use Rattle.best.specs.Search.{split, best}
 use Rattle.best.specs.Answers.{answerOf}
 use Rattle.best.proofs.Best.{best-split}
 use Rattle.sheets.specs.declared.kinds.Sheet.{Sheet}
-use Rattle.sheets.specs.Edition.{largestCell}
 use Rattle.sheets.specs.Writing.{AtMost}
 use Rattle.sheets.specs.Held.{cellsOf}
 use Rattle.chains.specs.Chain.{lastCell, chain}
@@ -66,7 +68,7 @@ returns c =
       chain = sym (following-stops (g .args .n) (g .args .k) _ (q .sheet) (q .signals) (q .next) (q .work) (q .inv .0) (i .if1 .taken)
           (sym (f .find .ensures) ∙ ap answerOf (c .before .enum-told .given .1)));
       few = omega (arith, ap (λ (s : Sheet). s .count) (c .empty2 .ensures .0));
-      fit = subst (AtMost largestCell) (sym (c .empty2 .ensures .1)) tt;
+      fit = subst (AtMost (g .args .k)) (sym (c .empty2 .ensures .1)) tt;
     }
 
 -- the split that was found
@@ -136,46 +138,51 @@ loop-again c =
       w .step .ensures .table .long ∙ q .inv .1,
     )
 
-slice-reshare-prefix-cell-table : tie.Need-slice-reshare-prefix-cell-table Inv-loop μ-loop
-slice-reshare-prefix-cell-table c = omega (arith, c .before .before .loop .inv .0 .long)
+slice-reshare-prefix-first-of : tie.Need-slice-reshare-prefix-first-of Inv-loop μ-loop
+slice-reshare-prefix-first-of c = omega (arith, c .before .before .loop .inv .0 .long)
 
-slice-aggregate-cell-table : tie.Need-slice-aggregate-cell-table Inv-loop μ-loop
-slice-aggregate-cell-table c = let q = c .before .before .before .loop in sym (half-whole (q .work) (q .inv .0 .long))
+slice-aggregate-first-of : tie.Need-slice-aggregate-first-of Inv-loop μ-loop
+slice-aggregate-first-of c = let q = c .before .before .before .loop in sym (half-whole (q .work) (q .inv .0 .long))
 
-cell-table-requires : tie.Need-cell-table-requires Inv-loop μ-loop
-cell-table-requires c κs =
-    let g = c .before .before .before .before .before .before in
-    let q = c .before .before .before .loop in
-    (omega (arith, g .pre .0 .2, c .before .if1 .left), half-bits (q .work) (q .inv .0 .long) (q .signals .count) (q .inv .0 .listed .few))
+cast-first-of : tie.Need-cast-first-of Inv-loop μ-loop
+cast-first-of c = omega (arith, c .before .before .before .before .loop .inv .0 .listed .few)
+
+first-of-requires : tie.Need-first-of-requires Inv-loop μ-loop
+first-of-requires c κs =
+    let q = c .before .before .before .before .loop in
+    (q .inv .0 .listed .few, half-bits (q .work) (q .inv .0 .long) (q .signals .count) (q .inv .0 .listed .few))
 
 cell-requires : tie.Need-cell-requires Inv-loop μ-loop
 cell-requires c κs =
-    let q = c .before .before .before .before .loop in
-    let g = c .before .before .before .before .before .before .before in
-    (q .inv .0 .listed, omega (arith, g .pre .0 .2, c .before .before .if1 .left))
+    let q = c .before .before .before .before .before .loop in
+    let g = c .before .before .before .before .before .before .before .before in
+    (q .inv .0 .listed, omega (arith, g .pre .0 .2, c .before .before .before .if1 .left))
 
 with-cell-requires : tie.Need-with-cell-requires Inv-loop μ-loop
 with-cell-requires c κs =
-    let q = c .before .before .before .before .before .loop in
-    let g = c .before .before .before .before .before .before .before .before in
+    let q = c .before .before .before .before .before .before .loop in
+    let g = c .before .before .before .before .before .before .before .before .before in
     ⊎-elim (λ e. omega (arith, e)) (λ h. omega (arith, h, q .inv .0 .room, g .pre .0 .0)) (q .inv .0 .spare)
 
 same-length-2 : tie.Need-same-length-2 Inv-loop μ-loop
-same-length-2 c = c .before .before .before .before .before .before .loop .inv .1
+same-length-2 c = c .before .before .before .before .before .before .before .loop .inv .1
 
 returns-2 : tie.Need-returns-2 Inv-loop μ-loop
 returns-2 c =
     let n = c .before .before in
-    let q = n .before .before .before .before .loop in
-    let g = n .before .before .before .before .before .before .before in
+    let i = n .before .before .before in
+    let q = i .before .before .loop in
+    let g = i .before .before .before .before .before in
     let w = c .with-cell .ensures in
-    let whole = following-ends (g .args .n) (g .args .k) _ (q .sheet) (q .signals) (q .next) (q .work) (q .inv .0) (n .before .before .if1 .left)
+    let held = words-joined cellWords (q .signals .count) (atHand (q .work))
+    (omega (arith, pow-mono {i = q .signals .count} {j = 8} (omega (arith, g .pre .0 .2, i .if1 .left)))) in
+    let whole = following-ends (g .args .n) (g .args .k) _ (q .sheet) (q .signals) (q .next) (q .work) (q .inv .0) (i .if1 .left)
     (c .before .cell .result)
-    (c .before .cell .ensures .0 ∙ ap (lastCell (signalsOf (q .signals))) (n .cell-table .ensures)) (c .with-cell .result) w in
+    (c .before .cell .ensures .0 ∙ ap (lastCell (signalsOf (q .signals))) (ap tableNumber (n .first-of .ensures) ∙ held)) (c .with-cell .result) w in
     record {
       chain = sym whole;
       few = ⊎-elim (λ e. omega (arith, e, w .count)) (λ h. omega (arith, h, w .count, q .inv .0 .room, g .pre .0 .0)) (q .inv .0 .spare);
-      fit = chain-fits (g .args .n) (g .args .k) _ _ (cellsOf (c .with-cell .result)) (g .pre .0 .2) whole;
+      fit = chain-fits (g .args .n) (g .args .k) _ _ (cellsOf (c .with-cell .result)) whole;
     }
 
 pub follow-spec : {M : Type 1} → statement M
@@ -183,5 +190,5 @@ follow-spec =
     tie.close (tie.spec Inv-loop μ-loop (λ c κs. search needs) (λ c. search needs) loop-holds cast-m
     slice-reshare-prefix-find slice-aggregate-find find-requires (λ c. search needs) (λ c. search needs)
     (λ c κs. search needs) same-length returns of-requires step-requires add-next loop-less loop-again
-    slice-reshare-prefix-cell-table slice-aggregate-cell-table cell-table-requires cell-requires with-cell-requires
+    slice-reshare-prefix-first-of slice-aggregate-first-of cast-first-of first-of-requires cell-requires with-cell-requires
     same-length-2 returns-2)

@@ -27,7 +27,7 @@ first-cell-requires c κs =
     let g = c .before .before .before .before in
     let p = g .pre .0 in (
       (p .0, p .1, p .2, half-bits (g .args .work .now) (p .4) (g .args .s .n) (p .0 .most)),
-      (g .pre .1 .1, g .pre .1 .2),
+      g .pre .1,
     )
 
 add-pick : tie.Need-add-pick

@@ -6,10 +6,19 @@ use Rattle.pelzurivan.proofs.try_several.pelzurivan_try_several.Tie as 
 
 returns : tie.Need-returns
 returns c =
-    rw (c .before .number-of .ensures, c .place-of .ensures, ← c .before .before .before .before .try-several .ensures)
+    let w = c .before .before .before in
+    let n = w .before in
+    rw (
+      n .number-of .ensures,
+      w .word .ensures,
+      c .before .before .word2 .ensures,
+      c .before .word3 .ensures,
+      c .place-of .ensures,
+      ← n .before .before .before .before .try-several .ensures,
+    )
     (refl, refl)
 
 pub pelzurivan-try-several-spec : {M : Type 1} → statement M
 pelzurivan-try-several-spec =
     tie.close (tie.spec (λ c κs. search needs) (λ c κs. search needs) (λ c. search needs) (λ c κs. search needs)
-    (λ c. search needs) returns)
+    (λ c κs. search needs) (λ c κs. search needs) (λ c κs. search needs) (λ c. search needs) returns)

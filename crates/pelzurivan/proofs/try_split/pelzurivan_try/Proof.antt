@@ -6,10 +6,11 @@ use Rattle.pelzurivan.proofs.try_split.pelzurivan_try.Tie as tie
 
 returns : tie.Need-returns
 returns c =
-    rw (c .before .number-of .ensures, c .place-of .ensures, ← c .before .before .before .before .try-split .ensures)
+    let n = c .before .before in
+    rw (n .number-of .ensures, c .before .word .ensures, c .place-of .ensures, ← n .before .before .before .before .try-split .ensures)
     (refl, refl)
 
 pub pelzurivan-try-spec : {M : Type 1} → statement M
 pelzurivan-try-spec =
     tie.close (tie.spec (λ c κs. search needs) (λ c κs. search needs) (λ c. search needs) (λ c κs. search needs)
-    (λ c. search needs) returns)
+    (λ c κs. search needs) (λ c. search needs) returns)

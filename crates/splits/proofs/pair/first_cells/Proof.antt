@@ -1,19 +1,19 @@
 -- Each of the three by itself. Assumes nothing.
 use mathlib.Core.Path.{ap, ap₂, _∙_}
-use Prim.Native.Nat.{ℕ}
 use borrow.Author.Needs.{needs}
+use Rattle.tables.specs.declared.cell.CellTable.{CellTable}
 use Rattle.splits.specs.declared.pair.FirstCells.{FirstCells}
 use Rattle.splits.proofs.pair.first_cells.Statement.{statement}
 use Rattle.splits.proofs.pair.first_cells.Tie as tie
 
-abbrev cells : ℕ → ℕ → ℕ → FirstCells
+abbrev cells : CellTable → CellTable → CellTable → FirstCells
 cells x y z = record { first = x; second = y; third = z }
 
 returns : tie.Need-returns
 returns c =
     let q = c .before in
     let p = q .before in
-    ap₂ (λ (x y : ℕ). cells x y (c .table-or-zero3 .result)) (p .table-or-zero .ensures) (q .table-or-zero2 .ensures) ∙ ap (cells _ _) (c .table-or-zero3 .ensures)
+    ap₂ (λ (x y : CellTable). cells x y (c .table-or-zero3 .result)) (p .table-or-zero .ensures) (q .table-or-zero2 .ensures) ∙ ap (cells _ _) (c .table-or-zero3 .ensures)
 
 pub first-cells-spec : {M : Type 1} → statement M
 first-cells-spec =

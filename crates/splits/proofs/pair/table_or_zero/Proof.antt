@@ -10,20 +10,22 @@ use Rattle.bits.specs.Numbers.{bit}
 use Rattle.bits.proofs.Machine.{shl-one}
 use Rattle.tables.specs.Table.{tableBit}
 use Rattle.splits.specs.Columns.{mostFirst, fewColumns}
-use Rattle.splits.specs.Pair.{tableD}
+use Rattle.tables.specs.declared.cell.CellTable.{CellTable}
+use Rattle.tables.specs.Cells.{noTable}
+use Rattle.splits.specs.Cells.{heldD}
 use Rattle.splits.specs.Reading.{Chart}
 use Rattle.splits.proofs.pair.table_or_zero.Statement.{statement}
 use Rattle.splits.proofs.pair.table_or_zero.Tie as tie
 
 -- what is returned, as there is such a cell or not
 module _ (c : tie.Start) where
-  abbrev by : Bool → ℕ
-  by b = cond b (tableD (c .args .s .n) (tableBit (c .args .t .now)) (bit (c .args .s .own)) (bit (c .args .s .shared)) (c .args .which)) 0
+  abbrev by : Bool → CellTable
+  by b = cond b (heldD (c .args .s .n) (tableBit (c .args .t .now)) (bit (c .args .s .own)) (bit (c .args .s .shared)) (c .args .which)) noTable
 
 returns : tie.Need-returns
 returns c =
-    let g = c .before .before .before in
-    sym (ap (by g) (le-ltb (g .args .which) (g .args .r) (c .if1 .taken)))
+    let g = c .before .before .before .before in
+    c .zero .ensures ∙ sym (ap (by g) (le-ltb (g .args .which) (g .args .r) (c .before .if1 .taken)))
 
 table-of-requires : tie.Need-table-of-requires
 table-of-requires c κs =
@@ -31,10 +33,10 @@ table-of-requires c κs =
     let s = g .args .s in
     let F = tableBit (g .args .t .now) in
     let p = g .pre .0 in
-    let e : 2 ^ g .args .r ≡ 1 * 2 ^ g .args .r % 2 ^ 64 = sym (shl-one 64 (g .args .r) (omega (arith, p .3))) in (
-      (p .0, p .1, p .2, omega (arith, e, pow-mono {i = g .args .r} {j = mostFirst} (p .3))),
+    let e : 2 ^ g .args .r ≡ 1 * 2 ^ g .args .r % 2 ^ 64 = sym (shl-one 64 (g .args .r) (omega (arith, p .2))) in (
+      (p .0, p .1, omega (arith, e, pow-mono {i = g .args .r} {j = mostFirst} (p .2))),
       (
-        (subst (λ (m : ℕ). Chart s F m (g .args .seen .now)) e (g .pre .1 .0), omega (arith, p .3, c .if1 .left)),
+        (subst (λ (m : ℕ). Chart s F m (g .args .seen .now)) e (g .pre .1 .0), omega (arith, p .2, c .if1 .left)),
         subst (λ (m : ℕ). fewColumns (s .n) F (bit (s .own)) (bit (s .shared)) m ≡ true) e (g .pre .1 .1),
       ),
     )
@@ -45,4 +47,4 @@ returns-2 c =
     c .table-of .ensures ∙ sym (ap (by g) (lt-ltb (g .args .which) (g .args .r) (omega (arith, c .before .if1 .left))))
 
 pub table-or-zero-spec : {M : Type 1} → statement M
-table-or-zero-spec = tie.close (tie.spec returns (λ c. search needs) table-of-requires returns-2)
+table-or-zero-spec = tie.close (tie.spec (λ c κs. search needs) returns (λ c. search needs) table-of-requires returns-2)

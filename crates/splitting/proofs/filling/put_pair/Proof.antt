@@ -13,7 +13,6 @@ use Rattle.tables.specs.Table.{tableBit}
 use Rattle.splits.specs.declared.split.Split.{Split}
 use Rattle.splits.specs.Columns.{mostFirst, fewColumns}
 use Rattle.splits.specs.Reading.{Chart, chartRoom}
-use Rattle.splits.proofs.Respect.{reads-D}
 use Rattle.best.specs.Best.{Candidate}
 use Rattle.sheets.specs.Edition.{largestCell}
 use Rattle.splitting.proofs.filling.put_pair.Statement.{statement}
@@ -57,11 +56,8 @@ first-cells-requires : tie.Need-first-cells-requires
 first-cells-requires c κs =
     let h = c .before .before .before .before .before .before .before in
     let g = h .before .before .before .before .before in
-    let s = g .args .s in
-    let p = g .pre .0 in (
-      (p .0, omega (arith, p .2 .most, reads-D (s .n) (bit (s .own)) (bit (s .shared)) (p .2 .apart)), p .1, p .3),
-      (charted (p .3) (h .chart .ensures), g .pre .1 .1),
-    )
+    let p = g .pre .0 in
+    ((p .0, p .1, p .3), (charted (p .3) (h .chart .ensures), g .pre .1 .1))
 
 pub put-pair-spec : {M : Type 1} → statement M
 put-pair-spec =

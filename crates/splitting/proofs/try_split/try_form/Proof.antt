@@ -47,7 +47,7 @@ cast-bad-sets c =
     let g = c .before .before in
     let s = g .before .before .before in
     let a = s .args in
-    omega (arith, looked (a .e) (a .n) (a .k) (a .t .now) _ (g .gate .ensures) (c .enum-told .given .1) .largest, s .pre .1)
+    omega (arith, looked (a .e) (a .n) (a .k) (a .t .now) _ (g .gate .ensures) (c .enum-told .given .1) .largest, s .pre .eight)
 
 returns-2 : tie.Need-returns-2
 returns-2 c =

@@ -1,31 +1,29 @@
 -- `try_in` meets its contract: what form and room refuse, else the fixed pair. Assumes nothing.
 use mathlib.Core.Path.{_≡_, refl, sym, ap, ap₂, _∙_, subst}
-use mathlib.Core.Bool.{Bool, cond}
 use mathlib.Core.List.{List, [], _∷_}
 use Prim.Native.Nat.{ℕ, _+_, _-_, _≤_}
 use native.Mathlib.Omega.{arith}
 use lib.ListN.{length}
 use lib.Pow.{pow-mono}
 use borrow.Author.Needs.{needs}
-use borrow.Author.Tests.{ltb-false, ne-eqb}
+use borrow.Author.Tests.{ltb-false}
 use Rattle.bits.specs.Numbers.{bit}
 use Rattle.bits.specs.Sets.{size}
 use Rattle.tables.specs.Table.{mostInputs, tableLength, tableBit}
-use Rattle.splits.specs.Columns.{mostFirst, columns}
+use Rattle.splits.specs.Columns.{mostFirst}
 use Rattle.splits.specs.declared.pair.FirstCells.{FirstCells}
 use Rattle.splits.specs.Cells.{noCells}
 use Rattle.best.specs.Best.{Candidate}
 use Rattle.sheets.specs.declared.kinds.Edition.{Edition}
 use Rattle.sheets.specs.Edition.{largestCell}
-use Rattle.refusals.specs.declared.verdicts.Refusal.{Refusal}
 use Rattle.refusals.specs.declared.verdicts.Verdict.{Verdict}
 use Rattle.refusals.specs.declared.verdicts.Verdict.the-variants.{Fine, Refused}
 use Rattle.refusals.specs.Lines.{verdict, reply}
 use Rattle.refusals.specs.Refusals.{badSets, shortRoom, notPossible}
-use Rattle.splitting.specs.TrySplit.{tryForm, columnsNamed, tryDone, tryNot, tryOutcome}
-use Rattle.refusals.proofs.Lines.{in-order, refused-by, left-to, another}
+use Rattle.splitting.specs.TrySplit.{tryForm, tryDone, tryNot, tryOutcome}
+use Rattle.refusals.proofs.Lines.{in-order, refused-by, left-to}
 use Rattle.refusals.proofs.Tests.{Sound, sound-before}
-use Rattle.splitting.proofs.Sets.{candidate, most-first, carried, bytes-H}
+use Rattle.splitting.proofs.Sets.{candidate, most-first, carried, bytes-H, no-columns}
 use Rattle.splitting.proofs.try_split.try_in.Statement.{statement}
 use Rattle.splitting.proofs.try_split.try_in.Tie as tie
 
@@ -43,12 +41,6 @@ through e n K r A B t room most h =
     let s = candidate n K r A B (w .0) largestCell (omega (arith, g .largest)) in
     record { gate = g; sets = s; most = most-first n K r A B (w .0); long = subst (λ (m : ℕ). m ≤ length room) (sym (bytes-H s (tableBit t))) (ltb-false (length room) _ (w .1 .0)) }
 
--- no line of form and room is 8, so no columns are counted
-no-columns : (e : Edition) (n K r A B : ℕ) (t room : List ℕ) (why : Refusal) → verdict (tryForm e n K r A B t room) ≡ Refused why → columnsNamed n A B t why ≡ 0
-no-columns e n K r A B t room why h =
-    ap (λ (b : Bool). cond b (length (columns n (tableBit t) (bit A) (bit B) (why .place))) 0)
-    (ne-eqb (why .number) 8 (another (tryForm e n K r A B t room) 8 why refl h))
-
 returns : tie.Need-returns
 unfolding tryOutcome
 returns c =
@@ -58,7 +50,8 @@ returns c =
     let e = c .before .enum-told2 .given .1 in
     ap₂ (λ (v : Verdict) (d : FirstCells). record { answer = record { verdict = v; d = d; columns = 0 }; room = a .room .now }) e (c .none .ensures)
     ∙ ap (λ (k : ℕ). record { answer = record { verdict = Refused r; d = noCells; columns = k }; room = a .room .now })
-    (sym (no-columns (a .e) (a .n) (a .k) (a .r) (a .own) (a .shared) (a .t .now) (a .room .now) r (sym (f .try-form .ensures) ∙ e)))
+    (sym (no-columns (tryForm (a .e) (a .n) (a .k) (a .r) (a .own) (a .shared) (a .t .now) (a .room .now)) refl (a .n) (a .own) (a .shared) (a .t .now) r
+    (sym (f .try-form .ensures) ∙ e)))
     ∙ refused-by (tryForm (a .e) (a .n) (a .k) (a .r) (a .own) (a .shared) (a .t .now) (a .room .now)) (notPossible (a .n) (a .r) (a .own) (a .shared) (a .t .now) ∷ [])
     (tryDone (a .n) (a .r) (a .own) (a .shared) (a .t .now) (a .room .now)) (tryNot (a .n) (a .own) (a .shared) (a .t .now) (a .room .now)) (f .try-form .result) r (f .try-form .ensures) e
 
@@ -67,7 +60,7 @@ of-requires c κs =
     let f = c .before .before in
     let s = f .before .before .before .before in
     let a = s .args in
-    let w = through (a .e) (a .n) (a .k) (a .r) (a .own) (a .shared) (a .t .now) (a .room .now) (s .pre .1) (sym (f .try-form .ensures) ∙ c .enum-told .given .1) in
+    let w = through (a .e) (a .n) (a .k) (a .r) (a .own) (a .shared) (a .t .now) (a .room .now) (s .pre .eight) (sym (f .try-form .ensures) ∙ c .enum-told .given .1) in
     (w .gate .most, w .sets .belowA, w .sets .belowB, w .sets .apart)
 
 cast-of-2 : tie.Need-cast-of-2
@@ -82,7 +75,7 @@ cast-pair-of c =
     let f = i .before .before in
     let s = f .before .before .before .before in
     let a = s .args in
-    omega (arith, through (a .e) (a .n) (a .k) (a .r) (a .own) (a .shared) (a .t .now) (a .room .now) (s .pre .1) (sym (f .try-form .ensures) ∙ i .enum-told .given .1) .most)
+    omega (arith, through (a .e) (a .n) (a .k) (a .r) (a .own) (a .shared) (a .t .now) (a .room .now) (s .pre .eight) (sym (f .try-form .ensures) ∙ i .enum-told .given .1) .most)
 
 pair-of-requires : tie.Need-pair-of-requires
 pair-of-requires c κs =
@@ -91,7 +84,7 @@ pair-of-requires c κs =
     let f = i .before .before in
     let s = f .before .before .before .before in
     let a = s .args in
-    let w = through (a .e) (a .n) (a .k) (a .r) (a .own) (a .shared) (a .t .now) (a .room .now) (s .pre .1) (sym (f .try-form .ensures) ∙ i .enum-told .given .1) in (
+    let w = through (a .e) (a .n) (a .k) (a .r) (a .own) (a .shared) (a .t .now) (a .room .now) (s .pre .eight) (sym (f .try-form .ensures) ∙ i .enum-told .given .1) in (
       (o .0, carried (λ (n A B : ℕ). Candidate n largestCell (a .r) A B) (sym (o .1)) (sym (o .2)) (sym (o .3)) (w .sets), w .gate .long ∙ ap tableLength (sym (o .1)), w .most),
       carried (λ (n A B : ℕ). tableLength (n + a .r - size n (bit A)) ≤ length (a .room .now)) (sym (o .1)) (sym (o .2)) (sym (o .3)) (w .long),
     )

@@ -1,17 +1,15 @@
 -- `try_split` meets its contract: the edition handed down is the first. Assumes nothing.
 use mathlib.Core.Path.{sym, ap, _∙_, subst}
-use Prim.Native.Nat.{_≤_}
-use native.Mathlib.Omega.{arith}
 use borrow.Author.Needs.{needs}
 use Rattle.sheets.specs.declared.kinds.Edition.{Edition}
-use Rattle.sheets.specs.Edition.{IsEdition, largestCell}
+use Rattle.sheets.specs.Edition.{IsEdition}
 use Rattle.sheets.proofs.Keeping.{first-edition}
 use Rattle.splitting.specs.TrySplit.{tryOutcome}
 use Rattle.splitting.proofs.try_split.try_split.Statement.{statement}
 use Rattle.splitting.proofs.try_split.try_split.Tie as tie
 
 try-in-requires : tie.Need-try-in-requires
-try-in-requires c κs = subst (λ (e : Edition). IsEdition e × (e .most ≤ largestCell)) (sym (c .before .first .ensures)) (first-edition, omega arith)
+try-in-requires c κs = subst IsEdition (sym (c .before .first .ensures)) first-edition
 
 returns : tie.Need-returns
 returns c =

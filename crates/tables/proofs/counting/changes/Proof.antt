@@ -10,9 +10,13 @@ use borrow.Author.Needs.{needs}
 use Rattle.bits.proofs.Machine.{shl-one}
 use Rattle.tables.specs.Table.{tableBit}
 use Rattle.tables.specs.Words.{gateWord, Compared}
+use Rattle.tables.proofs.Bytes.{length-holds}
 use Rattle.tables.proofs.Changing.{compared, halves-same, halves-steady, other-lt, words-same, words-steady}
 use Rattle.tables.proofs.counting.changes.Statement.{statement}
 use Rattle.tables.proofs.counting.changes.Tie as tie
+
+word-of-requires : tie.Need-word-of-requires
+word-of-requires c κs = let g = c .before in (omega (arith, g .pre .0, length-holds (g .args .n)), g .pre .4 .below)
 
 shr-result : tie.Need-shr-result
 shr-result c = let j = c .before .before .before .args .j in omega (arith, shl-one 32 j (omega arith), pow-mono {i = j} {j = 5} (omega arith))
@@ -43,7 +47,7 @@ add-word-of c = let g = c .before .before .before in
     omega (arith, shifted c, other c, g .pre .1, pow-mono {i = g .args .n - 6} {j = 10} (omega (arith, g .pre .1)))
 
 word-of-requires-2 : tie.Need-word-of-requires-2
-word-of-requires-2 c κs = let g = c .before .before .before in (g .pre .0, omega (arith, shifted c, other c))
+word-of-requires-2 c κs = let g = c .before .before .before in (omega (arith, g .pre .0, length-holds (g .args .n)), omega (arith, shifted c, other c))
 
 returns-2 : tie.Need-returns-2
 returns-2 c =
@@ -59,5 +63,5 @@ returns-2 c =
 
 pub changes-spec : {M : Type 1} → statement M
 changes-spec =
-    tie.close (tie.spec (λ c κs. search needs) (λ c. search needs) (λ c. search needs) shr-result returns
+    tie.close (tie.spec word-of-requires (λ c. search needs) (λ c. search needs) shr-result returns
     (λ c. search needs) (λ c. search needs) add-word-of word-of-requires-2 returns-2)

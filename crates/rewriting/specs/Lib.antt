@@ -1,0 +1,2 @@
+-- A sheet of one edition written in another.
+pub mod Rewrite

@@ -1,0 +1,50 @@
+-- `try_told` meets its contract: what n and the edition refuse, else the call in that edition. Assumes nothing.
+use mathlib.Core.Path.{_≡_, refl, sym, ap, ap₂, _∙_, subst}
+use mathlib.Core.List.{List}
+use Prim.Native.Nat.{ℕ}
+use borrow.Author.Needs.{needs}
+use Rattle.splits.specs.declared.pair.FirstCells.{FirstCells}
+use Rattle.splits.specs.Cells.{noCells}
+use Rattle.sheets.specs.declared.kinds.Edition.{Edition}
+use Rattle.sheets.specs.Edition.{IsEdition, editionOf}
+use Rattle.sheets.proofs.Keeping.{is-edition}
+use Rattle.refusals.specs.declared.verdicts.Verdict.{Verdict}
+use Rattle.refusals.specs.declared.verdicts.Verdict.the-variants.{Refused}
+use Rattle.refusals.specs.Refusals.{toldForm}
+use Rattle.refusals.proofs.Lines.{refused-by, left-to}
+use Rattle.splitting.specs.TrySplit.{tryLines, tryDone, tryNot, tryOutcome}
+use Rattle.splitting.proofs.Sets.{no-columns}
+use Rattle.splitting.proofs.try_told.try_told.Statement.{statement}
+use Rattle.splitting.proofs.try_told.try_told.Tie as tie
+
+returns : tie.Need-returns
+returns c =
+    let f = c .before .before .before in
+    let a = f .before .before .before .args in
+    let r = c .before .enum-told2 .given .0 .0 in
+    let e = c .before .enum-told2 .given .1 in
+    ap₂ (λ (v : Verdict) (d : FirstCells). record { answer = record { verdict = v; d = d; columns = 0 }; room = a .room .now }) e (c .none .ensures)
+    ∙ ap (λ (k : ℕ). record { answer = record { verdict = Refused r; d = noCells; columns = k }; room = a .room .now })
+    (sym (no-columns (toldForm (a .w) (a .n)) refl (a .n) (a .own) (a .shared) (a .t .now) r (sym (f .told .ensures) ∙ e)))
+    ∙ refused-by (toldForm (a .w) (a .n)) (tryLines (editionOf (a .w)) (a .n) (a .k) 1 (a .own) (a .shared) (a .t .now) (a .room .now))
+    (tryDone (a .n) 1 (a .own) (a .shared) (a .t .now) (a .room .now)) (tryNot (a .n) (a .own) (a .shared) (a .t .now) (a .room .now)) (f .told .result) r (f .told .ensures) e
+
+try-in-requires : tie.Need-try-in-requires
+try-in-requires c κs = subst IsEdition (sym (c .before .numbered .ensures)) (is-edition _)
+
+returns-2 : tie.Need-returns-2
+unfolding tryOutcome
+returns-2 c =
+    let r = c .before .before in
+    let e = r .before .before in
+    let i = e .before in
+    let f = i .before .before in
+    let a = f .before .before .before .args in
+    r .try-in .ensures ∙ ap (λ (e : Edition). tryOutcome e (a .n) (a .k) 1 (a .own) (a .shared) (a .t .now) (a .room .now)) (e .numbered .ensures)
+    ∙ left-to (toldForm (a .w) (a .n)) (tryLines (editionOf (a .w)) (a .n) (a .k) 1 (a .own) (a .shared) (a .t .now) (a .room .now))
+    (tryDone (a .n) 1 (a .own) (a .shared) (a .t .now) (a .room .now)) (tryNot (a .n) (a .own) (a .shared) (a .t .now) (a .room .now)) (f .told .result) (f .told .ensures) (i .enum-told .given .1)
+
+pub try-told-spec : {M : Type 1} → statement M
+try-told-spec =
+    tie.close (tie.spec (λ c κs. search needs) (λ c. search needs) (λ c. search needs) (λ c κs. search needs)
+    returns (λ c κs. search needs) try-in-requires (λ c. search needs) returns-2)
