@@ -11,23 +11,25 @@
  * 0 for bench use or 1 to 4. A call that reads a sheet takes one of any desk. A card has four desks of 256 bytes: 15
  * record places, then the status record, which is an open mark, n, the count of cells and 13 zero bytes.
  *
- * That is the first edition. In the second k goes up to 8, and a record has 48 bytes: byte 9 is the desk, and the table
- * starts at byte 16. The calls whose names end in _told are told the edition, 1 or 2; rewrite goes from the first to
- * the second; all others know the first alone.
+ * That is the first edition of the sheet. In the second k goes up to 8, and a record is 48 bytes: byte 0 how many
+ * signals the cell reads, bytes 1 to 8 the signals, increasing, then 255 for each unused place, byte 9 the desk, bytes
+ * 10 to 15 zero, bytes 16 to 47 the cell's table. The calls whose names end in _told are told the edition, 1 or 2;
+ * told the first, each answers as the call without that ending (make as make_for_desk). All others know only the first.
  *
  * number is 0 where the call is done, else the first of these that holds:
  *    1  n outside 1 to 16
- *    2  k outside 2 to 6, or in the second edition 2 to 8; an edition other than 1 or 2
+ *    2  an edition other than 1 or 2; k outside 2 to 6, in the second edition 2 to 8
  *    3  table, read or to be rebuilt, has a wrong length
  *    4  n below 3 and a spare bit set
  *    5  own or shared names a position from n up; they overlap; own below 2 (with r first cells, own not above r, or r
  *       outside 1 to 3); both together above k; a desk above 4
- *    6  room for H shorter than its table, room for the sheet under 240 bytes, or in the second edition 720, a work
- *       area under 16,384 bytes, or room for a text under 1,024 bytes
+ *    6  room for H shorter than its table, room for the sheet under 240 bytes (of the second edition 720), a work area
+ *       under 16,384 bytes, or room for a text under 1,024 bytes
  *    7  at most k inputs count, so nothing to split
  *    8  the split isn't possible; none is; a table in the chain has none
- *    9  sheet empty, not a multiple of 16, or over 240 bytes; in the second edition of 48, or over 720
- *   10  a record breaks the record rules, or its desk isn't that of the first record; index is the first such
+ *    9  sheet empty, not a multiple of 16, or over 240 bytes; in the second edition of 48, or over 720 bytes
+ *   10  a record breaks the record rules of its edition, or its desk isn't that of the first record; index is the first
+ *       such
  *   11  assignment 2^n or more
  *   12  the sheet doesn't give the table's bit everywhere; place is the least assignment at which it doesn't
  *   13  the delay or a time of the n inputs is not a number, outside 0 to 4,096 or crossed, or missing for an input
@@ -60,7 +62,6 @@ enum { PELZURIVAN_RECORD = 16, PELZURIVAN_SHEET = 240, PELZURIVAN_WORK = 16384, 
        PELZURIVAN_CARD = 1024, PELZURIVAN_RECORD_2 = 48, PELZURIVAN_SHEET_2 = 720 };
 
 typedef struct { uint64_t number, d, b, columns; } pelzurivan_tried;
-typedef struct { uint64_t number, d0, d1, d2, d3, b, columns; } pelzurivan_tried_told;
 typedef struct { uint64_t number, own, shared; } pelzurivan_sought;
 typedef struct { uint64_t number, first, second, third, b, columns; } pelzurivan_tried_several;
 typedef struct { uint64_t number, r, own, shared; } pelzurivan_sought_several;
@@ -68,7 +69,6 @@ typedef struct { uint64_t number, count; } pelzurivan_made;
 typedef struct { uint64_t number, bit, index; } pelzurivan_ran;
 typedef struct { uint64_t number, index; } pelzurivan_rebuilt;
 typedef struct { uint64_t number, place; } pelzurivan_checked;
-typedef struct { uint64_t number, index, count; } pelzurivan_rewritten;
 typedef struct { uint64_t number, place; } pelzurivan_formula_read;
 typedef struct { uint64_t number, place, length; } pelzurivan_formula_written;
 
@@ -80,6 +80,8 @@ typedef struct { uint64_t number, index; int64_t slack; } pelzurivan_slack_answe
 typedef struct { uint64_t which, length, number; } pelzurivan_shorter_answer;
 typedef struct { uint64_t number, index; } pelzurivan_loaded;
 typedef struct { uint64_t number, flip, mask, p0, p1, p2; } pelzurivan_turned;
+typedef struct { uint64_t number, d0, d1, d2, d3, b, columns; } pelzurivan_tried_told;
+typedef struct { uint64_t number, index, count; } pelzurivan_rewritten;
 
 /* Tries a named split: D in d, H in the first bytes of room, the bytes after its table stay. 1 to 6, 8: b is then the
  * least assignment of shared (its members in increasing position, lowest as bit 0) with more than two different
@@ -102,17 +104,6 @@ pelzurivan_made pelzurivan_make_for_desk(uint64_t n, uint64_t k, uint64_t desk, 
                                          size_t table_length, uint8_t *sheet, size_t sheet_length, uint8_t *work,
                                          size_t work_length);
 
-/* Try, find and make in a told edition. D is 32 bytes: bit v is bit v mod 64 of d0, d1, d2 or d3, as v div 64 says; all
- * four are 0 after a refusal, and told 1 the last three always are. The numbers are those of the call itself. */
-pelzurivan_tried_told pelzurivan_try_told(uint64_t edition, uint64_t n, uint64_t k, uint64_t own, uint64_t shared,
-                                          const uint8_t *table, size_t table_length, uint8_t *room,
-                                          size_t room_length);
-pelzurivan_sought pelzurivan_find_told(uint64_t edition, uint64_t n, uint64_t k, const uint8_t *table,
-                                       size_t table_length, uint8_t *work, size_t work_length);
-pelzurivan_made pelzurivan_make_told(uint64_t edition, uint64_t n, uint64_t k, uint64_t desk, const uint8_t *table,
-                                     size_t table_length, uint8_t *sheet, size_t sheet_length, uint8_t *work,
-                                     size_t work_length);
-
 /* Runs a sheet at the assignment x: the bit. 1, 9, 10, 11, 15. */
 pelzurivan_ran pelzurivan_run(uint64_t n, const uint8_t *sheet, size_t sheet_length, uint64_t x);
 
@@ -124,18 +115,6 @@ pelzurivan_rebuilt pelzurivan_rebuild(uint64_t n, const uint8_t *sheet, size_t s
  * the two differ (12). 1, 3, 4, 9, 10, 12, 15. */
 pelzurivan_checked pelzurivan_check(uint64_t n, const uint8_t *table, size_t table_length, const uint8_t *sheet,
                                     size_t sheet_length);
-
-/* Run, rebuild and check in a told edition. The numbers are those of the call itself, and 2 of the edition. */
-pelzurivan_ran pelzurivan_run_told(uint64_t edition, uint64_t n, const uint8_t *sheet, size_t sheet_length, uint64_t x);
-pelzurivan_rebuilt pelzurivan_rebuild_told(uint64_t edition, uint64_t n, const uint8_t *sheet, size_t sheet_length,
-                                           uint8_t *table, size_t table_length);
-pelzurivan_checked pelzurivan_check_told(uint64_t edition, uint64_t n, const uint8_t *table, size_t table_length,
-                                         const uint8_t *sheet, size_t sheet_length);
-
-/* Writes a first-edition sheet in the second edition, for the same desk: count records of 48 bytes, the bytes after
- * them stay. They rebuild the same table. The room has 720 bytes or more. 1, 6, 9, 10, 15. */
-pelzurivan_rewritten pelzurivan_rewrite(uint64_t n, const uint8_t *sheet, size_t sheet_length, uint8_t *room,
-                                        size_t room_length);
 
 /* When the output settles: its earliest and latest time, where each cell takes the same delay. 1, 9, 10, 13. */
 pelzurivan_settled pelzurivan_settle(uint64_t n, const uint8_t *sheet, size_t sheet_length, double delay,
@@ -203,6 +182,37 @@ pelzurivan_tried_several pelzurivan_try_several(uint64_t n, uint64_t k, uint64_t
  * then as in find. The work area as in find. 1 to 4, 6, 7, 8. */
 pelzurivan_sought_several pelzurivan_find_several(uint64_t n, uint64_t k, const uint8_t *table, size_t table_length,
                                                   uint8_t *work, size_t work_length);
+
+/* pelzurivan_try, told the edition: D has up to 256 bits, the first 64 in d0, the last in d3; told the first edition,
+ * d1 to d3 are 0. 1 to 6, 8. */
+pelzurivan_tried_told pelzurivan_try_told(uint64_t edition, uint64_t n, uint64_t k, uint64_t own, uint64_t shared,
+                                          const uint8_t *table, size_t table_length, uint8_t *room, size_t room_length);
+
+/* pelzurivan_find, told the edition. 1 to 4, 6, 7, 8. */
+pelzurivan_sought pelzurivan_find_told(uint64_t edition, uint64_t n, uint64_t k, const uint8_t *table,
+                                       size_t table_length, uint8_t *work, size_t work_length);
+
+/* pelzurivan_make_for_desk, told the edition that the sheet is to be in. 1 to 6, 8. */
+pelzurivan_made pelzurivan_make_told(uint64_t edition, uint64_t n, uint64_t k, uint64_t desk, const uint8_t *table,
+                                     size_t table_length, uint8_t *sheet, size_t sheet_length, uint8_t *work,
+                                     size_t work_length);
+
+/* pelzurivan_run, told the edition that the sheet is in. 1, 2, 9, 10, 11, 15. */
+pelzurivan_ran pelzurivan_run_told(uint64_t edition, uint64_t n, const uint8_t *sheet, size_t sheet_length, uint64_t x);
+
+/* pelzurivan_rebuild, told the edition that the sheet is in. 1, 2, 3, 9, 10, 15. */
+pelzurivan_rebuilt pelzurivan_rebuild_told(uint64_t edition, uint64_t n, const uint8_t *sheet, size_t sheet_length,
+                                           uint8_t *table, size_t table_length);
+
+/* pelzurivan_check, told the edition that the sheet is in. 1 to 4, 9, 10, 12, 15. */
+pelzurivan_checked pelzurivan_check_told(uint64_t edition, uint64_t n, const uint8_t *table, size_t table_length,
+                                         const uint8_t *sheet, size_t sheet_length);
+
+/* Rewrites a sheet of the first edition in the second, each record with its desk: count records of 48 bytes in the
+ * first bytes of room, which is 720 bytes or more; the bytes after them stay. The new sheet rebuilds the same table.
+ * 1, 6, 9, 10, 15. */
+pelzurivan_rewritten pelzurivan_rewrite(uint64_t n, const uint8_t *sheet, size_t sheet_length, uint8_t *room,
+                                        size_t room_length);
 
 #ifdef __cplusplus
 }

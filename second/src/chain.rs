@@ -20,7 +20,7 @@ pub fn chain(gate: &Table, k: usize) -> Option<Vec<Cell>> {
         // last: that is the order in which H reads its inputs.
         signals = pick(&signals, !split.own);
         signals.push(n + cells.len());
-        cells.push(Cell { reads, table: d.to_number() });
+        cells.push(Cell { reads, table: d });
         (signals, table) = set_aside(signals, &h);
     }
     cells.push(last_cell(signals, &table));
@@ -37,8 +37,8 @@ fn set_aside(signals: Vec<usize>, table: &Table) -> (Vec<usize>, Table) {
 /// What remains; a constant becomes a cell that reads signal 0, with table 0 or 3.
 fn last_cell(signals: Vec<usize>, table: &Table) -> Cell {
     match signals.is_empty() {
-        true => Cell { reads: vec![0], table: if table.bits[0] { 3 } else { 0 } },
-        false => Cell { reads: signals, table: table.to_number() },
+        true => Cell::numbered(vec![0], if table.bits[0] { 3 } else { 0 }),
+        false => Cell { reads: signals, table: table.clone() },
     }
 }
 

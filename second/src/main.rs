@@ -19,7 +19,7 @@ second inspect n, a table and a sheet on standard input, number and place on sta
 second compare [--seed S] [--cases N] [--fault] -- COMMAND ARGS..
 second compare-bench [--seed S] [--cases N] [--fault] -- COMMAND ARGS..
 second compare-inspect [--seed S] [--cases N] [--fault] -- COMMAND ARGS..
-second fewest [--seed S] [--cases N] [--all-of-4] -- COMMAND ARGS..
+second fewest [--seed S] [--cases N] [--all-of-4] [--fault] -- COMMAND ARGS..
 second trees [--seed S] [--cases N] -- COMMAND ARGS..
 second cards [--seed S] [--cases N] -- COMMAND ARGS..
 second measure [--seed S] [--only WORDS] -- COMMAND ARGS..
@@ -51,7 +51,7 @@ fn obey(words: &[String]) -> Result<(), String> {
         "compare" => compare::compare(&comparison()?),
         "compare-bench" => compare_program(&compare_bench::PROGRAM),
         "compare-inspect" => compare_program(&compare_inspect::PROGRAM),
-        "fewest" => fewest::fewest(&options(&["--seed", "--cases"], &["--all-of-4"])?),
+        "fewest" => fewest::fewest(&options(&["--seed", "--cases"], &["--all-of-4", "--fault"])?),
         "trees" => trees::trees(&options(&["--seed", "--cases"], &[])?),
         "cards" => cards::cards(&options(&["--seed", "--cases"], &[])?),
         "measure" => measure::measure(&options(&["--seed", "--only"], &[])?),

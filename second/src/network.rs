@@ -13,7 +13,7 @@ pub fn run(n: usize, cells: &[Cell], x: usize) -> bool {
                 entry |= 1 << place;
             }
         }
-        signals.push((cell.table >> entry) & 1 == 1);
+        signals.push(cell.table.bits[entry]);
     }
     signals.last().copied().unwrap_or(false)
 }

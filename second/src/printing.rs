@@ -1,7 +1,6 @@
 //! Sheets printed as formulas.
 
 use crate::cell::Cell;
-use crate::table::Table;
 
 /// The tables of two signals that are printed, each with its text.
 pub const OF_TWO: [(u64, &str); 10] = [
@@ -24,10 +23,7 @@ pub const OF_ONE: [(u64, &str); 4] = [(0b10, "L"), (0b01, "!L"), (0b00, "0"), (0
 fn can_be_printed(cell: &Cell) -> bool {
     match cell.reads.len() {
         1 => true,
-        2 => {
-            let table = Table::from_number(2, cell.table);
-            table.depends_on(0) && table.depends_on(1)
-        }
+        2 => cell.table.depends_on(0) && cell.table.depends_on(1),
         _ => false,
     }
 }
@@ -49,7 +45,7 @@ pub fn print(n: usize, cells: &[Cell]) -> Option<String> {
         (b'a'..=b'p').take(n).map(|byte| char::from(byte).into()).collect();
     for cell in cells {
         let forms: &[(u64, &str)] = if cell.reads.len() == 1 { &OF_ONE } else { &OF_TWO };
-        let (_, form) = forms.iter().find(|(table, _)| *table == cell.table)?;
+        let (_, form) = forms.iter().find(|(table, _)| *table == cell.table.to_number())?;
         let filled = form.chars().map(|part| match part {
             'L' => texts[cell.reads[0]].clone(),
             'R' => texts[cell.reads[1]].clone(),

@@ -3,7 +3,7 @@
 //! Each call checks its own lines of the document's table in the order of their
 //! numbers, so that the lowest number that applies is the one given.
 
-use crate::cell::{read_sheet, Cell, LAST_DESK, MOST_READS, RECORD_BYTES, SHEET_BYTES};
+use crate::cell::{Cell, Edition, FIRST, LAST_DESK, SECOND};
 use crate::network::first_unread;
 use crate::table::{Table, MOST_INPUTS};
 
@@ -47,11 +47,27 @@ impl From<u8> for Refusal {
 /// The least work area that find and make take.
 pub const WORK_BYTES: usize = 16_384;
 
-/// Lines 1 to 4, which try, find and make have in common.
+/// Lines 1 to 4, which try, find and make have in common, for the first edition.
 pub fn gate(n: u64, k: u64, table: &[u8]) -> Result<(Table, usize), u8> {
+    let (_, gate, k) = gate_in([FIRST.told, n, k], table)?;
+    Ok((gate, k))
+}
+
+/// The same where the edition is told.
+pub fn gate_in(
+    [edition, n, k]: [u64; 3],
+    table: &[u8],
+) -> Result<(&'static Edition, Table, usize), u8> {
+    let (edition, n) = edition_and_inputs(edition, n)?;
+    let k = cell_size(edition, k)?;
+    Ok((edition, table_of(n, table)?, k))
+}
+
+/// Lines 1 and 2, as far as the calls on sheets have the second.
+pub fn edition_and_inputs(edition: u64, n: u64) -> Result<(&'static Edition, usize), u8> {
     let n = inputs(n)?;
-    let k = cell_size(k)?;
-    Ok((table_of(n, table)?, k))
+    let known = [&FIRST, &SECOND].into_iter().find(|known| known.told == edition);
+    Ok((known.ok_or(NO_CELL_SIZE)?, n))
 }
 
 /// Line 1.
@@ -63,9 +79,9 @@ pub fn inputs(n: u64) -> Result<usize, u8> {
 }
 
 /// Line 2.
-fn cell_size(k: u64) -> Result<usize, u8> {
+fn cell_size(edition: &Edition, k: u64) -> Result<usize, u8> {
     match usize::try_from(k) {
-        Ok(k) if (2..=MOST_READS).contains(&k) => Ok(k),
+        Ok(k) if (2..=edition.most_reads).contains(&k) => Ok(k),
         _ => Err(NO_CELL_SIZE),
     }
 }
@@ -90,15 +106,16 @@ pub fn desk_of_sheet(desk: u64) -> Result<u8, u8> {
 }
 
 /// Lines 9 and 10: the length of the sheet, then its records.
-pub fn cells(n: usize, sheet: &[u8]) -> Result<Vec<Cell>, Refusal> {
-    whole_records(sheet)?;
-    read_sheet(n, sheet).map_err(bad_record)
+pub fn cells(edition: &Edition, n: usize, sheet: &[u8]) -> Result<Vec<Cell>, Refusal> {
+    whole_records(edition, sheet)?;
+    edition.read_sheet(n, sheet).map_err(bad_record)
 }
 
 /// Line 9.
-pub fn whole_records(sheet: &[u8]) -> Result<(), u8> {
-    let whole = sheet.chunks(RECORD_BYTES).all(|record| record.len() == RECORD_BYTES);
-    match sheet.is_empty() || !whole || sheet.len() > SHEET_BYTES {
+pub fn whole_records(edition: &Edition, sheet: &[u8]) -> Result<(), u8> {
+    let bytes = edition.record_bytes;
+    let whole = sheet.chunks(bytes).all(|record| record.len() == bytes);
+    match sheet.is_empty() || !whole || sheet.len() > edition.sheet_bytes() {
         true => Err(NO_SHEET),
         false => Ok(()),
     }

@@ -55,6 +55,11 @@ impl Table {
         ones.map(|(x, _)| 1u64 << x).sum()
     }
 
+    /// How many words of 64 bits have a bit that is set.
+    pub fn words(&self) -> usize {
+        self.bits.chunks(64).filter(|word| word.contains(&true)).count()
+    }
+
     /// Whether flipping this input alone changes the bit somewhere.
     pub fn depends_on(&self, input: usize) -> bool {
         (0..self.bits.len()).any(|x| self.bits[x] != self.bits[x ^ (1 << input)])

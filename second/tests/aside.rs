@@ -86,7 +86,7 @@ fn a_sheet_is_that_of_the_inputs_that_count() {
 fn a_constant_is_one_cell_that_reads_signal_0() {
     for n in 1..=8 {
         for (bit, number) in [(false, 0), (true, 3)] {
-            let cell = Cell { reads: vec![0], table: number };
+            let cell = Cell::numbered(vec![0], number);
             assert_eq!(chain(&Table::from_rule(n, |_| bit), 2), Some(vec![cell]));
         }
     }
@@ -105,10 +105,10 @@ fn chain_of_document_01(gate: &Table, k: usize) -> Option<Vec<Cell>> {
         let reads = at(split.own | split.shared);
         let mut left = at(all(table.inputs) & !split.own);
         left.push(gate.inputs + cells.len());
-        cells.push(Cell { reads, table: d.to_number() });
+        cells.push(Cell { reads, table: d });
         (signals, table) = (left, h);
     }
-    cells.push(Cell { reads: signals, table: table.to_number() });
+    cells.push(Cell { reads: signals, table });
     Some(cells)
 }
 
@@ -129,7 +129,7 @@ fn where_all_inputs_count_the_chain_is_that_of_document_01() {
 fn every_cell_depends_on_all_that_it_reads() {
     for (table, k) in drawn(46, 600) {
         for cell in chain(&table, k).unwrap_or_default() {
-            let own = Table::from_number(cell.reads.len(), cell.table);
+            let own = cell.table;
             assert!(table.counting() == 0 || own.counting() == all(own.inputs));
         }
     }

@@ -3,7 +3,7 @@
 use second::calls::{load, run_desk, run_desk::run_desk as run_on};
 use second::card::{start_of, stores, Store, CARD_BYTES, DESK_BYTES, STORES};
 use second::case::{answer, PRESET};
-use second::cell::{read_sheet, set_desk, RECORD_BYTES};
+use second::cell::{set_desk, FIRST, RECORD_BYTES, SECOND};
 use second::examples::requests::PADDED_AT_1;
 use second::examples::{unhex, SHEET_OF_2};
 use second::fresh::cards::{any_card, full_card};
@@ -15,9 +15,9 @@ use second::random::Random;
 fn the_first_record_decides_the_desk_and_the_first_that_differs_is_bad() {
     let mut random = Random::new(71);
     let (mut sound, mut bad) = (0, 0);
-    for _ in 0..10 {
-        for of in desks::sheets(&mut random) {
-            assert_eq!(read_sheet(of.n, &of.sheet).err(), of.bad);
+    for edition in [&FIRST, &SECOND].repeat(10) {
+        for of in desks::sheets(&mut random, edition) {
+            assert_eq!(edition.read_sheet(of.n, &of.sheet).err(), of.bad);
             sound += usize::from(of.bad.is_none());
             bad += usize::from(of.bad.is_some());
         }

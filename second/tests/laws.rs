@@ -4,7 +4,7 @@ use second::best::{best, candidates, order};
 use second::calls::try_split;
 use second::carry::{Networks, Reads, Wiring};
 use second::case::{answer, PRESET};
-use second::cell::{read_sheet, write_sheet};
+use second::cell::{read_sheet, write_sheet, FIRST, SECOND};
 use second::chain::chain;
 use second::fresh::breaks::{self, Broken};
 use second::fresh::{every_rule, networks, sheets, tables};
@@ -160,8 +160,10 @@ fn the_assignments_of_a_set_are_those_that_are_zero_elsewhere() {
 fn every_broken_rule_is_found_at_its_record() {
     let mut random = Random::new(11);
     for _ in 0..20 {
-        for broken in every_rule::sheets(&mut random) {
-            assert_eq!(read_sheet(broken.n, &broken.sheet), Err(broken.index));
+        for edition in [&FIRST, &SECOND] {
+            for broken in every_rule::sheets(&mut random, edition) {
+                assert_eq!(edition.read_sheet(broken.n, &broken.sheet), Err(broken.index));
+            }
         }
     }
 }

@@ -9,7 +9,7 @@ use second::random::Random;
 use second::text::{read, value};
 
 fn cell(reads: &[usize], table: u64) -> Cell {
-    Cell { reads: reads.to_vec(), table }
+    Cell::numbered(reads.to_vec(), table)
 }
 
 fn reads_back(n: usize, cells: &[Cell], text: &str) {

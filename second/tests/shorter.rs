@@ -2,7 +2,7 @@
 
 use second::calls::check::check;
 use second::calls::shorter::{shorter, CALL};
-use second::cell::read_sheet;
+use second::cell::{read_sheet, FIRST};
 use second::fresh::{sheet, two_sheets};
 use second::network::rebuild;
 use second::random::Random;
@@ -43,7 +43,7 @@ fn the_other_sheet_gives_the_same_table() {
     let (mut fewer, mut more, mut other_bytes) = (0, 0, 0);
     for i in 0..500 {
         let n = 1 + i % 8;
-        let one = sheet::draw(&mut random, n).sheet;
+        let one = sheet::draw(&mut random, &FIRST, n).sheet;
         let (two, name) = two_sheets::equal(&mut random, n, &one);
         let table = |sheet: &[u8]| rebuild(n, &read_sheet(n, sheet).expect("a sound sheet"));
         assert!(name == "any other" || table(&one) == table(&two), "{name}");

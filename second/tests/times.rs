@@ -136,7 +136,7 @@ fn a_time_is_refused_exactly_as_the_document_says() {
 /// needs no time, but one that is given is looked at.
 #[test]
 fn dead_cells_and_unread_inputs() {
-    let cell = |input: usize| Cell { reads: vec![input], table: 2 };
+    let cell = |input: usize| Cell::numbered(vec![input], 2);
     let sheet = write_sheet(&[cell(1), cell(0)]);
     assert_eq!(settle(3, &sheet, 1.0, &arrivals(&[1.0, 2.0])), Ok((2.0, 2.0)));
     assert_eq!(number(settle(3, &sheet, 1.0, &arrivals(&[1.0]))), 13);

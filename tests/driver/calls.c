@@ -2,7 +2,7 @@
 #include "calls.h"
 
 #include "fields.h"
-#include "pelzurivan.h"
+#include "glue.h"
 
 static void try_split(void) {
     uint64_t n = number(8), k = number(8), own = number(2), shared = number(2);
@@ -25,17 +25,7 @@ static void find(void) {
     start();
     pelzurivan_sought a = pelzurivan_find(n, k, table.bytes, table.length, work.bytes, work.length);
     stop();
-    put(1, a.number);
-    put(2, a.own);
-    put(2, a.shared);
-    put_mark(work);
-}
-
-static void put_made(pelzurivan_made a, area sheet, area work) {
-    put(1, a.number);
-    put(1, a.count);
-    put_area(sheet);
-    put_mark(work);
+    put_sought(a, work);
 }
 
 static void make(void) {
@@ -67,9 +57,7 @@ static void run(void) {
     start();
     pelzurivan_ran a = pelzurivan_run(n, sheet.bytes, sheet.length, x);
     stop();
-    put(1, a.number);
-    put(1, a.bit);
-    put(1, a.index);
+    put_ran(a);
 }
 
 static void rebuild(void) {
@@ -79,9 +67,7 @@ static void rebuild(void) {
     start();
     pelzurivan_rebuilt a = pelzurivan_rebuild(n, sheet.bytes, sheet.length, table.bytes, table.length);
     stop();
-    put(1, a.number);
-    put(1, a.index);
-    put_area(table);
+    put_rebuilt(a, table);
 }
 
 static void check(void) {
@@ -91,8 +77,7 @@ static void check(void) {
     start();
     pelzurivan_checked a = pelzurivan_check(n, table.bytes, table.length, sheet.bytes, sheet.length);
     stop();
-    put(1, a.number);
-    put(8, a.place);
+    put_checked(a);
 }
 
 static pelzurivan_times input_times(void) {
@@ -232,9 +217,7 @@ static void run_desk(void) {
     start();
     pelzurivan_ran a = pelzurivan_run_desk(card.bytes, card.length, desk, x);
     stop();
-    put(1, a.number);
-    put(1, a.bit);
-    put(1, a.index);
+    put_ran(a);
 }
 
 static void turn(void) {
@@ -292,10 +275,12 @@ static void find_several(void) {
 }
 
 static const call CALLS[] = {
-    {0x01, try_split},     {0x02, find},          {0x03, make},        {0x04, run},          {0x05, rebuild},
-    {0x06, check},         {0x07, settle},        {0x08, slack},       {0x09, shorter},      {0x0A, read_formula},
-    {0x0B, write_formula}, {0x0C, make_for_desk}, {0x0D, load},        {0x0E, run_desk},     {0x0F, load_cut},
-    {0x10, try_several},   {0x11, find_several},  {0x19, turn},        {0x1A, look_up},      {0x1C, load_store},
+    {0x01, try_split},     {0x02, find},          {0x03, make},         {0x04, run},        {0x05, rebuild},
+    {0x06, check},         {0x07, settle},        {0x08, slack},        {0x09, shorter},    {0x0A, read_formula},
+    {0x0B, write_formula}, {0x0C, make_for_desk}, {0x0D, load},         {0x0E, run_desk},   {0x0F, load_cut},
+    {0x10, try_several},   {0x11, find_several},  {0x12, try_told},     {0x13, find_told},  {0x14, make_told},
+    {0x15, run_told},      {0x16, rebuild_told},  {0x17, check_told},   {0x18, rewrite},    {0x19, turn},
+    {0x1A, look_up},       {0x1C, load_store},
 };
 
 const call *call_of(int code) {

@@ -2,10 +2,11 @@
 
 use crate::best::best;
 use crate::case::{Call, Case, Field, Part, TABLE_BUFFER, WORK_BUFFER};
+use crate::cell::FIRST;
 use crate::fresh::gate::{self, Ask};
 use crate::fresh::Fresh;
 use crate::random::Random;
-use crate::refusals::{clear_work, gate, DONE, NO_NEED, NO_ROOM, NO_SPLIT, WORK_BYTES};
+use crate::refusals::{clear_work, gate_in, DONE, NO_NEED, NO_ROOM, NO_SPLIT, WORK_BYTES};
 use crate::sets::size;
 use crate::split::Split;
 
@@ -33,8 +34,9 @@ pub fn case(n: u64, k: u64, table: Vec<u8>, work: usize) -> Case {
     Case { call: &CALL, numbers: vec![n, k], bytes: vec![table], lent: vec![work] }
 }
 
-fn find(n: u64, k: u64, table: &[u8], work: usize) -> Result<Split, u8> {
-    let (gate, k) = gate(n, k, table)?;
+/// The best split, for numbers that are the edition, n and K.
+pub fn find(numbers: [u64; 3], table: &[u8], work: usize) -> Result<Split, u8> {
+    let (_, gate, k) = gate_in(numbers, table)?;
     if work < WORK_BYTES {
         return Err(NO_ROOM);
     }
@@ -46,11 +48,16 @@ fn find(n: u64, k: u64, table: &[u8], work: usize) -> Result<Split, u8> {
 
 fn answer(case: &Case, lent: &mut [Vec<u8>]) -> Vec<u64> {
     let [n, k] = case.numbers();
-    let (number, split) = match find(n, k, &case.bytes[0], lent[0].len()) {
+    told(find([FIRST.told, n, k], &case.bytes[0], lent[0].len()), &mut lent[0])
+}
+
+/// Number and masks, with the work area as it is left.
+pub fn told(found: Result<Split, u8>, work: &mut [u8]) -> Vec<u64> {
+    let (number, split) = match found {
         Ok(split) => (DONE, split),
         Err(number) => (number, Split { own: 0, shared: 0 }),
     };
-    clear_work(number, &mut lent[0]);
+    clear_work(number, work);
     vec![u64::from(number), u64::from(split.own), u64::from(split.shared)]
 }
 

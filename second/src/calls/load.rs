@@ -2,7 +2,7 @@
 
 use crate::card::{put, stores, Store, CARD_BYTES, DESKS};
 use crate::case::{Call, Case, Field, Part, CARD_BUFFER, SHEET_BUFFER};
-use crate::cell::{desk_of, read_records, RECORD_BYTES};
+use crate::cell::{desk_of, read_records, FIRST, RECORD_BYTES};
 use crate::fresh::cards::{self, Ask};
 use crate::fresh::Fresh;
 use crate::random::Random;
@@ -47,7 +47,7 @@ pub fn load(desk: u64, n: u64, sheet: &[u8], card: &[u8]) -> Result<Vec<Store>, 
         return Err(NO_DESK.into());
     }
     let n = inputs(n)?;
-    whole_records(sheet)?;
+    whole_records(&FIRST, sheet)?;
     let cells = read_records(n, desk as u8, sheet).map_err(bad_record)?;
     each_read(n, &cells)?;
     Ok(stores(desk, n, sheet))

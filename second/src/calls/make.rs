@@ -1,12 +1,12 @@
 //! Make a sheet: the count of cells, their records into a lent sheet.
 
 use crate::case::{Call, Case, Field, Part, SHEET_BUFFER, TABLE_BUFFER, WORK_BUFFER};
-use crate::cell::{write_sheet_for, BENCH, RECORD_BYTES, SHEET_BYTES};
+use crate::cell::{BENCH, FIRST, SHEET_BYTES};
 use crate::chain::chain;
 use crate::fresh::gate::{self, Ask};
 use crate::fresh::Fresh;
 use crate::random::Random;
-use crate::refusals::{clear_work, desk_of_sheet, gate, DONE, NO_ROOM, NO_SPLIT, WORK_BYTES};
+use crate::refusals::{clear_work, desk_of_sheet, gate_in, DONE, NO_ROOM, NO_SPLIT, WORK_BYTES};
 
 pub static CALL: Call = Call {
     code: 0x03,
@@ -28,32 +28,43 @@ pub fn case(n: u64, k: u64, table: Vec<u8>, room: usize, work: usize) -> Case {
     Case { call: &CALL, numbers: vec![n, k], bytes: vec![table], lent: vec![room, work] }
 }
 
-/// The table's sheet for a desk, for rooms of these lengths.
-pub fn make([n, k, desk]: [u64; 3], table: &[u8], room: usize, work: usize) -> Result<Vec<u8>, u8> {
-    let (gate, k) = gate(n, k, table)?;
+/// A sheet that was made: how many cells it has, and its bytes.
+pub struct Made {
+    pub count: usize,
+    pub sheet: Vec<u8>,
+}
+
+/// The table's sheet, for rooms of these lengths.
+pub fn make(
+    [edition, n, k, desk]: [u64; 4],
+    table: &[u8],
+    room: usize,
+    work: usize,
+) -> Result<Made, u8> {
+    let (edition, gate, k) = gate_in([edition, n, k], table)?;
     let desk = desk_of_sheet(desk)?;
-    if room < SHEET_BYTES || work < WORK_BYTES {
+    if room < edition.sheet_bytes() || work < WORK_BYTES {
         return Err(NO_ROOM);
     }
     let cells = chain(&gate, k).ok_or(NO_SPLIT)?;
-    Ok(write_sheet_for(desk, &cells))
+    Ok(Made { count: cells.len(), sheet: edition.write_sheet(desk, &cells) })
 }
 
 fn answer(case: &Case, lent: &mut [Vec<u8>]) -> Vec<u64> {
     let [n, k] = case.numbers();
-    let made = make([n, k, u64::from(BENCH)], &case.bytes[0], lent[0].len(), lent[1].len());
-    written(made, lent)
+    let numbers = [FIRST.told, n, k, u64::from(BENCH)];
+    written(make(numbers, &case.bytes[0], lent[0].len(), lent[1].len()), lent)
 }
 
 /// Number and count, with the sheet in the room.
-pub fn written(made: Result<Vec<u8>, u8>, lent: &mut [Vec<u8>]) -> Vec<u64> {
-    let (number, sheet) = match made {
-        Ok(sheet) => (DONE, sheet),
-        Err(number) => (number, Vec::new()),
+pub fn written(made: Result<Made, u8>, lent: &mut [Vec<u8>]) -> Vec<u64> {
+    let (number, Made { count, sheet }) = match made {
+        Ok(made) => (DONE, made),
+        Err(number) => (number, Made { count: 0, sheet: Vec::new() }),
     };
     lent[0][..sheet.len()].copy_from_slice(&sheet);
     clear_work(number, &mut lent[1]);
-    vec![u64::from(number), (sheet.len() / RECORD_BYTES) as u64]
+    vec![u64::from(number), count as u64]
 }
 
 fn fresh(random: &mut Random) -> Fresh {

@@ -2,6 +2,7 @@
 
 use super::make::{drawn, make, written};
 use crate::case::{Call, Case, Field, Part, SHEET_BUFFER, TABLE_BUFFER, WORK_BUFFER};
+use crate::cell::FIRST;
 use crate::fresh::gate::{self, Ask};
 use crate::fresh::Fresh;
 use crate::random::Random;
@@ -31,8 +32,9 @@ pub fn case(numbers: [u64; 3], table: Vec<u8>, room: usize, work: usize) -> Case
 }
 
 fn answer(case: &Case, lent: &mut [Vec<u8>]) -> Vec<u64> {
-    let made = make(case.numbers(), &case.bytes[0], lent[0].len(), lent[1].len());
-    written(made, lent)
+    let [n, k, desk] = case.numbers();
+    let numbers = [FIRST.told, n, k, desk];
+    written(make(numbers, &case.bytes[0], lent[0].len(), lent[1].len()), lent)
 }
 
 fn fresh(random: &mut Random) -> Fresh {

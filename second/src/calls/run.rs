@@ -1,11 +1,12 @@
 //! Run a sheet at an assignment: one bit.
 
 use crate::case::{Call, Case, Field, Part, SHEET_BUFFER};
+use crate::cell::{Edition, FIRST};
 use crate::fresh::sheet::{self, Ask};
 use crate::fresh::Fresh;
 use crate::network;
 use crate::random::Random;
-use crate::refusals::{cells, each_read, inputs, Refusal, DONE, NO_ASSIGNMENT};
+use crate::refusals::{cells, each_read, edition_and_inputs, Refusal, DONE, NO_ASSIGNMENT};
 
 pub static CALL: Call = Call {
     code: 0x04,
@@ -21,9 +22,9 @@ pub fn case(n: u64, x: u64, sheet: Vec<u8>) -> Case {
     Case { call: &CALL, numbers: vec![n, x], bytes: vec![sheet], lent: Vec::new() }
 }
 
-fn run(n: u64, x: u64, sheet: &[u8]) -> Result<bool, Refusal> {
-    let n = inputs(n)?;
-    let cells = cells(n, sheet)?;
+pub fn run([edition, n, x]: [u64; 3], sheet: &[u8]) -> Result<bool, Refusal> {
+    let (edition, n) = edition_and_inputs(edition, n)?;
+    let cells = cells(edition, n, sheet)?;
     if x >= 1 << n {
         return Err(NO_ASSIGNMENT.into());
     }
@@ -33,21 +34,32 @@ fn run(n: u64, x: u64, sheet: &[u8]) -> Result<bool, Refusal> {
 
 fn answer(case: &Case, _: &mut [Vec<u8>]) -> Vec<u64> {
     let [n, x] = case.numbers();
-    match run(n, x, &case.bytes[0]) {
+    told(run([FIRST.told, n, x], &case.bytes[0]))
+}
+
+/// Number, bit and index.
+pub fn told(ran: Result<bool, Refusal>) -> Vec<u64> {
+    match ran {
         Ok(bit) => vec![u64::from(DONE), u64::from(bit), 0],
         Err(Refusal { number, place }) => vec![u64::from(number), 0, place as u64],
     }
 }
 
-fn fresh(random: &mut Random) -> Fresh {
+/// What may be asked of a run, in an edition.
+pub fn drawn(random: &mut Random, edition: &'static Edition) -> Ask {
     let n = if random.one_in(4) { random.between(9, 16) } else { random.between(1, 8) };
-    let mut ask = sheet::draw(random, n);
+    let mut ask = sheet::draw(random, edition, n);
     let last = (1u64 << n) - 1;
     ask.x = match random.below(4) {
         0 => last,
         1 => 0,
         _ => random.bits() & last,
     };
+    ask
+}
+
+fn fresh(random: &mut Random) -> Fresh {
+    let mut ask = drawn(random, &FIRST);
     let record = sheet::RECORD;
     let faults =
         [sheet::PADDED, record, record, record, sheet::LENGTH, sheet::ASSIGNMENT, sheet::INPUTS];

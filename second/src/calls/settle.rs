@@ -1,7 +1,7 @@
 //! When does the gate settle: the output's earliest and latest time.
 
 use crate::case::{Call, Case, Field, Part, SHEET_BUFFER};
-use crate::cell::Cell;
+use crate::cell::{Cell, FIRST};
 use crate::fresh::sheet::{self, Ask};
 use crate::fresh::timing;
 use crate::fresh::Fresh;
@@ -42,7 +42,7 @@ pub fn timed(
     times: &[Time],
 ) -> Result<(Vec<Cell>, Sound), Refusal> {
     let n = inputs(n)?;
-    let cells = cells(n, sheet)?;
+    let cells = cells(&FIRST, n, sheet)?;
     let sound = sound(n, &cells, delay, times)?;
     Ok((cells, sound))
 }

@@ -1,10 +1,11 @@
 //! Try a named split: D as a number, H into a lent table; where it breaks, if it does.
 
 use crate::case::{Call, Case, Field, Part, TABLE_BUFFER};
+use crate::cell::FIRST;
 use crate::fresh::gate::{self, Ask};
 use crate::fresh::Fresh;
 use crate::random::Random;
-use crate::refusals::{gate, DONE, NO_ROOM, NO_SETS, NO_SPLIT};
+use crate::refusals::{gate_in, DONE, NO_ROOM, NO_SETS, NO_SPLIT};
 use crate::sets::{all, size};
 use crate::split::{first_break, pair, Break, Split};
 use crate::table::Table;
@@ -49,14 +50,14 @@ impl From<u8> for No {
     }
 }
 
-fn try_split(
-    n: u64,
-    k: u64,
+/// D and H, for numbers that are the edition, n and K.
+pub fn try_split(
+    numbers: [u64; 3],
     split: Split,
     table: &[u8],
     room: usize,
 ) -> Result<(Table, Table), No> {
-    let (gate, k) = gate(n, k, table)?;
+    let (_, gate, k) = gate_in(numbers, table)?;
     let Split { own, shared } = split;
     let outside = (own | shared) & !all(gate.inputs) != 0;
     let overlap = own & shared != 0;
@@ -75,7 +76,7 @@ fn try_split(
 fn answer(case: &Case, lent: &mut [Vec<u8>]) -> Vec<u64> {
     let [n, k, own, shared] = case.numbers();
     let split = Split { own: own as u16, shared: shared as u16 };
-    match try_split(n, k, split, &case.bytes[0], lent[0].len()) {
+    match try_split([FIRST.told, n, k], split, &case.bytes[0], lent[0].len()) {
         Ok((d, h)) => {
             let h = h.to_bytes();
             lent[0][..h.len()].copy_from_slice(&h);

@@ -1,6 +1,7 @@
 //! Write a sheet as a formula.
 
 use crate::case::{Call, Case, Field, Part, SHEET_BUFFER, TEXT_BUFFER};
+use crate::cell::FIRST;
 use crate::fresh::printing;
 use crate::fresh::sheet::Ask;
 use crate::fresh::Fresh;
@@ -37,7 +38,7 @@ pub fn write(n: u64, sheet: &[u8], room: usize) -> Result<String, Refusal> {
     if room < MOST_TEXT {
         return Err(NO_ROOM.into());
     }
-    let cells = cells(n, sheet)?;
+    let cells = cells(&FIRST, n, sheet)?;
     print(n, &cells).ok_or(NO_TEXT.into())
 }
 

@@ -2,6 +2,7 @@
 //! 9 as document 02 has them), and some for the requests of document 02.
 
 mod desks;
+mod editions;
 pub mod requests;
 mod several;
 
@@ -188,6 +189,6 @@ fn example_11() -> Vec<Example> {
 pub fn all() -> Vec<Example> {
     let base = [examples_1_to_5(), examples_6_to_9(), example_10(), example_11()];
     let list = base.into_iter().flatten().chain(requests::all());
-    let list = list.chain(desks::all()).chain(several::all());
+    let list = list.chain(desks::all()).chain(several::all()).chain(editions::all());
     list.filter(|example| calls::call_of(example.case.call.code).is_some()).collect()
 }

@@ -9,10 +9,27 @@ pub fn inputs(random: &mut Random, sound: u64) -> u64 {
     random.pick(&[0, 17, 18, 20, 64, 255, wrapped, wrapped, 1 << 63, u64::MAX])
 }
 
-/// A K outside 2 to 6.
-pub fn cell_size(random: &mut Random, sound: u64) -> u64 {
+/// A K outside 2 to the most there may be.
+pub fn cell_size(random: &mut Random, sound: u64, most: usize) -> u64 {
+    let above = most as u64 + 1;
     let wrapped = sound + (1 << random.pick(&[8, 16, 31, 32, 63]));
-    random.pick(&[0, 1, 1, 7, 7, 8, 16, 255, wrapped, wrapped, u64::MAX])
+    random.pick(&[0, 1, 1, above, above, above + 1, 16, 255, wrapped, wrapped, u64::MAX])
+}
+
+/// An edition other than 1 or 2.
+pub fn edition(random: &mut Random, sound: u64) -> u64 {
+    let wrapped = sound + (1 << random.pick(&[8, 16, 31, 32, 63]));
+    random.pick(&[0, 0, 3, 3, 4, 255, wrapped, wrapped, u64::MAX])
+}
+
+/// What that is counted under.
+pub fn edition_tag(edition: u64) -> String {
+    let name = match edition {
+        0 | 3 => return format!("edition told: {edition}"),
+        u64::MAX => "the largest number",
+        _ => "any other",
+    };
+    format!("edition told: {name}")
 }
 
 /// A desk above 4.

@@ -10,7 +10,7 @@ use crate::card::{
     OPEN, STORES,
 };
 use crate::case::CARD_BUFFER;
-use crate::cell::{set_desk, RECORD_BYTES, SHEET_BYTES};
+use crate::cell::{set_desk, FIRST, RECORD_BYTES, SHEET_BYTES};
 use crate::random::Random;
 
 /// What may be asked about a card, sound at first and then perhaps spoiled.
@@ -85,7 +85,7 @@ pub fn draw_run(random: &mut Random) -> Ask {
 fn draw(random: &mut Random) -> Ask {
     let desk = random.between(1, DESKS);
     let n = if random.one_in(4) { random.between(9, 16) } else { random.between(1, 8) };
-    let mut of = sheet::draw(random, n);
+    let mut of = sheet::draw(random, &FIRST, n);
     of.tags.retain(|tag| !tag.starts_with("desk"));
     set_desk(&mut of.sheet, desk as u8);
     let last = (1u64 << n) - 1;

@@ -4,7 +4,7 @@
 use super::tables::chain_for;
 use super::Fresh;
 use crate::calls;
-use crate::cell::{write_sheet, RECORD_BYTES};
+use crate::cell::{read_sheet, write_sheet, BENCH, RECORD_BYTES, SECOND};
 use crate::chain::chain;
 use crate::examples::{unhex, SELECTOR, SHEET_OF_2, SHEET_OF_7};
 use crate::random::Random;
@@ -57,5 +57,16 @@ pub fn cases(random: &mut Random) -> Vec<Fresh> {
             list.push(Fresh { case, tags: vec![format!("every bit of a sheet: {what}")] });
         }
     }
+    list.extend(in_the_second_edition());
     list
+}
+
+/// The selector's sheet again, in records of 48 bytes.
+fn in_the_second_edition() -> Vec<Fresh> {
+    let table = unhex(SELECTOR);
+    let cells = read_sheet(6, &unhex(SHEET_OF_7)).expect("a made sheet");
+    let sheet = SECOND.write_sheet(BENCH, &cells);
+    let tags = || vec!["every bit of a sheet: second edition".to_string()];
+    let case = |bit| calls::check_in::case(SECOND.told, 6, table.clone(), flipped(&sheet, bit));
+    (0..sheet.len() * 8).map(|bit| Fresh { case: case(bit), tags: tags() }).collect()
 }

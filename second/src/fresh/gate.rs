@@ -1,10 +1,10 @@
 //! What the calls that take a table can be asked, and the ways to spoil it.
 
 use super::bad;
-use super::tables::{Drawn, KINDS};
+use super::tables::{chain_for, compose, flip_bits, Drawn, KINDS};
 use super::Tagged;
 use crate::case::{TABLE_BUFFER, WORK_BUFFER};
-use crate::cell::MOST_READS;
+use crate::cell::{FIRST, MOST_READS, SECOND};
 use crate::random::Random;
 use crate::refusals::WORK_BYTES;
 use crate::sets::{all, size};
@@ -12,6 +12,8 @@ use crate::split::Split;
 
 /// What may be asked about a table, sound at first and then perhaps spoiled.
 pub struct Ask {
+    /// The edition that a call is told.
+    pub edition: u64,
     pub n: u64,
     pub k: u64,
     /// The desk to make a sheet for.
@@ -44,6 +46,8 @@ pub const WORK: Fault = ("work area", short_work);
 pub const LENGTH: Fault = ("table length", bad_length);
 pub const CELL_SIZE: Fault = ("K", bad_cell_size);
 pub const INPUTS: Fault = ("n", bad_inputs);
+pub const EDITION: Fault = ("edition", bad_edition);
+pub const OTHER_EDITION: Fault = ("the other edition", other_edition);
 
 /// A sound question. Only try is cheap enough for many large tables.
 pub fn draw(random: &mut Random, cheap: bool) -> Ask {
@@ -64,6 +68,51 @@ pub fn draw(random: &mut Random, cheap: bool) -> Ask {
     ask
 }
 
+/// A sound question to a call that is told the edition, mostly the second.
+pub fn draw_in(random: &mut Random, cheap: bool) -> Ask {
+    if random.one_in(4) {
+        let mut ask = draw(random, cheap);
+        ask.tags.push("edition told: first".to_string());
+        return ask;
+    }
+    let n = match random.below(20) {
+        0 => random.between(1, 2),
+        1..=4 => random.between(3, 7),
+        19 if cheap => random.between(10, 16),
+        19 => random.between(10, 11),
+        _ => random.between(8, 10),
+    };
+    let (drawn, name) = match random.below(6) {
+        0 if n > 8 => (wide(random, n), "built for 7 or 8 places".to_string()),
+        1 if n > 8 => {
+            let mut drawn = wide(random, n);
+            flip_bits(random, &mut drawn.table);
+            (drawn, "near miss for 7 or 8 places".to_string())
+        }
+        2 if n > 8 => {
+            let k = random.between(7, SECOND.most_reads);
+            (chain_for(random, n, k), "chain for 7 or 8 places".to_string())
+        }
+        _ => {
+            let kind = random.pick(&KINDS);
+            (kind.draw(random, n), kind.name())
+        }
+    };
+    let mut ask = about(random, &drawn, SECOND.most_reads);
+    ask.edition = SECOND.told;
+    ask.tags = vec![format!("table: {name}"), "edition told: second".to_string()];
+    if ask.k > MOST_READS as u64 {
+        ask.tags.push("K 7 or 8".to_string());
+    }
+    ask
+}
+
+fn wide(random: &mut Random, n: usize) -> Drawn {
+    let both = random.between(7, SECOND.most_reads);
+    let own = random.between(2, both);
+    compose(random, n, own, both - own)
+}
+
 /// A sound question about a table, for cells of at most so many places.
 pub fn about(random: &mut Random, drawn: &Drawn, places: usize) -> Ask {
     let k = suitable_cell_size(random, drawn, places);
@@ -73,7 +122,8 @@ pub fn about(random: &mut Random, drawn: &Drawn, places: usize) -> Ask {
     let n = drawn.table.inputs as u64;
     let desk = random.below(5) as u64;
     let tags = vec![format!("work area: {work_tag}")];
-    Ask { n, k: k as u64, desk, r: 1, split, table, needed: 0, room: 0, work, tags }
+    let edition = FIRST.told;
+    Ask { edition, n, k: k as u64, desk, r: 1, split, table, needed: 0, room: 0, work, tags }
 }
 
 /// Mostly a cell size that leaves something to split, and one that suits the
@@ -119,7 +169,17 @@ fn bad_inputs(random: &mut Random, ask: &mut Ask) {
 }
 
 fn bad_cell_size(random: &mut Random, ask: &mut Ask) {
-    ask.k = bad::cell_size(random, ask.k);
+    let most = if ask.edition == SECOND.told { SECOND.most_reads } else { MOST_READS };
+    ask.k = bad::cell_size(random, ask.k, most);
+}
+
+fn bad_edition(random: &mut Random, ask: &mut Ask) {
+    ask.edition = bad::edition(random, ask.edition);
+    ask.tags.push(bad::edition_tag(ask.edition));
+}
+
+fn other_edition(_: &mut Random, ask: &mut Ask) {
+    ask.edition = FIRST.told + SECOND.told - ask.edition;
 }
 
 fn bad_desk(random: &mut Random, ask: &mut Ask) {

@@ -12,6 +12,7 @@ pub mod ignored;
 mod large;
 pub mod networks;
 pub mod printing;
+pub mod rewritten;
 pub mod several;
 pub mod sheet;
 pub mod sheets;
@@ -37,7 +38,8 @@ pub struct Fresh {
 /// a few large ones, splits that break at a known place, every split of some small
 /// tables with several first cells, tables that ignore inputs in every place, every
 /// rule of the records broken, every bit of some sheets flipped, cells that nobody
-/// reads at every place, records of other desks, cuts of a load and damaged cards.
+/// reads at every place, records of other desks, cuts of a load and damaged cards,
+/// sheets rewritten for every desk.
 pub fn cases(random: &mut Random, count: usize) -> Vec<Fresh> {
     let mut list: Vec<Fresh> = (0..count).map(|i| (TABLE[i % TABLE.len()].fresh)(random)).collect();
     list.extend(pairs(random));
@@ -50,6 +52,7 @@ pub fn cases(random: &mut Random, count: usize) -> Vec<Fresh> {
     list.extend(unread::cases(random));
     list.extend(desks::cases(random));
     list.extend(cards::cases(random));
+    list.extend(rewritten::cases(random));
     list.retain(|fresh| call_of(fresh.case.call.code).is_some());
     for fresh in &mut list {
         fresh.tags.extend(size_tag(&fresh.case));
@@ -80,12 +83,13 @@ pub fn pairs(random: &mut Random) -> Vec<Fresh> {
     list
 }
 
-/// The range in which n lies, for a call whose first field is n.
+/// The range in which n lies, for a call that is told n.
 fn size_tag(case: &Case) -> Option<String> {
-    if !matches!(case.call.asks.first(), Some(Field::Number("n", _))) {
-        return None;
-    }
-    let range = match case.numbers[0] {
+    let mut names = case.call.asks.iter().filter_map(|field| match field {
+        Field::Number(name, _) => Some(*name),
+        _ => None,
+    });
+    let range = match case.numbers[names.position(|name| name == "n")?] {
         0 => "0",
         1..=3 => "01 to 03",
         4..=8 => "04 to 08",

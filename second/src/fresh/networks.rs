@@ -1,5 +1,6 @@
 //! Tables that two cells carry, wired in any way.
 
+use super::tables::any;
 use crate::cell::Cell;
 use crate::network::rebuild;
 use crate::random::Random;
@@ -15,7 +16,7 @@ pub fn two_cells(random: &mut Random, n: usize, k: usize) -> Table {
     let (first, second) = inputs.split_at(for_first);
     let first = filled(random, first.to_vec(), n, k);
     let second = filled(random, [second, &[n]].concat(), n + 1, k);
-    let cells = [first, second].map(|reads| Cell { reads, table: random.bits() });
+    let cells = [first, second].map(|reads| Cell { table: any(random, reads.len()), reads });
     rebuild(n, &cells)
 }
 

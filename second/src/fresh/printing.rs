@@ -3,10 +3,11 @@
 use super::sheet::{self, Ask, Fault};
 use super::trees::tree;
 use crate::case::TEXT_BUFFER;
-use crate::cell::{read_sheet, write_sheet, Cell, MOST_RECORDS};
+use crate::cell::{read_sheet, write_sheet, Cell, FIRST, MOST_RECORDS};
 use crate::chain::chain;
 use crate::printing::{OF_ONE, OF_TWO};
 use crate::random::Random;
+use crate::table::Table;
 use crate::text::MOST_TEXT;
 
 // What makes a sheet one that isn't printed comes before what breaks it.
@@ -29,7 +30,7 @@ pub fn draw(random: &mut Random, n: usize) -> Ask {
         1 => (chained(random, n), "one-input and two-input cells in a row"),
         // Where faults are planned, they are those of this call.
         2 if random.planned.is_none() => {
-            let mut ask = sheet::draw(random, n);
+            let mut ask = sheet::draw(random, &FIRST, n);
             ask.room = any_room(random);
             return ask;
         }
@@ -38,7 +39,7 @@ pub fn draw(random: &mut Random, n: usize) -> Ask {
     // A planned fault comes last, on a sheet that has none.
     let planned = random.planned;
     random.planned = planned.map(|_| [usize::MAX; 2]);
-    let mut ask = sheet::draw(random, n);
+    let mut ask = sheet::draw(random, &FIRST, n);
     random.planned = planned;
     ask.sheet = write_sheet(&cells);
     ask.room = any_room(random);
@@ -51,7 +52,7 @@ pub fn draw(random: &mut Random, n: usize) -> Ask {
 /// Which form a cell has, to be counted.
 fn form(cell: &Cell) -> String {
     let forms: &[(u64, &str)] = if cell.reads.len() == 1 { &OF_ONE } else { &OF_TWO };
-    let known = forms.iter().find(|(table, _)| *table == cell.table);
+    let known = forms.iter().find(|(table, _)| *table == cell.table.to_number());
     format!("form: {}", known.map_or("none", |(_, form)| form))
 }
 
@@ -98,7 +99,8 @@ fn wired(random: &mut Random, n: usize) -> Vec<Cell> {
             reads.push((reads[0] + random.between(1, n - 1)) % n);
         }
         reads.sort();
-        cells.push(Cell { table: any_table(random, reads.len()), reads });
+        let table = any_table(random, reads.len());
+        cells.push(Cell::numbered(reads, table));
         open.push(n + i);
     }
     cells
@@ -115,7 +117,8 @@ fn chained(random: &mut Random, n: usize) -> Vec<Cell> {
         } else if i > 0 {
             reads.push(n + i - 1);
         }
-        Cell { table: any_table(random, reads.len()), reads }
+        let table = any_table(random, reads.len());
+        Cell::numbered(reads, table)
     };
     (0..records).map(|i| cell(i, random)).collect()
 }
@@ -140,7 +143,7 @@ fn read_twice(random: &mut Random, ask: &mut Ask) {
         reads.push(n + i);
         reads.sort();
         let places = reads.len();
-        cells[later].table = any_table(random, places);
+        cells[later].table = Table::from_number(places, any_table(random, places));
     }
     ask.sheet = write_sheet(&cells);
 }
@@ -153,7 +156,9 @@ fn wider(random: &mut Random, ask: &mut Ask) {
     if cells[i].reads.len() == 2 && !others.is_empty() {
         cells[i].reads.push(random.pick(&others));
         cells[i].reads.sort();
-        cells[i].table = if random.coin() { cells[i].table * 0x11 } else { random.bits() & 0xFF };
+        let same = cells[i].table.to_number() * 0x11;
+        let number = if random.coin() { same } else { random.bits() & 0xFF };
+        cells[i].table = Table::from_number(3, number);
     }
     ask.sheet = write_sheet(&cells);
 }
@@ -164,7 +169,8 @@ fn ignores(random: &mut Random, ask: &mut Ask) {
     let of_two: Vec<usize> = (0..cells.len()).filter(|&i| cells[i].reads.len() == 2).collect();
     if !of_two.is_empty() {
         let i = random.pick(&of_two);
-        cells[i].table = random.pick(&[0x0, 0x3, 0x5, 0xA, 0xC, 0xF]);
+        let number = random.pick(&[0x0, 0x3, 0x5, 0xA, 0xC, 0xF]);
+        cells[i].table = Table::from_number(2, number);
     }
     ask.sheet = write_sheet(&cells);
 }

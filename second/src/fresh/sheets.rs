@@ -1,9 +1,10 @@
 //! Sound sheets: those the chain makes, and handmade ones that no chain makes.
 
-use super::tables::chain_for;
-use crate::cell::{write_sheet, Cell, MOST_READS, MOST_RECORDS};
+use super::tables::{any, chain_for};
+use crate::cell::{Cell, Edition, BENCH, FIRST, MOST_READS, MOST_RECORDS};
 use crate::chain::chain;
 use crate::random::Random;
+use crate::table::Table;
 
 #[derive(Clone, Copy, Debug, PartialEq, Eq)]
 pub enum Kind {
@@ -47,29 +48,39 @@ impl Kind {
     /// A sheet of this kind for a gate of n inputs that keeps the record rules,
     /// mostly with each cell read.
     pub fn draw(self, random: &mut Random, n: usize) -> Vec<u8> {
+        self.draw_in(random, &FIRST, n)
+    }
+
+    pub fn draw_in(self, random: &mut Random, edition: &Edition, n: usize) -> Vec<u8> {
         if self == Kind::Dead || random.one_in(5) {
-            return write_sheet(&self.cells(random, n));
+            return edition.write_sheet(BENCH, &self.cells(random, n, edition.most_reads));
         }
-        self.draw_read(random, n)
+        self.draw_read_in(random, edition, n)
     }
 
     /// The same with each cell but the last read by a later one.
     pub fn draw_read(self, random: &mut Random, n: usize) -> Vec<u8> {
-        let mut cells = self.cells(random, n);
-        read_each(random, n, &mut cells, if self == Kind::OneInput { 1 } else { MOST_READS });
-        write_sheet(&cells)
+        self.draw_read_in(random, &FIRST, n)
     }
 
-    fn cells(self, random: &mut Random, n: usize) -> Vec<Cell> {
+    pub fn draw_read_in(self, random: &mut Random, edition: &Edition, n: usize) -> Vec<u8> {
+        let mut cells = self.cells(random, n, edition.most_reads);
+        let places = if self == Kind::OneInput { 1 } else { edition.most_reads };
+        read_each(random, n, &mut cells, places);
+        edition.write_sheet(BENCH, &cells)
+    }
+
+    /// Cells with at most so many places.
+    fn cells(self, random: &mut Random, n: usize, most: usize) -> Vec<Cell> {
         let records = random.between(1, MOST_RECORDS);
         match self {
-            Kind::Made => made(random, n),
-            Kind::Handmade => handmade(random, n, records),
-            Kind::Dead => dead(random, n, records),
+            Kind::Made => made(random, n, most),
+            Kind::Handmade => handmade(random, n, records, most),
+            Kind::Dead => dead(random, n, records, most),
             Kind::OneInput => (0..records).map(|i| cell(random, n + i, 1)).collect(),
-            Kind::Constants => constants(random, n, records),
-            Kind::Wide => (0..records).map(|i| cell(random, n + i, MOST_READS)).collect(),
-            Kind::Longest => handmade(random, n, MOST_RECORDS),
+            Kind::Constants => constants(random, n, records, most),
+            Kind::Wide => (0..records).map(|i| cell(random, n + i, most)).collect(),
+            Kind::Longest => handmade(random, n, MOST_RECORDS, most),
         }
     }
 }
@@ -79,11 +90,11 @@ impl Kind {
 /// otherwise (which stands further down, and has its turn yet).
 fn read_each(random: &mut Random, n: usize, cells: &mut [Cell], places: usize) {
     while let Some(i) = last_unread(n, cells) {
-        let any = random.between(i + 1, cells.len() - 1);
-        if cells[any].reads.len() < places {
-            cells[any].reads.push(n + i);
-            cells[any].table = random.bits() & full(cells[any].reads.len());
-            cells[any].reads.sort();
+        let later = random.between(i + 1, cells.len() - 1);
+        if cells[later].reads.len() < places {
+            cells[later].reads.push(n + i);
+            cells[later].table = any(random, cells[later].reads.len());
+            cells[later].reads.sort();
         } else {
             let reads = &mut cells[i + 1].reads;
             let place = random.below(reads.len());
@@ -104,7 +115,7 @@ pub fn padded(random: &mut Random, n: usize, cells: &[Cell], at: usize) -> Vec<C
     let moved = |signal: usize| if signal < n + at { signal } else { signal + 1 };
     let behind = cells[at..].iter().map(|cell| Cell {
         reads: cell.reads.iter().map(|&signal| moved(signal)).collect(),
-        table: cell.table,
+        table: cell.table.clone(),
     });
     let places = random.between(1, MOST_READS);
     let more = cell(random, n + at, places);
@@ -118,18 +129,13 @@ fn cell(random: &mut Random, limit: usize, places: usize) -> Cell {
     let mut reads: Vec<usize> =
         (0..count).map(|_| left.swap_remove(random.below(left.len()))).collect();
     reads.sort();
-    Cell { table: random.bits() & full(count), reads }
+    Cell { table: any(random, count), reads }
 }
 
-/// The table of a cell with k inputs whose every bit is one.
-fn full(k: usize) -> u64 {
-    u64::MAX >> (64 - (1 << k))
-}
-
-fn handmade(random: &mut Random, n: usize, records: usize) -> Vec<Cell> {
+fn handmade(random: &mut Random, n: usize, records: usize, most: usize) -> Vec<Cell> {
     (0..records)
         .map(|i| {
-            let places = random.between(1, MOST_READS);
+            let places = random.between(1, most);
             cell(random, n + i, places)
         })
         .collect()
@@ -137,27 +143,40 @@ fn handmade(random: &mut Random, n: usize, records: usize) -> Vec<Cell> {
 
 /// A sheet whose every record reads 2 to 5 signals, so that each rule of the
 /// records can be broken in it (n is at least 2).
-pub fn middling(random: &mut Random, n: usize, records: usize) -> Vec<u8> {
+pub fn middling(random: &mut Random, edition: &Edition, n: usize, records: usize) -> Vec<u8> {
     let mut cells = Vec::new();
     for i in 0..records {
         let places = random.between(2, 5);
         cells.push(cell(random, n + i, places));
     }
-    write_sheet(&cells)
+    edition.write_sheet(BENCH, &cells)
 }
 
-fn dead(random: &mut Random, n: usize, records: usize) -> Vec<Cell> {
-    let mut cells = handmade(random, n, records);
-    let places = random.between(1, MOST_READS);
+/// A sheet whose every record reads so many signals (n is at least as many).
+pub fn alike(
+    random: &mut Random,
+    edition: &Edition,
+    n: usize,
+    records: usize,
+    places: usize,
+) -> Vec<u8> {
+    let cells: Vec<Cell> = (0..records).map(|i| cell(random, n + i, places)).collect();
+    edition.write_sheet(BENCH, &cells)
+}
+
+fn dead(random: &mut Random, n: usize, records: usize, most: usize) -> Vec<Cell> {
+    let mut cells = handmade(random, n, records, most);
+    let places = random.between(1, most);
     cells[records - 1] = cell(random, n, places);
     cells
 }
 
-fn constants(random: &mut Random, n: usize, records: usize) -> Vec<Cell> {
-    let mut cells = handmade(random, n, records);
+fn constants(random: &mut Random, n: usize, records: usize, most: usize) -> Vec<Cell> {
+    let mut cells = handmade(random, n, records, most);
     for cell in &mut cells {
         if random.coin() {
-            cell.table = if random.coin() { 0 } else { full(cell.reads.len()) };
+            let bit = random.coin();
+            cell.table = Table::from_rule(cell.reads.len(), |_| bit);
         }
     }
     cells
@@ -165,9 +184,9 @@ fn constants(random: &mut Random, n: usize, records: usize) -> Vec<Cell> {
 
 /// The sheet of a table that is known to be a chain. The chain of best splits
 /// may still get stuck on it; then another table is drawn, a smaller one in the end.
-fn made(random: &mut Random, n: usize) -> Vec<Cell> {
+fn made(random: &mut Random, n: usize, most: usize) -> Vec<Cell> {
     // Searching is slow for large n and K; a small K makes longer sheets anyway.
-    let most = if n > 10 { 3 } else { MOST_READS };
+    let most = if n > 9 { 3 } else { most };
     for _ in 0..20 {
         let k = random.between(2, most);
         let table = chain_for(random, n, k).table;
@@ -175,5 +194,5 @@ fn made(random: &mut Random, n: usize) -> Vec<Cell> {
             return cells;
         }
     }
-    handmade(random, n, 1)
+    handmade(random, n, 1, most)
 }

@@ -232,9 +232,9 @@ pub fn chain_for(random: &mut Random, n: usize, k: usize) -> Drawn {
         let kept = random.part_of(all(signals.len()), shared);
         reads.extend(crate::sets::members(kept).into_iter().map(|place| signals[place]));
         signals.push(n + cells.len());
-        cells.push(Cell { reads, table: random.bits() });
+        cells.push(Cell { table: any(random, reads.len()), reads });
     }
-    cells.push(Cell { reads: signals, table: random.bits() });
+    cells.push(Cell { table: any(random, signals.len()), reads: signals });
     Drawn { table: rebuild(n, &cells), planted: None, suits: Some(k) }
 }
 

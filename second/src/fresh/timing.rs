@@ -2,7 +2,7 @@
 
 use super::sheet::{self, Ask, Fault};
 use crate::calls::slack::MOST_DEADLINE;
-use crate::cell::read_sheet;
+use crate::cell::{read_sheet, FIRST};
 use crate::random::Random;
 use crate::table::MOST_INPUTS;
 use crate::times::{Time, MOST_TIME};
@@ -50,7 +50,7 @@ pub fn draw_in_sixteenths(random: &mut Random) -> Ask {
 
 fn draw_with(random: &mut Random, good: fn(&mut Random) -> f64, name: &str) -> Ask {
     let n = random.between(1, MOST_INPUTS);
-    let mut ask = sheet::draw(random, n);
+    let mut ask = sheet::draw(random, &FIRST, n);
     let read = inputs_read(&ask);
     for input in 0..MOST_INPUTS {
         ask.times.push(match input {

@@ -1,10 +1,11 @@
 //! Two sheets for one table, each sound or spoiled.
 
 use super::sheet::{self, Ask, Fault};
-use crate::cell::{read_sheet, write_sheet_for, Cell, MOST_READS, MOST_RECORDS};
+use crate::cell::{read_sheet, write_sheet_for, Cell, FIRST, MOST_READS, MOST_RECORDS};
 use crate::chain::chain;
 use crate::network::rebuild;
 use crate::random::Random;
+use crate::table::Table;
 
 pub struct Two {
     pub n: u64,
@@ -21,7 +22,7 @@ const OF_BOTH: [Fault; 5] =
 
 pub fn draw(random: &mut Random) -> Two {
     let n = sheet::walked_inputs(random);
-    let mut ask = sheet::draw_with_table(random, n);
+    let mut ask = sheet::draw_with_table(random, &FIRST, n);
     let (other, name) = equal(random, n, &ask.sheet);
     ask.tags.push(format!("the other sheet: {name}"));
     let mut other = Ask { sheet: other, tags: Vec::new(), ..ask.clone() };
@@ -52,7 +53,7 @@ pub fn equal(random: &mut Random, n: usize, sheet: &[u8]) -> (Vec<u8>, &'static 
         3 | 4 => (longer(random, n, cells), "longer"),
         5 | 6 if n <= 8 => (made_anew(random, n, cells), "made anew"),
         5 | 6 => (turned(random, n, cells), "as long"),
-        _ => return (sheet::draw(random, n).sheet, "any other"),
+        _ => return (sheet::draw(random, &FIRST, n).sheet, "any other"),
     };
     (write_sheet_for(sheet::any_desk(random), &cells), name)
 }
@@ -63,35 +64,26 @@ fn turned(random: &mut Random, n: usize, mut cells: Vec<Cell>) -> Vec<Cell> {
         return cells;
     }
     let at = random.below(cells.len() - 1);
-    let entries = 1 << cells[at].reads.len();
-    cells[at].table = flip_entries(cells[at].table, entries, |table, entry| !bit(table, entry));
+    for bit in &mut cells[at].table.bits {
+        *bit = !*bit;
+    }
     for cell in &mut cells[at + 1..] {
         if let Some(place) = cell.reads.iter().position(|&signal| signal == n + at) {
-            let entries = 1 << cell.reads.len();
-            let other = |table, entry| bit(table, entry ^ (1 << place));
-            cell.table = flip_entries(cell.table, entries, other);
+            let old = cell.table.clone();
+            cell.table = Table::from_rule(old.inputs, |entry| old.bits[entry ^ (1 << place)]);
         }
     }
     cells
-}
-
-fn bit(table: u64, entry: usize) -> bool {
-    (table >> entry) & 1 == 1
-}
-
-/// The table whose every entry is what the rule makes of the old one.
-fn flip_entries(table: u64, entries: usize, rule: impl Fn(u64, usize) -> bool) -> u64 {
-    (0..entries).filter(|&entry| rule(table, entry)).map(|entry| 1u64 << entry).sum()
 }
 
 /// Cells at the end that hand the output on, or flip it twice.
 fn longer(random: &mut Random, n: usize, mut cells: Vec<Cell>) -> Vec<Cell> {
     let left = MOST_RECORDS - cells.len();
     for _ in 0..random.between(left.min(1), left) / 2 {
-        let table = random.pick(&[1, 2]);
+        let number = random.pick(&[1, 2]);
         for _ in 0..2 {
             let reads = vec![n + cells.len() - 1];
-            cells.push(Cell { reads, table });
+            cells.push(Cell::numbered(reads, number));
         }
     }
     cells

@@ -5,7 +5,7 @@ use super::every_bit::{sheets as made_sheets, Made};
 use super::sheets::padded;
 use super::Fresh;
 use crate::calls;
-use crate::cell::{read_sheet, write_sheet, Cell};
+use crate::cell::{read_sheet, write_sheet, Cell, BENCH, FIRST, SECOND};
 use crate::random::Random;
 use crate::table::Table;
 
@@ -29,10 +29,10 @@ pub fn sheets(random: &mut Random) -> Vec<Padded> {
             let one = padded(random, n, &cells, at);
             let again = random.between(at, cells.len());
             let mut two = padded(random, n, &one, again);
-            two[again] = Cell { reads: vec![random.below(n)], table: 2 };
+            two[again] = Cell::numbered(vec![random.below(n)], 2);
             // Right behind the first, which is read now; the second is not.
             let mut reads = padded(random, n, &one, at + 1);
-            reads[at + 1] = Cell { reads: vec![n + at], table: 1 };
+            reads[at + 1] = Cell::numbered(vec![n + at], 1);
             push(one, at, "one");
             push(two, at, "two");
             push(reads, at + 1, "one that reads another");
@@ -49,14 +49,18 @@ pub fn cases(random: &mut Random) -> Vec<Fresh> {
         let mut other = table.clone();
         let x = random.below(other.bits.len());
         other.bits[x] = !other.bits[x];
+        let second = SECOND.write_sheet(BENCH, &cells);
         let cases = [
-            calls::run::case(n, x as u64, sheet.clone()),
-            calls::run::case(n, 1 << n, sheet.clone()),
-            calls::rebuild::case(n, sheet.clone(), Table::byte_length(table.inputs)),
-            calls::check::case(n, table.to_bytes(), sheet.clone()),
-            calls::check::case(n, other.to_bytes(), sheet),
+            calls::all_that_read(&FIRST, [n, x as u64], &table.to_bytes(), &sheet),
+            calls::all_that_read(&SECOND, [n, x as u64], &table.to_bytes(), &second),
+            vec![
+                calls::run::case(n, 1 << n, sheet.clone()),
+                calls::run_in::case(SECOND.told, n, 1 << n, second),
+                calls::check::case(n, other.to_bytes(), sheet),
+            ],
         ];
         let tags = vec![format!("a cell that nobody reads: {name}")];
+        let cases = cases.into_iter().flatten();
         list.extend(cases.map(|case| Fresh { case, tags: tags.clone() }));
     }
     list

@@ -2,9 +2,9 @@
 
 use super::command;
 use crate::batch::answer_length;
-use crate::calls::make;
+use crate::calls::{check, check_in, make, make_in};
 use crate::case::Case;
-use crate::cell::{read_sheet, RECORD_BYTES, SHEET_BYTES};
+use crate::cell::{Edition, BENCH, FIRST, SECOND};
 use crate::network::rebuild;
 use crate::refusals::WORK_BYTES;
 use crate::table::Table;
@@ -18,9 +18,34 @@ pub fn ask(wanted: &[String], batch: &[u8]) -> Result<Vec<u8>, String> {
     Ok(ran.output)
 }
 
+/// The first edition, or the second where cells are too large for it.
+fn edition_for(k: usize) -> &'static Edition {
+    if k <= FIRST.most_reads {
+        &FIRST
+    } else {
+        &SECOND
+    }
+}
+
 /// Form and room in order.
 pub fn make_case(k: usize, table: &Table) -> Case {
-    make::case(table.inputs as u64, k as u64, table.to_bytes(), SHEET_BYTES, WORK_BYTES)
+    let (edition, n, bytes) = (edition_for(k), table.inputs as u64, table.to_bytes());
+    let room = edition.sheet_bytes();
+    if *edition == FIRST {
+        return make::case(n, k as u64, bytes, room, WORK_BYTES);
+    }
+    let numbers = [edition.told, n, k as u64, u64::from(BENCH)];
+    make_in::case(numbers, bytes, room, WORK_BYTES)
+}
+
+/// The sheet that make wrote, handed back to check.
+pub fn check_case(k: usize, table: &Table, count: usize, room: &[u8]) -> Case {
+    let (edition, n, bytes) = (edition_for(k), table.inputs as u64, table.to_bytes());
+    let sheet = room[..count * edition.record_bytes].to_vec();
+    if *edition == FIRST {
+        return check::case(n, bytes, sheet);
+    }
+    check_in::case(edition.told, n, bytes, sheet)
 }
 
 /// The answer to a case, taken off the front of the output.
@@ -41,12 +66,27 @@ pub fn nothing_left(left: &[u8]) -> Result<(), String> {
     }
 }
 
+/// What a judge says where a fault was planted: it must have failed, and have
+/// found fault with what was spoiled.
+pub fn seen<T>(judged: Result<T, String>, spoiled: &str) -> Result<(), String> {
+    match judged {
+        Err(what) if what.starts_with(spoiled) => {
+            Err(format!("every planted fault was seen: {what}"))
+        }
+        Err(what) => Err(format!("something else than the planted fault was seen: {what}")),
+        Ok(_) => Err("the planted fault was not seen".to_string()),
+    }
+}
+
 /// The count, once the sheet is known to carry the table.
-pub fn carried_count(table: &Table, count: usize, room: &[u8]) -> Result<usize, String> {
-    let n = table.inputs;
-    let sheet = room.get(..count * RECORD_BYTES).ok_or("more records than room")?;
-    let cells = read_sheet(n, sheet).map_err(|index| format!("record {index} is bad"))?;
-    if cells.is_empty() || rebuild(n, &cells) != *table {
+pub fn carried_count(k: usize, table: &Table, count: usize, room: &[u8]) -> Result<usize, String> {
+    let (n, edition) = (table.inputs, edition_for(k));
+    if count == 0 {
+        return Err("no cells".to_string());
+    }
+    let sheet = room.get(..count * edition.record_bytes).ok_or("more records than room")?;
+    let cells = edition.read_sheet(n, sheet).map_err(|index| format!("record {index} is bad"))?;
+    if rebuild(n, &cells) != *table {
         return Err("the sheet does not carry the table".to_string());
     }
     Ok(count)

@@ -147,7 +147,7 @@ fn judge_one(asked: &Asked, answer: &[u8], counts: &mut Counts) -> Result<(), St
     match (answer[0], answer[1] as usize, asked.tree) {
         (DONE, _, Some(false)) => return Err("a sheet of what has no tree".to_string()),
         (DONE, count, _) => {
-            let cells = carried_count(&asked.table, count, &answer[2..])?;
+            let cells = carried_count(PAIRS, &asked.table, count, &answer[2..])?;
             let fewest = size(asked.table.counting()).saturating_sub(1).max(1);
             if cells != fewest {
                 return Err(format!("{cells} cells, and {fewest} are the fewest"));
