@@ -15,5 +15,11 @@ pub fn filed(d: u8, n: u64, s: &[u8]) -> Verdict
     if form::bad_inputs(n) {
         return refuse(Refusal::INPUTS);
     }
-    form::read_sheet(Edition::first(), d, n as u32, s)
+    let e = Edition::first();
+    let inputs = n as u32;
+    let seen = form::sheet(e, d, inputs, s);
+    let Verdict::Fine = seen else {
+        return seen;
+    };
+    form::all_read(e, d, inputs, s)
 }
