@@ -25,6 +25,10 @@ over-antisym n r A B r′ A′ B′ p q =
     let w = ahead-antisym n A B A′ B′ (p .inOrder a (sym e)) (q .inOrder (sym a) e) in
     (e, w .0, w .1)
 
+-- what has the larger |A| - r comes before
+pub smaller : (n : ℕ) {r A B r′ A′ B′ : ℕ} → size n (bit A′) + r < size n (bit A) + r′ → AheadOver n r A B r′ A′ B′
+smaller n h = record { largest = omega arith; least = λ e. absurd (omega arith); inOrder = λ e q. absurd (omega arith) }
+
 -- only one is first
 pub first-unique : (n : ℕ) (Work : ℕ → ℕ → ℕ → Type 0) (r A B r′ A′ B′ : ℕ) → FirstOf n Work r A B → FirstOf n Work r′ A′ B′
     → (r ≡ r′) × (A ≡ A′) × (B ≡ B′)
@@ -64,12 +68,9 @@ module _ (n : ℕ) (Work : ℕ → ℕ → ℕ → ℕ → Type 0) (Right : ℕ 
     own : {A B : ℕ} → Right (suc m) A B → Work (suc m) (suc m) A B
     own k = up .work (omega arith) (omega arith) k
 
-    -- r's own best comes before all of its r, and before whatever a larger |A| - r beats
+    -- r's own best comes before all of its r
     same-r : {A B A′ B′ : ℕ} → Ahead n A B A′ B′ → AheadOver n (suc m) A B (suc m) A′ B′
     same-r h = record { largest = omega (arith, h .largestA); least = λ e. omega arith; inOrder = λ e q. h }
-
-    smaller : {r A B r′ A′ B′ : ℕ} → size n (bit A′) + r < size n (bit A) + r′ → AheadOver n r A B r′ A′ B′
-    smaller h = record { largest = omega arith; least = λ e. absurd (omega arith); inOrder = λ e q. absurd (omega arith) }
 
     next : (c : Choice) (a : Answer) → Tells m c → Says n Right (suc m) a → Tells (suc m) (better n (suc m) c a)
     next nothing none t s = by (λ r A B. ⊥) t s
@@ -86,7 +87,7 @@ module _ (n : ℕ) (Work : ℕ → ℕ → ℕ → ℕ → Type 0) (Right : ℕ 
             record {
               works = own (s .0);
               ahead = by (AheadOver n (suc m) A B)
-                  (λ r′ A′ B′ k. smaller (omega (arith, t .ahead r′ A′ B′ k .largest)))
+                  (λ r′ A′ B′ k. smaller n (omega (arith, t .ahead r′ A′ B′ k .largest)))
                   (λ A′ B′ k. same-r (s .1 A′ B′ k));
             }
         go false e =

@@ -19,6 +19,11 @@ better n r nothing (split A B) = choice r A B
 better n r (choice q C D) (split A B) =
     cond (ltb (size n (bit C) + r) (size n (bit A) + q)) (choice r A B) (choice q C D)
 
+-- a choice whose |A| - r is more than `low`; any other is nothing
+abbrev pub sparing : ℕ → ℕ → Choice → Choice
+sparing n low nothing = nothing
+sparing n low (choice r A B) = cond (ltb (low + r) (size n (bit A))) (choice r A B) nothing
+
 -- the best of what f answers for 1, 2, .., m first cells
 unfoldable pub firstOver : ℕ → (ℕ → Answer) → ℕ → Choice
 firstOver n f zero = nothing

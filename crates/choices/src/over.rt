@@ -1,7 +1,8 @@
 // The best split over how many first cells there are: of the best of each r, the first in the order.
 use best::Found;
 use bits::sets::members;
-use quick::search::find_with;
+use quick::search::find_above;
+use quick::search::first_try;
 ghost use mathlib.Core.Path.{_≡_};
 ghost use Prim.Native.Nat.{_+_, _*_, _^_, _<_, _≤_};
 ghost use lib.ListN.{length};
@@ -9,8 +10,8 @@ ghost use Rattle.tables.specs.Table.{mostInputs, tableBit};
 ghost use Rattle.splits.specs.Columns.{mostFirst};
 ghost use Rattle.best.specs.Search.{split};
 ghost use Rattle.best.specs.Answers.{answerOf};
-ghost use Rattle.choices.specs.Search.{better, bestUpTo};
-ghost use Rattle.choices.specs.Chosen.{choiceOf, OwnBelow, SplitBelow};
+ghost use Rattle.choices.specs.Search.{better, sparing, bestUpTo};
+ghost use Rattle.choices.specs.Chosen.{choiceOf, OwnBelow, SplitBelow, Spares, Floor, AtOnce};
 
 // How many first cells, and the masks; no first cells where there is no such split.
 pub struct Chosen {
@@ -53,10 +54,27 @@ fn with_found(n: u32, r: u32, kept: Chosen, found: Found) -> Chosen
     larger(n, r, kept, own, shared)
 }
 
-// The best split with up to `most` first cells of k inputs.
-pub fn find_upto(t: &[u8], n: u32, most: u32, k: u32) -> Chosen
-    requires { ⌜ (n ≤ mostInputs) × (most ≤ mostFirst) × (2 ^ n ≤ 8 * length (now t)) × (k ≤ mostInputs) ⌝ }
-    ensures { λ c. ⌜ (choiceOf c ≡ bestUpTo n (tableBit (now (t .entry))) k most) × (c .first ≤ mostFirst) ⌝ }
+// How many own inputs a split with r first cells must have more than, to be of use: as many as make it spare no more
+// than the choice so far; without one, `low` more than r.
+fn floor(n: u32, r: u32, kept: Chosen, low: u32) -> u32
+    requires { ⌜ (n ≤ mostInputs) × (r ≤ mostFirst) × (low ≤ mostInputs) × OwnBelow n (choiceOf kept)
+        × Spares n low (choiceOf kept) ⌝ }
+    ensures { λ f. ⌜ Floor n r low (choiceOf kept) f ⌝ }
+{
+    if kept.first == 0 {
+        return low + r;
+    }
+    members(kept.own) - kept.first + r
+}
+
+// The best split with up to `most` first cells of k inputs, if its |A| - r is more than `low`.
+fn find_sparing(t: &[u8], n: u32, most: u32, k: u32, low: u32) -> Chosen
+    requires { ⌜
+        (n ≤ mostInputs) × (most ≤ mostFirst) × (2 ^ n ≤ 8 * length (now t)) × (k ≤ mostInputs) × (low ≤ mostInputs)
+        ⌝ }
+    ensures { λ c. ⌜
+        (choiceOf c ≡ sparing n low (bestUpTo n (tableBit (now (t .entry))) k most)) × (c .first ≤ mostFirst)
+        ⌝ }
 {
     let mut kept = Chosen {
         first: 0,
@@ -65,9 +83,48 @@ pub fn find_upto(t: &[u8], n: u32, most: u32, k: u32) -> Chosen
     };
     let mut r: u32 = 1;
     while r <= most {
-        let found = find_with(t, n, r, k);
+        let found = find_above(t, n, r, k, floor(n, r, kept, low));
         kept = with_found(n, r, kept, found);
         r += 1;
     }
     kept
+}
+
+// The least number of first cells whose very first candidate is possible, and that split; or nothing.
+fn at_once(t: &[u8], n: u32, upto: u32, k: u32) -> Chosen
+    requires { ⌜ (n ≤ mostInputs) × (upto ≤ mostFirst) × (2 ^ n ≤ 8 * length (now t)) ⌝ }
+    ensures { λ c. ⌜ AtOnce n k upto (tableBit (now (t .entry))) (choiceOf c) ⌝ }
+{
+    let mut r: u32 = 1;
+    while r <= upto {
+        let early = first_try(t, n, r, k);
+        if let Found::Split(own, shared) = early {
+            return Chosen {
+                first: r,
+                own: own,
+                shared: shared,
+            };
+        }
+        r += 1;
+    }
+    Chosen {
+        first: 0,
+        own: 0,
+        shared: 0,
+    }
+}
+
+// The best split with up to `most` first cells of k inputs. A split found at once has k own inputs: more first cells
+// spare less, and fewer are of use only where they spare as much.
+pub fn find_upto(t: &[u8], n: u32, most: u32, k: u32) -> Chosen
+    requires { ⌜ (n ≤ mostInputs) × (most ≤ mostFirst) × (2 ^ n ≤ 8 * length (now t)) × (k ≤ mostInputs) ⌝ }
+    ensures { λ c. ⌜ (choiceOf c ≡ bestUpTo n (tableBit (now (t .entry))) k most) × (c .first ≤ mostFirst) ⌝ }
+{
+    let early = at_once(t, n, most, k);
+    if early.first == 0 {
+        return find_sparing(t, n, most, k, 0);
+    }
+    let fewer = early.first - 1;
+    let kept = find_sparing(t, n, fewer, k, k - early.first - 1);
+    larger(n, early.first, kept, early.own, early.shared)
 }

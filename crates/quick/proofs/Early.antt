@@ -25,9 +25,9 @@ use Rattle.splits.specs.Columns.{fewColumns}
 use Rattle.splits.proofs.Possible.{possible-iff}
 use Rattle.best.specs.Best.{Candidate}
 use Rattle.best.specs.Moves.{both}
-use Rattle.best.specs.Search.{Answer, none, split, first, tryA, tryB, best}
+use Rattle.best.specs.Search.{Answer, none, split, above, first, tryB, ofSizes, best}
 use Rattle.best.proofs.Tries.{tryB-split}
-use Rattle.best.proofs.Best.{best-split, best-answer}
+use Rattle.best.proofs.Best.{best-split, best-answer, above-best}
 use Rattle.witness.specs.Witness.{Inside}
 use Rattle.known.specs.Notes.{Needs, BadPairs, Dead, AllDead}
 use Rattle.witness.proofs.Members.{power-bit}
@@ -63,21 +63,24 @@ module _ (n k : ℕ) (enough : k ≤ n) where
   none-size : size n (bit 0) ≡ 0
   none-size = size-ext n (bit 0) (λ j. false) (λ j l. bit-zero j) ∙ size-none n
 
-  -- where the search tries it and answers, that is the best split
-  pub first-best : (r : ℕ) (F : ℕ → Bool) → r < k → (q A B : ℕ) → tryB n r F q (2 ^ k - 1) 0 ≡ split A B → best n r F k ≡ split A B
+  -- where the search tries it and answers, that is the best split, and all k inputs are own
+  pub first-best : (r : ℕ) (F : ℕ → Bool) → r < k → (q A B : ℕ) → tryB n r F q (2 ^ k - 1) 0 ≡ split A B
+      → (best n r F k ≡ split A B) × (size n (bit A) ≡ k)
   first-best r F more q A B e =
-      let h = tryB-split n r F q (2 ^ k - 1) 0 A B e in
-      best-answer n r F k (2 ^ k - 1) 0 (record {
-        candidate = record { belowA = first-lt; belowB = pow-pos n; apart = h .apart; more = omega (arith, first-size); most = omega (arith, first-size, none-size) };
-        possible = h .possible;
-        ahead = λ A′ B′ c P. record {
-          largestA = omega (arith, first-size, c .most);
-          smallestB = λ s. omega (arith, none-size);
-          leastA = λ s t. omega (arith, least-number n (bit A′), number-bit n A′ (c .belowA), ap (λ (m : ℕ). 2 ^ m) (s ∙ first-size));
-          leastB = λ s t u. omega arith;
-        };
-      })
-      ∙ ap₂ split (h .sameA) (h .sameB)
+      let h = tryB-split n r F q (2 ^ k - 1) 0 A B e in (
+        best-answer n r F k (2 ^ k - 1) 0 (record {
+          candidate = record { belowA = first-lt; belowB = pow-pos n; apart = h .apart; more = omega (arith, first-size); most = omega (arith, first-size, none-size) };
+          possible = h .possible;
+          ahead = λ A′ B′ c P. record {
+            largestA = omega (arith, first-size, c .most);
+            smallestB = λ s. omega (arith, none-size);
+            leastA = λ s t. omega (arith, least-number n (bit A′), number-bit n A′ (c .belowA), ap (λ (m : ℕ). 2 ^ m) (s ∙ first-size));
+            leastB = λ s t u. omega arith;
+          };
+        })
+            ∙ ap₂ split (h .sameA) (h .sameB),
+        ap (λ (m : ℕ). size n (bit m)) (sym (h .sameA)) ∙ first-size,
+      )
 
 -- ---- no two inputs can be own
 module _ (n r : ℕ) (F : ℕ → Bool) (k : ℕ) where
@@ -206,7 +209,9 @@ dead-code mask i j k p q hi hj ep eq many = record {
     first : (c : ℕ) → bit (bitAnd (bitAnd mask (65535 - p)) (65535 - q)) c ≡ true → bit (bitAnd mask (65535 - p)) c ≡ true
     first c e = and-left (bit (bitAnd mask (65535 - p)) c) (bit (65535 - q) c) (sym (bit-and (bitAnd mask (65535 - p)) (65535 - q) c) ∙ e)
 
--- with no more inputs than outputs first cells spare nothing
-pub best-small : (n r : ℕ) (F : ℕ → Bool) (k : ℕ) → k ≤ r → best n r F k ≡ none
-unfolding best first
-best-small n r F k h = let e : k - r ≡ 0 = omega arith in ap (λ (m : ℕ). first m (λ i. first (i + 1) (λ q. first (2 ^ n) (tryA n r F (k - i) q)))) e
+-- no own set has more inputs than a cell
+pub above-small : (n r : ℕ) (F : ℕ → Bool) (k low : ℕ) → r ≤ low → k ≤ low → above n low (best n r F k) ≡ none
+unfolding first
+above-small n r F k low more h =
+    let e : k - low ≡ 0 = omega arith in
+    sym (above-best n r F k low more) ∙ ap (λ (m : ℕ). first m (λ i. first (i + 1) (ofSizes n r F (k - i)))) e

@@ -2,8 +2,10 @@
 ghost use mathlib.Core.Path.{_≡_};
 ghost use Prim.Native.Nat.{ℕ, _+_, _*_, _^_, _<_, _≤_};
 ghost use lib.ListN.{length};
+ghost use Rattle.bits.specs.Numbers.{bit};
+ghost use Rattle.bits.specs.Sets.{size};
 ghost use Rattle.tables.specs.Table.{mostInputs, tableBit};
-ghost use Rattle.best.specs.Search.{split, first, ofSizes, best};
+ghost use Rattle.best.specs.Search.{split, above, first, ofSizes, best};
 ghost use Rattle.best.specs.Answers.{answerOf};
 ghost use Rattle.best.specs.Walk.{mostFirst};
 ghost use Rattle.walks.specs.Known.{Known};
@@ -47,15 +49,16 @@ fn with_own<'a>(
     Found::Nothing
 }
 
-// The best split with r first cells of k inputs, the largest own sets first, by what is known of pairs.
-fn walk_all<'a>(t: &'a [u8], n: u32, r: u32, pairs: &'a [u16], k: u32) -> Found
-    requires { ⌜ (n ≤ mostInputs) × (r ≤ mostFirst) × (2 ^ n ≤ 8 * length (now t)) × (k ≤ mostInputs) ⌝ }
+// The best split with r first cells of k inputs, if it has more than `low` own inputs: the largest own sets first, by
+// what is known of pairs.
+fn walk_all<'a>(t: &'a [u8], n: u32, r: u32, pairs: &'a [u16], k: u32, low: u32) -> Found
+    requires { ⌜ (n ≤ mostInputs) × (r ≤ mostFirst) × (2 ^ n ≤ 8 * length (now t)) × (k ≤ mostInputs) × (r ≤ low) ⌝ }
     requires { ⌜ BadPairs n (tableBit (now t)) (2 ^ r) (now pairs) ⌝ }
-    ensures { λ f. ⌜ answerOf f ≡ best n r (tableBit (now (t .entry))) k ⌝ }
+    ensures { λ f. ⌜ answerOf f ≡ above n low (best n r (tableBit (now (t .entry))) k) ⌝ }
 {
     let mut notes = blank();
     let mut i: u32 = 0;
-    while i + r < k {
+    while i + low < k {
         let found = with_own(t, n, r, pairs, k - i, i, &mut notes);
         if let Found::Split(a, b) = found {
             return Found::Split(a, b);
@@ -67,12 +70,16 @@ fn walk_all<'a>(t: &'a [u8], n: u32, r: u32, pairs: &'a [u16], k: u32) -> Found
 
 // The very first candidate: the least own mask of k inputs, and nothing shared. Where it is possible, it is the best
 // split.
-fn first_try(t: &[u8], n: u32, r: u32, k: u32) -> Found
-    requires { ⌜ (n ≤ mostInputs) × (r ≤ mostFirst) × (2 ^ n ≤ 8 * length (now t)) × (r < k) ⌝ }
+pub fn first_try(t: &[u8], n: u32, r: u32, k: u32) -> Found
+    requires { ⌜ (n ≤ mostInputs) × (r ≤ mostFirst) × (2 ^ n ≤ 8 * length (now t)) ⌝ }
     ensures { λ f. ⌜
-        ((A B : ℕ) → answerOf f ≡ split A B → best n r (tableBit (now (t .entry))) k ≡ split A B)
+        ((A B : ℕ) → answerOf f ≡ split A B
+        → (best n r (tableBit (now (t .entry))) k ≡ split A B) × (size n (bit A) ≡ k))
         ⌝ }
 {
+    if k <= r {
+        return Found::Nothing;
+    }
     if n < k {
         return Found::Nothing;
     }
@@ -80,17 +87,39 @@ fn first_try(t: &[u8], n: u32, r: u32, k: u32) -> Found
     attempt(t, n, r, (all - 1) as u16, 0)
 }
 
-// The best split with one first cell of a table of one word or more, by what its triples say of pairs.
-fn by_pairs(t: &[u8], n: u32, k: u32) -> Found
-    requires { ⌜ Wide n (now t) × (2 ≤ k) × (k ≤ mostInputs) ⌝ }
-    ensures { λ f. ⌜ answerOf f ≡ best n 1 (tableBit (now (t .entry))) k ⌝ }
+// The best split with one first cell of a table of one word or more, if it has more than `low` own inputs, by what its
+// triples say of pairs.
+fn by_pairs(t: &[u8], n: u32, k: u32, low: u32) -> Found
+    requires { ⌜ Wide n (now t) × (1 ≤ low) × (low < k) × (k ≤ mostInputs) ⌝ }
+    ensures { λ f. ⌜ answerOf f ≡ above n low (best n 1 (tableBit (now (t .entry))) k) ⌝ }
 {
     let mut pairs = unknown();
     fill(t, n, k - 2, &mut pairs);
     if all_dead(&pairs, n, k) {
         return Found::Nothing;
     }
-    walk_all(t, n, 1, &pairs, k)
+    walk_all(t, n, 1, &pairs, k, low)
+}
+
+// The best split with r first cells of k inputs, if it has more than `low` own inputs: who has a split that good needs
+// no other.
+pub fn find_above(t: &[u8], n: u32, r: u32, k: u32, low: u32) -> Found
+    requires { ⌜ (n ≤ mostInputs) × (r ≤ mostFirst) × (2 ^ n ≤ 8 * length (now t)) × (k ≤ mostInputs) × (r ≤ low) ⌝ }
+    ensures { λ f. ⌜ answerOf f ≡ above n low (best n r (tableBit (now (t .entry))) k) ⌝ }
+{
+    if k <= low {
+        return Found::Nothing;
+    }
+    if n >= 6 {
+        if r == 1 {
+            return by_pairs(t, n, k, low);
+        }
+    }
+    if none_owns(t, n, r, k, n, 0, r + 1) {
+        return Found::Nothing;
+    }
+    let pairs = unknown();
+    walk_all(t, n, r, &pairs, k, low)
 }
 
 // The best split with r first cells of k inputs. What splits at once is answered before any table of pairs is filled.
@@ -98,29 +127,9 @@ pub fn find_with(t: &[u8], n: u32, r: u32, k: u32) -> Found
     requires { ⌜ (n ≤ mostInputs) × (r ≤ mostFirst) × (2 ^ n ≤ 8 * length (now t)) × (k ≤ mostInputs) ⌝ }
     ensures { λ f. ⌜ answerOf f ≡ best n r (tableBit (now (t .entry))) k ⌝ }
 {
-    if k <= r {
-        return Found::Nothing;
-    }
     let early = first_try(t, n, r, k);
     if let Found::Split(a, b) = early {
         return Found::Split(a, b);
     }
-    if n >= 6 {
-        if r == 1 {
-            return by_pairs(t, n, k);
-        }
-    }
-    if none_owns(t, n, r, k, n, 0, r + 1) {
-        return Found::Nothing;
-    }
-    let pairs = unknown();
-    walk_all(t, n, r, &pairs, k)
-}
-
-// The best split with one first cell.
-pub fn find(t: &[u8], n: u32, k: u32) -> Found
-    requires { ⌜ (n ≤ mostInputs) × (2 ^ n ≤ 8 * length (now t)) × (k ≤ mostInputs) ⌝ }
-    ensures { λ f. ⌜ answerOf f ≡ best n 1 (tableBit (now (t .entry))) k ⌝ }
-{
-    find_with(t, n, 1, k)
+    find_above(t, n, r, k, r)
 }

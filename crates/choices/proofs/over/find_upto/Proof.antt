@@ -1,41 +1,80 @@
--- The loop's invariant: the choice is the best over fewer than r first cells. Assumes nothing.
-use mathlib.Core.Path.{_≡_}
-use Prim.Native.Nat.{_+_, _-_}
+-- A split found at once is beaten by fewer first cells alone; without one all are looked through. Assumes nothing.
+use mathlib.Core.Path.{ap, _∙_, subst}
+use Prim.Native.Nat.{_-_, _<_}
 use native.Mathlib.Omega.{arith}
 use borrow.Author.Needs.{needs}
 use Rattle.tables.specs.Table.{tableBit}
-use Rattle.best.specs.Answers.{answerOf}
-use Rattle.choices.proofs.Choosing.{Chose, chose-none, chose-below, found-below, chose-more, chose-all}
+use Rattle.best.specs.Search.{split}
+use Rattle.choices.specs.Search.{Choice, better}
+use Rattle.choices.specs.Chosen.{AtOnce, Whole}
+use Rattle.choices.proofs.Choosing.{is-choice, held}
+use Rattle.choices.proofs.Sparing.{spare-all, fits, whole-more, whole-best}
 use Rattle.choices.proofs.over.find_upto.Statement.{statement}
 use Rattle.choices.proofs.over.find_upto.Tie as tie
 
-abbrev Inv-loop : tie.InvT-loop
-Inv-loop t n most k kept₀ r₀ kept r = Chose n k most (tableBit t) kept r
+returns : tie.Need-returns
+returns c =
+    let a = c .before .before .before .before .before .args in
+    let e = c .find-sparing .ensures in
+    (e .0 ∙ spare-all (a .n) (a .k) (tableBit (a .t .now)) (a .most), e .1)
 
-abbrev μ-loop : tie.MeasureT-loop
-μ-loop t n most k kept₀ r₀ kept r = most + 1 - r
+-- what was found at once
+module _ (c : tie.Else1) where
+  whole : let a = c .before .before .before .before .args in
+      let d = c .before .before .at-once .result in Whole (a .n) (a .k) (a .most) (tableBit (a .t .now)) (d .first) (d .own) (d .shared)
+  whole =
+      let a = c .before .before .before .before .args in
+      let o = c .before .before .at-once in
+      subst (AtOnce (a .n) (a .k) (a .most) (tableBit (a .t .now))) (is-choice (o .result) (c .if1 .left)) (o .ensures)
 
-find-with-requires : tie.Need-find-with-requires Inv-loop μ-loop
-find-with-requires c κs =
-    let p = c .before .before .before .pre in
-    (p .0, omega (arith, p .1, c .loop-test .taken), p .2, p .3)
+  more : c .before .before .at-once .result .first < c .before .before .before .before .args .k
+  more =
+      let a = c .before .before .before .before .args in
+      let d = c .before .before .at-once .result in
+      whole-more (a .n) (a .k) (tableBit (a .t .now)) (a .most) (d .first) (d .own) (d .shared) whole
 
-with-found-requires : tie.Need-with-found-requires Inv-loop μ-loop
-with-found-requires c κs =
-    let i = c .before in
-    let w = i .before .loop .inv in
-    let p = i .before .before .before .pre in
-    ((w .some, omega (arith, p .1, i .loop-test .taken), p .0, w .few), (chose-below w, found-below w (answerOf (c .find-with .result)) (c .find-with .ensures)))
+find-sparing-requires-2 : tie.Need-find-sparing-requires-2
+find-sparing-requires-2 c κs =
+    let i = c .before .before in
+    let p = i .before .before .before .before .pre in
+    (p .0, omega (arith, p .1, whole i .most), p .2, p .3, omega (arith, p .3))
 
-loop-again : tie.Need-loop-again Inv-loop μ-loop
-loop-again c =
-    let f = c .before in
-    let i = f .before in
-    let w = i .before .loop .inv in
-    chose-more w (answerOf (f .find-with .result)) (f .find-with .ensures) (c .with-found .result) (omega (arith, i .loop-test .taken)) (c .with-found .ensures)
+larger-requires : tie.Need-larger-requires
+larger-requires c κs =
+    let i = c .before .before .before in
+    let s = i .before .before .before .before in
+    let a = s .args in
+    let d = i .before .before .at-once .result in
+    let k = c .find-sparing2 in (
+      whole i .some,
+      omega (arith, s .pre .1, whole i .most),
+      s .pre .0,
+      k .ensures .1,
+      held (a .n) (a .k) (a .k - d .first - 1) (tableBit (a .t .now)) (d .first - 1) (k .result) (k .ensures .0) .0,
+      fits (a .n) (a .k) (tableBit (a .t .now)) (a .most) (d .first) (d .own) (d .shared) (whole i) .candidate .belowA,
+    )
+
+returns-2 : tie.Need-returns-2
+returns-2 c =
+    let i = c .before .before .before .before in
+    let a = i .before .before .before .before .args in
+    let d = i .before .before .at-once .result in
+    let e = c .larger .ensures in (
+      e .0 ∙ ap (λ (x : Choice). better (a .n) (d .first) x (split (d .own) (d .shared))) (c .before .find-sparing2 .ensures .0)
+          ∙ whole-best (a .n) (a .k) (tableBit (a .t .now)) (a .most) (d .first) (d .own) (d .shared) (whole i),
+      e .1,
+    )
 
 pub find-upto-spec : {M : Type 1} → statement M
 find-upto-spec =
-    tie.close (tie.spec Inv-loop μ-loop (λ c. chose-none) find-with-requires with-found-requires
-    (λ c. search needs) (λ c. search needs) loop-again
-    (λ c. (chose-all (c .before .loop .inv) (omega (arith, c .loop-test .left)), c .before .loop .inv .few)))
+    tie.close
+    (tie.spec
+    (λ c κs. search needs)
+    (λ c κs. search needs)
+    returns
+    (λ c. search needs)
+    (λ c. omega (arith, more (c .before .before)))
+    (λ c. omega (arith, more (c .before .before)))
+    find-sparing-requires-2
+    larger-requires
+    returns-2)

@@ -19,7 +19,7 @@ below : (c : tie.After-members) → c .before .before .before .args .kept .own <
 below c =
     let g = c .before .before .before in
     let a = g .args in
-    own-below (a .n) (a .r) (g .pre .0) (a .kept) (a .own) (a .shared) (c .before .if1 .left) (g .pre .4)
+    own-below (a .n) (a .kept) (c .before .if1 .left) (g .pre .4)
 
 add-if2 : tie.Need-add-if2
 add-if2 c =

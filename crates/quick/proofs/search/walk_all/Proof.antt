@@ -4,18 +4,19 @@ use Prim.Native.Nat.{_+_, _-_, _^_}
 use native.Mathlib.Omega.{arith}
 use borrow.Author.Needs.{needs}
 use Rattle.tables.specs.Table.{tableBit}
-use Rattle.best.specs.Search.{first, ofSizes, best}
+use Rattle.best.specs.Search.{first, ofSizes}
 use Rattle.best.specs.Answers.{answerOf}
 use Rattle.best.proofs.First.{NoneYet, yet-starts, yet-goes, yet-stops, yet-ends}
+use Rattle.best.proofs.Best.{above-best}
 use Rattle.walks.specs.Known.{Known}
 use Rattle.quick.proofs.search.walk_all.Statement.{statement}
 use Rattle.quick.proofs.search.walk_all.Tie as tie
 
 abbrev Inv-loop : tie.InvT-loop
-Inv-loop t n r pairs k notes₀ i₀ notes i = NoneYet (k - r) (λ j. first (j + 1) (ofSizes n r (tableBit t) (k - j))) i × Known n r t notes
+Inv-loop t n r pairs k low notes₀ i₀ notes i = NoneYet (k - low) (λ j. first (j + 1) (ofSizes n r (tableBit t) (k - j))) i × Known n r t notes
 
 abbrev μ-loop : tie.MeasureT-loop
-μ-loop t n r pairs k notes₀ i₀ notes i = k - r - i
+μ-loop t n r pairs k low notes₀ i₀ notes i = k - low - i
 
 loop-holds : tie.Need-loop-holds Inv-loop μ-loop
 loop-holds c =
@@ -35,10 +36,12 @@ with-own-requires c κs =
     (c .before .before .loop .inv .1, s .pre .1, omega (arith, s .pre .0 .3, c .before .loop-test .taken))
 
 returns : tie.Need-returns Inv-loop μ-loop
-unfolding best
 returns c =
+    let s = c .before .before .before .before .before .before .before .before .before .before .before in
+    let a = s .args in
     yet-stops (c .before .before .before .before .before .before .before .loop .inv .0) (omega (arith, c .before .before .before .before .before .before .loop-test .taken))
     (sym (c .before .before .before .before .with-own .ensures .0) ∙ ap answerOf (c .before .found .given .1))
+    ∙ above-best (a .n) (a .r) (tableBit (a .t .now)) (a .k) (a .low) (s .pre .0 .4)
 
 loop-again : tie.Need-loop-again Inv-loop μ-loop
 loop-again c = (
@@ -48,8 +51,11 @@ loop-again c = (
 )
 
 returns-2 : tie.Need-returns-2 Inv-loop μ-loop
-unfolding best
-returns-2 c = yet-ends (c .before .loop .inv .0) (omega (arith, c .loop-test .left))
+returns-2 c =
+    let s = c .before .before .before .before .before in
+    let a = s .args in
+    yet-ends (c .before .loop .inv .0) (omega (arith, c .loop-test .left))
+    ∙ above-best (a .n) (a .r) (tableBit (a .t .now)) (a .k) (a .low) (s .pre .0 .4)
 
 pub walk-all-spec : {M : Type 1} → statement M
 walk-all-spec =
