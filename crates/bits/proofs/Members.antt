@@ -60,7 +60,8 @@ size-spread n s v = size-ext n (bit (spread n s v)) (λ j. s j && bit v (size j 
 
 -- ---- the order of masks
 
-spread-low : (n : ℕ) (s : ℕ → Bool) (v w : ℕ) → ((k : ℕ) → k < size n s → bit v k ≡ bit w k) → spread n s v ≡ spread n s w
+-- spreading reads as many bits as there are members
+pub spread-low : (n : ℕ) (s : ℕ → Bool) (v w : ℕ) → ((k : ℕ) → k < size n s → bit v k ≡ bit w k) → spread n s v ≡ spread n s w
 unfolding spread
 spread-low n s v w h = number-ext n (λ j. s j && bit v (size j s)) (λ j. s j && bit w (size j s)) (λ j l. go j l (s j) refl)
   where

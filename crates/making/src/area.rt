@@ -2,13 +2,18 @@
 ghost use mathlib.Core.Path.{_≡_};
 ghost use Prim.Native.Nat.{ℕ, _+_, _*_, _^_, _<_, _≤_};
 ghost use lib.ListN.{length, getD};
+ghost use Rattle.bits.specs.Numbers.{bit};
+ghost use Rattle.bits.specs.Sets.{size};
 ghost use Rattle.tables.specs.Table.{mostInputs};
 ghost use Rattle.splits.specs.Columns.{mostFirst};
 ghost use Rattle.splits.specs.Reading.{Held, Chart};
 ghost use Rattle.making.specs.Area.{half, workLength, atHand, nextInputs, NextStored, NextTable};
 use crate::signals::Signals;
+use bits::sets::parts;
 use splits::pair::h_byte;
+use splits::pair::h_word;
 use splits::split::Split;
+use tables::fixed::byte_in;
 use tables::length_for;
 
 // The table of as many inputs as a gate can have fills a half.
@@ -17,8 +22,8 @@ pub const HALF: usize = 1 << (Signals::MOST - 3);
 // A work area has two halves.
 pub const WORK: usize = 2 * HALF;
 
-// The first len bytes of H's table, with r first cells, into the second half.
-fn store_next(work: &mut [u8], s: Split, r: u32, seen: &[u16], len: usize)
+// The first len bytes of H's table, with r first cells, into the second half: byte by byte.
+fn store_bytes(work: &mut [u8], s: Split, r: u32, seen: &[u16], len: usize)
     requires { ⌜
         Held s × (len ≤ half) × (workLength ≤ length (now work)) × Chart s (atHand (now work)) (2 ^ r) (now seen)
         × (r ≤ mostFirst)
@@ -33,6 +38,45 @@ fn store_next(work: &mut [u8], s: Split, r: u32, seen: &[u16], len: usize)
         work[at] = b;
         i += 1;
     }
+}
+
+// The same by words, where nothing is shared and the free inputs make whole words.
+fn store_words(work: &mut [u8], s: Split, r: u32, seen: &[u16], len: usize)
+    requires { ⌜
+        Held s × (len ≤ half) × (workLength ≤ length (now work)) × Chart s (atHand (now work)) (2 ^ r) (now seen)
+        × (r ≤ mostFirst)
+        ⌝ }
+    requires { ⌜ (s .shared ≡ 0) × (64 ≤ 2 ^ size (s .n) (bit (s .free))) ⌝ }
+    ensures { λ _. ⌜ NextStored s r len (now (work .entry)) (now (work .exit)) ⌝ }
+{
+    let limit: usize = 1 << r;
+    let mut w: u64 = 0;
+    let mut i: usize = 0;
+    while i < len {
+        if i % 8 == 0 {
+            w = h_word(&work[..HALF], s, limit, seen, (i / 8) as u32);
+        }
+        let at = HALF + i;
+        work[at] = byte_in(w, i);
+        i += 1;
+    }
+}
+
+// The same, by words where it can be.
+fn store_next(work: &mut [u8], s: Split, r: u32, seen: &[u16], len: usize)
+    requires { ⌜
+        Held s × (len ≤ half) × (workLength ≤ length (now work)) × Chart s (atHand (now work)) (2 ^ r) (now seen)
+        × (r ≤ mostFirst)
+        ⌝ }
+    ensures { λ _. ⌜ NextStored s r len (now (work .entry)) (now (work .exit)) ⌝ }
+{
+    if s.shared == 0 {
+        if 64 <= parts(s.n, s.free) {
+            store_words(work, s, r, seen, len);
+            return;
+        }
+    }
+    store_bytes(work, s, r, seen, len);
 }
 
 // The first len bytes of the second half, back to the first.

@@ -14,7 +14,7 @@ use lib.Seq.{getD-set-same, getD-set-other}
 use borrow.Author.Tests.{lt-ltb, le-ltb, ltb-true, ltb-false, eqb-true, eqb-false}
 use Rattle.bits.specs.Numbers.{bit, val, number}
 use Rattle.bits.specs.Patterns.{pattern}
-use Rattle.bits.proofs.Numbers.{bit-below, bit-shr, bit-mod, bit-zero, bit-number, number-bit, number-ext, number-lt, number-mod, val-lt}
+use Rattle.bits.proofs.Numbers.{bit-below, bit-shr, bit-mod, bit-zero, number-bit, number-ext, number-lt, number-mod, val-lt}
 use Rattle.bits.proofs.Sums.{number-append, bit-not}
 use Rattle.bits.proofs.Filling.{Filled}
 use Rattle.tables.specs.Table.{tableLength, tableBit}
@@ -24,7 +24,6 @@ use Rattle.sheets.specs.declared.kinds.Edition.{Edition}
 use Rattle.sheets.specs.Network.{output}
 use Rattle.sheets.specs.Record.{byteAt, cellBit, cellOf}
 use Rattle.runs.specs.Running.{inputAt, Runnable}
-use Rattle.sheets.proofs.Inverse.{byte-of}
 use Rattle.runs.proofs.Runs.{number-short, output-at, table-room, table-part, part-length}
 
 -- ---- of a cell's table inputs 6 and 7 choose a word, and the others a bit of it
@@ -233,17 +232,6 @@ first-of n w o F some at =
         let h = ltb-true (64 * w + i) (2 ^ n) q in
         ap (λ (t : Bool). t && bit o i) (lt-ltb i (2 ^ n) (omega arith)) ∙ sym (at i l h)
     go i l false q = ap (λ (t : Bool). t && bit o i) (le-ltb i (2 ^ n) (past i l (ltb-false (64 * w + i) (2 ^ n) q)))
-
--- ---- a word of a table, byte by byte
-
-pub word-byte : (F : ℕ → Bool) (i o : ℕ) → o ≡ number 64 (λ j. F (64 * (i / 8) + j)) → o / 2 ^ (8 * (i % 8)) % 2 ^ 8 ≡ number 8 (λ j. F (i * 8 + j))
-word-byte F i o e =
-    let m = 8 * (i % 8) in
-    byte-of o m
-    ∙ number-ext 8 (λ j. bit o (m + j)) (λ j. F (i * 8 + j))
-    (λ j l.
-    let q : 64 * (i / 8) + (m + j) ≡ i * 8 + j = omega arith in
-    ap (λ (x : ℕ). bit x (m + j)) e ∙ bit-number 64 (λ j. F (64 * (i / 8) + j)) (m + j) (omega arith) ∙ ap F q)
 
 -- byte i of a table is in a word of it
 pub word-starts : (n i : ℕ) → i < tableLength n → 64 * (i / 8) < 2 ^ n

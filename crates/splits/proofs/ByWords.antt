@@ -1,46 +1,27 @@
 -- Columns compared word by word: a part of the free inputs is a part of those from position 6 on, which names a word, and a part of those
 -- below, which names a place within it. Assumes nothing.
 use mathlib.Core.Path.{_≡_, sym, ap, _∙_}
-use mathlib.Core.Bool.{Bool, true, false, _&&_, _||_}
-use mathlib.Core.List.{List}
+use mathlib.Core.Bool.{Bool, true, false, _||_}
 use Prim.Native.Nat.{ℕ, _+_, _-_, _*_, _/_, _%_, _^_, _<_, _≤_}
 use native.Mathlib.Nat.{mod-lt}
 use native.Mathlib.Decide.{decLt}
 use native.Mathlib.Omega.{arith}
 use lib.Bits.{bitAnd}
 use lib.Dec.{lit<}
-use lib.ListN.{length}
-use lib.Pow.{pow-add, pow-pos, pow-mono}
+use lib.Pow.{pow-add, pow-pos}
 use Rattle.bits.specs.Numbers.{bit}
 use Rattle.bits.specs.Sets.{wordPositions, partOf, size, gather, spread}
 use Rattle.bits.proofs.Below.{every-at, every-all}
-use Rattle.bits.proofs.Bools.{clash, false-of, and-left, beq-same, same-beq}
+use Rattle.bits.proofs.Bools.{clash, false-of, beq-same, same-beq}
 use Rattle.bits.proofs.Machine.{part-spread, masked-bits, bits-masked}
-use Rattle.bits.proofs.Numbers.{number-lt, number-ext, number-mod, number-bit, none-zero, bit-number, bit-below, bit-shr, bit-mod, bit-high, top-low, top-high}
-use Rattle.bits.proofs.Spreading.{bit-spread, spread-lt, gather-lt}
+use Rattle.bits.proofs.Numbers.{number-lt, number-mod, number-bit, bit-number, bit-below, bit-shr, bit-mod, bit-high, top-low, top-high}
+use Rattle.bits.proofs.Spreading.{spread-lt, gather-lt}
 use Rattle.bits.proofs.Subsets.{part-at, part-all}
 use Rattle.bits.proofs.Sums.{number-join}
 use Rattle.bits.proofs.Walking.{Walked}
-use Rattle.tables.specs.Words.{WordAt}
+use Rattle.tables.proofs.Pieces.{spread-part, above-part, above-whole}
 use Rattle.splits.specs.Reading.{Without, alike, highPart, lowPlaces}
 use Rattle.splits.proofs.Reading.{read-lt}
-
--- what is spread over a mask has bits at its members alone
-spread-part : (n m v j : ℕ) → bit (spread n (bit m) v) j ≡ true → bit m j ≡ true
-spread-part n m v j e = elim (decLt j n) [
-  | yes l ↦ and-left (bit m j) _ (sym (bit-spread n (bit m) v j l) ∙ e)
-  | no l ↦ absurd (clash e (bit-high (spread n (bit m) v) n j (spread-lt n (bit m) v) (omega arith)))
-]
-
--- the high part has the mask's members from position 6 on
-high-low : (L j : ℕ) → j < wordPositions → bit (highPart L) j ≡ false
-high-low L j l = top-low L wordPositions j l
-
-high-part : (L j : ℕ) → bit (highPart L) j ≡ true → bit L j ≡ true
-high-part L j e = elim (decLt j wordPositions) [
-  | yes l ↦ absurd (clash e (high-low L j l))
-  | no l ↦ sym (top-high L wordPositions j (omega arith)) ∙ e
-]
 
 -- part v of the high members: it steps from word to word
 abbrev pub step : ℕ → ℕ → ℕ → ℕ
@@ -52,22 +33,17 @@ Even n L F x y v =
     (k : ℕ) → k < 64 → partOf wordPositions (bit L) k ≡ true → F (x + step n L v + k) ≡ F (y + step n L v + k)
 
 module _ (n L : ℕ) (below : L < 2 ^ n) where
-  step-whole : (v : ℕ) → step n L v % 64 ≡ 0
-  step-whole v =
-      sym (number-mod wordPositions (step n L v)) ∙ number-ext wordPositions (bit (step n L v)) (λ j. false) (λ j l.
-      false-of _ (λ e. clash (spread-part n (highPart L) v j e) (high-low L j l))) ∙ none-zero wordPositions
-
   -- with a place within the word it is a part of all
   module _ (v k : ℕ) (l : k < 64) (part : partOf wordPositions (bit L) k ≡ true) where
     z-part : (j : ℕ) → bit (step n L v + k) j ≡ true → bit L j ≡ true
     z-part j e = elim (decLt j wordPositions) [
       | yes h ↦
-          let q : step n L v + k ≡ k + step n L v / 64 * 2 ^ 6 = omega (arith, step-whole v) in
+          let q : step n L v + k ≡ k + step n L v / 64 * 2 ^ 6 = omega (arith, above-whole n L v) in
           part-at wordPositions (bit L) k part j h (sym (ap (λ (m : ℕ). bit m j) q ∙ bit-below k (step n L v / 64) 6 j h) ∙ e)
       | no h ↦
-          let q : (step n L v + k) / 64 ≡ step n L v / 64 = omega (arith, step-whole v) in
+          let q : (step n L v + k) / 64 ≡ step n L v / 64 = omega (arith, above-whole n L v) in
           let i : j ≡ 6 + (j - 6) = omega arith in
-          high-part L j (spread-part n (highPart L) v j
+          above-part L j (spread-part n (highPart L) v j
           (ap (bit (step n L v)) i ∙ sym (bit-shr (step n L v) 6 (j - 6)) ∙ ap (λ (m : ℕ). bit m (j - 6)) (sym q) ∙ bit-shr (step n L v + k) 6 (j - 6) ∙ ap (bit (step n L v + k)) (sym i) ∙ e))
     ]
 
@@ -122,13 +98,13 @@ module _ (n L : ℕ) (below : L < 2 ^ n) where
     module _ {x : ℕ} (w : Without n L x) where
       pub word-lt : x + f < 2 ^ n
       word-lt =
-          let clear : Without n (highPart L) x = record { below = w .below; clear = λ j l e. w .clear j l (high-part L j e) } in
+          let clear : Without n (highPart L) x = record { below = w .below; clear = λ j l e. w .clear j l (above-part L j e) } in
           omega (arith, at, read-lt n (highPart L) x clear v)
 
       -- a place is within the word
       place-fits : (k : ℕ) → k < 64 → partOf wordPositions (bit L) k ≡ true → (x + f) % 64 + k < 64
       place-fits k l part =
-          omega (arith, at, step-whole v, number-mod 6 x, number-bit 6 k l, number-join 6 (bit x) (bit k) apart, number-lt 6 (λ j. bit x j || bit k j))
+          omega (arith, at, above-whole n L v, number-mod 6 x, number-bit 6 k l, number-join 6 (bit x) (bit k) apart, number-lt 6 (λ j. bit x j || bit k j))
         where
           apart : (j : ℕ) → j < 6 → bit x j ≡ true → bit k j ≡ false
           apart j h e = false-of (bit k j) (λ q. elim (decLt j n) [
@@ -157,13 +133,3 @@ module _ (n L : ℕ) (below : L < 2 ^ n) where
           bits-masked 64 low a b low-lt (λ k l e.
           let part : partOf wordPositions (bit L) k ≡ true = sym (low-bit k l) ∙ e in
           at-x k (place-fits wx k l part) ∙ ap (λ (g : ℕ). F (x + g + k)) at ∙ h k l part ∙ ap (λ (g : ℕ). F (y + g + k)) (sym at) ∙ sym (at-y k (place-fits wy k l part)))
-
--- an assignment's word lies in the table
-pub word-at : (n : ℕ) (t : List ℕ) (p : ℕ) → 2 ^ n ≤ 8 * length t → p < 2 ^ n → WordAt t p
-word-at n t p room l = record { long = long; short = λ h. omega arith }
-  where
-    long : 8 ≤ length t → 8 * (p / 64) + 8 ≤ length t
-    long h = elim (decLt n 6) [
-      | yes g ↦ omega (arith, pow-mono {i = n} {j = 6} (omega arith))
-      | no g ↦ let e : n ≡ 6 + (n - 6) = omega arith in omega (arith, ap (λ (m : ℕ). 2 ^ m) e ∙ pow-add 2 6 (n - 6))
-    ]

@@ -1,12 +1,11 @@
 // Setting inputs aside: the table over some of the inputs, the others at 0.
-use crate::bit_at;
+use crate::fixed::byte_in;
+use crate::fixed::word_over;
 use crate::length_for;
 use bits::sets::members;
-use bits::sets::next;
-use bits::sets::spread_out;
 ghost use mathlib.Core.Path.{_≡_};
 ghost use mathlib.Core.List.{_++_};
-ghost use Prim.Native.Nat.{_+_, _*_, _^_, _<_, _≤_};
+ghost use Prim.Native.Nat.{_*_, _^_, _<_, _≤_};
 ghost use lib.ListN.{length, drop};
 ghost use Rattle.bits.specs.Numbers.{bit, number};
 ghost use Rattle.bits.specs.Sets.{size, spread};
@@ -25,22 +24,6 @@ fn copy(t: &[u8], room: &mut [u8])
     }
 }
 
-// Byte i of the table over the mask's inputs.
-fn byte_over(t: &[u8], n: u32, mask: u16, i: u32) -> u8
-    requires { ⌜ (2 ^ n ≤ 8 * length (now t)) × (n ≤ mostInputs) × (mask < 2 ^ n) × (i < 2 ^ mostInputs) ⌝ }
-    ensures { λ r. ⌜ r ≡ number 8 (λ j. tableBit (now (t .entry)) (spread n (bit mask) (i * 8 + j))) ⌝ }
-{
-    let mut b: u8 = 0;
-    let mut s = spread_out(n, mask, i * 8);
-    let mut j: u32 = 0;
-    while j < 8 {
-        b += (bit_at(t, s) as u8) << j;
-        s = next(n, mask, s);
-        j += 1;
-    }
-    b
-}
-
 // The first len bytes of the table over the mask's inputs, into the front of a lent room.
 fn pack(t: &[u8], n: u32, mask: u16, len: usize, room: &mut [u8])
     requires { ⌜
@@ -52,9 +35,13 @@ fn pack(t: &[u8], n: u32, mask: u16, len: usize, room: &mut [u8])
         ≡ bytesOf len (λ v. tableBit (now (t .entry)) (spread n (bit mask) v)) ++ drop len (now (room .entry))
         ⌝ }
 {
+    let mut w: u64 = 0;
     let mut i: usize = 0;
     while i < len {
-        room[i] = byte_over(t, n, mask, i as u32);
+        if i % 8 == 0 {
+            w = word_over(t, n, mask, 0, (i / 8) as u32);
+        }
+        room[i] = byte_in(w, i);
         i += 1;
     }
 }

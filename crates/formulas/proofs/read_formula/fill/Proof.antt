@@ -12,7 +12,8 @@ use borrow.Author.Needs.{needs}
 use Rattle.bits.specs.Numbers.{number}
 use Rattle.bits.proofs.Filling.{Filled, filled-none, filled-more, filled-whole}
 use Rattle.tables.specs.Table.{bytesOf, tableOf}
-use Rattle.runs.proofs.Choosing.{word-byte, word-starts}
+use Rattle.tables.proofs.Pieces.{word-byte}
+use Rattle.runs.proofs.Choosing.{word-starts}
 use Rattle.formulas.specs.Reading.{textOf, valueIn}
 use Rattle.formulas.specs.Words.{stretchOf}
 use Rattle.formulas.proofs.Bitwise.{table-word}

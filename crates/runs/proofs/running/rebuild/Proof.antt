@@ -15,7 +15,8 @@ use Rattle.tables.specs.Table.{bytesOf, tableOf}
 use Rattle.sheets.specs.declared.kinds.Edition.{Edition}
 use Rattle.sheets.specs.Sheet.{sheetBit, rebuilt}
 use Rattle.runs.specs.Words.{sheetWord}
-use Rattle.runs.proofs.Choosing.{word-byte, word-starts}
+use Rattle.tables.proofs.Pieces.{word-byte}
+use Rattle.runs.proofs.Choosing.{word-starts}
 use Rattle.runs.proofs.running.rebuild.Statement.{statement}
 use Rattle.runs.proofs.running.rebuild.Tie as tie
 

@@ -2,7 +2,7 @@
 use native.Mathlib.Omega.{arith}
 use lib.Pow.{pow-mono}
 use borrow.Author.Needs.{needs}
-use Rattle.splits.proofs.ByWords.{word-at}
+use Rattle.tables.proofs.Pieces.{word-at}
 use Rattle.witness.proofs.crowd.mark.Statement.{statement}
 use Rattle.witness.proofs.crowd.mark.Tie as tie
 

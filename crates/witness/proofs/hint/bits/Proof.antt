@@ -5,7 +5,7 @@ use lib.Bits.{bitAnd, and-le-r}
 use lib.Pow.{pow-pos}
 use borrow.Author.Needs.{needs}
 use Rattle.bits.proofs.Machine.{shl-one}
-use Rattle.splits.proofs.ByWords.{word-at}
+use Rattle.tables.proofs.Pieces.{word-at}
 use Rattle.witness.proofs.hint.bits.Statement.{statement}
 use Rattle.witness.proofs.hint.bits.Tie as tie
 

@@ -2,7 +2,7 @@
 use mathlib.Core.Path.{ap₂, _∙_}
 use lib.Bits.{or-lt}
 use borrow.Author.Needs.{needs}
-use Rattle.splits.proofs.ByWords.{word-at}
+use Rattle.tables.proofs.Pieces.{word-at}
 use Rattle.witness.specs.Points.{differ}
 use Rattle.witness.proofs.Members.{bit-xor}
 use Rattle.witness.proofs.triple.change.Statement.{statement}
