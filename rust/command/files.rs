@@ -6,6 +6,8 @@ use std::io::{self, Read, Write};
 
 /// The longest text that is read: longer than any network or list of rows that could be a gate.
 const MOST: u64 = 8 << 20;
+/// The most bytes that are read of a sheet or a card: longer than any of them.
+pub const MOST_BYTES: usize = 4096;
 
 /// The bytes of a file, or of standard input for `-`; of a longer one as many as the limit and one
 /// more.
@@ -33,7 +35,7 @@ pub fn text(path: &str) -> Result<String, Trouble> {
 /// The bytes of a sheet or a card. Of a longer file only as much is read as shows that it is too
 /// long: the library says so.
 pub fn bytes(path: &str) -> Result<Vec<u8>, Trouble> {
-    start_of(path, 4096)
+    start_of(path, MOST_BYTES as u64)
 }
 
 /// Writes a file whole: beside it first, so that what stood there is not lost halfway.

@@ -5,9 +5,10 @@ use crate::names::Names;
 use crate::sheets::{Cell, Sheet};
 use crate::short::{self, Formula};
 
-/// When the signals come, if that was asked: in words for each input, and for each cell.
+/// When the signals come, if that was asked: in words for the output, each input, and each cell.
 #[derive(Default)]
 pub struct Times {
+    pub output: String,
     pub inputs: Vec<String>,
     pub cells: Vec<String>,
 }

@@ -1,5 +1,6 @@
 //! What a refusal tells a person to look at, in the user's names.
 
+use crate::files::MOST_BYTES;
 use crate::names::Names;
 use crate::tables::Table;
 use crate::trouble::Trouble;
@@ -61,6 +62,9 @@ impl Look<'_> {
     fn length(&self) -> String {
         match self.sheet {
             Some((0, _)) => "it is empty".to_string(),
+            // Of a network with many cells, or of a long file, only the first bytes are at hand.
+            Some(_) if !self.nodes.is_empty() => format!("it has {} records", self.nodes.len()),
+            Some((length, _)) if length > MOST_BYTES => "it has over 4,096 bytes".to_string(),
             Some((length, record)) if length % record == 0 => {
                 format!("it has {} records", length / record)
             }

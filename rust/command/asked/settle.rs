@@ -8,6 +8,7 @@ use crate::handed::{self, Handed};
 use crate::json::Json;
 use crate::listed::{Listed, Times};
 use crate::listing;
+use crate::shown::asked;
 use crate::times;
 use crate::trouble::Trouble;
 use crate::words::{Known, Words};
@@ -37,40 +38,56 @@ fn answer(words: &Words) -> Result<String, Trouble> {
     if words.has("--json") {
         return Ok(format!("{}\n", json(&settled, slack)));
     }
-    let cells = settled.iter().map(|at| times::span(at.earliest, at.latest)).collect();
-    let times = Times { inputs: inputs.iter().map(times::said).collect(), cells };
-    let last = times.cells.last().cloned().unwrap_or_default();
-    let title = format!("{} settles at {last}{}.", handed.names.output, spare(slack));
-    view(path, words, &handed, times, &title)
+    let cells: Vec<String> = settled.iter().map(|at| times::span(at.earliest, at.latest)).collect();
+    let last = cells.last().cloned().unwrap_or_default();
+    let spare = slack.map(spare);
+    let and_spare = spare.iter().map(|spare| format!("; {spare}")).collect::<String>();
+    let output = format!("{} settles at {last}{and_spare}.", handed.names.output);
+    let times = Times { output, inputs: inputs.iter().map(times::said).collect(), cells };
+    if words.has("--report") {
+        return page(words, &handed, times, spare);
+    }
+    view(words, &handed, times)
 }
 
 /// The slack in words.
-fn spare(slack: Option<i64>) -> String {
-    match slack {
-        Some(slack) if slack < 0 => format!("; {} ns too late", -slack as f64 / 16.0),
-        Some(slack) => format!("; {} ns to spare", slack as f64 / 16.0),
-        None => String::new(),
-    }
+fn spare(slack: i64) -> String {
+    let time = slack.unsigned_abs() as f64 / 16.0;
+    format!("{time} ns {}", if slack < 0 { "too late" } else { "to spare" })
 }
 
-/// The cells with their times; the inspector's page has the rest too.
-fn view(
-    path: &str,
-    words: &Words,
-    handed: &Handed,
-    times: Times,
-    title: &str,
-) -> Result<String, Trouble> {
-    if words.has("--report") {
-        return Ok(report::write(&shown(path, words, times)?));
-    }
+fn view(words: &Words, handed: &Handed, times: Times) -> Result<String, Trouble> {
+    let title = times.output.clone();
     let listed = Listed::new(handed.listed(), handed.names.clone(), times);
     match (words.has("--svg"), words.has("--dot")) {
         (true, true) => Err(Trouble::line("only one of --svg and --dot")),
-        (true, _) => Ok(drawing::svg(&listed, title)),
+        (true, _) => Ok(drawing::svg(&listed, &title)),
         (_, true) => Ok(dot::write(&listed)),
         _ => Ok(format!("{title}\n{}", listing::cells(&listed))),
     }
+}
+
+/// The inspector's page: with the calls that gave the times, and the line that asks for them again.
+fn page(
+    words: &Words,
+    handed: &Handed,
+    times: Times,
+    spare: Option<String>,
+) -> Result<String, Trouble> {
+    let last = times.cells.last().cloned().unwrap_or_default();
+    let mut shown = shown(&handed.path, words, times)?;
+    shown.asked.push(asked("settle", format!("0: the output settles at {last}")));
+    shown.asked.extend(spare.map(|spare| asked("slack", format!("0: {spare}"))));
+    let mut again = format!("./gate settle {}", handed.again(None));
+    for time in &words.plain[1..] {
+        again.push_str(&format!(" '{time}'"));
+    }
+    for option in ["--delay", "--deadline"] {
+        let value = words.value(option).map(|value| format!(" {option} {value}"));
+        again.push_str(&value.unwrap_or_default());
+    }
+    shown.again = again;
+    Ok(report::write(&shown))
 }
 
 /// The times of each cell: when the sheet of the first records settles.

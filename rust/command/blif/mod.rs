@@ -5,6 +5,7 @@ mod formula;
 mod network;
 mod order;
 mod records;
+mod wires;
 
 use crate::gates::Gate;
 use crate::names::Names;

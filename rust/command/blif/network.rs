@@ -29,19 +29,26 @@ const MOST_NODES: usize = 20_000;
 pub fn read(text: &str) -> Result<Network, String> {
     let mut network = Network::default();
     let mut outputs = Vec::new();
+    let (mut named, mut ended) = (false, false);
     for (at, line) in lines(text) {
         let words: Vec<&str> = line.split_whitespace().collect();
-        let more = network.line(&words, &mut outputs).map_err(|why| format!("line {at}: {why}"))?;
-        if !more {
-            break;
+        let model = words.first() == Some(&".model");
+        if model && (named || ended) {
+            return Err(format!(
+                "line {at}: a second model: a network is one, without others in it"
+            ));
         }
+        named = named || model;
+        ended = ended
+            || !network.line(&words, &mut outputs).map_err(|why| format!("line {at}: {why}"))?;
     }
     match &outputs[..] {
         [one] => network.output = one.clone(),
+        [] => return Err("no output: a gate has one".to_string()),
         _ => return Err(format!("{} outputs: a gate has one", outputs.len())),
     }
     network.lawful()?;
-    Ok(network)
+    network.without_wires()
 }
 
 /// The lines without remarks, those that end in a backslash with the next, each with its number.
@@ -70,11 +77,20 @@ impl Network {
     /// Takes a line; whether the file goes on.
     fn line(&mut self, words: &[&str], outputs: &mut Vec<String>) -> Result<bool, String> {
         match words {
-            [] | [".model", ..] => {}
+            // What yosys writes beside a cell about its origin says nothing of what it gives.
+            [] | [".model" | ".attr" | ".cname" | ".param", ..] => {}
             [".end", ..] => return Ok(false),
             [".inputs", names @ ..] => self.inputs.extend(names.iter().map(|n| n.to_string())),
             [".outputs", names @ ..] => outputs.extend(names.iter().map(|n| n.to_string())),
             [".names", reads @ .., name] => self.node(reads, name)?,
+            [".conn", read, name] => {
+                self.node(&[read], name)?;
+                self.row("1", "1")?
+            }
+            [".latch" | ".mlatch", ..] => return Err("a latch: a gate has no memory".to_string()),
+            [kind @ (".subckt" | ".gate"), name, ..] => {
+                return Err(format!("{kind} {name}: its rows aren't here: only .names are read"))
+            }
             [other, ..] if other.starts_with('.') => {
                 return Err(format!("{other}: only cells with rows (.names) are read"))
             }

@@ -111,7 +111,7 @@ mod tests {
     #[test]
     fn any_order_becomes_one_that_goes_up() {
         let network =
-            of(".names y b f\n11 1\n.names x y\n1 1\n.names a x\n1 1\n.names a dead\n1 1");
+            of(".names y b f\n11 1\n.names x y\n0 1\n.names a x\n0 1\n.names a dead\n0 1");
         assert_eq!(all(&network), Ok(vec![2, 1, 3, 0]));
         assert_eq!(needed(&network), Ok(vec![2, 1, 0]));
     }
@@ -120,21 +120,21 @@ mod tests {
     fn loops_and_gaps_are_said() {
         for nodes in [
             ".names f a x\n11 1\n.names x b f\n11 1",
-            ".names f f\n1 1",
+            ".names f f\n0 1",
             ".names x f\n1 1",
-            ".names a x\n1 1",
+            ".names a x\n0 1",
         ] {
             assert!(needed(&of(nodes)).is_err(), "{nodes:?}");
         }
-        let reads_the_output = of(".names a f\n1 1\n.names f z\n1 1");
+        let reads_the_output = of(".names a f\n0 1\n.names f z\n0 1");
         assert!(all(&reads_the_output).is_err() && needed(&reads_the_output).is_ok());
     }
 
     #[test]
     fn a_long_chain_takes_no_deep_stack() {
-        let link = |at: usize| format!(".names x{} x{at}\n1 1\n", at + 1);
+        let link = |at: usize| format!(".names x{} x{at}\n0 1\n", at + 1);
         let chain: String = (0..15_000).map(link).collect();
-        let network = of(&format!(".names x0 f\n1 1\n{chain}.names a x15000\n1 1\n"));
+        let network = of(&format!(".names x0 f\n0 1\n{chain}.names a x15000\n0 1\n"));
         assert_eq!(needed(&network).map(|order| order.len()), Ok(15_002));
     }
 }

@@ -1,6 +1,7 @@
-//! Where everything of a drawing stands. Cells stand in columns by their depth. A signal that passes
-//! a column on its way has a lane of its own there, so that no line runs behind a box.
+//! Where everything of a drawing stands: the columns of each band beside each other, the bands one
+//! under another.
 
+use super::bands;
 use crate::listed::Listed;
 use std::collections::HashMap;
 
@@ -11,24 +12,16 @@ pub const LINE: f64 = 17.0;
 pub const PAD: f64 = 9.0;
 const BETWEEN: f64 = 14.0;
 const CHANNEL: f64 = 76.0;
-/// Where the cells stand deeper than this the channels are narrow, so that the drawing still fits on
-/// paper.
-const DEEP: usize = 6;
-const NARROW: f64 = 40.0;
 const MARGIN: f64 = 14.0;
-/// The digits of a table on one line.
-const DIGITS: usize = 16;
-/// The longest formula that is written into a box, and into one of a deep drawing.
-const FORMULA: usize = 34;
-const SHORT: usize = 14;
 
-/// What stands in a column: an input or a cell with its signal.
+/// What stands in a column: with its signal what comes in or a cell.
 #[derive(Clone, Copy, Debug, PartialEq, Eq)]
 pub enum Thing {
     Input(usize),
     Cell(usize),
     /// A signal that passes.
     Lane(usize),
+    /// What goes out.
     Output,
 }
 
@@ -47,16 +40,19 @@ pub struct Placed {
     pub height: f64,
 }
 
+#[derive(Default)]
 pub struct Layout {
     pub placed: Vec<Placed>,
     /// The left edge and the width of each column.
     pub columns: Vec<(f64, f64)>,
+    /// The upper and the lower edge of each band.
+    pub bands: Vec<(f64, f64)>,
     pub width: f64,
     pub height: f64,
 }
 
 impl Placed {
-    fn new(thing: Thing, lines: Vec<String>, ports: Vec<usize>, column: usize) -> Placed {
+    pub fn new(thing: Thing, lines: Vec<String>, ports: Vec<usize>, column: usize) -> Placed {
         let names = ports.len();
         let gives = match thing {
             Thing::Input(signal) | Thing::Cell(signal) | Thing::Lane(signal) => Some(signal),
@@ -91,27 +87,37 @@ impl Placed {
 
 impl Layout {
     pub fn of(shown: &Listed) -> Layout {
-        let mut columns = columns_of(shown);
+        let mut layout = Layout::default();
+        for columns in bands::of(shown) {
+            layout.add(columns);
+        }
+        layout
+    }
+
+    /// A band under those before it.
+    fn add(&mut self, mut columns: Vec<Vec<Placed>>) {
         order(&mut columns);
         stack(&mut columns);
         for column in 1..columns.len() {
             settle(&mut columns, column);
         }
-        let mut placed: Vec<Placed> = columns.concat();
+        let before = self.columns.len();
+        let mut left = MARGIN;
+        for column in &columns {
+            self.columns.push((left, widest(column)));
+            left += widest(column) + CHANNEL;
+        }
+        self.width = self.width.max(width(&columns));
+        let mut placed = columns.concat();
         let least = placed.iter().map(|thing| thing.top).fold(f64::INFINITY, f64::min);
         for thing in &mut placed {
-            thing.top += MARGIN - least;
+            thing.top += self.height + MARGIN - least;
+            thing.column += before;
         }
-        let height = placed.iter().map(|p| p.top + p.height).fold(0.0, f64::max) + MARGIN;
-        let channel = if shown.sheet.depth() > DEEP { NARROW } else { CHANNEL };
-        let mut left = MARGIN;
-        let mut places = Vec::new();
-        for column in &columns {
-            let width = column.iter().map(|thing| thing.width).fold(0.0, f64::max);
-            places.push((left, width));
-            left += width + channel;
-        }
-        Layout { placed, columns: places, width: left - channel + MARGIN, height }
+        let bottom = placed.iter().map(|thing| thing.top + thing.height).fold(0.0, f64::max);
+        self.bands.push((self.height, bottom + MARGIN));
+        self.height = bottom + MARGIN;
+        self.placed.extend(placed);
     }
 
     /// What a signal comes from in a column.
@@ -120,67 +126,14 @@ impl Layout {
     }
 }
 
-/// The column of a signal's source.
-fn source(shown: &Listed, signal: usize) -> usize {
-    match signal.checked_sub(shown.sheet.n) {
-        Some(at) => shown.sheet.cells[at].depth,
-        None => 0,
-    }
+fn widest(column: &[Placed]) -> f64 {
+    column.iter().map(|thing| thing.width).fold(0.0, f64::max)
 }
 
-/// Everything in its column: inputs that are read, cells, the output, and lanes between.
-fn columns_of(shown: &Listed) -> Vec<Vec<Placed>> {
-    let last = shown.sheet.depth() + 1;
-    let mut columns: Vec<Vec<Placed>> = vec![Vec::new(); last + 1];
-    let output = shown.sheet.n + shown.sheet.count() - 1;
-    let mut reach: HashMap<usize, usize> = HashMap::from([(output, last)]);
-    for cell in &shown.sheet.cells {
-        for &read in &cell.reads {
-            let furthest = reach.entry(read).or_insert(0);
-            *furthest = (*furthest).max(cell.depth);
-        }
-    }
-    for signal in 0..shown.sheet.n + shown.sheet.count() {
-        let (from, to) = (source(shown, signal), reach.get(&signal).copied());
-        match signal.checked_sub(shown.sheet.n) {
-            Some(at) => columns[from].push(cell_of(shown, at, from)),
-            None if to.is_some() => columns[0].push(input_of(shown, signal)),
-            None => {}
-        }
-        for column in from + 1..to.unwrap_or(0) {
-            columns[column].push(Placed::new(
-                Thing::Lane(signal),
-                Vec::new(),
-                vec![signal],
-                column,
-            ));
-        }
-    }
-    let name = vec![shown.names.output.clone()];
-    columns[last].push(Placed::new(Thing::Output, name, vec![output], last));
-    columns
-}
-
-fn input_of(shown: &Listed, signal: usize) -> Placed {
-    let mut lines = vec![shown.names.inputs[signal].clone()];
-    lines.extend(shown.times.inputs.get(signal).filter(|time| !time.is_empty()).cloned());
-    Placed::new(Thing::Input(signal), lines, Vec::new(), 0)
-}
-
-fn cell_of(shown: &Listed, at: usize, column: usize) -> Placed {
-    let cell = &shown.sheet.cells[at];
-    let mut lines = vec![format!("[{}]", cell.signal)];
-    let digits: Vec<char> = cell.hex().chars().collect();
-    lines.extend(digits.chunks(DIGITS).map(|part| part.iter().collect::<String>()));
-    let most = if shown.sheet.depth() > DEEP { SHORT } else { FORMULA };
-    let gives = Some(shown.gives(at)).filter(|_| shown.gives[at].is_some());
-    lines.extend(gives.filter(|gives| gives.chars().count() <= most));
-    lines.extend(shown.times.cells.get(at).cloned());
-    let mut placed = Placed::new(Thing::Cell(cell.signal), lines, cell.reads.clone(), column);
-    let names = cell.reads.iter().map(|&read| shown.names.of_signal(read).chars().count());
-    let longest = names.max().unwrap_or(0) as f64 * CHARACTER + 2.0 * PAD;
-    placed.width = placed.width.max(longest);
-    placed
+/// The width of columns beside each other.
+pub fn width(columns: &[Vec<Placed>]) -> f64 {
+    let channels = columns.len().saturating_sub(1) as f64 * CHANNEL;
+    columns.iter().map(|column| widest(column)).sum::<f64>() + channels + 2.0 * MARGIN
 }
 
 /// Orders each column by where its signals come from, and the ports of each cell alike.

@@ -8,23 +8,49 @@ use crate::listed::Listed;
 const COLOURS: [&str; 8] =
     ["#1f5fa8", "#b3432b", "#2f7d4f", "#7a4fa3", "#a8741f", "#227f8c", "#a83a73", "#5b6470"];
 
+/// The whole drawing.
 pub fn write(shown: &Listed, layout: &Layout, title: &str) -> String {
-    let (width, height) = (layout.width.ceil(), layout.height.ceil() + note(shown, 0.0).1);
+    let (note, more) = note(shown, layout.height);
+    part(shown, layout, title, (0.0, layout.height, more), &note)
+}
+
+/// Each band as a drawing of its own, all as wide, so that a page may end between them.
+pub fn parts(shown: &Listed, layout: &Layout, title: &str) -> String {
+    let last = layout.bands.len().saturating_sub(1);
+    let band = |(at, &(top, bottom)): (usize, &(f64, f64))| {
+        let (note, more) = if at == last { note(shown, bottom) } else { Default::default() };
+        part(shown, layout, title, (top, bottom, more), &note)
+    };
+    layout.bands.iter().enumerate().map(band).collect()
+}
+
+/// What stands between two edges, and a note of so much height under it.
+fn part(
+    shown: &Listed,
+    layout: &Layout,
+    title: &str,
+    (top, bottom, more): (f64, f64, f64),
+    note: &str,
+) -> String {
+    let (width, height) = (layout.width.ceil(), (bottom - top).ceil() + more);
     let mut text = format!(
         "<svg xmlns=\"http://www.w3.org/2000/svg\" width=\"{width}\" height=\"{height}\" \
-         viewBox=\"0 0 {width} {height}\" font-family=\"monospace\" font-size=\"12\">\n\
-         <title>{}</title>\n<rect width=\"100%\" height=\"100%\" fill=\"white\"/>\n",
-        escaped(title)
+         viewBox=\"0 {} {width} {height}\" font-family=\"monospace\" font-size=\"12\">\n\
+         <title>{}</title>\n<rect y=\"{}\" width=\"100%\" height=\"100%\" fill=\"white\"/>\n",
+        top.floor(),
+        escaped(title),
+        top.floor()
     );
-    for placed in &layout.placed {
+    let here = |placed: &&Placed| placed.top >= top && placed.top < bottom;
+    for placed in layout.placed.iter().filter(here) {
         for &signal in &placed.ports {
             text.push_str(&line(layout, placed, signal));
         }
     }
-    for placed in &layout.placed {
+    for placed in layout.placed.iter().filter(here) {
         text.push_str(&thing(shown, layout, placed));
     }
-    text.push_str(&note(shown, layout.height).0);
+    text.push_str(note);
     text.push_str("</svg>\n");
     text
 }
