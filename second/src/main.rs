@@ -3,17 +3,23 @@
 use std::io::{Read, Write};
 use std::process::ExitCode;
 
-use second::batch::answer_batch;
+use second::batch::{answer_batch, case_bytes};
 use second::bench::bench;
 use second::case::PRESET;
+use second::fresh;
 use second::inspect::inspect;
 use second::outside::arguments::Arguments;
 use second::outside::{
     bound, cards, compare, compare_bench, compare_inspect, fewest, gates, measure, programs, trees,
 };
+use second::random::Random;
+
+/// So many cases in a batch, unless it is said otherwise.
+const CASES_A_BATCH: u64 = 1000;
 
 const USAGE: &str =
     "second answer [--preset XX]   a batch on standard input, its answers on standard output
+second batch [--seed S] [--cases N]   a batch of fresh cases on standard output
 second bench   n, K and a table on standard input, number and sheet on standard output
 second inspect n, a table and a sheet on standard input, number and place on standard output
 second compare [--seed S] [--cases N] [--fault] -- COMMAND ARGS..
@@ -48,6 +54,7 @@ fn obey(words: &[String]) -> Result<(), String> {
             let preset = options(&["--preset"], &[])?.byte("--preset", PRESET)?;
             filter(|batch| answer_batch(batch, preset))
         }
+        "batch" => batch(&options(&["--seed", "--cases"], &[])?),
         "bench" => filter(bench),
         "inspect" => filter(inspect),
         "compare" => compare::compare(&comparison()?),
@@ -68,5 +75,16 @@ fn obey(words: &[String]) -> Result<(), String> {
 fn filter(work: impl Fn(&[u8]) -> Vec<u8>) -> Result<(), String> {
     let mut input = Vec::new();
     std::io::stdin().read_to_end(&mut input).map_err(|error| error.to_string())?;
-    std::io::stdout().write_all(&work(&input)).map_err(|error| error.to_string())
+    write(&work(&input))
+}
+
+/// Fresh cases, the calls in turn.
+fn batch(arguments: &Arguments) -> Result<(), String> {
+    let count = arguments.number("--cases", CASES_A_BATCH)? as usize;
+    let list = fresh::in_turn(&mut Random::new(arguments.seed()?), count);
+    write(&list.iter().flat_map(|fresh| case_bytes(&fresh.case)).collect::<Vec<u8>>())
+}
+
+fn write(output: &[u8]) -> Result<(), String> {
+    std::io::stdout().write_all(output).map_err(|error| error.to_string())
 }

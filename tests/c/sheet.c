@@ -1,14 +1,11 @@
 /* Makes, runs, rebuilds and checks the sheet of the AND of three inputs (document 01, example 2) through the C
- * interface, and makes each of the other calls. It prints a line and returns 0 if all is as the documents say. */
-#include "pelzurivan.h"
+ * interface, and makes other calls of it. It prints a line and returns 0 if all is as the documents say. */
+#include "sheet.h"
 
 #include <stdio.h>
-#include <string.h>
 
-#define PRESET 0xAA
-
-static const uint8_t AND_OF_3[] = {0x80};
-static const uint8_t EXAMPLE_2[] = {
+const uint8_t AND_OF_3[1] = {0x80};
+const uint8_t EXAMPLE_2[2 * PELZURIVAN_RECORD] = {
     2, 0, 1, 255, 255, 255, 255, 0, 8, 0, 0, 0, 0, 0, 0, 0,
     2, 2, 3, 255, 255, 255, 255, 0, 8, 0, 0, 0, 0, 0, 0, 0,
 };
@@ -16,7 +13,7 @@ static const uint8_t EXAMPLE_2[] = {
 static int faults = 0;
 static int checks = 0;
 
-static void expect(int holds, const char *what) {
+void expect(int holds, const char *what) {
     checks += 1;
     if (!holds) {
         faults += 1;
@@ -24,305 +21,15 @@ static void expect(int holds, const char *what) {
     }
 }
 
-static int all_are(uint8_t value, const uint8_t *bytes, size_t length) {
+int all_are(uint8_t value, const uint8_t *bytes, size_t length) {
     for (size_t i = 0; i < length; i++)
         if (bytes[i] != value) return 0;
     return 1;
 }
 
-static void make_and_run(void) {
-    uint8_t sheet[PELZURIVAN_SHEET + 1], work[PELZURIVAN_WORK + 1];
-    memset(sheet, PRESET, sizeof sheet);
-    memset(work, PRESET, sizeof work);
-    pelzurivan_made made = pelzurivan_make(3, 2, AND_OF_3, 1, sheet, PELZURIVAN_SHEET, work, PELZURIVAN_WORK);
-    expect(made.number == 0 && made.count == 2, "make: done, two cells");
-    expect(memcmp(sheet, EXAMPLE_2, sizeof EXAMPLE_2) == 0, "make: the records of example 2");
-    expect(all_are(PRESET, sheet + sizeof EXAMPLE_2, sizeof sheet - sizeof EXAMPLE_2), "make: the other bytes stay");
-    expect(all_are(0, work, PELZURIVAN_WORK) && work[PELZURIVAN_WORK] == PRESET, "make: the work area is zeros");
-
-    for (uint64_t x = 0; x < 8; x++) {
-        pelzurivan_ran ran = pelzurivan_run(3, sheet, sizeof EXAMPLE_2, x);
-        expect(ran.number == 0 && ran.bit == (x == 7) && ran.index == 0, "run: the AND of three");
-    }
-    uint8_t table[] = {PRESET, PRESET};
-    pelzurivan_rebuilt rebuilt = pelzurivan_rebuild(3, sheet, sizeof EXAMPLE_2, table, 1);
-    expect(rebuilt.number == 0 && rebuilt.index == 0, "rebuild: done");
-    expect(table[0] == 0x80 && table[1] == PRESET, "rebuild: the table");
-}
-
-/* The same gate for a desk: byte 7 of each record is the desk, and every reader takes the sheet. */
-static void a_sheet_for_a_desk(void) {
-    uint8_t sheet[PELZURIVAN_SHEET], work[PELZURIVAN_WORK], expected[sizeof EXAMPLE_2];
-    for (uint64_t desk = 0; desk <= 5; desk++) {
-        memset(sheet, PRESET, sizeof sheet);
-        pelzurivan_made made =
-            pelzurivan_make_for_desk(3, 2, desk, AND_OF_3, 1, sheet, sizeof sheet, work, sizeof work);
-        if (desk == 5) {
-            expect(made.number == 5 && made.count == 0 && all_are(PRESET, sheet, sizeof sheet), "make: 5 for desk 5");
-            break;
-        }
-        memcpy(expected, EXAMPLE_2, sizeof expected);
-        expected[7] = expected[PELZURIVAN_RECORD + 7] = (uint8_t)desk;
-        expect(made.number == 0 && made.count == 2, "make for a desk: done, two cells");
-        expect(memcmp(sheet, expected, sizeof expected) == 0, "make for a desk: byte 7 is the desk");
-        pelzurivan_ran ran = pelzurivan_run(3, sheet, sizeof expected, 7);
-        expect(ran.number == 0 && ran.bit == 1, "run: a sheet for a desk");
-        pelzurivan_checked checked = pelzurivan_check(3, AND_OF_3, 1, sheet, sizeof expected);
-        expect(checked.number == 0, "check: a sheet for a desk is accepted");
-        sheet[7] = (uint8_t)(desk + 1);
-        checked = pelzurivan_check(3, AND_OF_3, 1, sheet, sizeof expected);
-        expect(checked.number == 10 && checked.place == (desk < 4), "check: 10 at the first record of another desk");
-    }
-}
-
-static void find_and_try(void) {
-    uint8_t work[PELZURIVAN_WORK], room[] = {PRESET, PRESET, PRESET};
-    const uint8_t select[] = {0xCA};
-    memset(work, PRESET, sizeof work);
-    pelzurivan_sought sought = pelzurivan_find(3, 2, AND_OF_3, 1, work, sizeof work);
-    expect(sought.number == 0 && sought.own == 3 && sought.shared == 0, "find: own 3, shared 0");
-    pelzurivan_tried tried = pelzurivan_try(3, 3, 3, 4, select, 1, room, sizeof room);
-    expect(tried.number == 0 && tried.d == 0xCA, "try: D of example 5");
-    expect(tried.b == 0 && tried.columns == 0, "try: no b is named where the split is possible");
-    expect(room[0] == 0x0C && room[1] == PRESET && room[2] == PRESET, "try: H of example 5");
-}
-
-/* Inputs that do nothing are set aside: table C0 is input 1 AND input 2, table FF is a constant (example 6). */
-static void unused_inputs(void) {
-    uint8_t sheet[PELZURIVAN_SHEET] = {0}, work[PELZURIVAN_WORK] = {0};
-    const uint8_t and_of_two[] = {0xC0}, constant[] = {0xFF};
-    const uint8_t and_cell[PELZURIVAN_RECORD] = {2, 1, 2, 255, 255, 255, 255, 0, 8};
-    const uint8_t constant_cell[PELZURIVAN_RECORD] = {1, 0, 255, 255, 255, 255, 255, 0, 3};
-    pelzurivan_made made = pelzurivan_make(3, 2, and_of_two, 1, sheet, sizeof sheet, work, sizeof work);
-    expect(made.number == 0 && made.count == 1, "make: one cell, since two inputs count");
-    expect(memcmp(sheet, and_cell, sizeof and_cell) == 0, "make: the cell reads the inputs that count");
-    made = pelzurivan_make(3, 2, constant, 1, sheet, sizeof sheet, work, sizeof work);
-    expect(made.number == 0 && made.count == 1, "make: one cell for a constant");
-    expect(memcmp(sheet, constant_cell, sizeof constant_cell) == 0, "make: it reads signal 0, with table 3");
-    expect(pelzurivan_find(3, 2, and_of_two, 1, work, sizeof work).number == 7, "find: 7, since two inputs count");
-}
-
-/* The majority of three out of cells of two, which no chain of splits makes: inputs 0 and 1 are each read twice. */
-static void a_sheet_for_any_gate(void) {
-    static const uint8_t two_of_four[] = {0xE8, 0xFE}, majority[] = {0xE8};
-    uint8_t sheet[PELZURIVAN_SHEET], work[PELZURIVAN_WORK], same[PELZURIVAN_SHEET];
-    memset(sheet, PRESET, sizeof sheet);
-    memset(work, PRESET, sizeof work);
-    pelzurivan_made made = pelzurivan_make(4, 3, two_of_four, sizeof two_of_four, sheet, sizeof sheet, work, sizeof work);
-    expect(made.number == 8 && made.count == 0, "make: at least 2 of 4 with cells of 3 is 8");
-    memset(work, PRESET, sizeof work);
-    made = pelzurivan_make_any(4, 3, 2, two_of_four, sizeof two_of_four, sheet, sizeof sheet, work, sizeof work);
-    expect(made.number == 0 && made.count == 3, "make_any: three cells");
-    expect(sheet[7] == 2 && all_are(PRESET, sheet + 3 * PELZURIVAN_RECORD, sizeof sheet - 3 * PELZURIVAN_RECORD),
-           "make_any: for the desk, and the bytes after the records stay");
-    expect(all_are(0, work, sizeof work), "make_any: the work area is zeros");
-    pelzurivan_checked checked = pelzurivan_check(4, two_of_four, sizeof two_of_four, sheet, sizeof EXAMPLE_2 / 2 * 3);
-    expect(checked.number == 0, "make_any: the check accepts the sheet");
-    memset(sheet, PRESET, sizeof sheet);
-    made = pelzurivan_make_any(3, 2, 0, majority, sizeof majority, sheet, sizeof sheet, work, sizeof work);
-    expect(made.number == 8 && made.count == 0 && all_are(PRESET, sheet, sizeof sheet), "make_any: 8 touches no byte");
-    made = pelzurivan_make_any(3, 2, 1, AND_OF_3, sizeof AND_OF_3, sheet, sizeof sheet, work, sizeof work);
-    memset(same, PRESET, sizeof same);
-    pelzurivan_made as_make = pelzurivan_make_for_desk(3, 2, 1, AND_OF_3, sizeof AND_OF_3, same, sizeof same, work,
-                                                       sizeof work);
-    expect(made.number == as_make.number && made.count == as_make.count && !memcmp(sheet, same, sizeof same),
-           "make_any: make's sheet where there is one");
-}
-
-static void check_a_suppliers_sheet(void) {
-    static const uint8_t majority[] = {0xE8};
-    uint8_t sheet[] = {
-        2, 0, 1, 255, 255, 255, 255, 0, 8, 0, 0, 0, 0, 0, 0, 0,
-        2, 0, 1, 255, 255, 255, 255, 0, 14, 0, 0, 0, 0, 0, 0, 0,
-        2, 2, 4, 255, 255, 255, 255, 0, 8, 0, 0, 0, 0, 0, 0, 0,
-        2, 3, 5, 255, 255, 255, 255, 0, 14, 0, 0, 0, 0, 0, 0, 0,
-    };
-    pelzurivan_checked ours = pelzurivan_check(3, AND_OF_3, 1, EXAMPLE_2, sizeof EXAMPLE_2);
-    expect(ours.number == 0 && ours.place == 0, "check: the sheet of example 2 is accepted");
-    pelzurivan_checked theirs = pelzurivan_check(3, majority, 1, sheet, sizeof sheet);
-    expect(theirs.number == 0 && theirs.place == 0, "check: a hand-wired majority is accepted");
-    pelzurivan_checked other = pelzurivan_check(3, AND_OF_3, 1, sheet, sizeof sheet);
-    expect(other.number == 12 && other.place == 3, "check: 12, the majority isn't the AND, first at assignment 3");
-    sheet[2 * PELZURIVAN_RECORD + 8] = 0;
-    pelzurivan_checked damaged = pelzurivan_check(3, majority, 1, sheet, sizeof sheet);
-    expect(damaged.number == 12 && damaged.place == 5, "check: 12, a changed table, first seen at assignment 5");
-    sheet[3 * PELZURIVAN_RECORD] = 7;
-    pelzurivan_checked bad = pelzurivan_check(3, majority, 1, sheet, sizeof sheet);
-    expect(bad.number == 10 && bad.place == 3, "check: 10, record 3");
-}
-
-/* XOR of three where input 3 is 0, else their majority: with input 3 shared it breaks only where that is 1. */
-static void where_a_split_breaks(void) {
-    const uint8_t table[] = {0x96, 0xE8};
-    uint8_t room[] = {PRESET, PRESET};
-    pelzurivan_tried tried = pelzurivan_try(4, 3, 3, 8, table, sizeof table, room, sizeof room);
-    expect(tried.number == 8 && tried.d == 0 && room[0] == PRESET, "try: 8 leaves the room");
-    expect(tried.b == 1 && tried.columns == 3, "try: 8, three columns at b = 1");
-}
-
-/* The sheet of example 2 with inputs 0 and 1 at 1 and from 1/2 to 2, input 2 at 3 1/4, and 1/4 a cell: the first cell
- * settles from 3/4 to 2 1/4, the second from 1 to 3 1/2. */
-static void settle_and_slack(void) {
-    pelzurivan_times times = {.kind = {1, 2, 1}, .first = {1, 0.5, 3.25}, .second = {-1, 2, -1}};
-    pelzurivan_settled settled = pelzurivan_settle(3, EXAMPLE_2, sizeof EXAMPLE_2, 0.25, times);
-    expect(settled.number == 0 && settled.index == 0, "settle: done");
-    expect(settled.earliest == 1 && settled.latest == 3.5, "settle: from 1 to 3 1/2");
-    pelzurivan_slack_answer slack = pelzurivan_slack(3, EXAMPLE_2, sizeof EXAMPLE_2, 0.25, times, 48);
-    expect(slack.number == 0 && slack.index == 0 && slack.slack == -8, "slack: half a nanosecond too late");
-    slack = pelzurivan_slack(3, EXAMPLE_2, sizeof EXAMPLE_2, 0.3, times, 48);
-    expect(slack.number == 14 && slack.slack == 0, "slack: 14, the delay isn't in sixteenths");
-    times.kind[2] = 0;
-    settled = pelzurivan_settle(3, EXAMPLE_2, sizeof EXAMPLE_2, 0.25, times);
-    expect(settled.number == 13 && settled.earliest == 0 && settled.latest == 0, "settle: 13, a missing time");
-}
-
-/* The sheet of example 2 padded with a cell that nobody reads, as record 1. */
-static const uint8_t PADDED[] = {
-    2, 0, 1, 255, 255, 255, 255, 0, 8, 0, 0, 0, 0, 0, 0, 0,
-    1, 0, 255, 255, 255, 255, 255, 0, 2, 0, 0, 0, 0, 0, 0, 0,
-    2, 2, 3, 255, 255, 255, 255, 0, 8, 0, 0, 0, 0, 0, 0, 0,
-};
-
-static void a_cell_that_nobody_reads(void) {
-    uint8_t table[] = {PRESET};
-    pelzurivan_ran ran = pelzurivan_run(3, PADDED, sizeof PADDED, 7);
-    expect(ran.number == 15 && ran.bit == 0 && ran.index == 1, "run: 15, record 1");
-    expect(pelzurivan_run(3, PADDED, sizeof PADDED, 8).number == 11, "run: 11 comes before 15");
-    pelzurivan_rebuilt rebuilt = pelzurivan_rebuild(3, PADDED, sizeof PADDED, table, 1);
-    expect(rebuilt.number == 15 && rebuilt.index == 1 && table[0] == PRESET, "rebuild: 15, record 1");
-    pelzurivan_checked checked = pelzurivan_check(3, AND_OF_3, 1, PADDED, sizeof PADDED);
-    expect(checked.number == 15 && checked.place == 1, "check: 15, record 1");
-}
-
-static pelzurivan_shorter_answer shorter_for_and(const uint8_t *first, size_t first_length, const uint8_t *second,
-                                                 size_t second_length) {
-    return pelzurivan_shorter(3, AND_OF_3, 1, first, first_length, second, second_length);
-}
-
-/* The AND of three in one cell of three, in two of two, and padded. */
-static void the_shorter_sheet(void) {
-    static const uint8_t one_cell[PELZURIVAN_RECORD] = {3, 0, 1, 2, 255, 255, 255, 0, 0x80};
-    pelzurivan_shorter_answer a = shorter_for_and(EXAMPLE_2, sizeof EXAMPLE_2, one_cell, sizeof one_cell);
-    expect(a.which == 2 && a.length == sizeof one_cell && a.number == 0, "shorter: the second has fewer records");
-    a = shorter_for_and(EXAMPLE_2, sizeof EXAMPLE_2, EXAMPLE_2, sizeof EXAMPLE_2);
-    expect(a.which == 1 && a.length == sizeof EXAMPLE_2 && a.number == 0, "shorter: the first on a tie");
-    a = shorter_for_and(one_cell, 1, EXAMPLE_2, sizeof EXAMPLE_2);
-    expect(a.which == 2 && a.length == sizeof EXAMPLE_2 && a.number == 0, "shorter: only the second is accepted");
-    a = shorter_for_and(PADDED, sizeof PADDED, EXAMPLE_2, PELZURIVAN_RECORD);
-    expect(a.which == 0 && a.length == 0 && a.number == 15, "shorter: neither, and the first's refusal");
-}
-
-/* The sheet of example 2, for a desk. */
-static void for_desk(uint8_t desk, uint8_t sheet[sizeof EXAMPLE_2]) {
-    memcpy(sheet, EXAMPLE_2, sizeof EXAMPLE_2);
-    sheet[7] = sheet[PELZURIVAN_RECORD + 7] = desk;
-}
-
-/* Desk 2 is loaded, cut before its last store, and finished; then desks 1 and 3 store by store in turns. */
-static void four_desks(void) {
-    enum { STORES = 257 };
-    uint8_t card[PELZURIVAN_CARD], other[PELZURIVAN_CARD], one[sizeof EXAMPLE_2], two[sizeof EXAMPLE_2];
-    memset(card, PRESET, sizeof card);
-    for_desk(2, two);
-    pelzurivan_loaded loaded = pelzurivan_load_cut(card, sizeof card, 2, 3, two, sizeof two, STORES - 1);
-    expect(loaded.number == 0 && pelzurivan_run_desk(card, sizeof card, 2, 7).number == 18, "a cut load: 18");
-    loaded = pelzurivan_load(card, sizeof card, 2, 3, two, sizeof two);
-    expect(loaded.number == 0 && loaded.index == 0, "load: done");
-    for (uint64_t x = 0; x < 8; x++) {
-        pelzurivan_ran ran = pelzurivan_run_desk(card, sizeof card, 2, x);
-        expect(ran.number == 0 && ran.bit == (x == 7) && ran.index == 0, "run a desk: the AND of three");
-    }
-    expect(all_are(PRESET, card, 256) && all_are(PRESET, card + 512, 512), "load: the other desks' bytes stay");
-
-    memcpy(other, card, sizeof card);
-    for_desk(1, one);
-    for_desk(3, two);
-    for (uint64_t i = 0; i <= STORES; i++) {
-        pelzurivan_load_store(card, sizeof card, 1, 3, one, sizeof one, i);
-        pelzurivan_load_store(card, sizeof card, 3, 3, two, sizeof two, i);
-    }
-    pelzurivan_load(other, sizeof other, 3, 3, two, sizeof two);
-    pelzurivan_load(other, sizeof other, 1, 3, one, sizeof one);
-    expect(memcmp(card, other, sizeof card) == 0, "two loads at once: the card of one after the other");
-
-    expect(pelzurivan_load(card, sizeof card, 1, 3, two, sizeof two).number == 19, "load: 19, another desk's sheet");
-    expect(pelzurivan_run_desk(card, sizeof card, 5, 0).number == 19, "run a desk: 19");
-    expect(pelzurivan_run_desk(card, sizeof card - 1, 5, 0).number == 20, "run a desk: 20 comes before 19");
-    two[PELZURIVAN_RECORD + 7] = 0;
-    loaded = pelzurivan_load(card, sizeof card, 3, 3, two, sizeof two);
-    expect(loaded.number == 10 && loaded.index == 1, "load: 10, record 1");
-    expect(memcmp(card, other, sizeof card) == 0, "load: a refusal leaves the card");
-}
-
-/* The sheet of example 2 prints (c&(a&b)), which reads as its table. */
-static void formulas_both_ways(void) {
-    static const char text[] = "(c&(a&b))";
-    const size_t length = sizeof text - 1;
-    uint8_t room[PELZURIVAN_TEXT + 1], table[] = {PRESET};
-    memset(room, PRESET, sizeof room);
-    pelzurivan_formula_written written = pelzurivan_write_formula(3, EXAMPLE_2, sizeof EXAMPLE_2, room, sizeof room);
-    expect(written.number == 0 && written.length == length && written.place == 0, "write: done, nine bytes");
-    expect(memcmp(room, text, length) == 0, "write: the formula of example 2");
-    expect(all_are(PRESET, room + length, sizeof room - length), "write: the bytes past the text stay");
-    pelzurivan_formula_read read = pelzurivan_read_formula(3, room, written.length, table, sizeof table);
-    expect(read.number == 0 && table[0] == AND_OF_3[0], "read: the table back");
-    read = pelzurivan_read_formula(2, room, written.length, table, sizeof table);
-    expect(read.number == 16 && read.place == 1, "read: 16 at a letter beyond n");
-    written = pelzurivan_write_formula(3, EXAMPLE_2, sizeof EXAMPLE_2, room, PELZURIVAN_TEXT - 1);
-    expect(written.number == 6 && written.length == 0, "write: 6, a short room");
-    written = pelzurivan_write_formula(3, PADDED, sizeof PADDED, room, sizeof room);
-    expect(written.number == 16 && written.place == 0 && written.length == 0, "write: 16, a cell that nobody reads");
-}
-
-/* Masks are whole numbers: 65,539 names a position from n up, whatever its low 16 bits say. */
-static void masks_above_16_bits(void) {
-    static uint8_t table[8192], room[4096];
-    const uint64_t beyond[] = {65539, (UINT64_C(1) << 32) + 3, (UINT64_C(1) << 63) + 3};
-    memset(room, PRESET, sizeof room);
-    for (size_t i = 0; i < sizeof beyond / sizeof beyond[0]; i++) {
-        pelzurivan_tried own = pelzurivan_try(16, 6, beyond[i], 0, table, sizeof table, room, sizeof room);
-        expect(own.number == 5 && own.d == 0, "try: 5 for an own mask above 16 bits");
-        pelzurivan_tried shared = pelzurivan_try(16, 6, 12, beyond[i], table, sizeof table, room, sizeof room);
-        expect(shared.number == 5 && shared.d == 0, "try: 5 for a shared mask above 16 bits");
-    }
-    expect(all_are(PRESET, room, sizeof room), "try: 5 leaves the room");
-    expect(pelzurivan_try(16, 6, 3, 0, table, sizeof table, room, sizeof room).number == 0, "try: 3 is a mask");
-}
-
-static void refusals(void) {
-    uint8_t sheet[PELZURIVAN_SHEET], work[PELZURIVAN_WORK], bad[sizeof EXAMPLE_2];
-    memset(sheet, PRESET, sizeof sheet);
-    memset(work, PRESET, sizeof work);
-    const uint8_t majority[] = {0xE8};
-    pelzurivan_made made = pelzurivan_make(3, 2, majority, 1, sheet, sizeof sheet, work, sizeof work);
-    expect(made.number == 8 && made.count == 0, "make: 8 for the majority of three");
-    expect(all_are(PRESET, sheet, sizeof sheet) && all_are(0, work, sizeof work), "make: 8 leaves the sheet");
-    expect(pelzurivan_find(3, 3, majority, 1, work, sizeof work).number == 7, "find: 7");
-    expect(pelzurivan_try(3, 2, 7, 0, majority, 1, sheet, 1).number == 5, "try: 5");
-    expect(pelzurivan_run(3, EXAMPLE_2, sizeof EXAMPLE_2, 8).number == 11, "run: 11");
-    memcpy(bad, EXAMPLE_2, sizeof bad);
-    bad[PELZURIVAN_RECORD + 7] = 1;
-    pelzurivan_ran ran = pelzurivan_run(3, bad, sizeof bad, 0);
-    expect(ran.number == 10 && ran.bit == 0 && ran.index == 1, "run: 10, record 1");
-    pelzurivan_rebuilt rebuilt = pelzurivan_rebuild(3, bad, sizeof bad, work, 1);
-    expect(rebuilt.number == 10 && rebuilt.index == 1 && work[0] == 0, "rebuild: 10, record 1");
-}
-
 int main(void) {
-    make_and_run();
-    a_sheet_for_a_desk();
-    find_and_try();
-    unused_inputs();
-    a_sheet_for_any_gate();
-    check_a_suppliers_sheet();
-    where_a_split_breaks();
-    settle_and_slack();
-    a_cell_that_nobody_reads();
-    the_shorter_sheet();
-    four_desks();
-    formulas_both_ways();
-    masks_above_16_bits();
-    refusals();
+    making();
+    reading();
     printf("tests/c: %d of %d checks hold\n", checks - faults, checks);
     return faults != 0;
 }

@@ -1,6 +1,8 @@
 #define _POSIX_C_SOURCE 199309L
 #include "fields.h"
 
+#include "fence.h"
+
 #include <stdio.h>
 #include <stdlib.h>
 #include <string.h>
@@ -13,14 +15,14 @@ uint8_t preset = 0xAA;
 
 static uint8_t pool[POOL], before[POOL];
 static size_t used;
-static area lent_areas[MOST_AREAS];
-static size_t lent_count;
+static area areas[MOST_AREAS], lent_areas[MOST_AREAS];
+static size_t area_count, lent_count;
 static const char *not_whole;
 static struct timespec began, ended;
 
 int next_code(void) {
     used = 0;
-    lent_count = 0;
+    area_count = lent_count = 0;
     not_whole = NULL;
     return getchar();
 }
@@ -67,6 +69,7 @@ static area part(size_t most) {
     area a = {pool + used, length};
     used += length;
     guard();
+    areas[area_count++] = a;
     return a;
 }
 
@@ -84,18 +87,33 @@ static area writable(area a) {
 area lent(size_t most) {
     area a = part(most);
     memset(a.bytes, preset, a.length);
+    VALGRIND_MAKE_MEM_UNDEFINED(a.bytes, a.length);
     return writable(a);
 }
 
 area shared(size_t most) { return writable(handed(most)); }
 
+/* Nothing but the areas may be touched. */
+static void fence(void) {
+    uint8_t *from = pool;
+    for (size_t i = 0; i < area_count; i++) {
+        VALGRIND_MAKE_MEM_NOACCESS(from, (size_t)(areas[i].bytes - from));
+        from = areas[i].bytes + areas[i].length;
+    }
+    VALGRIND_MAKE_MEM_NOACCESS(from, (size_t)(pool + POOL - from));
+    VALGRIND_MAKE_MEM_NOACCESS(before, sizeof before);
+}
+
 void start(void) {
     memcpy(before, pool, used);
+    fence();
     clock_gettime(CLOCK_MONOTONIC, &began);
 }
 
 void stop(void) {
     clock_gettime(CLOCK_MONOTONIC, &ended);
+    VALGRIND_MAKE_MEM_DEFINED(pool, sizeof pool);
+    VALGRIND_MAKE_MEM_DEFINED(before, sizeof before);
     size_t seen = 0;
     for (size_t i = 0; i <= lent_count; i++) {
         size_t end = i < lent_count ? (size_t)(lent_areas[i].bytes - pool) : used;

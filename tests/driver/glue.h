@@ -47,4 +47,10 @@ void check_told(void);
 void rewrite(void);
 void bound(void);
 
+/* The calls on a card, in cards.c. */
+void load(void);
+void load_cut(void);
+void load_store(void);
+void run_desk(void);
+
 #endif

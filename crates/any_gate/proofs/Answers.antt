@@ -1,23 +1,19 @@
 -- What make_any answers, from make's answer and from the chain with several first cells. Assumes nothing.
-use mathlib.Core.Path.{_≡_, refl, sym, ap, ap₂, _∙_, subst}
+use mathlib.Core.Path.{_≡_, refl, sym, ap, _∙_}
 use mathlib.Core.Bool.{Bool, true, false, cond}
 use mathlib.Core.List.{List, [], _∷_, _++_}
-use Prim.Native.Nat.{ℕ, _*_, _^_, _<_, _≤_}
+use Prim.Native.Nat.{ℕ, _^_, _<_, _≤_}
 use native.Mathlib.Omega.{arith}
-use lib.Dec.{eqb, leb}
 use lib.ListN.{length, drop, replicate}
-use borrow.Author.Tests.{ne-eqb, le-leb, lt-leb}
+use borrow.Author.Tests.{le-leb, lt-leb}
 use Rattle.bits.specs.Numbers.{number}
 use Rattle.bits.proofs.Bools.{clash}
 use Rattle.tables.specs.Table.{tableBit}
 use Rattle.splits.specs.Columns.{mostFirst}
 use Rattle.sheets.specs.declared.kinds.Edition.{Edition}
-use Rattle.sheets.specs.declared.kinds.Sheet.{Sheet}
 use Rattle.sheets.specs.Edition.{mostRecords}
 use Rattle.sheets.specs.Writing.{sheetBytes}
 use Rattle.sheets.specs.Held.{cellsOf}
-use Rattle.sheets.specs.Network.{Cell}
-use Rattle.sheets.proofs.Wholes.{length-sheet}
 use Rattle.chains.specs.Chain.{Made, stuck, made}
 use Rattle.chains.specs.Aside.{cellsAside}
 use Rattle.chains.specs.Any.{Any, sheet, unsplit, overlong, severally, either, anyAside}
@@ -29,10 +25,9 @@ use Rattle.refusals.specs.declared.verdicts.Verdict.{Verdict}
 use Rattle.refusals.specs.declared.verdicts.Verdict.the-variants.{Fine, Refused}
 use Rattle.refusals.specs.Lines.{Line, InOrder, refusal, verdict, numberOf, reply}
 use Rattle.refusals.specs.Refusals.{chainStuck}
-use Rattle.refusals.specs.Lent.{workAfter}
-use Rattle.refusals.proofs.Lines.{passes, stops, in-order, passed, another}
+use Rattle.refusals.proofs.Lines.{passes, stops, in-order, passed}
 use Rattle.bench.specs.MakeSheet.{MakeOutcome, sheetFor, cellsIn, makeForm, makeLines, makeDone, makeNot, makeOutcome}
-use Rattle.any_gate.specs.MakeAny.{anyFor, cellsAny, anySays, anyLines, areaAfter, anyNot, anyOutcome}
+use Rattle.any_gate.specs.MakeAny.{anyFor, cellsAny, anySays, anyOutcome}
 
 -- ---- from make's answer
 module _ (e : Edition) (d n K : ℕ) (t s work : List ℕ) where
@@ -44,7 +39,7 @@ module _ (e : Edition) (d n K : ℕ) (t s work : List ℕ) where
   byMake x = reply (verdict (chainStuck x ∷ [])) (makeDone e d (cellsIn x) s work) (makeNot s work)
 
   abbrev byAny : Any → List ℕ → MakeOutcome
-  byAny a w = reply (verdict (anySays a)) (makeDone e d (cellsAny a) s w) (anyNot s w)
+  byAny a w = reply (verdict (anySays a)) (makeDone e d (cellsAny a) s w) (makeNot s w)
 
   -- the chain with several first cells
   abbrev others : Made
@@ -55,9 +50,7 @@ module _ (e : Edition) (d n K : ℕ) (t s work : List ℕ) where
   unfolding makeOutcome anyOutcome
   refused-alike r q =
       ap (λ (v : Verdict). reply v (makeDone e d (cellsIn (sheetFor n K t)) s work) (makeNot s work)) (stops form (chainStuck (sheetFor n K t) ∷ []) r q)
-      ∙ ap (λ (b : Bool). record { answer = record { verdict = Refused r; count = 0 }; sheet = s; work = cond b (replicate (length work) 0) (workAfter (Refused r) work) })
-      (sym (ne-eqb (r .number) 17 (another form 17 r refl q)))
-      ∙ ap (λ (v : Verdict). reply v (makeDone e d (cellsAny (anyFor n K t)) s work) (anyNot s work)) (sym (stops form (anySays (anyFor n K t)) r q))
+      ∙ ap (λ (v : Verdict). reply v (makeDone e d (cellsAny (anyFor n K t)) s work) (makeNot s work)) (sym (stops form (anySays (anyFor n K t)) r q))
 
   -- both are in order: the chains decide
   make-by : InOrder form → makeOutcome e d n K t s work ≡ byMake (sheetFor n K t)
@@ -66,7 +59,7 @@ module _ (e : Edition) (d n K : ℕ) (t s work : List ℕ) where
 
   any-by : InOrder form → anyOutcome e d n K t s work ≡ byAny (either (sheetFor n K t) others) work
   unfolding anyOutcome anyAside
-  any-by o = ap (λ (v : Verdict). reply v (makeDone e d (cellsAny (anyFor n K t)) s work) (anyNot s work)) (passes form (anySays (anyFor n K t)) o)
+  any-by o = ap (λ (v : Verdict). reply v (makeDone e d (cellsAny (anyFor n K t)) s work) (makeNot s work)) (passes form (anySays (anyFor n K t)) o)
 
   -- where make gives another number than 8, its outcome is make_any's
   pub as-make : (numberOf (makeOutcome e d n K t s work .answer .verdict) ≡ 8 → ⊥) → makeOutcome e d n K t s work ≡ anyOutcome e d n K t s work
@@ -104,16 +97,13 @@ module _ (e : Edition) (d n K : ℕ) (t s work : List ℕ) where
     is-not : makeOutcome e d n K t s work ≡ makeNot s work (refusal 8 0)
     is-not = make-by eight-form ∙ ap byMake is-stuck
 
-    -- the sheet is as it was lent, and the work area is zeros
+    -- the sheet is as it was lent
     pub eight-sheet : makeOutcome e d n K t s work .sheet ≡ s
     eight-sheet = ap (λ (m : MakeOutcome). m .sheet) is-not
 
-    pub eight-work : makeOutcome e d n K t s work .work ≡ replicate (length work) 0
-    eight-work = ap (λ (m : MakeOutcome). m .work) is-not
-
     -- the other chain decides, with any work area of that length
     pub by-several : (w : List ℕ) → length w ≡ length work
-        → reply (verdict (anySays (severally others))) (makeDone e d (cellsAny (severally others)) s w) (anyNot s w) ≡ anyOutcome e d n K t s work
+        → reply (verdict (anySays (severally others))) (makeDone e d (cellsAny (severally others)) s w) (makeNot s w) ≡ anyOutcome e d n K t s work
     by-several w l = same (severally others) ∙ sym (any-by eight-form ∙ ap (λ (x : Made). byAny (either x others) work) is-stuck)
       where
         same : (a : Any) → byAny a w ≡ byAny a work
@@ -148,12 +138,3 @@ module _ (r : ChainEnd) where
         answer = ap (λ (b : Bool). cond b (sheet cs) overlong) (le-leb (length cs) mostRecords few) ∙ ap sheet (sym cells);
         count = sym (cells-count (r .sheet)) ∙ ap length cells ∙ sym (w .1);
       }
-
--- a held sheet written: its count, and its records over the first bytes
-pub written : (e : Edition) (d : ℕ) (held : Sheet) (s work : List ℕ)
-    → record { answer = record { verdict = Fine; count = held .count }; sheet = sheetBytes e d (cellsOf held) ++ drop (e .size * held .count) s; work = replicate (length work) 0 }
-    ≡ makeDone e d (cellsOf held) s work
-written e d held s work =
-    let count = cells-count held in
-    ap₂ (λ (k m : ℕ). record { answer = record { verdict = Fine; count = k }; sheet = sheetBytes e d (cellsOf held) ++ drop m s; work = replicate (length work) 0 })
-    (sym count) (sym (length-sheet e d (cellsOf held) ∙ ap (λ (k : ℕ). e .size * k) count))

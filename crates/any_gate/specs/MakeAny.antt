@@ -1,21 +1,15 @@
 -- Make a sheet for any gate, for a desk: how many cells, and their records in a lent sheet. Where make has a sheet it is
 -- that one; else that of the chain with several first cells at a step.
-use mathlib.Core.Bool.{Bool, true, false, cond}
+use mathlib.Core.Bool.{Bool, true, false}
 use mathlib.Core.List.{List, [], _∷_, _++_}
 use Prim.Native.Nat.{ℕ, _^_}
-use lib.Dec.{eqb}
-use lib.ListN.{length, replicate}
 use Rattle.bits.specs.Numbers.{number}
 use Rattle.tables.specs.Table.{tableBit}
 use Rattle.sheets.specs.declared.kinds.Edition.{Edition}
 use Rattle.sheets.specs.Network.{Cell}
 use Rattle.chains.specs.Any.{Any, sheet, unsplit, overlong, anyAside}
-use Rattle.refusals.specs.declared.verdicts.Refusal.{Refusal}
-use Rattle.refusals.specs.declared.verdicts.Verdict.{Verdict}
-use Rattle.refusals.specs.declared.verdicts.Verdict.the-variants.{Refused}
-use Rattle.refusals.specs.Lines.{Line, line, verdict, numberOf, reply}
-use Rattle.refusals.specs.Lent.{workAfter}
-use Rattle.bench.specs.MakeSheet.{MakeOutcome, makeForm, makeDone}
+use Rattle.refusals.specs.Lines.{Line, line, verdict, reply}
+use Rattle.bench.specs.MakeSheet.{MakeOutcome, makeForm, makeDone, makeNot}
 
 -- the answer for a gate's table, as a number, with what does not count set aside
 abbrev pub anyFor : ℕ → ℕ → List ℕ → Any
@@ -53,19 +47,7 @@ anySays a = noneAny a ∷ tooLong a ∷ []
 abbrev pub anyLines : Edition → ℕ → ℕ → ℕ → List ℕ → List ℕ → List ℕ → List Line
 anyLines e d n K t s work = makeForm e d n K t s work ++ anySays (anyFor n K t)
 
--- the work area after a verdict: zeros after 0, 8 and 17, else as it was found
-abbrev pub areaAfter : Verdict → List ℕ → List ℕ
-areaAfter v work = cond (eqb (numberOf v) 17) (replicate (length work) 0) (workAfter v work)
-
--- refused: the count is 0, and the sheet is as it was lent
-abbrev pub anyNot : List ℕ → List ℕ → Refusal → MakeOutcome
-anyNot s work r = record {
-  answer = record { verdict = Refused r; count = 0 };
-  sheet = s;
-  work = areaAfter (Refused r) work;
-}
-
--- what it is to return and leave for the desk d, whatever is handed over
+-- what it is to return and leave for the desk d, whatever is handed over: done or refused, as make does
 unfoldable pub anyOutcome : Edition → ℕ → ℕ → ℕ → List ℕ → List ℕ → List ℕ → MakeOutcome
 anyOutcome e d n K t s work =
-    reply (verdict (anyLines e d n K t s work)) (makeDone e d (cellsAny (anyFor n K t)) s work) (anyNot s work)
+    reply (verdict (anyLines e d n K t s work)) (makeDone e d (cellsAny (anyFor n K t)) s work) (makeNot s work)

@@ -22,8 +22,8 @@ ghost use Rattle.chains.specs.Any.{severally};
 ghost use Rattle.making.specs.Area.{workLength};
 ghost use Rattle.refusals.specs.declared.verdicts.Verdict.the-variants.{Refused};
 ghost use Rattle.refusals.specs.Lines.{refusal, verdict, reply};
-ghost use Rattle.bench.specs.MakeSheet.{makeDone};
-ghost use Rattle.any_gate.specs.MakeAny.{cellsAny, anySays, anyNot, anyOutcome};
+ghost use Rattle.bench.specs.MakeSheet.{makeDone, makeNot};
+ghost use Rattle.any_gate.specs.MakeAny.{cellsAny, anySays, anyOutcome};
 
 // A refusal: nothing was made.
 fn refused(number: u8) -> MakeAnswer
@@ -56,7 +56,7 @@ fn write_several(
         ≡ reply (verdict (anySays (severally (cellsAside mostFirst n k (number (2 ^ n) (tableBit (now (t .entry))))))))
         (makeDone e d (cellsAny (severally (cellsAside mostFirst n k (number (2 ^ n) (tableBit (now (t .entry)))))))
         (now (sheet .entry)) (now (work .entry)))
-        (anyNot (now (sheet .entry)) (now (work .entry)))
+        (makeNot (now (sheet .entry)) (now (work .entry)))
         ⌝ }
 {
     let chain = chain_upto(t, n, Split::MOST_FIRST as u32, k, work);

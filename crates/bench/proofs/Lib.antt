@@ -1,2 +1,3 @@
--- The laws of the bench program.
+-- The laws of make, and of the bench program.
+pub mod Written
 pub mod BenchProgram

@@ -1,8 +1,8 @@
 -- What is computed is the bound: by the chain with cells of two inputs, else by the best split. Assumes nothing.
 use mathlib.Core.Path.{_≡_, refl, sym, ap, ap₂, _∙_, subst}
 use mathlib.Core.Bool.{Bool, true, false, cond}
-use mathlib.Core.List.{List, [], _∷_}
-use Prim.Native.Nat.{ℕ, suc, _+_, _-_, _*_, _^_, _<_, _≤_, max}
+use mathlib.Core.List.{[], _∷_}
+use Prim.Native.Nat.{ℕ, _+_, _-_, _^_, _<_, _≤_, max}
 use native.Mathlib.Decide.{decLt}
 use native.Mathlib.Omega.{arith}
 use lib.Dec.{leb, eqb}
@@ -15,7 +15,7 @@ use Rattle.bits.proofs.Sizes.{size-ext}
 use Rattle.bits.proofs.Counting.{size-none}
 use Rattle.best.specs.Search.{Answer, none, split}
 use Rattle.best.specs.Counting.{bestCounting}
-use Rattle.sheets.specs.Network.{Cell, Carries}
+use Rattle.sheets.specs.Network.{Carries}
 use Rattle.chains.specs.Chain.{Made, stuck, made}
 use Rattle.chains.specs.Aside.{sheetAside}
 use Rattle.chains.proofs.Aside.{table-most}
@@ -23,7 +23,7 @@ use Rattle.trees.proofs.Trees.{made-tree, stuck-treeless}
 use Rattle.splitting.specs.FindBest.{ownOf}
 use Rattle.bounds.specs.Bound.{counted, Bound, one, two, treeless, more}
 use Rattle.bounds.specs.Least.{reaching, bySplit, byChain, leastCells}
-use Rattle.bounds.proofs.Two.{made-carries, few-made, two-fits, fits-made}
+use Rattle.bounds.proofs.Two.{made-carries, two-fits, fits-made}
 use Rattle.bounds.proofs.Reaching.{reached, reaching-least}
 
 -- ---- the three ways to compute it

@@ -1,12 +1,12 @@
 -- The isolation as the calls have it: whether a load is accepted does not depend on what is on the card, and every
 -- mingling of the stores of accepted loads ends in the card that one call after another leaves. Assumes nothing.
 use mathlib.Core.Path.{_≡_, refl, sym, ap, ap₂, _∙_}
-use mathlib.Core.Bool.{Bool, true, false, cond, not}
-use mathlib.Core.List.{List, [], _∷_, _++_}
-use Prim.Native.Nat.{ℕ, suc, _<_, _≤_}
+use mathlib.Core.Bool.{not}
+use mathlib.Core.List.{List, [], _∷_}
+use Prim.Native.Nat.{ℕ, suc, _<_}
 use native.Mathlib.Omega.{arith}
 use lib.Dec.{eqb}
-use lib.ListN.{length, getD, set, take, drop}
+use lib.ListN.{length, set, take}
 use lib.Seq.{drop-cons, take-suc}
 use Rattle.refusals.specs.declared.verdicts.Refusal.{Refusal}
 use Rattle.refusals.specs.declared.verdicts.Verdict.{Verdict}
@@ -17,7 +17,7 @@ use Rattle.cards.specs.declared.stores.Store.{Store}
 use Rattle.cards.specs.Card.{cardBytes}
 use Rattle.cards.specs.Stores.{storing, made, loadStores, storeCount, storeAt, cutLoad, oneStore}
 use Rattle.cards.specs.Refusals.{badLoad, filedLines}
-use Rattle.cards.specs.LoadDesk.{loadLines, loadDone, loadNot, partOutcome, loadOutcome}
+use Rattle.cards.specs.LoadDesk.{loadLines, loadDone, loadNot, partOutcome}
 use Rattle.cards.specs.Mingling.{Load, storesOf, inTurn, waiting, Mingling, accepted, called}
 use Rattle.cards.proofs.Making.{made-append, made-length}
 use Rattle.cards.proofs.Order.{length-load}

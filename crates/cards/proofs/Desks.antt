@@ -1,13 +1,13 @@
 -- What a desk answers: by its own bytes alone; closed while it is loaded; and then as its sheet does on the bench.
 -- Assumes nothing.
-use mathlib.Core.Path.{_≡_, refl, sym, ap, ap₂, _∙_, subst}
+use mathlib.Core.Path.{_≡_, refl, sym, ap, ap₂, _∙_}
 use mathlib.Core.Bool.{Bool, true, false, cond, not, _&&_, _||_}
 use mathlib.Core.List.{List, [], _∷_, _++_}
-use Prim.Native.Nat.{ℕ, zero, suc, _+_, _-_, _*_, _/_, _%_, _^_, _<_, _≤_}
+use Prim.Native.Nat.{ℕ, zero, suc, _*_, _/_, _%_, _^_, _<_, _≤_}
 use native.Mathlib.Decide.{decLt}
 use native.Mathlib.Omega.{arith}
 use lib.Dec.{leb, ltb, eqb}
-use lib.ListN.{length, getD, take, drop}
+use lib.ListN.{length, take}
 use lib.Seq.{take-all, length-take-le}
 use borrow.Author.Tests.{eq-eqb, ne-eqb, eqb-true, eqb-false, le-leb, lt-leb, leb-false, not-false}
 use Rattle.tables.specs.Table.{mostInputs}
@@ -24,9 +24,9 @@ use Rattle.refusals.proofs.Lines.{here, later, decides, passes, lapses, in-orde
 use Rattle.refusals.proofs.Tests.{inside}
 use Rattle.refusals.proofs.Sheets.{good-sheet, runnable}
 use Rattle.running.specs.declared.run_sheet.RunAnswer.{RunAnswer}
-use Rattle.running.specs.RunSheet.{runLines, runDone, runNot, runOutcome}
+use Rattle.running.specs.RunSheet.{runDone, runNot, runOutcome}
 use Rattle.cards.specs.declared.stores.Store.{Store}
-use Rattle.cards.specs.Card.{desks, placeBytes, deskBytes, cardBytes, ownBytes, mark, inputs, cells, sheetOn}
+use Rattle.cards.specs.Card.{desks, deskBytes, cardBytes, ownBytes, mark, inputs, cells, sheetOn}
 use Rattle.cards.specs.Stores.{made, loadStores, storeCount, cutLoad, onto, Holds}
 use Rattle.cards.specs.Refusals.{badCard, noDesk, anotherDesk, badDesk, closed, badCount, filedLines}
 use Rattle.cards.specs.LoadDesk.{loadLines}

@@ -1,15 +1,15 @@
 -- A desk while it is loaded, and afterwards: its own bytes. Assumes nothing.
-use mathlib.Core.Path.{_≡_, refl, sym, ap, _∙_}
+use mathlib.Core.Path.{_≡_, ap, _∙_}
 use mathlib.Core.List.{List, [], _∷_, _++_}
 use Prim.Native.Nat.{ℕ, zero, suc, _+_, _-_, _*_, _<_, _≤_}
 use native.Mathlib.Nat.{not-suc-le-zero}
 use native.Mathlib.Omega.{arith}
-use lib.ListN.{length, getD, set, take, drop, length-set}
+use lib.ListN.{length, getD, set, take, length-set}
 use lib.Seq.{ext-getD, getD-set-same, getD-set-other, getD-take, length-take-le, take-append-le}
 use Rattle.sheets.specs.Edition.{recordSize, mostRecords, firstEdition}
 use Rattle.sheets.specs.Sheet.{records}
 use Rattle.cards.specs.Card.{desks, placeBytes, deskBytes, cardBytes, base, ownBytes, mark, inputs, cells, sheetOn}
-use Rattle.cards.specs.Stores.{made, upward, placeByte, statusByte, marking, filling, loadStores, storeCount, cutLoad, Holds}
+use Rattle.cards.specs.Stores.{made, placeByte, statusByte, marking, filling, loadStores, storeCount, cutLoad, Holds}
 use Rattle.cards.proofs.Making.{every-take, made-append, made-length, untouched, upward-out, upward-in, own-at}
 use Rattle.cards.proofs.Order.{places, status, length-filling, avoids-mark}
 

@@ -6,7 +6,7 @@ use Prim.Native.Nat.{ℕ, _*_, _<_, _≤_, min}
 use native.Mathlib.Decide.{decLt}
 use native.Mathlib.Omega.{arith}
 use lib.Dec.{leb, eqb}
-use lib.ListN.{length, getD, take, length-take}
+use lib.ListN.{length, take, length-take}
 use lib.Seq.{ext-getD, getD-take}
 use borrow.Author.Tests.{lt-leb}
 use Rattle.sheets.specs.Edition.{recordSize, mostRecords, firstEdition}
@@ -14,7 +14,7 @@ use Rattle.refusals.specs.Lines.{line, verdict, reply}
 use Rattle.refusals.specs.Refusals.{badInputs, badRecord, unreadRecord, badAssignment}
 use Rattle.running.specs.declared.run_sheet.RunAnswer.{RunAnswer}
 use Rattle.running.specs.RunSheet.{runDone, runNot}
-use Rattle.cards.specs.Card.{placeBytes, mark, inputs, cells, sheetOn, SameUse}
+use Rattle.cards.specs.Card.{mark, inputs, cells, sheetOn, SameUse}
 use Rattle.cards.specs.Refusals.{noDesk}
 use Rattle.cards.specs.RunDesk.{deskOutcome}
 

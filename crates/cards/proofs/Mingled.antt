@@ -10,7 +10,7 @@ use lib.Seq.{take-append-seam}
 use borrow.Author.Tests.{eq-eqb, ne-eqb, eqb-true, eqb-false}
 use Rattle.cards.specs.declared.stores.Store.{Store}
 use Rattle.cards.specs.Card.{holder}
-use Rattle.cards.specs.Stores.{made, loadStores, onto}
+use Rattle.cards.specs.Stores.{made, onto}
 use Rattle.cards.specs.Mingling.{Load, storesOf, inTurn, loadsOf, waiting, left, Mingling, over, next}
 use Rattle.cards.proofs.Making.{Every, every-append, alike}
 use Rattle.cards.proofs.Order.{Into, onto-append, onto-own, onto-other, all-into}

@@ -1,15 +1,14 @@
 -- The order of a load's stores: which is the i-th, that each goes to the load's own desk, and that only the first and
 -- the last go to its mark. Assumes nothing.
-use mathlib.Core.Path.{_≡_, refl, sym, ap, ap₂, _∙_, subst}
+use mathlib.Core.Path.{_≡_, refl, sym, ap, ap₂, _∙_}
 use mathlib.Core.Bool.{Bool, true, false, cond}
 use mathlib.Core.List.{List, [], _∷_, _++_}
-use Prim.Native.Nat.{ℕ, zero, suc, _+_, _-_, _*_, _/_, _<_, _≤_}
+use Prim.Native.Nat.{ℕ, suc, _+_, _-_, _<_, _≤_}
 use native.Mathlib.Omega.{arith}
 use lib.Dec.{eqb}
 use lib.ListN.{length, getD, set, take, drop, length-append, length-drop, List·getD-append}
 use lib.Seq.{getD-append-add, getD-drop, take-suc}
 use borrow.Author.Tests.{eq-eqb, ne-eqb}
-use Rattle.bits.specs.Lists.{listOf}
 use Rattle.bits.proofs.Lists.{length-list, list-at}
 use Rattle.sheets.specs.Edition.{recordSize}
 use Rattle.cards.specs.declared.stores.Store.{Store}

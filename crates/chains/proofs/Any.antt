@@ -1,6 +1,6 @@
 -- The sheet for any gate: each of its answers in words, and what holds of its cells, which are those of a chain with one
 -- first cell at each step or with up to 3. Assumes nothing.
-use mathlib.Core.Path.{_≡_, refl, sym, ap, ap₂, _∙_, subst}
+use mathlib.Core.Path.{_≡_, refl, ap, ap₂, _∙_, subst}
 use mathlib.Core.Logic.{_↔_}
 use mathlib.Core.Bool.{Bool, true, false, cond}
 use mathlib.Core.List.{List}
@@ -15,14 +15,14 @@ use Rattle.splits.specs.Columns.{mostFirst}
 use Rattle.sheets.specs.declared.kinds.Edition.{Edition}
 use Rattle.sheets.specs.Edition.{mostRecords}
 use Rattle.sheets.specs.Network.{Cell, Gives}
-use Rattle.sheets.specs.Writing.{FitsFrom, AtMost}
+use Rattle.sheets.specs.Writing.{FitsFrom}
 use Rattle.sheets.specs.Reading.{AllRead}
 use Rattle.chains.specs.Chain.{pick, Made, stuck, made, inputs}
 use Rattle.chains.specs.Aside.{cellsAside, sheetAside}
 use Rattle.chains.specs.Words.{Blocked}
 use Rattle.chains.specs.Over.{MakesOver, BlockedOver}
 use Rattle.chains.specs.Any.{Any, sheet, unsplit, overlong, severally, either, anyAside}
-use Rattle.chains.proofs.Aside.{cells-made, cells-stuck, cells-give, cells-few, cells-fit, cells-read, sheet-stuck, table-records}
+use Rattle.chains.proofs.Aside.{cells-made, cells-stuck, cells-give, cells-fit, cells-read, sheet-stuck, table-records}
 
 no-answer : {P : Type 0} {cs : List Cell} {a : Any} → a ≡ sheet cs → (a ≡ unsplit → P) × (a ≡ overlong → P)
 no-answer p = (λ q. let z : _≡_ {A = ℕ} 0 1 = cc in absurd (omega arith), λ q. let z : _≡_ {A = ℕ} 0 1 = cc in absurd (omega arith))

@@ -1,19 +1,13 @@
 -- Find's masks are what make's first cell reads; and a constant's one cell reads signal 0. Assumes nothing.
 use mathlib.Core.Path.{_≡_, refl, sym, ap, ap₂, _∙_, subst, subst₂}
-use mathlib.Core.Logic.{⊎-elim}
 use mathlib.Core.Bool.{Bool, true, false, cond, _||_}
-use mathlib.Core.List.{List, [], _∷_, _++_}
-use Prim.Native.Nat.{ℕ, zero, suc, _+_, _^_, _<_, _≤_}
-use native.Mathlib.Nat.{not-suc-le-zero, add-zero}
-use native.Mathlib.Numerals.{add-one}
+use mathlib.Core.List.{List, [], _∷_}
+use Prim.Native.Nat.{ℕ, _^_, _<_, _≤_}
 use native.Mathlib.Omega.{arith}
-use lib.ListN.{length, getD, List·getD-append}
-use lib.Seq.{getD-append-seam}
+use lib.ListN.{length, getD}
 use lib.Pow.{pow-pos}
-use Rattle.bits.specs.Numbers.{bit, val, number}
+use Rattle.bits.specs.Numbers.{bit, number}
 use Rattle.bits.specs.Sets.{size, spread}
-use Rattle.bits.proofs.Bools.{clash}
-use Rattle.bits.proofs.Below.{below-suc}
 use Rattle.bits.proofs.Numbers.{number-ext}
 use Rattle.bits.proofs.Sizes.{size-lt}
 use Rattle.bits.proofs.Spreading.{spread-lt, bit-spread-in}

@@ -1,9 +1,9 @@
 -- With one first cell at most, the chain is document 01's: the same cells, and stuck at the same tables. Assumes nothing.
-use mathlib.Core.Path.{_≡_, refl, sym, ap, ap₂, _∙_, subst}
+use mathlib.Core.Path.{_≡_, sym, ap, _∙_, subst}
 use mathlib.Core.Logic.{_↔_}
 use mathlib.Core.Bool.{Bool}
-use mathlib.Core.List.{List, [], _∷_, _++_}
-use Prim.Native.Nat.{ℕ, suc, _+_, _^_, _<_, _≤_}
+use mathlib.Core.List.{List, _++_}
+use Prim.Native.Nat.{ℕ, suc, _+_, _<_, _≤_}
 use native.Mathlib.Nat.{add-zero}
 use native.Mathlib.Numerals.{add-one}
 use native.Mathlib.Omega.{arith}
@@ -13,18 +13,17 @@ use Rattle.bits.specs.Sets.{size}
 use Rattle.bits.specs.Lists.{listOf}
 use Rattle.splits.specs.Split.{readsH, Possible}
 use Rattle.best.specs.Best.{Candidate, Best}
-use Rattle.best.specs.Search.{split, best}
 use Rattle.best.proofs.Best.{best-answer}
 use Rattle.choices.specs.Best.{Splits, BestUpTo}
-use Rattle.choices.specs.Search.{nothing, choice, better, firstOver}
+use Rattle.choices.specs.Search.{nothing, better, firstOver}
 use Rattle.choices.proofs.Best.{upto-best, upto-own}
 use Rattle.sheets.specs.Network.{Cell}
-use Rattle.chains.specs.Chain.{pick, firstCell, nextSignals, nextTable, newCells, signalsAfter, tableAfter, stuck, made, chain, inputs, sheetOf}
+use Rattle.chains.specs.Chain.{pick, nextSignals, nextTable, newCells, signalsAfter, tableAfter, stuck, made, chain, inputs, sheetOf}
 use Rattle.chains.specs.Words.{Makes, InChain, Blocked}
 use Rattle.chains.specs.Words as words
 use Rattle.chains.specs.Over.{MakesOver, ends, goes, InChainOver, itself, later, BlockedOver}
 use Rattle.chains.proofs.Lists.{AllBelow, snoc-below, pick-below, inputs-length}
-use Rattle.chains.proofs.View.{after-inputs, after-length, after-shorter, after-small, over-made, over-stuck}
+use Rattle.chains.proofs.View.{after-inputs, after-length, over-made, over-stuck}
 
 -- ---- the best with one first cell
 

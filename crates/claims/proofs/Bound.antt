@@ -64,7 +64,7 @@ module _ (w n K : ℕ) (t work : List ℕ) where
   unfolding boundOutcome
   bound-refused r h =
       let q = is-refused (λ (o : BoundOutcome). o .answer .verdict) (boundDone n K t work) (boundNot work) refl (λ u. refl) (verdict (boundLines w n K t work)) r h in
-      (ap (λ o. o .answer .least) q, ap (λ o. o .work) q ∙ form-leaves (boundLines w n K t work) r refl refl (sym says ∙ h) work)
+      (ap (λ o. o .answer .least) q, ap (λ o. o .work) q ∙ form-leaves (boundLines w n K t work) r refl (sym says ∙ h) work)
 
   -- two outcomes that keep the promise are equal: the answer, and the work area afterwards
   pub bounded-once : (a a′ : BoundAnswer) (l l′ : List ℕ) → record { answer = a; work = l } ≡ boundOutcome w n K t work

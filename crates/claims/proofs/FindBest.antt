@@ -23,7 +23,6 @@ use Rattle.best.specs.Counting.{BestCounting}
 use Rattle.best.proofs.Counting.{counting-split, counting-none, counting-plain}
 use Rattle.sheets.specs.declared.kinds.Edition.{Edition}
 use Rattle.refusals.specs.declared.verdicts.Refusal.{Refusal}
-use Rattle.refusals.specs.declared.verdicts.Verdict.{Verdict}
 use Rattle.refusals.specs.declared.verdicts.Verdict.the-variants.{Fine, Refused}
 use Rattle.refusals.specs.Lines.{line, InOrder, verdict, numberOf, reply}
 use Rattle.refusals.specs.Refusals.{nothingToSplit, noneBest, isNone}
@@ -34,7 +33,7 @@ use Rattle.splitting.specs.declared.find_best.FindAnswer.{FindAnswer}
 use Rattle.splitting.specs.FindBest.{FindOutcome, bestFor, ownOf, sharedOf, findForm, findSays, findLines, findDone, findNot, findOutcome}
 use Rattle.claims.specs.Words.{ByLines}
 use Rattle.claims.specs.Before.{findBefore}
-use Rattle.claims.proofs.Verdicts.{says-verdict, is-done, is-refused, by-lines, work-cleared}
+use Rattle.claims.proofs.Verdicts.{says-verdict, is-done, is-refused, area-left, by-lines, work-cleared}
 
 module _ (e : Edition) (n K : ℕ) (t work : List ℕ) where
   says : findOutcome e n K t work .answer .verdict ≡ verdict (findLines e n K t work)
@@ -44,11 +43,9 @@ module _ (e : Edition) (n K : ℕ) (t work : List ℕ) where
   -- the work area is left as the verdict asks
   left : findOutcome e n K t work .work ≡ workAfter (findOutcome e n K t work .answer .verdict) work
   unfolding findOutcome
-  left = go (verdict (findLines e n K t work))
-    where
-      go : (v : Verdict) → reply v (findDone (bestFor n K t) work) (findNot work) .work ≡ workAfter (reply v (findDone (bestFor n K t) work) (findNot work) .answer .verdict) work
-      go Fine = refl
-      go (Refused r) = refl
+  left =
+      area-left (λ (o : FindOutcome). o .answer .verdict) (findDone (bestFor n K t) work) (findNot work) refl (λ r. refl) (λ (o : FindOutcome). o .work) work refl (λ r. refl)
+      (verdict (findLines e n K t work))
 
   -- the verdict is that of lines 1 to 4 and 6 to 8
   pub find-lines : ByLines (findOutcome e n K t work .answer .verdict) (findLines e n K t work)

@@ -17,9 +17,8 @@ use Rattle.best.specs.Search.{split}
 use Rattle.best.specs.Counting.{bestCounting}
 use Rattle.sheets.specs.declared.kinds.Edition.{Edition}
 use Rattle.refusals.specs.declared.verdicts.Refusal.{Refusal}
-use Rattle.refusals.specs.declared.verdicts.Verdict.{Verdict}
 use Rattle.refusals.specs.declared.verdicts.Verdict.the-variants.{Fine, Refused}
-use Rattle.refusals.specs.Lines.{line, InOrder, verdict, numberOf, reply}
+use Rattle.refusals.specs.Lines.{line, InOrder, verdict, numberOf}
 use Rattle.refusals.specs.Refusals.{nothingToSplit}
 use Rattle.refusals.specs.Lent.{workAfter}
 use Rattle.splitting.specs.FindBest.{bestFor, findForm}
@@ -31,7 +30,7 @@ use Rattle.choices.specs.Search.{Choice, nothing, choice}
 use Rattle.several.specs.FindSeveral.{FindSeveralOutcome, bestSeveral, isNothing, noneSeveral, firstOf, ownOf, sharedOf, severalSays, severalLines, severalDone, severalNot, findSeveralOutcome}
 use Rattle.choices.proofs.Best.{over-best, over-none, over-own, over-unique}
 use Rattle.claims.specs.Words.{ByLines}
-use Rattle.claims.proofs.Verdicts.{says-verdict, is-done, is-refused, by-lines, work-cleared}
+use Rattle.claims.proofs.Verdicts.{says-verdict, is-done, is-refused, area-left, by-lines, work-cleared}
 
 module _ (e : Edition) (n K : ℕ) (t work : List ℕ) where
   abbrev outcome : FindSeveralOutcome
@@ -47,11 +46,9 @@ module _ (e : Edition) (n K : ℕ) (t work : List ℕ) where
   -- the work area is left as the verdict asks
   left : findSeveralOutcome e n K t work .work ≡ workAfter (findSeveralOutcome e n K t work .answer .verdict) work
   unfolding findSeveralOutcome
-  left = go (verdict (severalLines e n K t work))
-    where
-      go : (v : Verdict) → reply v (severalDone best work) (severalNot work) .work ≡ workAfter (reply v (severalDone best work) (severalNot work) .answer .verdict) work
-      go Fine = refl
-      go (Refused r) = refl
+  left =
+      area-left (λ (o : FindSeveralOutcome). o .answer .verdict) (severalDone best work) (severalNot work) refl (λ r. refl) (λ (o : FindSeveralOutcome). o .work) work refl (λ r. refl)
+      (verdict (severalLines e n K t work))
 
   -- the verdict is that of find's lines, 8 where no r has a split
   pub several-lines : ByLines (findSeveralOutcome e n K t work .answer .verdict) (severalLines e n K t work)

@@ -2,8 +2,8 @@
 -- holds of it, with either edition's K. Assumes nothing.
 use mathlib.Core.Path.{_≡_, refl, sym, ap, _∙_, subst}
 use mathlib.Core.Logic.{_⊎_}
-use mathlib.Core.Bool.{true, false}
-use mathlib.Core.List.{List, [], _∷_}
+use mathlib.Core.Bool.{false}
+use mathlib.Core.List.{List}
 use Prim.Native.Nat.{ℕ, _≤_}
 use lib.ListN.{length, replicate, drop}
 use Rattle.bits.specs.Numbers.{bit}
@@ -28,7 +28,7 @@ use Rattle.splitting.specs.declared.find_best.FindAnswer.{FindAnswer}
 use Rattle.splitting.specs.FindBest.{FindOutcome, bestFor, findLines, findDone, findNot, findOutcome}
 use Rattle.splitting.specs.FindTold.{findToldLines, findTold}
 use Rattle.claims.specs.Words.{ByLines}
-use Rattle.claims.proofs.Verdicts.{says-verdict, is-refused, by-lines, work-cleared}
+use Rattle.claims.proofs.Verdicts.{says-verdict, is-refused, area-left, by-lines, work-cleared}
 use Rattle.claims.proofs.FindBest.{found-best, none-possible}
 
 module _ (w n K : ℕ) (t work : List ℕ) where
@@ -36,11 +36,9 @@ module _ (w n K : ℕ) (t work : List ℕ) where
   says = says-verdict (λ (o : FindOutcome). o .answer .verdict) (findDone (bestFor n K t) work) (findNot work) refl (λ r. refl) (verdict (findToldLines w n K t work))
 
   left : findTold w n K t work .work ≡ workAfter (findTold w n K t work .answer .verdict) work
-  left = go (verdict (findToldLines w n K t work))
-    where
-      go : (v : Verdict) → reply v (findDone (bestFor n K t) work) (findNot work) .work ≡ workAfter (reply v (findDone (bestFor n K t) work) (findNot work) .answer .verdict) work
-      go Fine = refl
-      go (Refused r) = refl
+  left =
+      area-left (λ (o : FindOutcome). o .answer .verdict) (findDone (bestFor n K t) work) (findNot work) refl (λ r. refl) (λ (o : FindOutcome). o .work) work refl (λ r. refl)
+      (verdict (findToldLines w n K t work))
 
   -- the verdict is that of 1, of 2 for the edition, and of lines 1 to 4 and 6 to 8 in that edition
   pub find-told-lines : ByLines (findTold w n K t work .answer .verdict) (findToldLines w n K t work)

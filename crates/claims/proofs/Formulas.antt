@@ -3,12 +3,9 @@ use mathlib.Core.Path.{_≡_, refl, sym, ap, ap₂, _∙_, subst, fun-ext}
 use mathlib.Core.Bool.{Bool, false, not, _&&_}
 use mathlib.Core.List.{List, [], _∷_}
 use Prim.Native.Nat.{ℕ, _+_, _-_, _^_, _<_, _≤_}
-use native.Mathlib.Omega.{arith}
-use lib.Dec.{leb}
 use lib.ListN.{length}
 use borrow.Author.Tests.{le-ltb, le-leb}
-use Rattle.tables.specs.Table.{mostInputs, tableLength, tableBit, tableOf}
-use Rattle.tables.proofs.Bytes.{table-of}
+use Rattle.tables.specs.Table.{mostInputs, tableBit, tableOf}
 use Rattle.sheets.specs.declared.kinds.Edition.{Edition}
 use Rattle.sheets.specs.Edition.{IsEdition}
 use Rattle.sheets.specs.Network.{Cell}

@@ -35,5 +35,6 @@ pub mod Fewest
 pub mod Trees
 pub mod Bound
 pub mod BenchProgram
+pub mod InspectProgram
 pub mod Tries
 pub mod Examples

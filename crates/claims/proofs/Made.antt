@@ -13,7 +13,6 @@ use Rattle.sheets.specs.Edition.{IsEdition, mostDesk}
 use Rattle.sheets.specs.Network.{Cell, Gives}
 use Rattle.sheets.specs.Sheet.{Good}
 use Rattle.sheets.specs.Writing.{FitsFrom, sheetBytes}
-use Rattle.sheets.specs.Reading.{EachRead}
 use Rattle.chains.specs.Chain.{Made, stuck, made}
 use Rattle.chains.proofs.Aside.{table-gives, table-fits, table-read, table-records}
 use Rattle.refusals.specs.declared.verdicts.Verdict.{Verdict}
@@ -25,7 +24,7 @@ use Rattle.refusals.proofs.Tests.{Sound, sound}
 use Rattle.bench.specs.MakeSheet.{MakeOutcome, sheetFor, cellsIn, makeForm, makeLines, makeDone, makeNot, makeOutcome}
 use Rattle.claims.specs.Words.{recordsOf, networkOf}
 use Rattle.claims.proofs.Verdicts.{says-verdict, is-done}
-use Rattle.claims.proofs.Written.{IsWritten, outcome-records, outcome-good, outcome-read, outcome-network}
+use Rattle.claims.proofs.Written.{IsWritten, outcome-records, outcome-good, outcome-network}
 
 module _ (e : Edition) (d n K : ℕ) (t sheet work : List ℕ) where
   pub make-says : makeOutcome e d n K t sheet work .answer .verdict ≡ verdict (makeLines e d n K t sheet work)
@@ -117,11 +116,6 @@ module _ (e : Edition) (d n K : ℕ) (t sheet work : List ℕ) where
       pub made-good : Good e d n (sheetBytes e d (w .cells)) (length (w .cells))
       unfolding made-written
       made-good = outcome-good e d n K t sheet work (makeOutcome e d n K t sheet work) made-written ok
-
-      -- each record but the last is read
-      pub made-read : EachRead e n (sheetBytes e d (w .cells)) (length (w .cells))
-      unfolding made-written
-      made-read = outcome-read e d n K t sheet work (makeOutcome e d n K t sheet work) made-written ok
 
       -- read as a network, they are the cells
       pub made-network : networkOf e (makeOutcome e d n K t sheet work) ≡ w .cells

@@ -1,14 +1,12 @@
 -- Make a sheet for any gate: what is claimed of it, over any edition and desk. Assumes nothing.
 use mathlib.Core.Path.{_≡_, refl, sym, ap, _∙_}
-use mathlib.Core.Logic.{_↔_, _⊎_, inl, inr, ⊎-elim}
-use mathlib.Core.Bool.{Bool, true, false, cond}
-use mathlib.Core.List.{List, [], _∷_, _++_}
+use mathlib.Core.Logic.{_⊎_, ⊎-elim}
+use mathlib.Core.Bool.{true, false}
+use mathlib.Core.List.{List, [], _∷_}
 use Prim.Native.Nat.{ℕ, _^_, _<_, _≤_}
 use native.Mathlib.Omega.{arith}
-use lib.Dec.{eqb}
 use lib.ListN.{length, replicate}
-use borrow.Author.Tests.{eq-eqb, ne-eqb}
-use Rattle.bits.specs.Numbers.{bit, number}
+use Rattle.bits.specs.Numbers.{bit}
 use Rattle.bits.proofs.Bools.{clash}
 use Rattle.tables.specs.Table.{tableLength, tableBit}
 use Rattle.tables.specs.Counting.{kept, tableOver}
@@ -26,9 +24,8 @@ use Rattle.chains.proofs.Any.{any-gives, any-fits, any-read, any-records, any-u
 use Rattle.fewest.specs.Fewest.{Fewest}
 use Rattle.fewest.proofs.Fewest.{any-three}
 use Rattle.refusals.specs.declared.verdicts.Refusal.{Refusal}
-use Rattle.refusals.specs.declared.verdicts.Verdict.{Verdict}
 use Rattle.refusals.specs.declared.verdicts.Verdict.the-variants.{Fine, Refused}
-use Rattle.refusals.specs.Lines.{InOrder, verdict, numberOf, reply}
+use Rattle.refusals.specs.Lines.{InOrder, verdict, numberOf}
 use Rattle.refusals.specs.Lent.{workAfter}
 use Rattle.refusals.proofs.Lines.{in-order, passes, passed, held}
 use Rattle.refusals.proofs.Lent.{work-found}
@@ -36,11 +33,11 @@ use Rattle.refusals.proofs.Tests.{Sound, sound}
 use Rattle.running.specs.RunSheet.{runOutcome}
 use Rattle.running.specs.RebuildTable.{rebuildOutcome}
 use Rattle.bench.specs.declared.make_sheet.MakeAnswer.{MakeAnswer}
-use Rattle.bench.specs.MakeSheet.{MakeOutcome, makeForm, makeDone, makeOutcome}
-use Rattle.any_gate.specs.MakeAny.{anyFor, cellsAny, isUnsplit, isOverlong, noneAny, tooLong, anySays, anyLines, areaAfter, anyNot, anyOutcome}
+use Rattle.bench.specs.MakeSheet.{MakeOutcome, makeForm, makeDone, makeNot, makeOutcome}
+use Rattle.any_gate.specs.MakeAny.{anyFor, cellsAny, isUnsplit, isOverlong, noneAny, tooLong, anySays, anyLines, anyOutcome}
 use Rattle.any_gate.proofs.Answers.{as-make}
 use Rattle.claims.specs.Words.{ByLines, AllBytes, recordsOf, networkOf}
-use Rattle.claims.proofs.Verdicts.{says-verdict, is-done, is-refused, by-lines, work-cleared}
+use Rattle.claims.proofs.Verdicts.{says-verdict, is-done, is-refused, area-left, by-lines, work-cleared}
 use Rattle.claims.proofs.Written.{IsWritten, outcome-network, outcome-runs, outcome-rebuilds, outcome-each-read, outcome-never-unread, outcome-gives}
 
 module _ (e : Edition) (d n K : ℕ) (t s work : List ℕ) where
@@ -57,16 +54,14 @@ module _ (e : Edition) (d n K : ℕ) (t s work : List ℕ) where
   says : anyOutcome e d n K t s work .answer .verdict ≡ verdict (anyLines e d n K t s work)
   unfolding anyOutcome
   says =
-      says-verdict (λ (o : MakeOutcome). o .answer .verdict) (makeDone e d (cellsAny (anyFor n K t)) s work) (anyNot s work) refl (λ r. refl)
+      says-verdict (λ (o : MakeOutcome). o .answer .verdict) (makeDone e d (cellsAny (anyFor n K t)) s work) (makeNot s work) refl (λ r. refl)
       (verdict (anyLines e d n K t s work))
 
-  left : anyOutcome e d n K t s work .work ≡ areaAfter (anyOutcome e d n K t s work .answer .verdict) work
+  left : anyOutcome e d n K t s work .work ≡ workAfter (anyOutcome e d n K t s work .answer .verdict) work
   unfolding anyOutcome
-  left = go (verdict (anyLines e d n K t s work))
-    where
-      go : (v : Verdict) → let o = reply v (makeDone e d (cellsAny (anyFor n K t)) s work) (anyNot s work) in o .work ≡ areaAfter (o .answer .verdict) work
-      go Fine = refl
-      go (Refused r) = refl
+  left =
+      area-left (λ (o : MakeOutcome). o .answer .verdict) (makeDone e d (cellsAny (anyFor n K t)) s work) (makeNot s work) refl (λ r. refl) (λ (o : MakeOutcome). o .work) work refl (λ r. refl)
+      (verdict (anyLines e d n K t s work))
 
   -- the verdict is that of lines 1 to 6, 8 and 17
   pub any-lines : ByLines (anyOutcome e d n K t s work .answer .verdict) (anyLines e d n K t s work)
@@ -77,32 +72,19 @@ module _ (e : Edition) (d n K : ℕ) (t s work : List ℕ) where
       → (anyOutcome e d n K t s work .answer .count ≡ 0) × (anyOutcome e d n K t s work .sheet ≡ s)
   unfolding anyOutcome
   any-refused r h =
-      let q = is-refused (λ (o : MakeOutcome). o .answer .verdict) (makeDone e d (cellsAny (anyFor n K t)) s work) (anyNot s work) refl (λ u. refl)
+      let q = is-refused (λ (o : MakeOutcome). o .answer .verdict) (makeDone e d (cellsAny (anyFor n K t)) s work) (makeNot s work) refl (λ u. refl)
       (verdict (anyLines e d n K t s work)) r h in
       (ap (λ o. o .answer .count) q, ap (λ o. o .sheet) q)
 
   -- 1 to 7 leave the work area as found
   pub any-keeps : 1 ≤ numberOf (anyOutcome e d n K t s work .answer .verdict) → numberOf (anyOutcome e d n K t s work .answer .verdict) ≤ 7
       → anyOutcome e d n K t s work .work ≡ work
-  any-keeps h g =
-      left ∙ ap (λ (b : Bool). cond b (replicate (length work) 0) (workAfter (o .answer .verdict) work)) (ne-eqb (numberOf (o .answer .verdict)) 17 (λ z. omega arith))
-      ∙ work-found (o .answer .verdict) work h g
+  any-keeps h g = left ∙ work-found (anyOutcome e d n K t s work .answer .verdict) work h g
 
   -- after 0, 8 or 17 the whole of it is zeros
   pub any-clears : ((numberOf (anyOutcome e d n K t s work .answer .verdict) ≡ 0) ⊎ (numberOf (anyOutcome e d n K t s work .answer .verdict) ≡ 8))
       ⊎ (numberOf (anyOutcome e d n K t s work .answer .verdict) ≡ 17) → anyOutcome e d n K t s work .work ≡ replicate (length work) 0
-  any-clears h = left ∙ ⊎-elim other (λ q. ap area (eq-eqb (numberOf (o .answer .verdict)) 17 q)) h
-    where
-      area : Bool → List ℕ
-      area b = cond b (replicate (length work) 0) (workAfter (anyOutcome e d n K t s work .answer .verdict) work)
-
-      other : (numberOf (anyOutcome e d n K t s work .answer .verdict) ≡ 0) ⊎ (numberOf (anyOutcome e d n K t s work .answer .verdict) ≡ 8)
-          → areaAfter (anyOutcome e d n K t s work .answer .verdict) work ≡ replicate (length work) 0
-      other h = go (eqb (numberOf (o .answer .verdict)) 17)
-        where
-          go : (b : Bool) → cond b (replicate (length work) 0) (workAfter (o .answer .verdict) work) ≡ replicate (length work) 0
-          go true = refl
-          go false = work-cleared (o .answer .verdict) work h
+  any-clears h = left ∙ ⊎-elim (work-cleared (anyOutcome e d n K t s work .answer .verdict) work) (λ q. rw q) h
 
   -- two outcomes that keep the promise are equal: the answer, the sheet and the work area afterwards
   pub any-once : (a a′ : MakeAnswer) (l l′ w w′ : List ℕ) → record { answer = a; sheet = l; work = w } ≡ anyOutcome e d n K t s work
@@ -140,7 +122,7 @@ module _ (e : Edition) (d n K : ℕ) (t s work : List ℕ) where
           cells = cs;
           answer = q;
           outcome =
-              is-done (λ (o : MakeOutcome). o .answer .verdict) (makeDone e d (cellsAny (anyFor n K t)) s work) (anyNot s work) refl (λ r. refl)
+              is-done (λ (o : MakeOutcome). o .answer .verdict) (makeDone e d (cellsAny (anyFor n K t)) s work) (makeNot s work) refl (λ r. refl)
               (verdict (anyLines e d n K t s work)) done
               ∙ ap (λ (a : Any). makeDone e d (cellsAny a) s work) q;
         }

@@ -1,7 +1,7 @@
 -- Make a sheet: what is claimed of it, over any edition and desk. Assumes nothing.
 use mathlib.Core.Path.{_≡_, refl, sym, ap, _∙_}
 use mathlib.Core.Logic.{_⊎_}
-use mathlib.Core.Bool.{Bool, true, cond}
+use mathlib.Core.Bool.{true, cond}
 use mathlib.Core.List.{List, [], _∷_, _++_}
 use Prim.Native.Nat.{ℕ, _^_, _<_, _≤_}
 use native.Mathlib.Omega.{arith}
@@ -25,7 +25,6 @@ use Rattle.chains.proofs.Aside.{sheet-stuck, sheet-plain}
 use Rattle.fewest.proofs.Fewest.{table-fewest}
 use Rattle.chains.proofs.FirstReads.{first-reads, sheet-constant}
 use Rattle.refusals.specs.declared.verdicts.Refusal.{Refusal}
-use Rattle.refusals.specs.declared.verdicts.Verdict.{Verdict}
 use Rattle.refusals.specs.declared.verdicts.Verdict.the-variants.{Fine, Refused}
 use Rattle.refusals.specs.Lines.{InOrder, verdict, numberOf, reply}
 use Rattle.refusals.specs.Refusals.{chainStuck, isStuck}
@@ -39,7 +38,7 @@ use Rattle.bench.specs.declared.make_sheet.MakeAnswer.{MakeAnswer}
 use Rattle.bench.specs.MakeSheet.{MakeOutcome, sheetFor, cellsIn, makeForm, makeLines, makeDone, makeNot, makeOutcome}
 use Rattle.claims.specs.Words.{ByLines, AllBytes, recordsOf, networkOf}
 use Rattle.claims.specs.Before.{makeBefore}
-use Rattle.claims.proofs.Verdicts.{is-refused, by-lines, work-cleared}
+use Rattle.claims.proofs.Verdicts.{is-refused, area-left, by-lines, work-cleared}
 use Rattle.claims.proofs.FindBest.{found-more, found-best}
 use Rattle.claims.proofs.Written.{IsWritten, outcome-runs, outcome-rebuilds, outcome-each-read, outcome-never-unread, outcome-gives}
 use Rattle.claims.proofs.Made.{IsMade, make-says, make-sound, is-made, not-stuck, made-written, made-network}
@@ -54,11 +53,9 @@ module _ (e : Edition) (d n K : ℕ) (t sheet work : List ℕ) where
 
   left : makeOutcome e d n K t sheet work .work ≡ workAfter (makeOutcome e d n K t sheet work .answer .verdict) work
   unfolding makeOutcome
-  left = go (verdict (makeLines e d n K t sheet work))
-    where
-      go : (v : Verdict) → let o = reply v (makeDone e d (cellsIn (sheetFor n K t)) sheet work) (makeNot sheet work) in o .work ≡ workAfter (o .answer .verdict) work
-      go Fine = refl
-      go (Refused r) = refl
+  left =
+      area-left (λ (o : MakeOutcome). o .answer .verdict) (makeDone e d (cellsIn (sheetFor n K t)) sheet work) (makeNot sheet work) refl (λ r. refl) (λ (o : MakeOutcome). o .work) work refl (λ r. refl)
+      (verdict (makeLines e d n K t sheet work))
 
   -- the verdict is that of lines 1 to 6 and 8
   pub make-lines : ByLines (makeOutcome e d n K t sheet work .answer .verdict) (makeLines e d n K t sheet work)
@@ -145,7 +142,7 @@ module _ (e : Edition) (d n K : ℕ) (t sheet work : List ℕ) where
         ∙ ap (λ (c : Made). numberOf (verdict (chainStuck c ∷ []))) (sheet-stuck n K (tableBit t) (g .some) (omega (arith, g .two)) .1 b)
 
     -- where form and room are in order and one or two cells carry the table, wired in any way at all: make is done, the network that it wrote gives the
-    -- table with the fewest cells, and its count is that fewest number (`table-fewest`, chains)
+    -- table with the fewest cells, and its count is that fewest number (`table-fewest`, fewest)
     pub made-fewest : IsEdition e → (m : ℕ) → Carries n K m (tableBit t) → m ≤ 2
         → (makeOutcome e d n K t sheet work .answer .verdict ≡ Fine) × Fewest n K (tableBit t) (networkOf e (makeOutcome e d n K t sheet work))
         × ((m′ : ℕ) → Carries n K m′ (tableBit t) → makeOutcome e d n K t sheet work .answer .count ≤ m′)

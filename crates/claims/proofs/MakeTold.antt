@@ -2,8 +2,8 @@
 -- Tries) holds of it, with either edition's K. Assumes nothing.
 use mathlib.Core.Path.{_≡_, refl, sym, ap, _∙_, subst}
 use mathlib.Core.Logic.{_⊎_}
-use mathlib.Core.Bool.{true, false}
-use mathlib.Core.List.{List, [], _∷_}
+use mathlib.Core.Bool.{false}
+use mathlib.Core.List.{List}
 use Prim.Native.Nat.{ℕ, _^_, _<_, _≤_}
 use lib.ListN.{length, replicate, drop}
 use Rattle.tables.specs.Table.{tableLength, tableBit}
@@ -28,7 +28,7 @@ use Rattle.bench.specs.declared.make_sheet.MakeAnswer.{MakeAnswer}
 use Rattle.bench.specs.MakeSheet.{MakeOutcome, sheetFor, cellsIn, makeForm, makeLines, makeDone, makeNot, makeOutcome}
 use Rattle.bench.specs.MakeTold.{makeToldLines, makeTold}
 use Rattle.claims.specs.Words.{ByLines, AllBytes, recordsOf, networkOf}
-use Rattle.claims.proofs.Verdicts.{says-verdict, is-refused, by-lines, work-cleared}
+use Rattle.claims.proofs.Verdicts.{says-verdict, is-refused, area-left, by-lines, work-cleared}
 use Rattle.claims.proofs.MakeSheet.{made-gives, made-fewest}
 use Rattle.claims.proofs.Desks.{made-runs-own, made-rebuilds-own, made-accepted-own}
 use Rattle.claims.proofs.RunTold.{run-told-is}
@@ -42,11 +42,9 @@ module _ (w d n K : ℕ) (t sheet work : List ℕ) where
       (verdict (makeToldLines w d n K t sheet work))
 
   left : makeTold w d n K t sheet work .work ≡ workAfter (makeTold w d n K t sheet work .answer .verdict) work
-  left = go (verdict (makeToldLines w d n K t sheet work))
-    where
-      go : (v : Verdict) → let o = reply v (makeDone (editionOf w) d (cellsIn (sheetFor n K t)) sheet work) (makeNot sheet work) in o .work ≡ workAfter (o .answer .verdict) work
-      go Fine = refl
-      go (Refused r) = refl
+  left =
+      area-left (λ (o : MakeOutcome). o .answer .verdict) (makeDone (editionOf w) d (cellsIn (sheetFor n K t)) sheet work) (makeNot sheet work) refl (λ r. refl) (λ (o : MakeOutcome). o .work) work refl (λ r. refl)
+      (verdict (makeToldLines w d n K t sheet work))
 
   -- the verdict is that of 1, of 2 for the edition, and of lines 1 to 6 and 8 in that edition
   pub make-told-lines : ByLines (makeTold w d n K t sheet work .answer .verdict) (makeToldLines w d n K t sheet work)

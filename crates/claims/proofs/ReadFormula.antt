@@ -1,7 +1,7 @@
 -- Read a formula into a table: what is claimed of it. Assumes nothing.
 use mathlib.Core.Path.{_≡_, refl, sym, ap, _∙_}
 use mathlib.Core.Logic.{_↔_}
-use mathlib.Core.Bool.{Bool, true, false}
+use mathlib.Core.Bool.{false}
 use mathlib.Core.List.{List, [], _∷_}
 use Prim.Native.Nat.{ℕ, _*_, _^_, _<_, _≤_}
 use lib.Dec.{eqb}
@@ -11,11 +11,11 @@ use Rattle.tables.proofs.Bytes.{length-table, table-of}
 use Rattle.refusals.specs.declared.verdicts.Refusal.{Refusal}
 use Rattle.refusals.specs.declared.verdicts.Verdict.{Verdict}
 use Rattle.refusals.specs.declared.verdicts.Verdict.the-variants.{Fine, Refused}
-use Rattle.refusals.specs.Lines.{Line, refusal, naming, InOrder, verdict, numberOf, placeOf}
+use Rattle.refusals.specs.Lines.{refusal, naming, InOrder, verdict, numberOf, placeOf}
 use Rattle.refusals.specs.Refusals.{badInputs, badTable}
 use Rattle.refusals.proofs.Lines.{passes, names-nothing, not-fine}
 use Rattle.formulas.specs.Formula.{Formula, value}
-use Rattle.formulas.specs.Text.{IsFormula, ReadAs, RefusedAt}
+use Rattle.formulas.specs.Text.{ReadAs, RefusedAt}
 use Rattle.formulas.specs.Reading.{Answer, formula, refused, textOf, valueIn}
 use Rattle.formulas.specs.Refusals.{isRefused, placeIn, badText}
 use Rattle.formulas.specs.ReadFormula.{ReadOutcome, readLines, readDone, readNot, readOutcome}

@@ -3,11 +3,11 @@
 use mathlib.Core.Path.{_≡_, refl, sym, ap, ap₂, _∙_, subst}
 use mathlib.Core.Logic.{_↔_}
 use mathlib.Core.Bool.{false, cond, _||_}
-use mathlib.Core.List.{List, [], _∷_, _++_}
+use mathlib.Core.List.{List, [], _∷_}
 use Prim.Native.Nat.{ℕ, _*_, _≤_}
 use native.Mathlib.Omega.{arith}
 use lib.Dec.{eqb}
-use lib.ListN.{length, take, drop}
+use lib.ListN.{length, drop}
 use lib.Seq.{take-at, drop-at}
 use Rattle.sheets.specs.declared.kinds.Edition.{Edition}
 use Rattle.sheets.specs.Edition.{IsEdition, firstEdition, secondEdition}
@@ -24,7 +24,7 @@ use Rattle.refusals.specs.Lines.{refusal, InOrder, verdict, numberOf, placeOf, 
 use Rattle.refusals.specs.Refusals.{badInputs, badTable, badSheet, shortRecords, unreadRecord, readLines}
 use Rattle.refusals.proofs.Lines.{passes, lapses, in-order, names-nothing}
 use Rattle.refusals.proofs.Sheets.{good-sheet, sheet-fine, counted, all-read, read-fine}
-use Rattle.running.specs.RebuildTable.{RebuildOutcome, rebuildDone, rebuildNot, rebuildOutcome, rebuildOwn}
+use Rattle.running.specs.RebuildTable.{rebuildDone, rebuildNot, rebuildOutcome, rebuildOwn}
 use Rattle.running.specs.RebuildTold.{rebuildTold}
 use Rattle.rewriting.specs.declared.rewrite.RewriteAnswer.{RewriteAnswer}
 use Rattle.rewriting.specs.Rewrite.{SaysTheSame, RewriteOutcome, newRecords, rewritten, rewriteForm, rewriteLines, rewriteDone, rewriteNot, rewriteOutcome, rewriteOwn}

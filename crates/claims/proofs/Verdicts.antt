@@ -26,6 +26,12 @@ module _ {A : Type 0} (says : A → Verdict) (done : A) (refused : Refusal → A
   pub is-refused : (v : Verdict) (r : Refusal) → says (reply v done refused) ≡ Refused r → reply v done refused ≡ refused r
   is-refused v r e = ap (λ (u : Verdict). reply u done refused) (sym (says-verdict v) ∙ e)
 
+  -- and a work area is left as that verdict says, if it is so where the call is done and where it is refused
+  module _ (area : A → List ℕ) (work : List ℕ) (p : area done ≡ workAfter Fine work) (q : (r : Refusal) → area (refused r) ≡ workAfter (Refused r) work) where
+    pub area-left : (v : Verdict) → area (reply v done refused) ≡ workAfter (says (reply v done refused)) work
+    area-left Fine = p ∙ sym (ap (λ (u : Verdict). workAfter u work) f)
+    area-left (Refused r) = q r ∙ sym (ap (λ (u : Verdict). workAfter u work) (g r))
+
 pub by-lines : (ls : List Line) → others 0 ls ≡ true → (v : Verdict) → v ≡ verdict ls → ByLines v ls
 by-lines ls o v e = record {
   listed = cases v e;

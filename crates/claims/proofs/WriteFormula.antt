@@ -3,23 +3,19 @@ use mathlib.Core.Path.{_≡_, refl, sym, ap, _∙_}
 use mathlib.Core.Logic.{_↔_}
 use mathlib.Core.Bool.{Bool, true, false}
 use mathlib.Core.List.{List, [], _∷_, _++_}
-use Prim.Native.Nat.{ℕ, _+_, _-_, _^_, _<_, _≤_}
-use native.Mathlib.Omega.{arith}
+use Prim.Native.Nat.{ℕ, _+_, _-_, _≤_}
 use lib.Dec.{eqb}
 use lib.ListN.{length, drop}
-use borrow.Author.Tests.{le-ltb, not-true}
-use Rattle.bits.proofs.Bools.{false-of}
-use Rattle.tables.specs.Table.{tableBit}
 use Rattle.sheets.specs.declared.kinds.Edition.{Edition}
 use Rattle.sheets.specs.Edition.{IsEdition}
-use Rattle.sheets.specs.Sheet.{records, sheetCells, sheetBit, rebuilt}
+use Rattle.sheets.specs.Sheet.{records, sheetCells, sheetBit}
 use Rattle.refusals.specs.declared.verdicts.Refusal.{Refusal}
 use Rattle.refusals.specs.declared.verdicts.Verdict.{Verdict}
 use Rattle.refusals.specs.declared.verdicts.Verdict.the-variants.{Fine, Refused}
-use Rattle.refusals.specs.Lines.{Line, refusal, InOrder, verdict, numberOf, placeOf}
+use Rattle.refusals.specs.Lines.{refusal, InOrder, verdict, numberOf, placeOf}
 use Rattle.refusals.proofs.Lines.{in-order, passes, names-nothing, not-fine}
 use Rattle.formulas.specs.Formula.{Formula, value}
-use Rattle.formulas.specs.Text.{mostText, ReadAs}
+use Rattle.formulas.specs.Text.{ReadAs}
 use Rattle.printing.specs.Print.{sheetText, formulaOf}
 use Rattle.printing.specs.Printable.{Printable, notPrinted}
 use Rattle.printing.specs.WriteFormula.{WriteOutcome, writeForm, writeLines, writeDone, writeNot, writeOutcome}

@@ -207,8 +207,3 @@ xor-joins = record { neutral = neutral; order = order; grouping = grouping }
     grouping false true false = refl
     grouping false false true = refl
     grouping false false false = refl
-
--- to see the definition by, at three inputs alone: document 01's tables 80 and 96 are such tables
-pub three-inputs : (joinTable _&&_ true 3 ≡ 0x80) × (joinTable _||_ false 3 ≡ 0xFE) × (joinTable xor false 3 ≡ 0x96)
-unfolding number xor
-three-inputs = (refl, refl, refl)

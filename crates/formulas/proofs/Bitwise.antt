@@ -7,8 +7,7 @@ use native.Mathlib.Omega.{arith}
 use lib.Bits.{bitAnd, bitOr, bitXor, and-block, or-block, xor-block}
 use lib.Dec.{ltb}
 use Rattle.bits.specs.Numbers.{bit, val, number}
-use Rattle.bits.proofs.Numbers.{bit-below, bit-number, bit-shr, none-zero, number-ext, number-lt}
-use Rattle.bits.proofs.Sums.{all-ones}
+use Rattle.bits.proofs.Numbers.{bit-below, bit-number, bit-shr, number-ext, number-lt}
 use Rattle.tables.specs.Words.{gateWord}
 use Rattle.runs.specs.Words.{inputWord}
 use Rattle.runs.proofs.Choosing.{first-of}

@@ -1,20 +1,22 @@
 -- What is said of a text is so: it is the formula, or the place is the first at which it can't be continued. Assumes nothing.
 use mathlib.Core.Path.{_≡_, refl, sym, ap, _∙_, subst}
-use mathlib.Core.Logic.{_↔_, _⊎_, inl, inr, ⊎-elim}
+use mathlib.Core.Logic.{_↔_, inl, inr, ⊎-elim}
 use mathlib.Core.Bool.{Bool, true, false, cond}
 use mathlib.Core.List.{List, [], _∷_, _++_, append-assoc}
 use Prim.Native.Nat.{ℕ, zero, suc, _+_, _-_, _*_, _<_, _≤_}
 use native.Mathlib.Omega.{arith}
 use native.Mathlib.Decide.{decLt}
-use lib.Dec.{eqb, ltb}
+use lib.Dec.{eqb}
 use lib.ListN.{length, getD, take, drop, length-append, take-append-drop, List·getD-append, List·getD-eq-default}
-use lib.Seq.{length-take-le, getD-take, getD-append-add, take-add, take-length}
-use borrow.Author.Tests.{eq-eqb, ne-eqb, eqb-true, eqb-false, ltb-true, ltb-false, lt-ltb, le-ltb}
+use lib.Seq.{length-take-le, getD-take, getD-append-add, take-add}
+use borrow.Author.Tests.{eq-eqb, eqb-true, eqb-false, lt-ltb, le-ltb}
 use Rattle.formulas.specs.Formula.{Formula}
 use Rattle.formulas.specs.Text.{Spells, byteAt, IsFormula, IsPlace, ReadAs, RefusedAt, mostLevels, mostText}
 use Rattle.formulas.specs.Reading.{Reading, upTo, stuck, reads, Answer, formula, refused, ended, textOf, Told, enough}
 use Rattle.formulas.proofs.Steps.{Run, run, runs}
-use Rattle.formulas.proofs.Grammar.{spells-lt, spells-bytes, spells-same, sound, complete, zero-stops, fuel, local, Goes, goes, reach}
+use Rattle.formulas.proofs.Grammar.{spells-bytes, spells-same, sound, complete, zero-stops}
+use Rattle.formulas.proofs.Reaching.{fuel, local, reach}
+use Rattle.formulas.proofs.Going.{Goes, goes}
 
 -- f 0, .., f (k - 1)
 abbrev tab : ℕ → (ℕ → ℕ) → List ℕ

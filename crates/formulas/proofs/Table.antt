@@ -1,10 +1,9 @@
 -- What reading a text once says of it, and the stretches of its values. Assumes nothing.
 use mathlib.Core.Path.{_≡_, refl, sym, ap, _∙_, subst}
-use mathlib.Core.Bool.{Bool, true, false, cond}
+use mathlib.Core.Bool.{Bool, false, cond}
 use mathlib.Core.List.{List, [], _∷_}
-use Prim.Native.Nat.{ℕ, _+_, _*_, _^_, _<_, _≤_}
+use Prim.Native.Nat.{ℕ, _<_, _≤_}
 use native.Mathlib.Omega.{arith}
-use lib.Dec.{eqb}
 use lib.ListN.{length}
 use borrow.Author.Tests.{eq-eqb, ne-eqb}
 use Rattle.refusals.specs.declared.verdicts.Verdict.the-variants.{Fine, Refused}
@@ -14,8 +13,8 @@ use Rattle.formulas.specs.declared.reading.Found.{Found}
 use Rattle.formulas.specs.declared.reading.Found.the-variants.{Read, Stuck}
 use Rattle.formulas.specs.Formula.{Formula, value}
 use Rattle.formulas.specs.Text.{byteAt, mostText, mostLevels}
-use Rattle.formulas.specs.Reading.{Reading, upTo, stuck, reads, Answer, formula, refused, ended, textOf, valueIn, Told, enough}
-use Rattle.formulas.specs.Words.{stretchOf, foundOf, Gives}
+use Rattle.formulas.specs.Reading.{Reading, upTo, reads, Answer, formula, refused, ended, textOf, valueIn, Told, enough}
+use Rattle.formulas.specs.Words.{stretchOf, Gives}
 use Rattle.formulas.specs.Refusals.{isRefused, placeIn, badText}
 use Rattle.formulas.proofs.Steps.{Run, runs}
 use Rattle.formulas.proofs.Place.{told, whole-run, text-of, short-text}

@@ -1,6 +1,6 @@
 -- The readers' steps, on stretches of 256 values: each way in which a reading goes is a way of the code. Assumes nothing.
 use mathlib.Core.Path.{_≡_, refl, sym, ap, ap₂, _∙_, subst}
-use mathlib.Core.Bool.{Bool, true, false, cond, not}
+use mathlib.Core.Bool.{Bool, true, false, cond}
 use mathlib.Core.List.{List}
 use Prim.Native.Nat.{ℕ, zero, suc, _+_, _-_, _*_, _^_, _<_, _≤_}
 use native.Mathlib.Numerals.{add-one}
@@ -14,7 +14,7 @@ use Rattle.formulas.specs.declared.reading.Found.{Found}
 use Rattle.formulas.specs.declared.reading.Found.the-variants.{Read, Stuck}
 use Rattle.formulas.specs.Formula.{Formula, letter, constant, negated, joined, value}
 use Rattle.formulas.specs.Text.{byteAt, mark}
-use Rattle.formulas.specs.Reading.{Kind, bang, opening, digit, input, other, kind, Reading, upTo, stuck, reads}
+use Rattle.formulas.specs.Reading.{bang, opening, digit, input, other, kind, Reading, upTo, stuck, reads}
 use Rattle.formulas.specs.Words.{stretchOf, inEach, foundOf, Gives, closedAt}
 use Rattle.formulas.proofs.Steps.{Run, run, runs, r-other, r-digit, r-input, r-deep-not, r-deep-open, r-not-bad, r-not, r-open-bad, r-open-left, r-open, r-first-bad, r-last, r-next-bad, r-next}
 use Rattle.formulas.proofs.Grammar.{mark-pos, sound, spells-lt, spells-bytes}

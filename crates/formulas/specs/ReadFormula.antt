@@ -1,5 +1,5 @@
 -- Read a formula into a lent table.
-use mathlib.Core.List.{List, [], _∷_, _++_}
+use mathlib.Core.List.{List, [], _∷_}
 use Prim.Native.Nat.{ℕ}
 use Rattle.tables.specs.Table.{tableOf}
 use Rattle.refusals.specs.declared.verdicts.Refusal.{Refusal}

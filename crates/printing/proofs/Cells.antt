@@ -2,12 +2,12 @@
 use mathlib.Core.Path.{_≡_, refl, sym, ap, ap₂, _∙_, subst}
 use mathlib.Core.Bool.{Bool, true, false, cond, _&&_, _||_}
 use mathlib.Core.List.{List, [], _∷_}
-use Prim.Native.Nat.{ℕ, zero, suc, _+_, _-_, _*_, _/_, _%_, _^_, _<_, _≤_}
+use Prim.Native.Nat.{ℕ, zero, suc, _+_, _-_, _/_, _%_, _^_, _<_, _≤_}
 use native.Mathlib.Omega.{arith}
 use lib.Dec.{eqb, ltb}
 use lib.ListN.{length, getD}
 use lib.Pow.{pow-pos}
-use borrow.Author.Tests.{eq-eqb, ne-eqb, eqb-true, eqb-false}
+use borrow.Author.Tests.{ne-eqb}
 use Rattle.bits.specs.Numbers.{bit, val, number}
 use Rattle.bits.specs.Lists.{listOf}
 use Rattle.bits.proofs.Numbers.{number-ext, number-mod, number-lt}
@@ -17,7 +17,7 @@ use Rattle.sheets.specs.Edition.{IsEdition}
 use Rattle.sheets.specs.Network.{Cell}
 use Rattle.sheets.specs.Record.{cellBit, cellOf}
 use Rattle.sheets.specs.Sheet.{recordAt, cellsFrom, sheetCells}
-use Rattle.sheets.specs.Reading.{times, reads}
+use Rattle.sheets.specs.Reading.{times}
 use Rattle.printing.specs.Forms.{markOf}
 use Rattle.printing.specs.Printable.{Plain, AllPlain, plainCell, allPlain}
 

@@ -4,7 +4,7 @@ use mathlib.Core.Bool.{Bool, true, false, cond, not, _&&_, Bool·beq}
 use Prim.Native.Nat.{ℕ, zero, suc, _+_, _*_, _^_, _<_, _≤_}
 use native.Mathlib.Omega.{arith}
 use lib.Dec.{eqb, ltb}
-use borrow.Author.Tests.{eq-eqb, ne-eqb, eqb-true, lt-ltb, ltb-true}
+use borrow.Author.Tests.{ne-eqb, eqb-true, lt-ltb, ltb-true}
 use Rattle.bits.specs.Numbers.{bit, val, number}
 use Rattle.bits.specs.Below.{every}
 use Rattle.bits.proofs.Bools.{beq-same}

@@ -1,22 +1,20 @@
 -- The tests tell the printed sheets; their text has room, reads back, and is worth what the sheet is. Assumes nothing.
 use mathlib.Core.Path.{_≡_, refl, sym, ap, ap₂, _∙_, subst}
 use mathlib.Core.Logic.{_↔_}
-use mathlib.Core.Bool.{Bool, true, false, cond, not, _&&_, _||_}
-use mathlib.Core.List.{List, [], _∷_, _++_}
-use Prim.Native.Nat.{ℕ, zero, suc, _+_, _-_, _*_, _^_, _<_, _≤_}
+use mathlib.Core.Bool.{Bool, true, false, not, _&&_, _||_}
+use mathlib.Core.List.{List, _++_}
+use Prim.Native.Nat.{ℕ, zero, suc, _+_, _-_, _^_, _<_, _≤_}
 use native.Mathlib.Omega.{arith}
 use lib.Dec.{eqb, ltb}
 use lib.ListN.{length, drop}
 use lib.Seq.{sets-eq}
-use borrow.Author.Tests.{eq-eqb, ne-eqb, eqb-true, eqb-false, ltb-true, ltb-false, lt-ltb, not-false}
-use Rattle.bits.specs.Numbers.{bit}
-use Rattle.bits.specs.Below.{every}
+use borrow.Author.Tests.{eq-eqb, eqb-true, eqb-false, ltb-true, ltb-false, lt-ltb, not-false}
 use Rattle.bits.proofs.Below.{every-at, every-all}
 use Rattle.bits.proofs.Bools.{and-left, and-right}
 use Rattle.tables.specs.Table.{mostInputs}
 use Rattle.sheets.specs.declared.kinds.Edition.{Edition}
 use Rattle.sheets.specs.Edition.{IsEdition}
-use Rattle.sheets.specs.Network.{Cell, Wired, run}
+use Rattle.sheets.specs.Network.{Cell, Wired}
 use Rattle.sheets.specs.Record.{cellOf}
 use Rattle.sheets.specs.Sheet.{recordAt, records, cellsFrom, sheetCells, sheetBit, Good}
 use Rattle.sheets.specs.Reading.{reads}
@@ -28,10 +26,10 @@ use Rattle.refusals.proofs.Sheets.{good-sheet}
 use Rattle.formulas.specs.Formula.{value}
 use Rattle.formulas.specs.Text.{mostText, ReadAs}
 use Rattle.printing.specs.Forms.{markOf}
-use Rattle.printing.specs.Print.{flipped, printed, sheetText, formulaOf}
+use Rattle.printing.specs.Print.{printed, sheetText, formulaOf}
 use Rattle.printing.specs.Printable.{Plain, AllPlain, Printable, plainCell, allPlain, onceRead, notPrinted}
-use Rattle.printing.specs.Put.{Put, Written, Room}
-use Rattle.printing.specs.WriteFormula.{writeForm, writeLines, writeDone}
+use Rattle.printing.specs.Put.{Put, Room}
+use Rattle.printing.specs.WriteFormula.{writeLines, writeDone}
 use Rattle.printing.proofs.Cells.{table-lt}
 use Rattle.printing.proofs.Forms.{mark-depends, depends-mark}
 use Rattle.printing.proofs.Turns.{Each}

@@ -4,16 +4,15 @@ use mathlib.Core.Bool.{Bool, true, false, cond}
 use mathlib.Core.List.{List, [], _∷_, _++_}
 use Prim.Native.Nat.{ℕ, zero, suc, _+_, _-_, _*_, _^_, _<_, _≤_}
 use native.Mathlib.Omega.{arith}
-use lib.Dec.{eqb, ltb}
 use lib.ListN.{length, getD, length-append}
 use borrow.Author.Tests.{lt-ltb}
-use Rattle.bits.specs.Numbers.{bit, number}
+use Rattle.bits.specs.Numbers.{bit}
 use Rattle.sheets.specs.Network.{Cell, packed, output, run, Wired}
-use Rattle.formulas.specs.Formula.{Formula, letter, constant, negated, joined, value}
+use Rattle.formulas.specs.Formula.{Formula, letter, constant, joined, value}
 use Rattle.formulas.specs.Text.{mark, Spells, a-letter, a-zero, a-one, a-not, a-nest, only, more, byteAt, mostLevels, IsFormula}
 use Rattle.printing.specs.Forms.{markOf, flipsLow, flipsHigh}
 use Rattle.printing.specs.Print.{inTurn, bySides, flipped, oneText, twoText, cellText, letterText, printed, negatedIf, oneFormula, twoFormula, levelOf, cellFormula, formulaOf}
-use Rattle.printing.specs.Printable.{Plain, AllPlain}
+use Rattle.printing.specs.Printable.{Plain}
 use Rattle.printing.proofs.Forms.{depends-mark, level-le, mark-of, one-value, two-value}
 use Rattle.printing.proofs.Turns.{Each, each-signal, run-last}
 

@@ -2,12 +2,12 @@
 use mathlib.Core.Path.{_≡_, refl, sym, ap, ap₂, _∙_, subst}
 use mathlib.Core.Bool.{Bool, true, false, cond}
 use mathlib.Core.List.{List, [], _∷_, _++_, append-assoc, append-nil}
-use Prim.Native.Nat.{ℕ, zero, suc, _+_, _-_, _*_, _<_, _≤_}
+use Prim.Native.Nat.{ℕ, suc, _+_, _-_, _*_, _<_, _≤_}
 use native.Mathlib.Omega.{arith}
-use lib.Dec.{eqb, ltb}
+use lib.Dec.{eqb}
 use lib.ListN.{length, getD, length-append}
 use lib.Seq.{sets, length-sets}
-use borrow.Author.Tests.{eq-eqb, ne-eqb, lt-ltb}
+use borrow.Author.Tests.{ne-eqb, lt-ltb}
 use Rattle.sheets.specs.declared.kinds.Edition.{Edition}
 use Rattle.sheets.specs.Edition.{IsEdition, mostRecords}
 use Rattle.sheets.specs.Network.{Cell}
@@ -20,7 +20,7 @@ use Rattle.printing.specs.Forms.{markOf, flipsLow, flipsHigh}
 use Rattle.printing.specs.Print.{bySides, flipped, oneText, twoText, cellText, letterText, printed}
 use Rattle.printing.specs.Printable.{Plain}
 use Rattle.printing.specs.Pairs.{pairCell}
-use Rattle.printing.specs.Put.{Put, Written, Room}
+use Rattle.printing.specs.Put.{Put, Room}
 use Rattle.printing.proofs.Cells.{cell-at, plain-at}
 use Rattle.printing.proofs.Turns.{noCell, cellAt, AlikeAt, turn-below, turn-cell, wired-at}
 

@@ -1,7 +1,7 @@
 -- How a cell's table is printed. Of two signals, with L the lower: 8 (L&R), 4 (!L&R), 2 (L&!R), 1 (!L&!R), E (L|R),
 -- D (!L|R), B (L|!R), 7 (!L|!R), 6 (L^R), 9 (L^!R).
 use mathlib.Core.Bool.{Bool}
-use mathlib.Core.List.{List, [], _∷_}
+use mathlib.Core.List.{[], _∷_}
 use Prim.Native.Nat.{ℕ}
 use lib.Dec.{eqb}
 use lib.ListN.{getD}

@@ -4,7 +4,6 @@ use mathlib.Core.Bool.{Bool, true, false, cond}
 use mathlib.Core.List.{List, [], _∷_, _++_}
 use Prim.Native.Nat.{ℕ, suc, _+_, _-_}
 use lib.Dec.{eqb, ltb}
-use lib.ListN.{length}
 use Rattle.sheets.specs.declared.kinds.Edition.{Edition}
 use Rattle.sheets.specs.Network.{Cell}
 use Rattle.sheets.specs.Sheet.{records, sheetCells}

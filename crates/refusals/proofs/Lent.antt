@@ -1,11 +1,11 @@
--- Lent rooms that are long enough, and a work area that a refusal but 8 leaves as it was found. Assumes nothing.
-use mathlib.Core.Path.{_≡_}
-use mathlib.Core.Bool.{true, false}
+-- Lent rooms that are long enough, and a work area that form and room leave as it was found. Assumes nothing.
+use mathlib.Core.Path.{_≡_, ap}
+use mathlib.Core.Bool.{Bool, true, false, cond, _&&_}
 use mathlib.Core.List.{List}
 use Prim.Native.Nat.{ℕ, _*_, _≤_}
-use native.Mathlib.Omega.{arith}
-use lib.ListN.{length}
-use borrow.Author.Tests.{ne-eqb, le-ltb, ltb-false}
+use lib.Dec.{leb}
+use lib.ListN.{length, replicate}
+use borrow.Author.Tests.{le-leb, le-ltb, ltb-false}
 use Rattle.bits.proofs.Bools.{or-none}
 use Rattle.sheets.specs.declared.kinds.Edition.{Edition}
 use Rattle.sheets.specs.Edition.{mostRecords}
@@ -16,17 +16,14 @@ use Rattle.refusals.specs.declared.verdicts.Verdict.the-variants.{Refuse
 use Rattle.refusals.specs.Lines.{Line, verdict, numberOf}
 use Rattle.refusals.specs.Refusals.{shortSheet}
 use Rattle.refusals.specs.Lent.{workAfter}
-use Rattle.refusals.proofs.Lines.{others, another}
-
-work-stays : (r : Refusal) → (r .number ≡ 0 → ⊥) → (r .number ≡ 8 → ⊥) → (work : List ℕ) → workAfter (Refused r) work ≡ work
-work-stays r z h work = rw (ne-eqb (r .number) 0 z, ne-eqb (r .number) 8 h)
+use Rattle.refusals.proofs.Lines.{all-numbers, a-number}
 
 pub work-found : (v : Verdict) (work : List ℕ) → 1 ≤ numberOf v → numberOf v ≤ 7 → workAfter v work ≡ work
-work-found v work h g = rw (ne-eqb (numberOf v) 0 (λ z. omega arith), ne-eqb (numberOf v) 8 (λ z. omega arith))
+work-found v work h g = rw (le-leb 1 (numberOf v) h, le-leb (numberOf v) 7 g)
 
--- so it stays where lines refuse of which none has the number 0 or 8
-pub form-leaves : (ls : List Line) (r : Refusal) → others 0 ls ≡ true → others 8 ls ≡ true → verdict ls ≡ Refused r → (work : List ℕ) → workAfter (Refused r) work ≡ work
-form-leaves ls r o p e work = work-stays r (another ls 0 r o e) (another ls 8 r p e) work
+-- so it stays where lines refuse that have the numbers 1 to 7
+pub form-leaves : (ls : List Line) (r : Refusal) → all-numbers (λ k. leb 1 k && leb k 7) ls ≡ true → verdict ls ≡ Refused r → (work : List ℕ) → workAfter (Refused r) work ≡ work
+form-leaves ls r o e work = ap (λ (t : Bool). cond t work (replicate (length work) 0)) (a-number (λ k. leb 1 k && leb k 7) ls r o e)
 
 -- line 6 of make: both the sheet's bytes and the work area are long enough
 module _ (e : Edition) (sheet work : List ℕ) where

@@ -153,6 +153,20 @@ another ls k r o e q =
     let w = passed ls [] k o (ap (λ (l : List Line). numberOf (verdict l)) (append-nil ls) ∙ ap numberOf e ∙ q) in
     not-fine r (sym (passes ls [] (w .0)) ∙ ap verdict (append-nil ls) ∙ e)
 
+-- the numbers of all lines pass the test, and so does that of a refusal by them
+abbrev pub all-numbers : (ℕ → Bool) → List Line → Bool
+all-numbers p [] = true
+all-numbers p (l ∷ ls) = p (l .gives .number) && all-numbers p ls
+
+pub a-number : (p : ℕ → Bool) (ls : List Line) (r : Refusal) → all-numbers p ls ≡ true → verdict ls ≡ Refused r → p (r .number) ≡ true
+unfolding pick
+a-number p [] r o e = absurd (not-fine r e)
+a-number p (l ∷ ls) r o e = go (l .holds) e (a-number p ls r (and-right (p (l .gives .number)) (all-numbers p ls) o))
+  where
+    go : (t : Bool) → pick l (verdict ls) t ≡ Refused r → (verdict ls ≡ Refused r → p (r .number) ≡ true) → p (r .number) ≡ true
+    go true q ih = ap (λ (v : Verdict). p (numberOf v)) (sym q) ∙ and-left (p (l .gives .number)) (all-numbers p ls) o
+    go false q ih = ih q
+
 -- a number that one line alone has is given by that line, which holds
 pub held : (ls : List Line) (l : Line) (ms : List Line) (k : ℕ) → others k ls ≡ true → others k ms ≡ true → (k ≡ 0 → ⊥) → numberOf (verdict (ls ++ (l ∷ ms))) ≡ k
     → (l .holds ≡ true) × (verdict (ls ++ (l ∷ ms)) ≡ Refused (l .gives))

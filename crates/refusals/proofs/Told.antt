@@ -17,7 +17,3 @@ pub told-known : (w n : ℕ) (ls : List Line) → badEdition w .holds ≡ false 
 told-known w n ls h =
     ap (λ (t : Bool). cond (badInputs n .holds) (Refused (badInputs n .gives)) (cond t (Refused (badEdition w .gives)) (verdict (badInputs n ∷ ls)))) h
     ∙ twice (badInputs n .holds) (Refused (badInputs n .gives)) (verdict ls)
-
--- the first edition is one
-pub told-one : (n : ℕ) (ls : List Line) → verdict (toldLines 1 n (badInputs n ∷ ls)) ≡ verdict (badInputs n ∷ ls)
-told-one n ls = told-known 1 n ls refl

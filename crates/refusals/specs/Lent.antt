@@ -1,8 +1,8 @@
 -- Lent bytes afterwards.
-use mathlib.Core.Bool.{cond, _||_}
+use mathlib.Core.Bool.{cond, _&&_}
 use mathlib.Core.List.{List, _++_}
 use Prim.Native.Nat.{ℕ}
-use lib.Dec.{eqb}
+use lib.Dec.{leb}
 use lib.ListN.{length, drop, replicate}
 use Rattle.refusals.specs.declared.verdicts.Verdict.{Verdict}
 use Rattle.refusals.specs.Lines.{numberOf}
@@ -11,6 +11,6 @@ use Rattle.refusals.specs.Lines.{numberOf}
 abbrev pub into : List ℕ → List ℕ → List ℕ
 into bytes room = bytes ++ drop (length bytes) room
 
--- a work area after a verdict: zeros after 0 and 8, else as it was found
+-- a work area after a verdict: as it was found after 1 to 7, else (0, done, and what the table itself says) zeros
 abbrev pub workAfter : Verdict → List ℕ → List ℕ
-workAfter v work = cond (eqb (numberOf v) 0 || eqb (numberOf v) 8) (replicate (length work) 0) work
+workAfter v work = cond (leb 1 (numberOf v) && leb (numberOf v) 7) work (replicate (length work) 0)

@@ -1,11 +1,11 @@
 -- A good sheet's cells fit an edition of cells as large or larger; written in it they say the same. Assumes nothing.
-use mathlib.Core.Path.{_≡_, refl, sym, ap, ap₂, _∙_, subst}
+use mathlib.Core.Path.{_≡_, sym, ap, _∙_, subst}
 use mathlib.Core.Bool.{false}
-use mathlib.Core.List.{List, [], _∷_}
-use Prim.Native.Nat.{ℕ, zero, suc, _+_, _-_, _*_, _^_, _<_, _≤_}
+use mathlib.Core.List.{List}
+use Prim.Native.Nat.{ℕ, zero, suc, _+_, _-_, _^_, _<_, _≤_}
 use native.Mathlib.Nat.{add-zero, add-suc}
 use native.Mathlib.Omega.{arith}
-use lib.ListN.{length, getD}
+use lib.ListN.{getD}
 use Rattle.bits.specs.Numbers.{bit, number}
 use Rattle.bits.specs.Below.{least}
 use Rattle.bits.specs.Lists.{listOf}
@@ -14,11 +14,11 @@ use Rattle.bits.proofs.Lists.{length-list, list-at}
 use Rattle.tables.specs.Table.{tableOf}
 use Rattle.sheets.specs.declared.kinds.Edition.{Edition}
 use Rattle.sheets.specs.Network.{Cell, run}
-use Rattle.sheets.specs.Edition.{IsEdition, mostDesk}
+use Rattle.sheets.specs.Edition.{IsEdition}
 use Rattle.sheets.specs.Record.{Keeps, cellBit, cellOf}
 use Rattle.sheets.specs.Sheet.{recordAt, cellsFrom, sheetCells, sheetBit, rebuilt, Good}
 use Rattle.sheets.specs.Reading.{unreadCell, EachRead}
-use Rattle.sheets.specs.Writing.{Fits, FitsFrom, sheetBytes}
+use Rattle.sheets.specs.Writing.{Fits, FitsFrom}
 use Rattle.sheets.specs.Desk.{deskOf}
 use Rattle.sheets.proofs.Looks.{record-keeps}
 use Rattle.sheets.proofs.Wiring.{cells-length}

@@ -48,16 +48,10 @@ module _ (n K r A B : ℕ) where
             → badSets n K r A B .holds ≡ ltb K (size n (bit A) + size n (bit B))
         by-sizes d h = rw (f, lt-leb (2 ^ n) A a, lt-leb (2 ^ n) B b, d, lt-leb (size n (bit A)) r h)
 
-  -- line 5 lets candidates through, for any larger cell too, with 1 to 3 first cells
+  -- line 5 lets candidates through, for any larger cell too, with at most 3 first cells
   module _ (h : badSets n K r A B .holds ≡ false) where
-    firsts : (1 ≤ r) × (r ≤ mostFirst)
-    firsts = inside 1 r mostFirst (or-none (not (leb 1 r && leb r mostFirst)) _ h .0)
-
-    pub some-first : 1 ≤ r
-    some-first = firsts .0
-
     pub most-first : r ≤ mostFirst
-    most-first = firsts .1
+    most-first = inside 1 r mostFirst (or-none (not (leb 1 r && leb r mostFirst)) _ h .0) .1
 
     pub candidate : (L : ℕ) → K ≤ L → Candidate n L r A B
     candidate L k =

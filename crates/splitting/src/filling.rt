@@ -4,7 +4,7 @@ use splits::pair::FirstCells;
 use splits::split::Split;
 ghost use mathlib.Core.Path.{_≡_};
 ghost use mathlib.Core.Bool.{true};
-ghost use Prim.Native.Nat.{_+_, _*_, _^_, _≤_};
+ghost use Prim.Native.Nat.{_*_, _^_, _≤_};
 ghost use lib.ListN.{length};
 ghost use Rattle.bits.specs.Numbers.{bit};
 ghost use Rattle.tables.specs.Table.{mostInputs, tableLength, tableBit};

@@ -1,7 +1,7 @@
 -- The inputs that count: the test agrees with `DependsOn`, and a table sees those inputs alone, since the others can be
 -- changed one by one. Assumes nothing.
 use mathlib.Core.Path.{_≡_, refl, sym, ap, ap₂, _∙_}
-use mathlib.Core.Logic.{_⊎_, inl, inr, _↔_}
+use mathlib.Core.Logic.{_⊎_, inl, inr}
 use mathlib.Core.Bool.{Bool, true, false, cond, not, _||_, or-true, or-false, Bool·beq}
 use Prim.Native.Nat.{ℕ, zero, suc, _+_, _^_, _<_, _≤_}
 use native.Mathlib.Decide.{decLt}

@@ -1,21 +1,17 @@
 -- The first bits of a number are what a division leaves; the words of a gate's table. Assumes nothing.
 use mathlib.Core.Path.{_≡_, sym, ap, ap₂, _∙_}
 use mathlib.Core.Bool.{Bool, false, _&&_}
-use mathlib.Core.List.{List}
-use Prim.Native.Nat.{ℕ, _+_, _-_, _*_, _/_, _%_, _^_, _<_, _≤_}
+use Prim.Native.Nat.{ℕ, _+_, _-_, _*_, _%_, _^_, _<_, _≤_}
 use native.Mathlib.Nat.{add-mul-mod-self-right, mod-eq-of-lt, zero-add}
 use native.Mathlib.Decide.{decLt}
 use native.Mathlib.Omega.{arith}
 use lib.Dec.{ltb}
 use lib.Pow.{pow-add, pow-mono, pow-pos}
-use lib.ListN.{getD, take, drop}
-use lib.Seq.{getD-take, getD-drop}
 use borrow.Author.Tests.{lt-ltb, le-ltb}
-use Rattle.bits.specs.Numbers.{bit, number}
-use Rattle.bits.proofs.Numbers.{number-lt, number-ext, number-bit, none-zero, bit-number, bit-shr}
+use Rattle.bits.specs.Numbers.{number}
+use Rattle.bits.proofs.Numbers.{number-lt, number-ext, none-zero}
 use Rattle.bits.proofs.Sums.{number-append}
-use Rattle.tables.specs.Table.{tableLength, tableBit}
-use Rattle.tables.specs.Words.{tableWord, gateWord}
+use Rattle.tables.specs.Words.{gateWord}
 
 -- the first a bits of m
 pub first-bits : (a m : ℕ) (f : ℕ → Bool) → a ≤ m → number m f % 2 ^ a ≡ number a f
@@ -51,10 +47,7 @@ short-word n F h =
     sym (number-ext 64 (λ i. ltb (0 + i) (2 ^ n) && F (0 + i)) (cut (2 ^ n) F) (λ i l. ap (cut (2 ^ n) F) (zero-add i))
     ∙ cut-number (2 ^ n) 64 F (pow-mono {i = n} {j = 6} h))
 
--- with 6 or more 2 ^ (n - 6), all full
-pub full-words : (n : ℕ) → 6 ≤ n → tableLength n ≡ 8 * 2 ^ (n - 6)
-full-words n h = let e : n - 3 ≡ 3 + (n - 6) = omega arith in ap (λ (k : ℕ). 2 ^ k) e ∙ pow-add 2 3 (n - 6)
-
+-- with 6 or more all are full
 pub full-word : (n : ℕ) (F : ℕ → Bool) (w : ℕ) → 6 ≤ n → w < 2 ^ (n - 6) → number 64 (λ i. F (64 * w + i)) ≡ gateWord n F w
 full-word n F w h l =
     let e : 6 + (n - 6) ≡ n = omega arith in

@@ -12,7 +12,6 @@ use Rattle.bits.proofs.Building.{joined, joined-fits}
 use Rattle.bits.proofs.Numbers.{number-lt, number-ext, number-bit, bit-number, bit-shr, bit-high, bit-zero}
 use Rattle.bits.proofs.Sums.{number-append}
 use Rattle.tables.specs.Table.{tableBit}
-use Rattle.tables.specs.Words.{WordAt}
 
 module _ (t : List ℕ) (a : ℕ) where
   -- the bits from byte a on

@@ -1,7 +1,7 @@
 -- Sheets made with cells of two inputs: a cell of two signals depends on both, and each signal is read at most once. Assumes nothing.
 use mathlib.Core.Path.{_≡_, refl, sym, ap, ap₂, _∙_, subst}
 use mathlib.Core.Logic.{⊎-elim}
-use mathlib.Core.Bool.{Bool, true, false, cond, not, _||_}
+use mathlib.Core.Bool.{Bool, true, false, cond}
 use mathlib.Core.List.{List, [], _∷_, _++_}
 use Prim.Native.Nat.{ℕ, zero, suc, _+_, _*_, _/_, _%_, _^_, _<_, _≤_}
 use native.Mathlib.Omega.{arith}
@@ -21,13 +21,13 @@ use Rattle.splits.specs.Split.{readsD, readsH, Possible}
 use Rattle.splits.specs.Pair.{codeAt, tableD, bitH}
 use Rattle.splits.proofs.Few.{column-there, codeAt-gather, pair-gives}
 use Rattle.splits.proofs.Possible.{possible-few}
-use Rattle.best.specs.Best.{Candidate, Best}
+use Rattle.best.specs.Best.{Candidate}
 use Rattle.best.proofs.Next.{next-counts}
 use Rattle.sheets.specs.Network.{Cell}
 use Rattle.sheets.specs.Reading.{times, reads}
-use Rattle.chains.specs.Chain.{pick, firstCell, lastCell, nextSignals, nextTable}
+use Rattle.chains.specs.Chain.{pick, firstCell, nextSignals, nextTable}
 use Rattle.chains.specs.Words.{Makes, ends, goes}
-use Rattle.chains.proofs.Lists.{AllBelow, pick-length, pick-below}
+use Rattle.chains.proofs.Lists.{AllBelow, pick-length}
 use Rattle.chains.proofs.Right.{first-count}
 use Rattle.chains.proofs.One.{next-inputs, next-below}
 use Rattle.trees.proofs.Pairs.{pair-of, not-a, not-b}

@@ -1,13 +1,13 @@
 -- The formula that is printed of a sheet made with cells of two inputs is a tree: it reads each of the inputs that count once. Assumes nothing.
-use mathlib.Core.Path.{_≡_, refl, sym, ap, ap₂, _∙_, subst}
-use mathlib.Core.Bool.{Bool, true, false, cond, not, _&&_}
+use mathlib.Core.Path.{_≡_, refl, sym, ap, ap₂, _∙_}
+use mathlib.Core.Bool.{Bool, true, false, cond, not}
 use mathlib.Core.List.{List, [], _∷_, _++_}
-use Prim.Native.Nat.{ℕ, zero, suc, _+_, _-_, _*_, _^_, _<_, _≤_}
+use Prim.Native.Nat.{ℕ, zero, suc, _+_, _-_, _^_, _<_, _≤_}
 use native.Mathlib.Omega.{arith}
 use native.Mathlib.Decide.{decLt}
-use lib.Dec.{eqb, ltb}
+use lib.Dec.{eqb}
 use lib.ListN.{length, getD}
-use borrow.Author.Tests.{eq-eqb, ne-eqb, eqb-true, lt-ltb}
+use borrow.Author.Tests.{eq-eqb, ne-eqb, eqb-true}
 use Rattle.bits.specs.Numbers.{bit, val, number}
 use Rattle.bits.specs.Sets.{size}
 use Rattle.bits.proofs.Bools.{clash}
@@ -23,7 +23,7 @@ use Rattle.sheets.specs.Writing.{FitsFrom}
 use Rattle.sheets.specs.Reading.{times, reads}
 use Rattle.chains.specs.Chain.{pick, inputs, lastCell, made}
 use Rattle.chains.specs.Aside.{sheetAside}
-use Rattle.chains.proofs.Lists.{inputs-at, inputs-length}
+use Rattle.chains.proofs.Lists.{inputs-at}
 use Rattle.chains.proofs.Aside.{table-gives, table-fits}
 use Rattle.chains.proofs.FirstReads.{sheet-constant}
 use Rattle.formulas.specs.Formula.{Formula, letter, constant, negated, joined, join}
@@ -38,7 +38,7 @@ use Rattle.trees.specs.Tree as tree
 use Rattle.trees.specs.Tree.{Tree, uses, TreeOf}
 use Rattle.trees.proofs.Graft.{Computes, counted-read}
 use Rattle.twos.specs.TreeOf.{flip, treeOf}
-use Rattle.twos.proofs.Cells.{ReadOnce, times-snoc}
+use Rattle.twos.proofs.Cells.{times-snoc}
 use Rattle.twos.proofs.Printed.{read-once, made-printable}
 
 -- ---- a formula's tree

@@ -1,13 +1,13 @@
 -- Every sheet made with cells of two inputs is one that is printed. Assumes nothing.
-use mathlib.Core.Path.{_≡_, sym, ap, subst}
+use mathlib.Core.Path.{_≡_, sym, subst}
 use mathlib.Core.Bool.{Bool}
 use mathlib.Core.List.{List, [], _∷_}
-use Prim.Native.Nat.{ℕ, zero, suc, _+_, _^_, _<_, _≤_}
+use Prim.Native.Nat.{ℕ, zero, suc, _+_, _^_, _≤_}
 use native.Mathlib.Omega.{arith}
 use lib.ListN.{length, drop}
 use Rattle.bits.specs.Numbers.{bit, number}
 use Rattle.bits.specs.Sets.{size}
-use Rattle.tables.specs.Counting.{Counting, AllCount, support, kept, tableOver}
+use Rattle.tables.specs.Counting.{Counting, AllCount, kept, tableOver}
 use Rattle.tables.proofs.Depending.{support-counting}
 use Rattle.tables.proofs.Keeping.{kept-sees, two-kept}
 use Rattle.tables.proofs.Over.{over-counts}

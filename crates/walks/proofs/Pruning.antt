@@ -13,7 +13,7 @@ use Rattle.bits.specs.Numbers.{bit, val}
 use Rattle.bits.specs.Sets.{union, rest, Apart, size}
 use Rattle.bits.proofs.Bools.{clash}
 use Rattle.bits.proofs.Counting.{size-or}
-use Rattle.bits.proofs.Numbers.{bit-shr, bit-high}
+use Rattle.bits.proofs.Numbers.{bit-shr}
 use Rattle.bits.proofs.Sizes.{size-sum}
 use Rattle.bits.proofs.Sums.{bit-not}
 use Rattle.bits.proofs.Machine.{ones-size, bit-and}

@@ -2,7 +2,7 @@
 // down, and those without a position come before those with it. What is known to be ruled out is not tried.
 ghost use mathlib.Core.Path.{_≡_};
 ghost use mathlib.Core.Bool.{true, false};
-ghost use Prim.Native.Nat.{ℕ, _+_, _^_, _<_, _≤_};
+ghost use Prim.Native.Nat.{_+_, _^_, _<_, _≤_};
 ghost use Rattle.bits.specs.Numbers.{bit};
 ghost use Rattle.bits.specs.Sets.{Apart, size};
 ghost use Rattle.tables.specs.Table.{mostInputs, tableBit};

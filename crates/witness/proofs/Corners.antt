@@ -12,14 +12,14 @@ use lib.Pow.{pow-mono, pow-pos, pow-add}
 use borrow.Author.Tests.{eqb-true}
 use Rattle.bits.specs.Numbers.{bit, number}
 use Rattle.bits.specs.Sets.{union, Apart, spread}
-use Rattle.bits.proofs.Bools.{clash, false-of, or-left, or-right, or-none, and-left, and-right}
+use Rattle.bits.proofs.Bools.{clash, false-of, or-none, and-left, and-right}
 use Rattle.bits.specs.Patterns.{pattern}
 use Rattle.bits.proofs.Inputs.{pattern-off}
 use Rattle.bits.proofs.Members.{spread-inside}
 use Rattle.bits.proofs.Numbers.{number-lt, number-mod, number-bit, bit-number, bit-zero, bit-high, bit-below}
 use Rattle.bits.proofs.Sums.{number-join, sum-mask, bit-not}
 use Rattle.bits.proofs.Machine.{bit-and, bit-or}
-use Rattle.witness.specs.Witness.{Inside, RulesOut, Told, Spots}
+use Rattle.witness.specs.Witness.{RulesOut, Told, Spots}
 use Rattle.witness.specs.Points.{differ, Turned, Off, Still, Steps}
 use Rattle.witness.proofs.Members.{bit-xor, bit-within, power-bit}
 use Rattle.witness.proofs.Points.{told-by, not-told, said-no, not-true, three-rule}

@@ -1,25 +1,25 @@
 -- More than m columns of four bits: a point for each of them, and they are pairwise told apart. Assumes nothing.
-use mathlib.Core.Path.{_≡_, refl, sym, ap, ap₂, _∙_, subst}
+use mathlib.Core.Path.{_≡_, refl, sym, ap, ap₂, _∙_}
 use mathlib.Core.List.{List}
-use mathlib.Core.Bool.{Bool, true, false, cond, not, _&&_, _||_, Bool·beq}
-use Prim.Native.Nat.{ℕ, zero, suc, _+_, _-_, _*_, _/_, _%_, _^_, _<_, _≤_}
+use mathlib.Core.Bool.{Bool, true, false, _||_, Bool·beq}
+use Prim.Native.Nat.{ℕ, zero, suc, _+_, _*_, _/_, _%_, _^_, _<_, _≤_}
 use native.Mathlib.Nat.{not-suc-le-zero, mod-lt}
-use native.Mathlib.Decide.{ℕ-discrete, decLt}
+use native.Mathlib.Decide.{decLt}
 use native.Mathlib.Omega.{arith}
-use lib.Dec.{eqb, lit<}
+use lib.Dec.{lit<}
 use lib.Bits.{bitAnd, bitOr, bitXor, xor-lt, xor-block, xor-zero-r}
-use borrow.Author.Tests.{eqb-true, eq-eqb}
+use borrow.Author.Tests.{eqb-true}
 use Rattle.bits.specs.Numbers.{bit, val}
 use Rattle.bits.specs.Sets.{size, spread}
-use Rattle.bits.proofs.Bools.{clash, false-of, or-none, same-beq, beq-same}
+use Rattle.bits.proofs.Bools.{clash, or-none, same-beq, beq-same}
 use Rattle.bits.proofs.Numbers.{bit-zero, bit-number}
 use Rattle.bits.proofs.Building.{bit-digit}
 use Rattle.bits.proofs.Machine.{bit-or}
 use Rattle.tables.specs.Table.{tableBit}
 use Rattle.tables.specs.Words.{tableWord}
-use Rattle.witness.specs.Witness.{RulesOut, Told, Spots, Witness}
+use Rattle.witness.specs.Witness.{RulesOut, Witness}
 use Rattle.witness.specs.Crowd.{columnOver, HasColumn, Seen}
-use Rattle.witness.proofs.Members.{bit-xor, power-bit}
+use Rattle.witness.proofs.Members.{power-bit}
 use Rattle.witness.proofs.Points.{xor-still, xor-alike}
 use Rattle.witness.proofs.Corners.{spread-low}
 use Rattle.witness.proofs.Law.{witness-rules}
@@ -210,9 +210,6 @@ pub seen-more : {n : ℕ} {F : ℕ → Bool} {own base e f : ℕ} (seen new x v 
     → new ≡ 2 ^ columnOver F e f (bitXor base x) → Seen n F own base e f (bitOr seen new)
 seen-more {n} {F} {own} {base} {e} {f} seen new x v w b l at is c h = go (bit seen c) refl (sym (bit-or seen new c) ∙ h)
   where
-    here : ℕ
-    here = columnOver F e f (bitXor base x)
-
     go : (t : Bool) → bit seen c ≡ t → (t || bit new c) ≡ true → HasColumn n F own base e f c
     go true q r = w c q
     go false q r = record {

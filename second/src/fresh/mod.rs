@@ -44,7 +44,8 @@ pub struct Fresh {
 /// sheets rewritten for every desk, counting gates and the least number of cells for
 /// every K and n.
 pub fn cases(random: &mut Random, count: usize) -> Vec<Fresh> {
-    let mut list: Vec<Fresh> = (0..count).map(|i| (TABLE[i % TABLE.len()].fresh)(random)).collect();
+    let mut list = in_turn(random, count);
+    let turns = list.len();
     list.extend(pairs(random));
     list.extend(large::cases(random));
     list.extend(breaks::cases(random));
@@ -59,10 +60,21 @@ pub fn cases(random: &mut Random, count: usize) -> Vec<Fresh> {
     list.extend(several_chains::cases(random));
     list.extend(least::cases(random));
     list.retain(|fresh| call_of(fresh.case.call.code).is_some());
-    for fresh in &mut list {
+    tag_sizes(&mut list[turns..]);
+    list
+}
+
+/// So many fresh cases, the calls in turn, and nothing besides.
+pub fn in_turn(random: &mut Random, count: usize) -> Vec<Fresh> {
+    let mut list: Vec<Fresh> = (0..count).map(|i| (TABLE[i % TABLE.len()].fresh)(random)).collect();
+    tag_sizes(&mut list);
+    list
+}
+
+fn tag_sizes(list: &mut [Fresh]) {
+    for fresh in list {
         fresh.tags.extend(size_tag(&fresh.case));
     }
-    list
 }
 
 /// No call has more faults than that.

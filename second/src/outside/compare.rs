@@ -17,6 +17,8 @@ use crate::random::Random;
 
 /// So many fresh cases for each call, unless it is said otherwise.
 const CASES_A_CALL: u64 = 1000;
+/// More cases than that are drawn and asked in several rounds, so that no more are held at once.
+const ROUND: usize = 29_000;
 /// This many differences are described in full.
 const SHOWN: usize = 5;
 
@@ -49,13 +51,21 @@ pub fn compare(arguments: &Arguments) -> Result<(), String> {
     let count = arguments.number("--cases", CASES_A_CALL * TABLE.len() as u64)? as usize;
     println!("comparison: seed {seed}, {count} fresh cases");
     let mut random = Random::new(seed);
-    let mut batches = batches(&mut random, count)?;
-    let faults =
-        if arguments.flag("--fault") { plant_faults(&mut random, &mut batches) } else { 0 };
     let mut tally = Tally::default();
     let mut differences = Vec::new();
-    for batch in &batches {
-        differences.extend(ask(wanted, batch, &mut tally)?);
+    let (mut all, mut faults) = (0, 0);
+    for done in (0..count.max(1)).step_by(ROUND) {
+        let mut batches = batches(&mut random, done, ROUND.min(count - done))?;
+        if arguments.flag("--fault") && done == 0 {
+            faults = plant_faults(&mut random, &mut batches);
+        }
+        for batch in &batches {
+            differences.extend(ask(wanted, batch, &mut tally)?);
+            all += batch.questions.len();
+        }
+        if !differences.is_empty() {
+            break;
+        }
     }
     tally.print();
     if faults > 0 && differences.len() == faults {
@@ -70,19 +80,23 @@ pub fn compare(arguments: &Arguments) -> Result<(), String> {
     if !missing.is_empty() {
         return Err(format!("the cases cover too little:\n  {}", missing.join("\n  ")));
     }
-    let all: usize = batches.iter().map(|batch| batch.questions.len()).sum();
     println!("all {all} cases passed");
     Ok(())
 }
 
 /// The document's examples and half of the fresh cases and of the whole book as
 /// lent bytes are preset anyway, the others with two other values: a stray write of a preset value
-/// would not be seen in its own batch.
-fn batches(random: &mut Random, count: usize) -> Result<Vec<Batch>, String> {
+/// would not be seen in its own batch. A later round has fresh cases of the calls in turn alone.
+fn batches(random: &mut Random, done: usize, count: usize) -> Result<Vec<Batch>, String> {
     let start = Instant::now();
-    let mut first = document_questions()?;
-    let mut fresh = fresh::cases(random, count);
-    fresh.extend(whole_book::cases());
+    let (mut first, mut fresh) = (Vec::new(), Vec::new());
+    if done == 0 {
+        first = document_questions()?;
+        fresh = fresh::cases(random, count);
+        fresh.extend(whole_book::cases());
+    } else {
+        fresh.extend(fresh::in_turn(random, count));
+    }
     random.shuffle(&mut fresh);
     let third = fresh.split_off(fresh.len() * 3 / 4);
     let second = fresh.split_off(fresh.len() * 2 / 3);

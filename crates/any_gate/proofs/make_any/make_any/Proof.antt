@@ -13,12 +13,12 @@ use Rattle.sheets.specs.declared.kinds.Edition.{Edition}
 use Rattle.sheets.specs.Edition.{IsEdition, mostDesk, mostRecords, firstEdition}
 use Rattle.sheets.proofs.Keeping.{first-edition}
 use Rattle.chains.specs.Aside.{cellsAside}
-use Rattle.chains.specs.Any.{Any, severally}
+use Rattle.chains.specs.Any.{severally}
 use Rattle.refusals.specs.Lines.{InOrder, verdict, numberOf, reply}
 use Rattle.refusals.proofs.Lent.{long-both}
 use Rattle.refusals.proofs.Tests.{Sound, sound}
-use Rattle.bench.specs.MakeSheet.{MakeOutcome, makeForm, makeDone, makeOutcome}
-use Rattle.any_gate.specs.MakeAny.{cellsAny, anySays, anyNot}
+use Rattle.bench.specs.MakeSheet.{MakeOutcome, makeForm, makeDone, makeNot, makeOutcome}
+use Rattle.any_gate.specs.MakeAny.{cellsAny, anySays}
 use Rattle.any_gate.proofs.Answers.{as-make, eight-form, eight-sheet, by-several}
 use Rattle.any_gate.proofs.make_any.make_any.Statement.{statement}
 use Rattle.any_gate.proofs.make_any.make_any.Tie as tie
@@ -83,7 +83,7 @@ returns-2 c =
     let x = severally (cellsAside mostFirst (a .n) (a .k) (number (2 ^ a .n) (tableBit (a .t .now)))) in
     let w = m .make-for-desk .last .1 .1 .1 .1 .1 .0 in
     v .write-several .ensures
-    ∙ ap₂ (λ (e : Edition) (s : List ℕ). reply (verdict (anySays x)) (makeDone e (a .desk) (cellsAny x) s w) (anyNot s w)) (f .first .ensures)
+    ∙ ap₂ (λ (e : Edition) (s : List ℕ). reply (verdict (anySays x)) (makeDone e (a .desk) (cellsAny x) s w) (makeNot s w)) (f .first .ensures)
     (ap (λ (o : MakeOutcome). o .sheet) (m .make-for-desk .ensures)
     ∙ eight-sheet firstEdition (a .desk) (a .n) (a .k) (a .t .now) (a .sheet .now) (a .work .now) (eight i))
     ∙ by-several firstEdition (a .desk) (a .n) (a .k) (a .t .now) (a .sheet .now) (a .work .now) (eight i) w (m .make-for-desk .kept .1 .1 .1 .1 .1 .0)

@@ -1,5 +1,5 @@
 -- The held chain is that of the table, and is written as records where a sheet has room for it. Assumes nothing.
-use mathlib.Core.Path.{_≡_, sym, ap, ap₂, _∙_}
+use mathlib.Core.Path.{sym, ap, ap₂, _∙_}
 use mathlib.Core.List.{List, _++_}
 use Prim.Native.Nat.{ℕ, _*_, _^_, _≤_}
 use native.Mathlib.Nat.{le-trans, mul-le-mul-left}
@@ -21,15 +21,16 @@ use Rattle.chains.proofs.Aside.{cells-few}
 use Rattle.refusals.specs.declared.verdicts.Verdict.the-variants.{Fine}
 use Rattle.refusals.specs.Lines.{verdict, reply}
 use Rattle.bench.specs.declared.make_sheet.MakeAnswer.{MakeAnswer}
-use Rattle.bench.specs.MakeSheet.{MakeOutcome, makeDone}
-use Rattle.any_gate.specs.MakeAny.{cellsAny, anySays, anyNot}
-use Rattle.any_gate.proofs.Answers.{told-stuck, told-long, Kept, told-sheet, written}
+use Rattle.bench.specs.MakeSheet.{MakeOutcome, makeDone, makeNot}
+use Rattle.bench.proofs.Written.{written}
+use Rattle.any_gate.specs.MakeAny.{cellsAny, anySays}
+use Rattle.any_gate.proofs.Answers.{told-stuck, told-long, Kept, told-sheet}
 use Rattle.any_gate.proofs.make_any.write_several.Statement.{statement}
 use Rattle.any_gate.proofs.make_any.write_several.Tie as tie
 
 -- what is answered
 abbrev answered : Edition → ℕ → List ℕ → List ℕ → Any → MakeOutcome
-answered e d s work a = reply (verdict (anySays a)) (makeDone e d (cellsAny a) s work) (anyNot s work)
+answered e d s work a = reply (verdict (anySays a)) (makeDone e d (cellsAny a) s work) (makeNot s work)
 
 -- the chain with several first cells
 abbrev chainOf : ℕ → ℕ → List ℕ → Made

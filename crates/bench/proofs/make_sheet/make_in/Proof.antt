@@ -27,7 +27,7 @@ returns c =
     let w = sheetFor (a .n) (a .k) (a .t .now) in
     ap (λ (v : Verdict). record { answer = record { verdict = v; count = 0 }; sheet = a .sheet .now; work = a .work .now }) e
     ∙ ap (λ (l : List ℕ). record { answer = record { verdict = Refused r; count = 0 }; sheet = a .sheet .now; work = l })
-    (sym (form-leaves ls r refl refl (sym (f .make-form .ensures) ∙ e) (a .work .now)))
+    (sym (form-leaves ls r refl (sym (f .make-form .ensures) ∙ e) (a .work .now)))
     ∙ refused-by ls (chainStuck w ∷ []) (makeDone (a .e) (a .d) (cellsIn w) (a .sheet .now) (a .work .now)) (makeNot (a .sheet .now) (a .work .now))
     (f .make-form .result) r (f .make-form .ensures) e
 

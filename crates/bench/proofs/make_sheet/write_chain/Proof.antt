@@ -1,20 +1,15 @@
 -- `write_chain` meets its contract: the held chain is the sheet of the table, and is written as records. Assumes nothing.
-use mathlib.Core.Path.{_≡_, sym, ap, ap₂, _∙_}
+use mathlib.Core.Path.{sym, ap, ap₂, _∙_}
 use mathlib.Core.Bool.{Bool, cond}
-use mathlib.Core.List.{List, [], _∷_, _++_}
-use Prim.Native.Nat.{ℕ, _*_}
+use mathlib.Core.List.{List, [], _∷_}
+use Prim.Native.Nat.{ℕ}
 use native.Mathlib.Nat.{le-trans, mul-le-mul-left}
 use native.Mathlib.Omega.{arith}
-use lib.ListN.{length, drop, replicate}
 use borrow.Author.Needs.{needs}
 use borrow.Author.Tests.{not-true, not-false}
-use Rattle.bits.proofs.Lists.{length-list}
 use Rattle.tables.specs.Table.{tableBit}
 use Rattle.sheets.specs.declared.kinds.Edition.{Edition}
-use Rattle.sheets.specs.declared.kinds.Sheet.{Sheet}
-use Rattle.sheets.specs.Writing.{sheetBytes}
 use Rattle.sheets.specs.Held.{cellsOf}
-use Rattle.sheets.proofs.Wholes.{length-sheet}
 use Rattle.chains.specs.Chain.{Made, stuck, made}
 use Rattle.chains.proofs.Aside.{table-few}
 use Rattle.refusals.specs.declared.verdicts.Verdict.{Verdict}
@@ -22,21 +17,13 @@ use Rattle.refusals.specs.declared.verdicts.Verdict.the-variants.{Fine}
 use Rattle.refusals.specs.Lines.{verdict, reply}
 use Rattle.refusals.specs.Refusals.{chainStuck}
 use Rattle.bench.specs.MakeSheet.{MakeOutcome, cellsIn, makeDone, makeNot}
+use Rattle.bench.proofs.Written.{written}
 use Rattle.bench.proofs.make_sheet.write_chain.Statement.{statement}
 use Rattle.bench.proofs.make_sheet.write_chain.Tie as tie
 
 -- what is answered of a chain
 abbrev answered : Edition → ℕ → List ℕ → List ℕ → Made → MakeOutcome
 answered e d sheet work w = reply (verdict (chainStuck w ∷ [])) (makeDone e d (cellsIn w) sheet work) (makeNot sheet work)
-
--- a held sheet written: its count, and its records over the first bytes
-written : (e : Edition) (d : ℕ) (held : Sheet) (sheet work : List ℕ)
-    → record { answer = record { verdict = Fine; count = held .count }; sheet = sheetBytes e d (cellsOf held) ++ drop (e .size * held .count) sheet; work = replicate (length work) 0 }
-    ≡ makeDone e d (cellsOf held) sheet work
-written e d held sheet work =
-    let count : length (cellsOf held) ≡ held .count = length-list (held .count) _ in
-    ap₂ (λ (k m : ℕ). record { answer = record { verdict = Fine; count = k }; sheet = sheetBytes e d (cellsOf held) ++ drop m sheet; work = replicate (length work) 0 })
-    (sym count) (sym (length-sheet e d (cellsOf held) ∙ ap (λ (k : ℕ). e .size * k) count))
 
 chain-of-requires : tie.Need-chain-of-requires
 chain-of-requires c κs =

@@ -1,5 +1,5 @@
 -- `make_told` meets its contract: what n and the edition refuse, else the call in that edition. Assumes nothing.
-use mathlib.Core.Path.{_≡_, refl, sym, ap, _∙_, subst}
+use mathlib.Core.Path.{refl, sym, ap, _∙_, subst}
 use mathlib.Core.List.{List}
 use Prim.Native.Nat.{ℕ}
 use borrow.Author.Needs.{needs}
@@ -24,7 +24,7 @@ returns c =
     let ls = toldForm (a .w) (a .n) in
     ap (λ (v : Verdict). record { answer = record { verdict = v; count = 0 }; sheet = a .sheet .now; work = a .work .now }) e
     ∙ ap (λ (l : List ℕ). record { answer = record { verdict = Refused r; count = 0 }; sheet = a .sheet .now; work = l })
-    (sym (form-leaves ls r refl refl (sym (f .told .ensures) ∙ e) (a .work .now)))
+    (sym (form-leaves ls r refl (sym (f .told .ensures) ∙ e) (a .work .now)))
     ∙ refused-by ls (makeLines (editionOf (a .w)) (a .desk) (a .n) (a .k) (a .t .now) (a .sheet .now) (a .work .now))
     (makeDone (editionOf (a .w)) (a .desk) (cellsIn (sheetFor (a .n) (a .k) (a .t .now))) (a .sheet .now) (a .work .now)) (makeNot (a .sheet .now) (a .work .now))
     (f .told .result) r (f .told .ensures) e

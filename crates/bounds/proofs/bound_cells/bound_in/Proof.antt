@@ -29,7 +29,7 @@ returns c =
     let q = sym (f .find-form .ensures) ∙ e in
     ap (λ (v : Verdict). record { answer = record { verdict = v; least = 0 }; work = a .work .now }) e
     ∙ ap (λ (l : List ℕ). record { answer = record { verdict = Refused r; least = 0 }; work = l })
-    (sym (form-leaves ls r refl refl q (a .work .now)))
+    (sym (form-leaves ls r refl q (a .work .now)))
     ∙ ap (λ (v : Verdict). reply v (boundDone (a .n) (a .k) (a .t .now) (a .work .now)) (boundNot (a .work .now))) (sym q)
 
 cast-least-cells : tie.Need-cast-least-cells

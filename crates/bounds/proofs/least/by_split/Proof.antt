@@ -1,5 +1,5 @@
 -- `by_split` meets its contract: what find found, by the size of its own set. Assumes nothing.
-use mathlib.Core.Path.{sym, _∙_}
+use mathlib.Core.Path.{_∙_}
 use native.Mathlib.Omega.{arith}
 use borrow.Author.Needs.{needs}
 use Rattle.making.proofs.Halves.{half-holds}

@@ -1,6 +1,6 @@
 -- `run_own` meets its contract: a refusal is its lines' verdict, and where these are in order the desk can be run.
 -- Assumes nothing.
-use mathlib.Core.Path.{_≡_, sym, ap, _∙_, subst}
+use mathlib.Core.Path.{sym, ap, _∙_, subst}
 use mathlib.Core.Bool.{Bool, false}
 use mathlib.Core.List.{List}
 use Prim.Native.Nat.{ℕ, _/_}

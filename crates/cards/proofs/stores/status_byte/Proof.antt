@@ -1,9 +1,9 @@
 -- `status_byte` meets its contract: n, the count, then zeros. Assumes nothing.
 use mathlib.Core.Path.{sym, ap}
 use mathlib.Core.List.{[], _∷_}
-use Prim.Native.Nat.{ℕ, _/_}
+use Prim.Native.Nat.{_/_}
 use native.Mathlib.Omega.{arith}
-use lib.ListN.{length, getD, List·getD-eq-default}
+use lib.ListN.{length, List·getD-eq-default}
 use borrow.Author.Needs.{needs}
 use Rattle.cards.specs.Stores.{statusByte}
 use Rattle.cards.proofs.stores.status_byte.Statement.{statement}

@@ -1,12 +1,10 @@
 -- The four readers give what the definition reads. The number that falls: four for each byte that is left, and the level. Assumes nothing.
-use mathlib.Core.Path.{_≡_, refl, sym, ap, _∙_}
-use mathlib.Core.Bool.{true, false}
 use Prim.Native.Nat.{ℕ, _+_, _*_, _-_, _<_}
 use native.Mathlib.Omega.{arith}
 use borrow.Author.Needs.{needs}
 use lib.ListN.{length}
 use lib.Bits.{bitAnd, bitOr, bitXor}
-use Rattle.formulas.proofs.Grammar.{kind-bang, kind-open}
+use Rattle.formulas.proofs.ByteKinds.{kind-bang, kind-open}
 use Rattle.formulas.specs.Words.{inBoth}
 use Rattle.formulas.proofs.Bitwise.{number-and, number-or, number-xor, joined-stretch}
 use Rattle.formulas.proofs.Words.{ahead, first-bad, last, last-end, next-bad, next, f-end, f-deep-not, f-deep-open, f-not-bad, f-not, f-open-bad, f-closed}

@@ -3,7 +3,7 @@ use mathlib.Core.Path.{sym, _∙_}
 use mathlib.Core.Bool.{true, false}
 use native.Mathlib.Omega.{arith}
 use borrow.Author.Needs.{needs}
-use Rattle.formulas.proofs.Grammar.{kind-zero, kind-one, kind-input, kind-other}
+use Rattle.formulas.proofs.ByteKinds.{kind-zero, kind-one, kind-input, kind-other}
 use Rattle.bits.proofs.Numbers.{none-zero}
 use Rattle.bits.proofs.Sums.{all-ones}
 use Rattle.formulas.proofs.Bitwise.{digit-stretch, letter-stretch}

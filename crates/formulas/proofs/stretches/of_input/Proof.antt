@@ -1,7 +1,6 @@
 -- `of_input` meets its contract: an input below 8 changes within a stretch, the others number the stretches. Assumes nothing.
 use mathlib.Core.Path.{_≡_, _∙_}
-use Prim.Native.Nat.{ℕ, _+_, _-_, _*_, _<_, _≤_}
-use native.Mathlib.Omega.{arith}
+use Prim.Native.Nat.{ℕ, _+_, _*_}
 use borrow.Author.Needs.{needs}
 use Rattle.runs.specs.Words.{inputWord}
 use Rattle.formulas.proofs.Bitwise.{four-of, input-within, across}

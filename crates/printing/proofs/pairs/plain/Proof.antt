@@ -1,8 +1,6 @@
 -- `plain` meets its contract. Assumes nothing.
 use mathlib.Core.Path.{ap, _∙_}
-use native.Mathlib.Omega.{arith}
 use lib.Dec.{ltb}
-use lib.Pow.{pow-pos}
 use borrow.Author.Needs.{needs}
 use Rattle.printing.proofs.Cells.{plain-one, plain-two, plain-other, start-within}
 use Rattle.printing.proofs.pairs.plain.Statement.{statement}

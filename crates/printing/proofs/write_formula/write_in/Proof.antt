@@ -1,11 +1,8 @@
 -- `write_in` meets its contract: a refusal is its lines' verdict, and where these are in order the last record has room. Assumes nothing.
-use mathlib.Core.Path.{_≡_, sym, ap, _∙_}
-use mathlib.Core.List.{List}
-use Prim.Native.Nat.{ℕ}
+use mathlib.Core.Path.{sym, ap, _∙_}
 use native.Mathlib.Omega.{arith}
 use borrow.Author.Needs.{needs}
 use Rattle.refusals.specs.declared.verdicts.Verdict.{Verdict}
-use Rattle.refusals.specs.declared.verdicts.Verdict.the-variants.{Fine}
 use Rattle.refusals.specs.Lines.{reply}
 use Rattle.refusals.proofs.Lines.{in-order}
 use Rattle.printing.specs.WriteFormula.{writeLines, writeDone, writeNot, writeOutcome}

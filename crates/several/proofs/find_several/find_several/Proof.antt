@@ -50,7 +50,7 @@ returns c =
     ap (λ (x : FindSeveralAnswer). record { answer = x; work = a .work .now })
     (c .without .ensures ∙ ap (λ (v : Verdict). record { verdict = v; first = 0; own = 0; shared = 0 }) e)
     ∙ ap (λ (l : List ℕ). record { answer = record { verdict = Refused r; first = 0; own = 0; shared = 0 }; work = l })
-    (sym (form-leaves (ls f) r refl refl (sym (told f) ∙ e) (a .work .now)))
+    (sym (form-leaves (ls f) r refl (sym (told f) ∙ e) (a .work .now)))
     ∙ refused-by (ls f) (severalSays (a .n) (a .k) (a .t .now)) (severalDone (bestSeveral (a .n) (a .k) (a .t .now)) (a .work .now)) (severalNot (a .work .now))
     (f .find-form .result) r (told f) e
 

@@ -28,7 +28,7 @@ returns c =
     let b = bestFor (a .n) (a .k) (a .t .now) in
     ap (λ (v : Verdict). record { answer = record { verdict = v; own = 0; shared = 0 }; work = a .work .now }) e
     ∙ ap (λ (l : List ℕ). record { answer = record { verdict = Refused r; own = 0; shared = 0 }; work = l })
-    (sym (form-leaves ls r refl refl (sym (f .find-form .ensures) ∙ e) (a .work .now)))
+    (sym (form-leaves ls r refl (sym (f .find-form .ensures) ∙ e) (a .work .now)))
     ∙ refused-by ls (findSays (a .n) (a .k) (a .t .now)) (findDone b (a .work .now)) (findNot (a .work .now)) (f .find-form .result) r (f .find-form .ensures) e
 
 cast-search : tie.Need-cast-search

@@ -1,5 +1,5 @@
 -- `find_told` meets its contract: what n and the edition refuse, else the call in that edition. Assumes nothing.
-use mathlib.Core.Path.{_≡_, refl, sym, ap, _∙_, subst}
+use mathlib.Core.Path.{refl, sym, ap, _∙_, subst}
 use mathlib.Core.List.{List}
 use Prim.Native.Nat.{ℕ}
 use borrow.Author.Needs.{needs}
@@ -24,7 +24,7 @@ returns c =
     let ls = toldForm (a .w) (a .n) in
     ap (λ (v : Verdict). record { answer = record { verdict = v; own = 0; shared = 0 }; work = a .work .now }) e
     ∙ ap (λ (l : List ℕ). record { answer = record { verdict = Refused r; own = 0; shared = 0 }; work = l })
-    (sym (form-leaves ls r refl refl (sym (f .told .ensures) ∙ e) (a .work .now)))
+    (sym (form-leaves ls r refl (sym (f .told .ensures) ∙ e) (a .work .now)))
     ∙ refused-by ls (findLines (editionOf (a .w)) (a .n) (a .k) (a .t .now) (a .work .now)) (findDone (bestFor (a .n) (a .k) (a .t .now)) (a .work .now))
     (findNot (a .work .now)) (f .told .result) r (f .told .ensures) e
 

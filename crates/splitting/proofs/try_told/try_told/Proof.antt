@@ -1,6 +1,5 @@
 -- `try_told` meets its contract: what n and the edition refuse, else the call in that edition. Assumes nothing.
-use mathlib.Core.Path.{_≡_, refl, sym, ap, ap₂, _∙_, subst}
-use mathlib.Core.List.{List}
+use mathlib.Core.Path.{refl, sym, ap, ap₂, _∙_, subst}
 use Prim.Native.Nat.{ℕ}
 use borrow.Author.Needs.{needs}
 use Rattle.splits.specs.declared.pair.FirstCells.{FirstCells}

@@ -1,9 +1,8 @@
 -- A table of fewer than 6 inputs has one word, cut off at 2 ^ n; of others each word is full. Assumes nothing.
 use mathlib.Core.Path.{_≡_, sym, ap, _∙_}
-use Prim.Native.Nat.{ℕ, _+_, _*_, _-_, _^_, _<_, _≤_}
+use Prim.Native.Nat.{ℕ, _+_, _-_, _^_, _≤_}
 use native.Mathlib.Omega.{arith}
 use lib.Pow.{pow-add, pow-mono}
-use borrow.Author.Needs.{needs}
 use Rattle.tables.specs.Table.{tableBit}
 use Rattle.tables.specs.Words.{gateWord}
 use Rattle.tables.proofs.Digits.{short-word, full-word}

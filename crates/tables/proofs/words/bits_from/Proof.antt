@@ -1,5 +1,4 @@
 -- A shift takes the bits before p away, of a short table's one word and of a long table's. Assumes nothing.
-use Prim.Native.Nat.{ℕ}
 use native.Mathlib.Omega.{arith}
 use borrow.Author.Needs.{needs}
 use Rattle.tables.proofs.Joining.{stretch-short, stretch-long}

@@ -1,13 +1,12 @@
 -- What is kept was shown by many points. Assumes nothing.
-use mathlib.Core.Path.{_≡_, sym, subst}
+use mathlib.Core.Path.{_≡_, subst}
 use mathlib.Core.Bool.{Bool}
-use Prim.Native.Nat.{ℕ, _*_, _^_, _≤_}
+use Prim.Native.Nat.{ℕ, _^_}
 use native.Mathlib.Omega.{arith}
-use lib.ListN.{length}
 use borrow.Author.Needs.{needs}
 use Rattle.bits.specs.Numbers.{bit}
 use Rattle.bits.proofs.Machine.{shl-one}
-use Rattle.tables.specs.Table.{mostInputs, tableBit}
+use Rattle.tables.specs.Table.{tableBit}
 use Rattle.witness.specs.Witness.{RulesOut}
 use Rattle.witness.proofs.Points.{said-no, not-false}
 use Rattle.known.proofs.Keeping.{meets-fails}

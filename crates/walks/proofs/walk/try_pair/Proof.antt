@@ -1,7 +1,6 @@
 -- What is ruled out is not possible, and what is left is tested. Assumes nothing.
 use mathlib.Core.Path.{sym, _∙_}
 use Prim.Native.Nat.{_^_}
-use borrow.Author.Needs.{needs}
 use Rattle.tables.specs.Table.{tableBit}
 use Rattle.known.proofs.Keeping.{skips-fails}
 use Rattle.walks.specs.Known.{Known}

@@ -1,5 +1,4 @@
 -- What is shown from one place on is shown. Assumes nothing.
-use mathlib.Core.Path.{_≡_}
 use Prim.Native.Nat.{_≤_}
 use native.Mathlib.Omega.{arith}
 use lib.Pow.{pow-pos}

@@ -1,7 +1,5 @@
 -- Each turn marks the column of one more point. Assumes nothing.
-use mathlib.Core.Path.{_≡_, sym, _∙_}
-use Prim.Native.Nat.{_-_, _*_, _^_, _<_, _≤_}
-use native.Mathlib.Omega.{arith}
+use Prim.Native.Nat.{_-_}
 use lib.Bits.{xor-lt}
 use borrow.Author.Needs.{needs}
 use Rattle.bits.proofs.Walking.{Walked, walked-none, walked-more, walked-lt}

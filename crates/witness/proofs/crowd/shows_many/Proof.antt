@@ -1,5 +1,4 @@
 -- `shows_many` meets its contract, by the law of many points. Assumes nothing.
-use mathlib.Core.Path.{_≡_}
 use native.Mathlib.Omega.{arith}
 use borrow.Author.Needs.{needs}
 use Rattle.tables.specs.Table.{tableBit}

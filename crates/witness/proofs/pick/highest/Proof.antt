@@ -1,5 +1,4 @@
 -- Safe, and at most 16 turns.
-use mathlib.Core.Path.{_≡_}
 use Prim.Native.Nat.{_≤_}
 use borrow.Author.Needs.{needs}
 use Rattle.witness.proofs.pick.highest.Statement.{statement}

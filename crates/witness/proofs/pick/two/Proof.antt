@@ -1,5 +1,4 @@
 -- Safe: the position stays below n, and falls.
-use mathlib.Core.Path.{_≡_}
 use Prim.Native.Nat.{_≤_}
 use borrow.Author.Needs.{needs}
 use Rattle.tables.specs.Table.{mostInputs}

@@ -1,5 +1,5 @@
 -- The positions from 6 on, without those of a mask. Assumes nothing.
-use native.Mathlib.Nat.{lt-of-le-of-lt, lt-of-lt-of-le}
+use native.Mathlib.Nat.{lt-of-lt-of-le}
 use native.Mathlib.Omega.{arith}
 use lib.Pow.{pow-mono}
 use borrow.Author.Needs.{needs}

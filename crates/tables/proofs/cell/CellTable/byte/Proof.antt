@@ -1,6 +1,5 @@
 -- A byte lies within one word. Assumes nothing.
 use borrow.Author.Needs.{needs}
-use native.Mathlib.Omega.{arith}
 use Rattle.tables.specs.Cells.{cellWords}
 use Rattle.tables.proofs.CellTables.{joined-byte}
 use Rattle.tables.proofs.cell.CellTable.byte.Statement.{statement}
