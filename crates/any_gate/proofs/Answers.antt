@@ -24,7 +24,7 @@ use Rattle.refusals.specs.declared.verdicts.Refusal.{Refusal}
 use Rattle.refusals.specs.declared.verdicts.Verdict.{Verdict}
 use Rattle.refusals.specs.declared.verdicts.Verdict.the-variants.{Fine, Refused}
 use Rattle.refusals.specs.Lines.{Line, InOrder, refusal, verdict, numberOf, reply}
-use Rattle.refusals.specs.Refusals.{chainStuck}
+use Rattle.bench.specs.Refusals.{chainStuck}
 use Rattle.refusals.proofs.Lines.{passes, stops, in-order, passed}
 use Rattle.bench.specs.MakeSheet.{MakeOutcome, sheetFor, cellsIn, makeForm, makeLines, makeDone, makeNot, makeOutcome}
 use Rattle.any_gate.specs.MakeAny.{anyFor, cellsAny, anySays, anyOutcome}

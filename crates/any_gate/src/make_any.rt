@@ -1,6 +1,7 @@
 // Making a sheet for any gate: make's where there is one, else that of the chain with several first cells at a step.
 use bench::make_sheet::MakeAnswer;
 use bench::make_sheet::make_for_desk;
+use columns::split::Split;
 use making::chaining::chain_upto;
 use refusals::verdicts::Refusal;
 use refusals::verdicts::Verdict;
@@ -9,7 +10,6 @@ use refusals::verdicts::refuse;
 use sheets::kinds::Edition;
 use sheets::kinds::Sheet;
 use sheets::writing::put_all;
-use splits::split::Split;
 ghost use mathlib.Core.Path.{_≡_};
 ghost use Prim.Native.Nat.{_*_, _^_, _≤_};
 ghost use lib.ListN.{length};
@@ -19,7 +19,7 @@ ghost use Rattle.splits.specs.Columns.{mostFirst};
 ghost use Rattle.sheets.specs.Edition.{IsEdition, mostRecords, firstEdition};
 ghost use Rattle.chains.specs.Aside.{cellsAside};
 ghost use Rattle.chains.specs.Any.{severally};
-ghost use Rattle.making.specs.Area.{workLength};
+ghost use Rattle.tables.specs.Work.{workLength};
 ghost use Rattle.refusals.specs.declared.verdicts.Verdict.the-variants.{Refused};
 ghost use Rattle.refusals.specs.Lines.{refusal, verdict, reply};
 ghost use Rattle.bench.specs.MakeSheet.{makeDone, makeNot};

@@ -1,3 +1,2 @@
--- The laws of make, and of the bench program.
+-- The laws of making a sheet.
 pub mod Written
-pub mod BenchProgram

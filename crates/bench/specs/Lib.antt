@@ -1,4 +1,4 @@
--- What making a sheet, in the first edition or a told one, returns and leaves behind; what the bench program writes.
+-- What making a sheet, in the first edition or a told one, returns and leaves behind.
+pub mod Refusals
 pub mod MakeSheet
 pub mod MakeTold
-pub mod BenchProgram

@@ -12,7 +12,8 @@ use Rattle.chains.specs.Aside.{sheetAside}
 use Rattle.refusals.specs.declared.verdicts.Refusal.{Refusal}
 use Rattle.refusals.specs.declared.verdicts.Verdict.the-variants.{Fine, Refused}
 use Rattle.refusals.specs.Lines.{Line, verdict, reply}
-use Rattle.refusals.specs.Refusals.{gateLines, badDesk, shortSheet, chainStuck}
+use Rattle.refusals.specs.Refusals.{gateLines, badDesk, shortSheet}
+use Rattle.bench.specs.Refusals.{chainStuck}
 use Rattle.refusals.specs.Lent.{into, workAfter}
 use Rattle.bench.specs.declared.make_sheet.MakeAnswer.{MakeAnswer}
 

@@ -1,5 +1,4 @@
 // Making a sheet of best splits.
-use making::area::WORK;
 use making::chaining::chain_of;
 use refusals::form;
 use refusals::verdicts::Refusal;
@@ -8,15 +7,16 @@ use refusals::verdicts::refuse;
 use sheets::kinds::Edition;
 use sheets::kinds::Sheet;
 use sheets::writing::put_all;
+use tables::WORK;
 ghost use mathlib.Core.Path.{_≡_};
 ghost use mathlib.Core.List.{[], _∷_};
 ghost use Prim.Native.Nat.{_*_, _≤_};
 ghost use lib.ListN.{length};
 ghost use Rattle.tables.specs.Table.{mostInputs, tableLength};
 ghost use Rattle.sheets.specs.Edition.{IsEdition, mostRecords, firstEdition};
-ghost use Rattle.making.specs.Area.{workLength};
+ghost use Rattle.tables.specs.Work.{workLength};
 ghost use Rattle.refusals.specs.Lines.{verdict, reply};
-ghost use Rattle.refusals.specs.Refusals.{chainStuck};
+ghost use Rattle.bench.specs.Refusals.{chainStuck};
 ghost use Rattle.bench.specs.MakeSheet.{sheetFor, cellsIn, makeForm, makeDone, makeNot, makeOutcome};
 
 // How many cells, if nothing is wrong.

@@ -1,16 +1,16 @@
 // The bench program: one byte n, one byte K, then the table to the end of standard input. It writes the answer number
 // as one byte, then the sheet; after a refusal only that byte. What is handed over to be written is defined of the
-// bytes read alone (`written`, bench/specs/BenchProgram).
-use bench::bench_program::MOST_READ;
-use bench::bench_program::MOST_WRITTEN;
-use bench::bench_program::answer_input;
+// bytes read alone (`written`, programs/specs/BenchProgram).
 use libc::STDIN_FILENO;
 use libc::STDOUT_FILENO;
-use making::area::WORK;
+use programs::bench_program::MOST_READ;
+use programs::bench_program::MOST_WRITTEN;
+use programs::bench_program::answer_input;
+use tables::WORK;
 ghost use mathlib.Core.Path.{_≡_};
 ghost use lib.ListN.{length};
-ghost use Rattle.making.specs.Area.{workLength};
-ghost use Rattle.bench.specs.BenchProgram.{mostRead, mostWritten};
+ghost use Rattle.tables.specs.Work.{workLength};
+ghost use Rattle.programs.specs.BenchProgram.{mostRead, mostWritten};
 
 fn input_room() -> [u8; MOST_READ]
     ensures { λ r. ⌜ mostRead ≡ length r ⌝ }

@@ -9,8 +9,8 @@ ghost use Rattle.best.specs.Search.{tryB};
 ghost use Rattle.best.specs.Answers.{answerOf};
 ghost use Rattle.best.specs.Walk.{mostFirst};
 use crate::Found;
-use splits::columns::few_columns;
-use splits::split::Split;
+use columns::columns::few_columns;
+use columns::split::Split;
 
 // The pair of masks, if it is possible with r first cells.
 pub fn attempt(t: &[u8], n: u32, r: u32, own: u16, shared: u16) -> Found

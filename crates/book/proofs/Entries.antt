@@ -10,11 +10,12 @@ use borrow.Author.Tests.{ltb-true, lt-ltb}
 use Rattle.bits.specs.Below.{least, IsLeast}
 use Rattle.bits.proofs.Bools.{clash}
 use Rattle.bits.proofs.Least.{is-least}
-use Rattle.book.specs.Ways.{Reachable, wayCount}
-use Rattle.book.specs.Listing.{firstWay}
-use Rattle.book.specs.Book.{tableCount, LeastReachable, reaches, entry}
-use Rattle.book.proofs.Listed.{some-way, reachable-by}
-use Rattle.book.proofs.Group.{reach-same, reach-back, reach-on}
+use Rattle.turning.specs.Ways.{Reachable, wayCount}
+use Rattle.turning.specs.Listing.{firstWay}
+use Rattle.book.specs.Book.{tableCount, LeastReachable, entry}
+use Rattle.turning.specs.Reach.{reaches}
+use Rattle.turning.proofs.Listed.{some-way, reachable-by}
+use Rattle.turning.proofs.Group.{reach-same, reach-back, reach-on}
 
 pub reaches-exactly : (f g : ℕ) → (reaches f g ≡ true) ↔ Reachable f g
 reaches-exactly f g = (

@@ -1,5 +1,3 @@
--- The laws of ways, and the rule of the book.
-pub mod Listed
-pub mod Group
+-- The rule of the book.
 pub mod Entries
 pub mod Printed

@@ -15,12 +15,13 @@ use Rattle.bits.proofs.Bools.{and-left, and-right}
 use Rattle.bits.proofs.Below.{every-at}
 use Rattle.bits.proofs.Lists.{list-at, list-of}
 use Rattle.bits.proofs.Numbers.{number-ext, number-bit}
-use Rattle.book.specs.declared.ways.Way.{Way}
-use Rattle.book.specs.Ways.{flipped, moved, Turns, Reachable, wayCount}
-use Rattle.book.specs.Listing.{wayAt, turns, firstWay}
-use Rattle.book.specs.Book.{tableCount, LeastReachable, reaches, entry, different}
-use Rattle.book.proofs.Listed.{rank, rank-lt, listed}
-use Rattle.book.proofs.Group.{reach-same}
+use Rattle.turning.specs.declared.ways.Way.{Way}
+use Rattle.turning.specs.Ways.{flipped, moved, Turns, Reachable, wayCount}
+use Rattle.turning.specs.Listing.{wayAt, turns, firstWay}
+use Rattle.book.specs.Book.{tableCount, LeastReachable, entry, different}
+use Rattle.turning.specs.Reach.{reaches}
+use Rattle.turning.proofs.Listed.{rank, rank-lt, listed}
+use Rattle.turning.proofs.Group.{reach-same}
 use Rattle.book.proofs.Entries.{reaches-exactly, entry-least, least-once}
 
 unfoldable pub book : List ℕ

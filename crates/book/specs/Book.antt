@@ -2,10 +2,10 @@
 use mathlib.Core.Bool.{Bool, false, cond, _||_}
 use mathlib.Core.List.{List, [], _∷_}
 use Prim.Native.Nat.{ℕ, suc, _<_, _≤_}
-use lib.Dec.{eqb, ltb}
+use lib.Dec.{eqb}
 use Rattle.bits.specs.Below.{least}
-use Rattle.book.specs.Ways.{Reachable, wayCount}
-use Rattle.book.specs.Listing.{firstWay}
+use Rattle.turning.specs.Ways.{Reachable}
+use Rattle.turning.specs.Reach.{reaches}
 
 -- a three-input table is a byte
 abbrev pub tableCount : ℕ
@@ -16,10 +16,6 @@ pub record LeastReachable (f e : ℕ) : Type 0 where
   pub table : e < tableCount
   pub reachable : Reachable f e
   pub least : (g : ℕ) → g < tableCount → Reachable f g → e ≤ g
-
--- whether some way turns f into g
-abbrev pub reaches : ℕ → ℕ → Bool
-reaches f g = ltb (firstWay f g) wayCount
 
 -- what the book says of f
 unfoldable pub entry : ℕ → ℕ

@@ -1,5 +1,2 @@
--- The ways to turn one three-input table into another, and the book of the least of each class.
-pub mod Ways
-pub mod Listing
+-- The book of the least table of each class.
 pub mod Book
-pub mod Turn

@@ -1,4 +1,2 @@
-// The book of three-input cells: which tables differ only by swapped inputs, flipped inputs or a flipped output.
+// The book of three-input cells: of each table the least that it can be turned into.
 pub mod look_up;
-pub mod turn;
-pub mod ways;

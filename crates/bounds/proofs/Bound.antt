@@ -20,7 +20,7 @@ use Rattle.chains.specs.Chain.{Made, stuck, made}
 use Rattle.chains.specs.Aside.{sheetAside}
 use Rattle.chains.proofs.Aside.{table-most}
 use Rattle.trees.proofs.Trees.{made-tree, stuck-treeless}
-use Rattle.splitting.specs.FindBest.{ownOf}
+use Rattle.finding.specs.FindBest.{ownOf}
 use Rattle.bounds.specs.Bound.{counted, Bound, one, two, treeless, more}
 use Rattle.bounds.specs.Least.{reaching, bySplit, byChain, leastCells}
 use Rattle.bounds.proofs.Two.{made-carries, two-fits, fits-made}

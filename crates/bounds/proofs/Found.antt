@@ -19,7 +19,7 @@ use Rattle.quick.specs.Counted.{isFew, splitIn, FoundCounting}
 use Rattle.best.specs.Search.{Answer, none, split}
 use Rattle.best.specs.Counting.{bestCounting}
 use Rattle.best.proofs.Counting.{counting-split}
-use Rattle.splitting.specs.FindBest.{ownOf}
+use Rattle.finding.specs.FindBest.{ownOf}
 use Rattle.bounds.specs.Bound.{counted}
 use Rattle.bounds.specs.Least.{reaching, bySplit}
 

@@ -10,7 +10,7 @@ use Rattle.refusals.specs.declared.verdicts.Verdict.the-variants.{Fine, Refused
 use Rattle.refusals.specs.Lines.{Line, verdict, reply}
 use Rattle.refusals.specs.Refusals.{toldLines}
 use Rattle.refusals.specs.Lent.{workAfter}
-use Rattle.splitting.specs.FindBest.{findForm}
+use Rattle.finding.specs.FindBest.{findForm}
 use Rattle.bounds.specs.declared.bound_cells.BoundAnswer.{BoundAnswer}
 use Rattle.bounds.specs.Least.{leastCells}
 

@@ -8,7 +8,7 @@ use Rattle.best.specs.Search.{Answer}
 use Rattle.best.specs.Counting.{bestCounting}
 use Rattle.chains.specs.Chain.{Made, stuck, made}
 use Rattle.chains.specs.Aside.{sheetAside}
-use Rattle.splitting.specs.FindBest.{ownOf}
+use Rattle.finding.specs.FindBest.{ownOf}
 use Rattle.bounds.specs.Bound.{counted}
 
 -- the least m with c ≤ m(K - 1) + 1

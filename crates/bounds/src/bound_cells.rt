@@ -1,9 +1,9 @@
 // Asking for a lower bound on the cells of a table.
 use crate::least::least_cells;
+use finding::find_best::find_form;
 use refusals::form;
 use refusals::verdicts::Verdict;
 use sheets::kinds::Edition;
-use splitting::find_best::find_form;
 ghost use mathlib.Core.Path.{_≡_};
 ghost use Rattle.sheets.specs.Edition.{IsEdition};
 ghost use Rattle.bounds.specs.BoundCells.{boundIn, boundOutcome};

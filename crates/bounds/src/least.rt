@@ -13,8 +13,8 @@ ghost use Rattle.tables.specs.Table.{mostInputs, tableLength, tableBit};
 ghost use Rattle.best.specs.Counting.{bestCounting};
 ghost use Rattle.quick.specs.Counted.{splitIn};
 ghost use Rattle.chains.specs.Aside.{sheetAside};
-ghost use Rattle.making.specs.Area.{workLength};
-ghost use Rattle.splitting.specs.FindBest.{ownOf};
+ghost use Rattle.tables.specs.Work.{workLength};
+ghost use Rattle.finding.specs.FindBest.{ownOf};
 ghost use Rattle.bounds.specs.Bound.{counted};
 ghost use Rattle.bounds.specs.Least.{reaching, bySplit, byChain, leastCells};
 

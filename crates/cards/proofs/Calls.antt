@@ -18,7 +18,7 @@ use Rattle.cards.specs.Card.{cardBytes}
 use Rattle.cards.specs.Stores.{storing, made, loadStores, storeCount, storeAt, cutLoad, oneStore}
 use Rattle.cards.specs.Refusals.{badLoad, filedLines}
 use Rattle.cards.specs.LoadDesk.{loadLines, loadDone, loadNot, partOutcome}
-use Rattle.cards.specs.Mingling.{Load, storesOf, inTurn, waiting, Mingling, accepted, called}
+use Rattle.cards.specs.Mingling.{Load, storesOf, storesInTurn, waiting, Mingling, accepted, called}
 use Rattle.cards.proofs.Making.{made-append, made-length}
 use Rattle.cards.proofs.Order.{length-load}
 use Rattle.cards.proofs.Mingled.{Numbered, mingled}
@@ -43,17 +43,17 @@ numbered (l ∷ ls) c = go (verdict (loadLines c (l .desk) (l .inputs) (l .sheet
     go (Refused r) q ih = ih
 
 -- one call after another makes the stores of those that are accepted, one after another
-calls-made : (ls : List Load) (c : List ℕ) → called ls c ≡ made (inTurn (accepted c ls)) c
+calls-made : (ls : List Load) (c : List ℕ) → called ls c ≡ made (storesInTurn (accepted c ls)) c
 unfolding partOutcome
 calls-made [] c = refl
 calls-made (l ∷ ls) c = go (verdict (loadLines c (l .desk) (l .inputs) (l .sheet))) (calls-made ls)
   where
-    go : (v : Verdict) → ((e : List ℕ) → called ls e ≡ made (inTurn (accepted e ls)) e)
-        → called ls (reply v (loadDone (storesOf l) c) (loadNot c) .card) ≡ made (inTurn (reply v (l ∷ accepted c ls) (λ r. accepted c ls))) c
+    go : (v : Verdict) → ((e : List ℕ) → called ls e ≡ made (storesInTurn (accepted e ls)) e)
+        → called ls (reply v (loadDone (storesOf l) c) (loadNot c) .card) ≡ made (storesInTurn (reply v (l ∷ accepted c ls) (λ r. accepted c ls))) c
     go Fine ih =
         let e = made (storesOf l) c in
-        ih e ∙ ap (λ (r : List Load). made (inTurn r) e) (accepted-alike ls e c (made-length (storesOf l) c))
-        ∙ sym (made-append (storesOf l) (inTurn (accepted c ls)) c)
+        ih e ∙ ap (λ (r : List Load). made (storesInTurn r) e) (accepted-alike ls e c (made-length (storesOf l) c))
+        ∙ sym (made-append (storesOf l) (storesInTurn (accepted c ls)) c)
     go (Refused r) ih = ih c
 
 pub mingled-calls : (ls : List Load) (c : List ℕ) (w : List Store) → Mingling (waiting (accepted c ls)) w → made w c ≡ called ls c

@@ -26,9 +26,9 @@ use Rattle.refusals.proofs.Sheets.{good-sheet, runnable}
 use Rattle.running.specs.declared.run_sheet.RunAnswer.{RunAnswer}
 use Rattle.running.specs.RunSheet.{runDone, runNot, runOutcome}
 use Rattle.cards.specs.declared.stores.Store.{Store}
-use Rattle.cards.specs.Card.{desks, deskBytes, cardBytes, ownBytes, mark, inputs, cells, sheetOn}
+use Rattle.cards.specs.Card.{desks, deskBytes, cardBytes, ownBytes, openMark, inputs, cells, sheetOn}
 use Rattle.cards.specs.Stores.{made, loadStores, storeCount, cutLoad, onto, Holds}
-use Rattle.cards.specs.Refusals.{badCard, noDesk, anotherDesk, badDesk, closed, badCount, filedLines}
+use Rattle.cards.specs.Refusals.{badCard, noDesk, anotherDesk, missingDesk, closedDesk, badCount, filedLines}
 use Rattle.cards.specs.LoadDesk.{loadLines}
 use Rattle.cards.specs.RunDesk.{deskLines, runDeskLines, deskOutcome, runDeskOutcome}
 use Rattle.cards.proofs.Making.{Every, made-length, own-length, own-made}
@@ -61,24 +61,24 @@ count-line o l = ap (line 9) (go (cells o))
 
 -- so after 19 and 18 they are those of the sheet that it holds, and 11
 pub desk-lines : (o : List ℕ) (d x : ℕ) → length o ≡ deskBytes
-    → deskLines o d x ≡ badDesk d ∷ closed o ∷ (filedLines d (inputs o) (sheetOn o) ++ (badAssignment (inputs o) x ∷ []))
+    → deskLines o d x ≡ missingDesk d ∷ closedDesk o ∷ (filedLines d (inputs o) (sheetOn o) ++ (badAssignment (inputs o) x ∷ []))
 desk-lines o d x l =
-    ap (λ (t : Line). badDesk d ∷ closed o ∷ badInputs (inputs o) ∷ t ∷ badRecord firstEdition d (inputs o) (sheetOn o)
+    ap (λ (t : Line). missingDesk d ∷ closedDesk o ∷ badInputs (inputs o) ∷ t ∷ badRecord firstEdition d (inputs o) (sheetOn o)
     ∷ unreadRecord firstEdition (inputs o) (sheetOn o) ∷ badAssignment (inputs o) x ∷ []) (count-line o l)
 
 -- and where it is open, only those
-pub open-lines : (o : List ℕ) (d x : ℕ) → length o ≡ deskBytes → noDesk d ≡ false → mark o ≡ 1
+pub open-lines : (o : List ℕ) (d x : ℕ) → length o ≡ deskBytes → noDesk d ≡ false → openMark o ≡ 1
     → verdict (deskLines o d x) ≡ verdict (filedLines d (inputs o) (sheetOn o) ++ (badAssignment (inputs o) x ∷ []))
 open-lines o d x l g h =
     ap verdict (desk-lines o d x l)
-    ∙ passes (badDesk d ∷ closed o ∷ []) (filedLines d (inputs o) (sheetOn o) ++ (badAssignment (inputs o) x ∷ [])) (g, (ap (λ (m : ℕ). not (eqb m 1)) h, tt))
+    ∙ passes (missingDesk d ∷ closedDesk o ∷ []) (filedLines d (inputs o) (sheetOn o) ++ (badAssignment (inputs o) x ∷ [])) (g, (ap (λ (m : ℕ). not (eqb m 1)) h, tt))
 
 -- a desk whose lines are in order can be run
 pub ready : (o : List ℕ) (d x : ℕ) → length o ≡ deskBytes → verdict (deskLines o d x) ≡ Fine → Ready firstEdition (inputs o) (sheetOn o) x
 ready o d x l e =
     let n = inputs o in
     let s = sheetOn o in
-    let w = in-order (badDesk d ∷ closed o ∷ (filedLines d n s ++ (badAssignment n x ∷ []))) (sym (ap verdict (desk-lines o d x l)) ∙ e) .1 .1 in (
+    let w = in-order (missingDesk d ∷ closedDesk o ∷ (filedLines d n s ++ (badAssignment n x ∷ []))) (sym (ap verdict (desk-lines o d x l)) ∙ e) .1 .1 in (
       runnable firstEdition d n s first-edition (records firstEdition s) (inside 1 n mostInputs (w .0) .1) (good-sheet firstEdition d n s first-edition (w .1 .0, (w .1 .1 .0, tt))),
       leb-false (2 ^ n) x (w .1 .1 .1 .1 .0),
     )
@@ -132,7 +132,7 @@ run-by-lines c d x = go (badCard c .holds) (verdict (deskLines (ownBytes c d) d 
 
 -- ---- while it is loaded, and afterwards
 
-pub closed-answer : (o : List ℕ) (d x : ℕ) → noDesk d ≡ false → mark o ≡ 0 → deskOutcome o d x ≡ runNot (refusal 18 0)
+pub closed-answer : (o : List ℕ) (d x : ℕ) → noDesk d ≡ false → openMark o ≡ 0 → deskOutcome o d x ≡ runNot (refusal 18 0)
 unfolding deskOutcome
 closed-answer o d x g h =
     ap (λ (v : Verdict). reply v (runDone firstEdition (inputs o) (sheetOn o) x) runNot)

@@ -8,14 +8,14 @@ use lib.ListN.{length, getD, set, take, length-set}
 use lib.Seq.{ext-getD, getD-set-same, getD-set-other, getD-take, length-take-le, take-append-le}
 use Rattle.sheets.specs.Edition.{recordSize, mostRecords, firstEdition}
 use Rattle.sheets.specs.Sheet.{records}
-use Rattle.cards.specs.Card.{desks, placeBytes, deskBytes, cardBytes, base, ownBytes, mark, inputs, cells, sheetOn}
+use Rattle.cards.specs.Card.{desks, placeBytes, deskBytes, cardBytes, base, ownBytes, openMark, inputs, cells, sheetOn}
 use Rattle.cards.specs.Stores.{made, placeByte, statusByte, marking, filling, loadStores, storeCount, cutLoad, Holds}
 use Rattle.cards.proofs.Making.{every-take, made-append, made-length, untouched, upward-out, upward-in, own-at}
 use Rattle.cards.proofs.Order.{places, status, length-filling, avoids-mark}
 
 module _ (d n : ℕ) (s c : List ℕ) (long : length c ≡ cardBytes) (least : 1 ≤ d) (most : d ≤ desks) where
   -- from the first store to before the last the mark is 0
-  pub mark-zero : (k : ℕ) → 1 ≤ k → k < storeCount → mark (ownBytes (made (cutLoad k d n s) c) d) ≡ 0
+  pub mark-zero : (k : ℕ) → 1 ≤ k → k < storeCount → openMark (ownBytes (made (cutLoad k d n s) c) d) ≡ 0
   unfolding loadStores
   mark-zero zero h g = absurd (not-suc-le-zero h)
   mark-zero (suc k) h g =

@@ -14,7 +14,7 @@ use Rattle.refusals.specs.Lines.{line, verdict, reply}
 use Rattle.refusals.specs.Refusals.{badInputs, badRecord, unreadRecord, badAssignment}
 use Rattle.running.specs.declared.run_sheet.RunAnswer.{RunAnswer}
 use Rattle.running.specs.RunSheet.{runDone, runNot}
-use Rattle.cards.specs.Card.{mark, inputs, cells, sheetOn, SameUse}
+use Rattle.cards.specs.Card.{openMark, inputs, cells, sheetOn, SameUse}
 use Rattle.cards.specs.Refusals.{noDesk}
 use Rattle.cards.specs.RunDesk.{deskOutcome}
 
@@ -47,15 +47,15 @@ module _ (d x : ℕ) where
   unfolding deskOutcome says
   looks-used o p u =
       ap₂ (λ (m n : ℕ). says m n (wrong (cells o)) (sheetOn o)) (u .marks) (u .ns) ∙ sheets
-      ∙ ap (λ (k : ℕ). says (mark p) (inputs p) (wrong k) (take (recordSize * k) p)) (u .counts)
+      ∙ ap (λ (k : ℕ). says (openMark p) (inputs p) (wrong k) (take (recordSize * k) p)) (u .counts)
     where
-      sheets : says (mark p) (inputs p) (wrong (cells o)) (take (recordSize * cells o) o) ≡ says (mark p) (inputs p) (wrong (cells o)) (take (recordSize * cells o) p)
+      sheets : says (openMark p) (inputs p) (wrong (cells o)) (take (recordSize * cells o) o) ≡ says (openMark p) (inputs p) (wrong (cells o)) (take (recordSize * cells o) p)
       sheets = elim (decLt mostRecords (cells o)) [
         | yes h ↦ let w : wrong (cells o) ≡ true = many (cells o) h in
-            ap (λ (t : Bool). says (mark p) (inputs p) t (take (recordSize * cells o) o)) w
-            ∙ no-sheet (mark p) (inputs p) (take (recordSize * cells o) o) (take (recordSize * cells o) p)
-            ∙ sym (ap (λ (t : Bool). says (mark p) (inputs p) t (take (recordSize * cells o) p)) w)
-        | no h ↦ ap (says (mark p) (inputs p) (wrong (cells o))) (alike (omega arith))
+            ap (λ (t : Bool). says (openMark p) (inputs p) t (take (recordSize * cells o) o)) w
+            ∙ no-sheet (openMark p) (inputs p) (take (recordSize * cells o) o) (take (recordSize * cells o) p)
+            ∙ sym (ap (λ (t : Bool). says (openMark p) (inputs p) t (take (recordSize * cells o) p)) w)
+        | no h ↦ ap (says (openMark p) (inputs p) (wrong (cells o))) (alike (omega arith))
       ]
         where
           many : (i : ℕ) → mostRecords < i → wrong i ≡ true

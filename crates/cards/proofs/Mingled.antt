@@ -11,7 +11,7 @@ use borrow.Author.Tests.{eq-eqb, ne-eqb, eqb-true, eqb-false}
 use Rattle.cards.specs.declared.stores.Store.{Store}
 use Rattle.cards.specs.Card.{holder}
 use Rattle.cards.specs.Stores.{made, onto}
-use Rattle.cards.specs.Mingling.{Load, storesOf, inTurn, loadsOf, waiting, left, Mingling, over, next}
+use Rattle.cards.specs.Mingling.{Load, storesOf, storesInTurn, loadsOf, waiting, left, Mingling, over, next}
 use Rattle.cards.proofs.Making.{Every, every-append, alike}
 use Rattle.cards.proofs.Order.{Into, onto-append, onto-own, onto-other, all-into}
 
@@ -21,24 +21,24 @@ Numbered [] = Unit {0}
 Numbered (l ∷ ls) = (1 ≤ l .desk) × Numbered ls
 
 -- of loads one after another each desk sees its own loads, one after another
-turn-seen : (ls : List Load) → Numbered ls → (d : ℕ) → onto d (inTurn ls) ≡ waiting ls d
+turn-seen : (ls : List Load) → Numbered ls → (d : ℕ) → onto d (storesInTurn ls) ≡ waiting ls d
 turn-seen [] h d = refl
-turn-seen (l ∷ ls) h d = onto-append d (storesOf l) (inTurn ls) ∙ go (eqb (l .desk) d) refl (turn-seen ls (h .1) d)
+turn-seen (l ∷ ls) h d = onto-append d (storesOf l) (storesInTurn ls) ∙ go (eqb (l .desk) d) refl (turn-seen ls (h .1) d)
   where
     into : Every (Into (l .desk)) (storesOf l)
     into = all-into (l .desk) (l .inputs) (l .sheet) (h .0)
 
-    go : (r : Bool) → eqb (l .desk) d ≡ r → onto d (inTurn ls) ≡ waiting ls d
-        → onto d (storesOf l) ++ onto d (inTurn ls) ≡ inTurn (cond r (l ∷ loadsOf d ls) (loadsOf d ls))
+    go : (r : Bool) → eqb (l .desk) d ≡ r → onto d (storesInTurn ls) ≡ waiting ls d
+        → onto d (storesOf l) ++ onto d (storesInTurn ls) ≡ storesInTurn (cond r (l ∷ loadsOf d ls) (loadsOf d ls))
     go true q ih = ap₂ _++_ (subst (λ (f : ℕ). onto f (storesOf l) ≡ storesOf l) (eqb-true (l .desk) d q) (onto-own (l .desk) (storesOf l) into)) ih
-    go false q ih = ap (λ (u : List Store). u ++ onto d (inTurn ls)) (onto-other (l .desk) d (storesOf l) (eqb-false (l .desk) d q) into) ∙ ih
+    go false q ih = ap (λ (u : List Store). u ++ onto d (storesInTurn ls)) (onto-other (l .desk) d (storesOf l) (eqb-false (l .desk) d q) into) ∙ ih
 
 -- what waits at a desk goes to it
 pub waits-own : (ls : List Load) → Numbered ls → (d : ℕ) → Every (Into d) (waiting ls d)
 waits-own [] h d = tt
 waits-own (l ∷ ls) h d = go (eqb (l .desk) d) refl (waits-own ls (h .1) d)
   where
-    go : (r : Bool) → eqb (l .desk) d ≡ r → Every (Into d) (waiting ls d) → Every (Into d) (inTurn (cond r (l ∷ loadsOf d ls) (loadsOf d ls)))
+    go : (r : Bool) → eqb (l .desk) d ≡ r → Every (Into d) (waiting ls d) → Every (Into d) (storesInTurn (cond r (l ∷ loadsOf d ls) (loadsOf d ls)))
     go true q ih =
         every-append (Into d) (storesOf l) (waiting ls d)
         (subst (λ (f : ℕ). Every (Into f) (storesOf l)) (eqb-true (l .desk) d q) (all-into (l .desk) (l .inputs) (l .sheet) (h .0))) ih
@@ -85,8 +85,8 @@ seen-mingling (t ∷ w) {q} h = next (holder (t .place)) (sym (h (holder (t .pla
         pick false z = sym (ap (λ (b : Bool). cond b (t ∷ onto f w) (onto f w)) (ne-eqb d f (λ y. eqb-false f d z (sym y)))) ∙ h f
 
 -- so one after another is a mingling too
-pub turn-mingles : (ls : List Load) → Numbered ls → Mingling (waiting ls) (inTurn ls)
-turn-mingles ls h = seen-mingling (inTurn ls) (turn-seen ls h)
+pub turn-mingles : (ls : List Load) → Numbered ls → Mingling (waiting ls) (storesInTurn ls)
+turn-mingles ls h = seen-mingling (storesInTurn ls) (turn-seen ls h)
 
 -- of the beginning of a mingling a desk sees a beginning of what waited at it
 pub beginning-seen : {q : ℕ → List Store} {w : List Store} → Mingling q w → ((d : ℕ) → Every (Into d) (q d)) → (k f : ℕ)
@@ -97,5 +97,5 @@ beginning-seen {q} {w} m own k f =
     ∙ ap (take (length u)) (sym (onto-append f (take k w) (drop k w)) ∙ ap (onto f) (take-append-drop k w) ∙ mingling-seen m own f)
 
 -- so it ends in the card of the loads one after another
-pub mingled : (ls : List Load) → Numbered ls → (w : List Store) → Mingling (waiting ls) w → (c : List ℕ) → made w c ≡ made (inTurn ls) c
-mingled ls h w m c = alike w (inTurn ls) c (λ d. mingling-seen m (waits-own ls h) d ∙ sym (turn-seen ls h d))
+pub mingled : (ls : List Load) → Numbered ls → (w : List Store) → Mingling (waiting ls) w → (c : List ℕ) → made w c ≡ made (storesInTurn ls) c
+mingled ls h w m c = alike w (storesInTurn ls) c (λ d. mingling-seen m (waits-own ls h) d ∙ sym (turn-seen ls h d))

@@ -37,8 +37,8 @@ ownBytes c d = take deskBytes (drop (base d) c)
 -- ---- what a desk's own bytes say
 
 -- the open mark comes first in the status record, then n, then the count of cells
-abbrev pub mark : List ℕ → ℕ
-mark o = getD o placeBytes 0
+abbrev pub openMark : List ℕ → ℕ
+openMark o = getD o placeBytes 0
 
 abbrev pub inputs : List ℕ → ℕ
 inputs o = getD o (placeBytes + 1) 0
@@ -53,7 +53,7 @@ sheetOn o = take (recordSize * cells o) o
 -- two desks agree in what is used: mark, n, count, and the places that the count says are used
 pub record SameUse (o p : List ℕ) : Type 0 where
   pub lengths : length o ≡ length p
-  pub marks : mark o ≡ mark p
+  pub marks : openMark o ≡ openMark p
   pub ns : inputs o ≡ inputs p
   pub counts : cells o ≡ cells p
   pub used : (j : ℕ) → j < recordSize * cells o → j < placeBytes → getD o j 0 ≡ getD p j 0

@@ -20,9 +20,9 @@ abbrev pub storesOf : Load → List Store
 storesOf l = loadStores (l .desk) (l .inputs) (l .sheet)
 
 -- the stores of loads one after another
-abbrev pub inTurn : List Load → List Store
-inTurn [] = []
-inTurn (l ∷ ls) = storesOf l ++ inTurn ls
+abbrev pub storesInTurn : List Load → List Store
+storesInTurn [] = []
+storesInTurn (l ∷ ls) = storesOf l ++ storesInTurn ls
 
 -- the loads of desk d, in their order
 abbrev pub loadsOf : ℕ → List Load → List Load
@@ -31,7 +31,7 @@ loadsOf d (l ∷ ls) = cond (eqb (l .desk) d) (l ∷ loadsOf d ls) (loadsOf d ls
 
 -- what waits at each desk: the stores of its own loads, one load after another
 abbrev pub waiting : List Load → ℕ → List Store
-waiting ls d = inTurn (loadsOf d ls)
+waiting ls d = storesInTurn (loadsOf d ls)
 
 -- what waits when the first at desk d is gone, and r is left there
 abbrev pub left : (ℕ → List Store) → ℕ → List Store → ℕ → List Store

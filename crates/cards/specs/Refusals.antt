@@ -8,7 +8,7 @@ use lib.ListN.{length, getD}
 use Rattle.sheets.specs.Edition.{recordSize, mostRecords, firstEdition}
 use Rattle.refusals.specs.Lines.{Line, line}
 use Rattle.refusals.specs.Refusals.{badInputs, sheetLines, unreadRecord}
-use Rattle.cards.specs.Card.{desks, cardBytes, mark, cells}
+use Rattle.cards.specs.Card.{desks, cardBytes, openMark, cells}
 
 -- 20: a card of another length
 abbrev pub badCard : List ℕ → Line
@@ -23,16 +23,16 @@ abbrev pub anotherDesk : ℕ → List ℕ → Bool
 anotherDesk d s = leb recordSize (length s) && not (eqb (getD s (firstEdition .most + 1) 0) d)
 
 -- 19: a desk outside 1 to 4
-abbrev pub badDesk : ℕ → Line
-badDesk d = line 19 (noDesk d)
+abbrev pub missingDesk : ℕ → Line
+missingDesk d = line 19 (noDesk d)
 
 -- 19 at a load: that, or a sheet for another desk
 abbrev pub badLoad : ℕ → List ℕ → Line
 badLoad d s = line 19 (noDesk d || anotherDesk d s)
 
 -- 18: the mark of a desk with the bytes o isn't 1
-abbrev pub closed : List ℕ → Line
-closed o = line 18 (not (eqb (mark o) 1))
+abbrev pub closedDesk : List ℕ → Line
+closedDesk o = line 18 (not (eqb (openMark o) 1))
 
 -- 9 on running: a stored count outside 1 to 15
 abbrev pub badCount : List ℕ → Line

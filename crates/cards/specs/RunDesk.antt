@@ -7,12 +7,12 @@ use Rattle.refusals.specs.Lines.{Line, verdict, reply}
 use Rattle.refusals.specs.Refusals.{badInputs, badRecord, unreadRecord, badAssignment}
 use Rattle.running.specs.RunSheet.{runDone, runNot}
 use Rattle.cards.specs.Card.{ownBytes, inputs, sheetOn}
-use Rattle.cards.specs.Refusals.{badCard, badDesk, closed, badCount}
+use Rattle.cards.specs.Refusals.{badCard, missingDesk, closedDesk, badCount}
 
 -- of a desk with the bytes o: 19, 18, 1, 9, 10, 15 and 11
 abbrev pub deskLines : List ℕ → ℕ → ℕ → List Line
 deskLines o d x =
-    badDesk d ∷ closed o ∷ badInputs (inputs o) ∷ badCount o ∷ badRecord firstEdition d (inputs o) (sheetOn o)
+    missingDesk d ∷ closedDesk o ∷ badInputs (inputs o) ∷ badCount o ∷ badRecord firstEdition d (inputs o) (sheetOn o)
     ∷ unreadRecord firstEdition (inputs o) (sheetOn o) ∷ badAssignment (inputs o) x ∷ []
 
 -- what desk d answers from its own bytes: done, the bit that the network of its sheet gives

@@ -9,7 +9,7 @@ use Rattle.bits.specs.Lists.{listOf}
 use Rattle.sheets.specs.Edition.{recordSize, firstEdition}
 use Rattle.sheets.specs.Sheet.{records}
 use Rattle.cards.specs.declared.stores.Store.{Store}
-use Rattle.cards.specs.Card.{placeBytes, base, holder, mark}
+use Rattle.cards.specs.Card.{placeBytes, base, holder, openMark}
 
 -- the byte b goes to place a of the card
 abbrev pub storing : ℕ → ℕ → Store
@@ -67,7 +67,7 @@ oneStore i d n s = take 1 (drop i (loadStores d n s))
 -- a desk with the bytes o holds the sheet s, of n inputs, and is open
 pub record Holds (o : List ℕ) (n : ℕ) (s : List ℕ) : Type 0 where
   pub places : (j : ℕ) → j < placeBytes → getD o j 0 ≡ placeByte s j
-  pub marked : mark o ≡ 1
+  pub marked : openMark o ≡ 1
   pub status : (j : ℕ) → j < recordSize - 1 → getD o (placeBytes + 1 + j) 0 ≡ statusByte n s j
 
 -- ---- of any stores those into desk d, in their order

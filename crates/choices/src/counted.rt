@@ -3,7 +3,7 @@ use crate::over::Chosen;
 use crate::over::find_upto;
 use bits::sets::members;
 use bits::sets::spread_out;
-use splits::split::Split;
+use columns::split::Split;
 use tables::aside::set_aside;
 use tables::clear;
 use tables::counting::support_of;

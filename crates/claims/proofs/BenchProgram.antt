@@ -13,17 +13,18 @@ use Rattle.tables.specs.Table.{mostInputs, tableLength, tableBit}
 use Rattle.sheets.specs.Edition.{recordSize, mostRecords, firstEdition}
 use Rattle.sheets.specs.Network.{Carries}
 use Rattle.sheets.proofs.Keeping.{first-edition}
-use Rattle.making.specs.Area.{workLength}
+use Rattle.tables.specs.Work.{workLength}
 use Rattle.refusals.specs.declared.verdicts.Verdict.the-variants.{Fine}
 use Rattle.refusals.specs.Lines.{InOrder, verdict, numberOf}
-use Rattle.refusals.specs.Refusals.{badInputs, badCell, badDesk, gateLines, shortSheet, chainStuck}
+use Rattle.refusals.specs.Refusals.{badInputs, badCell, badDesk, gateLines, shortSheet}
+use Rattle.bench.specs.Refusals.{chainStuck}
 use Rattle.refusals.proofs.Lines.{here, later, decides, held}
 use Rattle.refusals.proofs.Lent.{both-long}
 use Rattle.refusals.proofs.Tests.{inside}
 use Rattle.running.specs.RunSheet.{runOwn}
-use Rattle.running.specs.RebuildTable.{rebuildOwn}
+use Rattle.rebuilding.specs.RebuildTable.{rebuildOwn}
 use Rattle.bench.specs.MakeSheet.{sheetFor, makeLines}
-use Rattle.bench.specs.BenchProgram.{asked, programOutcome, written}
+use Rattle.programs.specs.BenchProgram.{asked, programOutcome, written}
 use Rattle.claims.specs.Words.{AllBytes, recordsOf}
 use Rattle.claims.proofs.Made.{make-says}
 use Rattle.claims.proofs.MakeSheet.{made-fewest}

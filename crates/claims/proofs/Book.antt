@@ -4,9 +4,9 @@ use mathlib.Core.Logic.{_↔_}
 use Prim.Native.Nat.{ℕ, _<_}
 use lib.Dec.{lit<}
 use Rattle.bits.specs.Lists.{listOf}
-use Rattle.book.specs.Ways.{Reachable}
+use Rattle.turning.specs.Ways.{Reachable}
 use Rattle.book.specs.Book.{tableCount, LeastReachable, entry, different}
-use Rattle.book.proofs.Group.{reach-same, reach-back, reach-on}
+use Rattle.turning.proofs.Group.{reach-same, reach-back, reach-on}
 use Rattle.book.proofs.Entries.{entry-least, least-once, same-entry}
 use Rattle.book.proofs.Printed.{book, printed, how-many}
 

@@ -20,7 +20,7 @@ use Rattle.cards.specs.LoadDesk.{partOutcome, loadOutcome}
 use Rattle.cards.specs.LoadCut.{cutOutcome}
 use Rattle.cards.specs.LoadStore.{storeOutcome}
 use Rattle.cards.specs.RunDesk.{deskOutcome, runDeskOutcome}
-use Rattle.cards.specs.Mingling.{Load, inTurn, waiting, Mingling, accepted, called}
+use Rattle.cards.specs.Mingling.{Load, storesInTurn, waiting, Mingling, accepted, called}
 use Rattle.cards.proofs.Making.{Every, every-take, every-drop, made-length, own-made}
 use Rattle.cards.proofs.Order.{Into, all-into, onto-other, length-load}
 use Rattle.cards.proofs.Mingled.{waits-own, mingling-seen, seen-mingling, turn-mingles, beginning-seen}
@@ -43,7 +43,7 @@ pub mingling-exactly : (ls : List Load) (c : List ℕ) (w : List Store)
     → Mingling (waiting (accepted c ls)) w ↔ ((d : ℕ) → onto d w ≡ waiting (accepted c ls) d)
 mingling-exactly ls c w = (λ m. mingling-seen m (waits-own (accepted c ls) (numbered ls c)), seen-mingling w)
 
-pub turn-is-mingling : (ls : List Load) (c : List ℕ) → Mingling (waiting (accepted c ls)) (inTurn (accepted c ls))
+pub turn-is-mingling : (ls : List Load) (c : List ℕ) → Mingling (waiting (accepted c ls)) (storesInTurn (accepted c ls))
 turn-is-mingling ls c = turn-mingles (accepted c ls) (numbered ls c)
 
 -- Whether a load is accepted, its number and its index do not depend on what the card holds, nor on which of the

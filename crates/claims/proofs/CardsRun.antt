@@ -19,7 +19,7 @@ use Rattle.refusals.proofs.Sheets.{unread-named}
 use Rattle.running.specs.declared.run_sheet.RunAnswer.{RunAnswer}
 use Rattle.running.specs.RunSheet.{runDone, runNot}
 use Rattle.cards.specs.Card.{ownBytes, inputs, sheetOn}
-use Rattle.cards.specs.Refusals.{badCard, badDesk, closed, badCount}
+use Rattle.cards.specs.Refusals.{badCard, missingDesk, closedDesk, badCount}
 use Rattle.cards.specs.RunDesk.{runDeskLines, runDeskOutcome}
 use Rattle.cards.proofs.Desks.{run-by-lines}
 use Rattle.claims.specs.Words.{ByLines, FirstBad}
@@ -67,13 +67,13 @@ module _ (c : List ℕ) (d x : ℕ) where
   -- 10 names the first bad record, counted within the desk; one of another desk is bad
   pub run-desk-index : numberOf (runDeskOutcome c d x .verdict) ≡ 10 → FirstBad firstEdition d n s (placeOf (runDeskOutcome c d x .verdict))
   run-desk-index h =
-      index-first firstEdition first-edition d n s (badCard c ∷ badDesk d ∷ closed (ownBytes c d) ∷ badInputs n ∷ badCount (ownBytes c d) ∷ [])
+      index-first firstEdition first-edition d n s (badCard c ∷ missingDesk d ∷ closedDesk (ownBytes c d) ∷ badInputs n ∷ badCount (ownBytes c d) ∷ [])
       (unreadRecord firstEdition n s ∷ badAssignment n x ∷ []) refl refl (runDeskOutcome c d x .verdict) run-desk-says h
 
   -- 15 names the first unread one, counted likewise
   pub run-desk-unread : numberOf (runDeskOutcome c d x .verdict) ≡ 15 → IsFirstUnread firstEdition n s (records firstEdition s) (placeOf (runDeskOutcome c d x .verdict))
   run-desk-unread h =
-      let w = held (badCard c ∷ badDesk d ∷ closed (ownBytes c d) ∷ badInputs n ∷ badCount (ownBytes c d) ∷ badRecord firstEdition d n s ∷ []) (unreadRecord firstEdition n s)
+      let w = held (badCard c ∷ missingDesk d ∷ closedDesk (ownBytes c d) ∷ badInputs n ∷ badCount (ownBytes c d) ∷ badRecord firstEdition d n s ∷ []) (unreadRecord firstEdition n s)
       (badAssignment n x ∷ []) 15 refl refl (λ z. omega arith) (ap numberOf (sym run-desk-says) ∙ h) in
       subst (IsFirstUnread firstEdition n s (records firstEdition s)) (sym (ap placeOf (run-desk-says ∙ w .1))) (unread-named firstEdition n s (w .0))
 

@@ -30,7 +30,7 @@ use Rattle.refusals.proofs.Lines.{lapses, in-order, passes, held, names-nothing
 use Rattle.refusals.proofs.Tests.{Sound, inside, right-table, spare-line}
 use Rattle.refusals.proofs.Sheets.{good-sheet, sheet-fine, counted, all-read, read-fine}
 use Rattle.running.specs.declared.run_sheet.RunAnswer.{RunAnswer}
-use Rattle.running.specs.RebuildTable.{RebuildOutcome, rebuildOutcome}
+use Rattle.rebuilding.specs.RebuildTable.{RebuildOutcome, rebuildOutcome}
 use Rattle.bench.specs.MakeSheet.{makeOutcome}
 use Rattle.inspection.specs.CheckSheet.{tableLines, againstLines, checkLines, checkOutcome, Accepted, FirstDifferent}
 use Rattle.claims.specs.Words.{ByLines, AllBytes, FirstBad, recordsOf}

@@ -23,11 +23,12 @@ use Rattle.times.specs.declared.input_time.InputTime.{InputTime}
 use Rattle.refusals.specs.declared.verdicts.Verdict.{Verdict}
 use Rattle.refusals.specs.declared.verdicts.Verdict.the-variants.{Fine, Refused}
 use Rattle.refusals.specs.Lines.{Line, InOrder, line, refusal, verdict, numberOf, reply}
-use Rattle.refusals.specs.Refusals.{badInputs, badTable, badDesk, badSheet, badAssignment, tableDiffers, unreadRecord, gateLines, sheetLines, shortSheet, chainStuck}
+use Rattle.refusals.specs.Refusals.{badInputs, badTable, badDesk, badSheet, badAssignment, tableDiffers, unreadRecord, gateLines, sheetLines, shortSheet}
+use Rattle.bench.specs.Refusals.{chainStuck}
 use Rattle.refusals.proofs.Lines.{in-order, passes, passed, held}
 use Rattle.refusals.proofs.Sheets.{good-sheet, counted}
 use Rattle.running.specs.RunSheet.{runLines, runOutcome, runOwn}
-use Rattle.running.specs.RebuildTable.{rebuildLines, rebuildOutcome, rebuildOwn}
+use Rattle.rebuilding.specs.RebuildTable.{rebuildLines, rebuildOutcome, rebuildOwn}
 use Rattle.bench.specs.MakeSheet.{MakeOutcome, sheetFor, cellsIn, makeDone, makeNot, makeOutcome}
 use Rattle.settling.specs.Refusals.{badTimes, badSlack}
 use Rattle.settling.specs.Settle.{settleLines, settleOutcome, settleOwn}
@@ -35,7 +36,7 @@ use Rattle.settling.specs.Slack.{slackLines, slackOutcome, slackOwn}
 use Rattle.printing.specs.Printable.{notPrinted}
 use Rattle.printing.specs.WriteFormula.{shortText, writeLines, writeOutcome, writeOwn}
 use Rattle.inspection.specs.CheckSheet.{tableLines, checkOutcome, checkOwn}
-use Rattle.inspection.specs.Shorter.{kept, keptOutcome}
+use Rattle.comparing.specs.Shorter.{kept, keptOutcome}
 use Rattle.claims.specs.Words.{AllBytes, recordsOf, OtherDesk}
 use Rattle.claims.specs.Before.{makeDeskless, keptDeskless}
 use Rattle.claims.proofs.Sheets.{amiss-exactly}

@@ -24,13 +24,13 @@ use Rattle.choices.specs.Search.{firstOver}
 use Rattle.chains.specs.Chain.{pick, turn}
 use Rattle.chains.specs.Aside.{keptSignals, keptTable, chainAside, cellsAside}
 use Rattle.splitting.specs.TrySplit.{tryOutcome}
-use Rattle.splitting.specs.FindBest.{findOutcome}
+use Rattle.finding.specs.FindBest.{findOutcome}
 use Rattle.sheets.specs.Desk.{deskOf}
 use Rattle.running.specs.RunSheet.{runOutcome}
-use Rattle.running.specs.RebuildTable.{rebuildOutcome}
+use Rattle.rebuilding.specs.RebuildTable.{rebuildOutcome}
 use Rattle.bench.specs.MakeSheet.{makeOutcome}
-use Rattle.bench.specs.BenchProgram.{asked}
-use Rattle.formulas.specs.Formula.{value}
+use Rattle.programs.specs.BenchProgram.{asked}
+use Rattle.values.specs.Formula.{value}
 use Rattle.formulas.specs.Reading.{reads, textOf}
 use Rattle.formulas.specs.ReadFormula.{readOutcome}
 use Rattle.printing.specs.Print.{inTurn, printed}

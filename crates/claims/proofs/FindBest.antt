@@ -29,8 +29,8 @@ use Rattle.refusals.specs.Refusals.{nothingToSplit, noneBest, isNone}
 use Rattle.refusals.specs.Lent.{workAfter}
 use Rattle.refusals.proofs.Lines.{in-order, passes, held}
 use Rattle.refusals.proofs.Lent.{work-found}
-use Rattle.splitting.specs.declared.find_best.FindAnswer.{FindAnswer}
-use Rattle.splitting.specs.FindBest.{FindOutcome, bestFor, ownOf, sharedOf, findForm, findSays, findLines, findDone, findNot, findOutcome}
+use Rattle.finding.specs.declared.find_best.FindAnswer.{FindAnswer}
+use Rattle.finding.specs.FindBest.{FindOutcome, bestFor, ownOf, sharedOf, findForm, findSays, findLines, findDone, findNot, findOutcome}
 use Rattle.claims.specs.Words.{ByLines}
 use Rattle.claims.specs.Before.{findBefore}
 use Rattle.claims.proofs.Verdicts.{says-verdict, is-done, is-refused, area-left, by-lines, work-cleared}

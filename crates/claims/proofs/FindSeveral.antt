@@ -21,7 +21,7 @@ use Rattle.refusals.specs.declared.verdicts.Verdict.the-variants.{Fine, Refused
 use Rattle.refusals.specs.Lines.{line, InOrder, verdict, numberOf}
 use Rattle.refusals.specs.Refusals.{nothingToSplit}
 use Rattle.refusals.specs.Lent.{workAfter}
-use Rattle.splitting.specs.FindBest.{bestFor, findForm}
+use Rattle.finding.specs.FindBest.{bestFor, findForm}
 use Rattle.refusals.proofs.Lines.{in-order, passes, held}
 use Rattle.refusals.proofs.Lent.{work-found}
 use Rattle.several.specs.declared.find_several.FindSeveralAnswer.{FindSeveralAnswer}

@@ -24,9 +24,9 @@ use Rattle.refusals.specs.Lent.{workAfter}
 use Rattle.refusals.proofs.Lines.{in-order, passed}
 use Rattle.refusals.proofs.Lent.{work-found}
 use Rattle.refusals.proofs.Told.{told-known}
-use Rattle.splitting.specs.declared.find_best.FindAnswer.{FindAnswer}
-use Rattle.splitting.specs.FindBest.{FindOutcome, bestFor, findLines, findDone, findNot, findOutcome}
-use Rattle.splitting.specs.FindTold.{findToldLines, findTold}
+use Rattle.finding.specs.declared.find_best.FindAnswer.{FindAnswer}
+use Rattle.finding.specs.FindBest.{FindOutcome, bestFor, findLines, findDone, findNot, findOutcome}
+use Rattle.finding.specs.FindTold.{findToldLines, findTold}
 use Rattle.claims.specs.Words.{ByLines}
 use Rattle.claims.proofs.Verdicts.{says-verdict, is-refused, area-left, by-lines, work-cleared}
 use Rattle.claims.proofs.FindBest.{found-best, none-possible}

@@ -17,7 +17,7 @@ use Rattle.refusals.specs.Lines.{InOrder}
 use Rattle.refusals.specs.Refusals.{badInputs, badTable}
 use Rattle.refusals.proofs.Sheets.{counted, sheet-fine}
 use Rattle.bench.specs.MakeSheet.{makeOutcome}
-use Rattle.formulas.specs.Formula.{Formula, value}
+use Rattle.values.specs.Formula.{Formula, value}
 use Rattle.formulas.specs.Text.{mostText, ReadAs}
 use Rattle.formulas.specs.Reading.{Answer, textOf, valueIn}
 use Rattle.formulas.specs.ReadFormula.{readOutcome}

@@ -16,7 +16,7 @@ use Rattle.refusals.specs.Lines.{InOrder, refusal}
 use Rattle.refusals.specs.Refusals.{badSheet}
 use Rattle.refusals.proofs.Lines.{decides, here, later}
 use Rattle.inspection.specs.CheckSheet.{tableLines, checkLines, checkOutcome}
-use Rattle.inspection.specs.InspectProgram.{inspected}
+use Rattle.programs.specs.InspectProgram.{inspected}
 
 module _ (input : List ℕ) where
   -- what was read: n, the table and the sheet

@@ -18,7 +18,7 @@ use Rattle.chains.proofs.Aside.{table-gives, table-fits, table-read, table-reco
 use Rattle.refusals.specs.declared.verdicts.Verdict.{Verdict}
 use Rattle.refusals.specs.declared.verdicts.Verdict.the-variants.{Fine}
 use Rattle.refusals.specs.Lines.{InOrder, verdict, reply}
-use Rattle.refusals.specs.Refusals.{chainStuck, isStuck}
+use Rattle.bench.specs.Refusals.{chainStuck, isStuck}
 use Rattle.refusals.proofs.Lines.{in-order, passes}
 use Rattle.refusals.proofs.Tests.{Sound, sound}
 use Rattle.bench.specs.MakeSheet.{MakeOutcome, sheetFor, cellsIn, makeForm, makeLines, makeDone, makeNot, makeOutcome}

@@ -31,7 +31,7 @@ use Rattle.refusals.proofs.Lines.{in-order, passes, passed, held}
 use Rattle.refusals.proofs.Lent.{work-found}
 use Rattle.refusals.proofs.Tests.{Sound, sound}
 use Rattle.running.specs.RunSheet.{runOutcome}
-use Rattle.running.specs.RebuildTable.{rebuildOutcome}
+use Rattle.rebuilding.specs.RebuildTable.{rebuildOutcome}
 use Rattle.bench.specs.declared.make_sheet.MakeAnswer.{MakeAnswer}
 use Rattle.bench.specs.MakeSheet.{MakeOutcome, makeForm, makeDone, makeNot, makeOutcome}
 use Rattle.any_gate.specs.MakeAny.{anyFor, cellsAny, isUnsplit, isOverlong, noneAny, tooLong, anySays, anyLines, anyOutcome}

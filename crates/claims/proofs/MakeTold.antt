@@ -22,7 +22,7 @@ use Rattle.refusals.proofs.Lines.{in-order}
 use Rattle.refusals.proofs.Lent.{work-found}
 use Rattle.refusals.proofs.Told.{told-known}
 use Rattle.running.specs.RunTold.{runTold}
-use Rattle.running.specs.RebuildTold.{rebuildTold}
+use Rattle.rebuilding.specs.RebuildTold.{rebuildTold}
 use Rattle.inspection.specs.CheckTold.{checkTold}
 use Rattle.bench.specs.declared.make_sheet.MakeAnswer.{MakeAnswer}
 use Rattle.bench.specs.MakeSheet.{MakeOutcome, sheetFor, cellsIn, makeForm, makeLines, makeDone, makeNot, makeOutcome}

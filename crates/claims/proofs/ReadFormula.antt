@@ -14,7 +14,7 @@ use Rattle.refusals.specs.declared.verdicts.Verdict.the-variants.{Fine, Refused
 use Rattle.refusals.specs.Lines.{refusal, naming, InOrder, verdict, numberOf, placeOf}
 use Rattle.refusals.specs.Refusals.{badInputs, badTable}
 use Rattle.refusals.proofs.Lines.{passes, names-nothing, not-fine}
-use Rattle.formulas.specs.Formula.{Formula, value}
+use Rattle.values.specs.Formula.{Formula, value}
 use Rattle.formulas.specs.Text.{ReadAs, RefusedAt}
 use Rattle.formulas.specs.Reading.{Answer, formula, refused, textOf, valueIn}
 use Rattle.formulas.specs.Refusals.{isRefused, placeIn, badText}

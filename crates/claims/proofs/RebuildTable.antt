@@ -22,7 +22,7 @@ use Rattle.refusals.proofs.Lines.{lapses, in-order, names-nothing}
 use Rattle.refusals.proofs.Tests.{inside, right-table}
 use Rattle.refusals.proofs.Sheets.{good-sheet, all-read, read-fine}
 use Rattle.running.specs.RunSheet.{runOutcome}
-use Rattle.running.specs.RebuildTable.{RebuildOutcome, rebuildForm, rebuildLines, rebuildDone, rebuildNot, rebuildOutcome}
+use Rattle.rebuilding.specs.RebuildTable.{RebuildOutcome, rebuildForm, rebuildLines, rebuildDone, rebuildNot, rebuildOutcome}
 use Rattle.claims.specs.Words.{ByLines, FirstBad}
 use Rattle.claims.specs.Before.{rebuildBefore}
 use Rattle.claims.proofs.Verdicts.{says-verdict, is-done, is-refused, by-lines}

@@ -15,8 +15,8 @@ use Rattle.refusals.specs.declared.verdicts.Verdict.the-variants.{Refused}
 use Rattle.refusals.specs.Lines.{verdict, reply}
 use Rattle.refusals.specs.Refusals.{badEdition}
 use Rattle.refusals.proofs.Told.{told-known}
-use Rattle.running.specs.RebuildTable.{RebuildOutcome, rebuildLines, rebuildDone, rebuildNot, rebuildOutcome, rebuildOwn}
-use Rattle.running.specs.RebuildTold.{rebuildToldLines, rebuildTold}
+use Rattle.rebuilding.specs.RebuildTable.{RebuildOutcome, rebuildLines, rebuildDone, rebuildNot, rebuildOutcome, rebuildOwn}
+use Rattle.rebuilding.specs.RebuildTold.{rebuildToldLines, rebuildTold}
 use Rattle.claims.specs.Words.{ByLines}
 use Rattle.claims.proofs.Verdicts.{says-verdict, is-refused, by-lines}
 

@@ -24,8 +24,8 @@ use Rattle.refusals.specs.Lines.{refusal, InOrder, verdict, numberOf, placeOf, 
 use Rattle.refusals.specs.Refusals.{badInputs, badTable, badSheet, shortRecords, unreadRecord, readLines}
 use Rattle.refusals.proofs.Lines.{passes, lapses, in-order, names-nothing}
 use Rattle.refusals.proofs.Sheets.{good-sheet, sheet-fine, counted, all-read, read-fine}
-use Rattle.running.specs.RebuildTable.{rebuildDone, rebuildNot, rebuildOutcome, rebuildOwn}
-use Rattle.running.specs.RebuildTold.{rebuildTold}
+use Rattle.rebuilding.specs.RebuildTable.{rebuildDone, rebuildNot, rebuildOutcome, rebuildOwn}
+use Rattle.rebuilding.specs.RebuildTold.{rebuildTold}
 use Rattle.rewriting.specs.declared.rewrite.RewriteAnswer.{RewriteAnswer}
 use Rattle.rewriting.specs.Rewrite.{SaysTheSame, RewriteOutcome, newRecords, rewritten, rewriteForm, rewriteLines, rewriteDone, rewriteNot, rewriteOutcome, rewriteOwn}
 use Rattle.rewriting.proofs.Widened.{widened}

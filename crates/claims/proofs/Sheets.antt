@@ -27,7 +27,7 @@ use Rattle.refusals.specs.Refusals.{badInputs, badRecord, unreadRecord}
 use Rattle.refusals.proofs.Lines.{others, passes, passed, held}
 use Rattle.refusals.proofs.Sheets.{counted, sheet-fine, read-fine, unread-named, named-unread}
 use Rattle.running.specs.RunSheet.{runLines, runDone, runNot, runOutcome}
-use Rattle.running.specs.RebuildTable.{rebuildLines, rebuildDone, rebuildNot, rebuildOutcome}
+use Rattle.rebuilding.specs.RebuildTable.{rebuildLines, rebuildDone, rebuildNot, rebuildOutcome}
 use Rattle.claims.specs.Words.{FirstBad}
 
 module _ (e : Edition) (ok : IsEdition e) (d n : ℕ) (s : List ℕ) where

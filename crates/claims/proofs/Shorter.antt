@@ -15,9 +15,9 @@ use Rattle.refusals.specs.declared.verdicts.Verdict.{Verdict}
 use Rattle.refusals.specs.declared.verdicts.Verdict.the-variants.{Fine, Refused}
 use Rattle.refusals.specs.Lines.{numberOf}
 use Rattle.refusals.proofs.Lines.{not-fine, another}
-use Rattle.inspection.specs.declared.shorter.Kept.{Kept}
+use Rattle.comparing.specs.declared.shorter.Kept.{Kept}
 use Rattle.inspection.specs.CheckSheet.{checkLines, checkOutcome, checkOwn}
-use Rattle.inspection.specs.Shorter.{kept, keptOutcome, partOf, shorterOutcome, Shortest}
+use Rattle.comparing.specs.Shorter.{kept, keptOutcome, partOf, shorterOutcome, Shortest}
 
 -- the three ways it can go, by the verdicts a and b and the numbers of records i and j: which is kept, and what the call beside says
 data Goes (a b : Verdict) (i j : ℕ) : ℕ → Verdict → Type 0 where

@@ -26,10 +26,10 @@ use Rattle.tables.proofs.Bytes.{table-bytes, byte-at, length-bytes, length-hold
 use Rattle.splits.specs.Split.{readsD, readsH, inputH}
 use Rattle.splits.specs.Columns.{mostFirst, fewColumns}
 use Rattle.splits.specs.Pair.{codeAt, tableD, bitH, inputsH, bytesH}
-use Rattle.splits.specs.Cells.{bitD, heldD, firstTable, firstCells, tableIn}
+use Rattle.charts.specs.Cells.{bitD, heldD, firstTable, firstCells, tableIn}
 use Rattle.splits.proofs.Few.{codeAt-gather, column-there, pair-gives}
-use Rattle.splits.proofs.Codes.{few-at}
-use Rattle.splits.proofs.HeldCells.{table-D}
+use Rattle.charts.proofs.Codes.{few-at}
+use Rattle.charts.proofs.HeldCells.{table-D}
 use Rattle.sheets.specs.Edition.{largestCell, firstMost}
 use Rattle.claims.specs.Words.{AllBytes}
 

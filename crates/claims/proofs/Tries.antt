@@ -30,7 +30,7 @@ use Rattle.refusals.specs.Lines.{InOrder}
 use Rattle.refusals.specs.Lent.{into}
 use Rattle.refusals.proofs.Lines.{not-fine}
 use Rattle.refusals.proofs.Sheets.{counted}
-use Rattle.running.specs.RebuildTable.{rebuildOutcome}
+use Rattle.rebuilding.specs.RebuildTable.{rebuildOutcome}
 use Rattle.bench.specs.MakeSheet.{sheetFor, cellsIn, makeForm, makeOutcome}
 use Rattle.claims.specs.Words.{AllBytes, recordsOf, networkOf}
 use Rattle.claims.proofs.Made.{IsMade, make-sound, is-made, not-stuck, made-records, made-good, made-network}

@@ -20,12 +20,12 @@ use Rattle.tables.proofs.Bytes.{length-table}
 use Rattle.splits.specs.Split.{Possible, readsD, inputH}
 use Rattle.splits.specs.Columns.{mostFirst, column, columns, fewColumns, firstBroken}
 use Rattle.splits.specs.Pair.{tableD, bitH, inputsH, bytesH}
-use Rattle.splits.specs.declared.pair.FirstCells.{FirstCells}
-use Rattle.splits.specs.Cells.{heldD, firstTable, firstCells, noCells, tableIn}
-use Rattle.splits.specs.Broken.{Several}
+use Rattle.charts.specs.declared.pair.FirstCells.{FirstCells}
+use Rattle.charts.specs.Cells.{heldD, firstTable, firstCells, noCells, tableIn}
+use Rattle.columns.specs.Broken.{Several}
 use Rattle.splits.proofs.Possible.{possible-iff}
 use Rattle.splits.proofs.Respect.{reads-D}
-use Rattle.splits.proofs.Breaking.{broken-before, broken-there, broken-within, columns-several}
+use Rattle.columns.proofs.Breaking.{broken-before, broken-there, broken-within, columns-several}
 use Rattle.sheets.specs.declared.kinds.Edition.{Edition}
 use Rattle.sheets.specs.Edition.{IsEdition, firstMost}
 use Rattle.refusals.specs.declared.verdicts.Refusal.{Refusal}

@@ -13,7 +13,7 @@ use Rattle.tables.specs.Table.{tableBit}
 use Rattle.tables.specs.Cells.{cellWords, tableNumber}
 use Rattle.splits.specs.Split.{Possible, readsD, inputH}
 use Rattle.splits.specs.Pair.{tableD}
-use Rattle.splits.specs.Cells.{noCells}
+use Rattle.charts.specs.Cells.{noCells}
 use Rattle.sheets.specs.declared.kinds.Edition.{Edition}
 use Rattle.sheets.specs.Edition.{firstEdition, editionOf}
 use Rattle.sheets.proofs.Keeping.{is-edition, edition-one}

@@ -11,13 +11,14 @@ use Rattle.refusals.specs.declared.verdicts.Refusal.{Refusal}
 use Rattle.refusals.specs.declared.verdicts.Verdict.the-variants.{Fine, Refused}
 use Rattle.refusals.specs.Lines.{refusal, line, verdict, numberOf, placeOf, reply}
 use Rattle.refusals.proofs.Lines.{names-nothing, not-fine}
-use Rattle.book.specs.declared.ways.Way.{Way}
-use Rattle.book.specs.declared.turn.TurnAnswer.{TurnAnswer}
-use Rattle.book.specs.Ways.{IsWay, Reachable, FirstWay, wayCount}
-use Rattle.book.specs.Listing.{wayAt, firstWay}
-use Rattle.book.specs.Book.{tableCount, reaches, entry}
-use Rattle.book.specs.Turn.{turnLines, turnDone, turnNot, turnOutcome}
-use Rattle.book.proofs.Listed.{rank, rank-lt, listed, way-at, first-way}
+use Rattle.turning.specs.declared.ways.Way.{Way}
+use Rattle.turning.specs.declared.turn.TurnAnswer.{TurnAnswer}
+use Rattle.turning.specs.Ways.{IsWay, Reachable, FirstWay, wayCount}
+use Rattle.turning.specs.Listing.{wayAt, firstWay}
+use Rattle.book.specs.Book.{tableCount, entry}
+use Rattle.turning.specs.Reach.{reaches}
+use Rattle.turning.specs.Turn.{turnLines, turnDone, turnNot, turnOutcome}
+use Rattle.turning.proofs.Listed.{rank, rank-lt, listed, way-at, first-way}
 use Rattle.book.proofs.Entries.{reaches-exactly, same-entry}
 use Rattle.claims.specs.Words.{ByLines}
 use Rattle.claims.proofs.Verdicts.{says-verdict, is-refused, by-lines}

@@ -14,7 +14,7 @@ use Rattle.refusals.specs.declared.verdicts.Verdict.{Verdict}
 use Rattle.refusals.specs.declared.verdicts.Verdict.the-variants.{Fine, Refused}
 use Rattle.refusals.specs.Lines.{refusal, InOrder, verdict, numberOf, placeOf}
 use Rattle.refusals.proofs.Lines.{in-order, passes, names-nothing, not-fine}
-use Rattle.formulas.specs.Formula.{Formula, value}
+use Rattle.values.specs.Formula.{Formula, value}
 use Rattle.formulas.specs.Text.{ReadAs}
 use Rattle.printing.specs.Print.{sheetText, formulaOf}
 use Rattle.printing.specs.Printable.{Printable, notPrinted}

@@ -21,7 +21,7 @@ use Rattle.refusals.specs.Lines.{numberOf}
 use Rattle.refusals.proofs.Tests.{Sound}
 use Rattle.refusals.proofs.Sheets.{counted}
 use Rattle.running.specs.RunSheet.{runForm, runOutcome}
-use Rattle.running.specs.RebuildTable.{rebuildForm, rebuildOutcome}
+use Rattle.rebuilding.specs.RebuildTable.{rebuildForm, rebuildOutcome}
 use Rattle.bench.specs.MakeSheet.{MakeOutcome, makeDone}
 use Rattle.claims.specs.Words.{AllBytes, recordsOf, networkOf}
 use Rattle.claims.proofs.Tables.{table-back}

@@ -11,16 +11,17 @@ use Rattle.sheets.specs.declared.kinds.Edition.{Edition}
 use Rattle.sheets.specs.Sheet.{records}
 use Rattle.chains.specs.Chain.{sheetOf}
 use Rattle.refusals.specs.Lines.{line, verdict, reply}
-use Rattle.refusals.specs.Refusals.{gateLines, shortSheet, noneBest, chainStuck}
+use Rattle.refusals.specs.Refusals.{gateLines, shortSheet, noneBest}
+use Rattle.bench.specs.Refusals.{chainStuck}
 use Rattle.refusals.specs.declared.verdicts.Verdict.{Verdict}
-use Rattle.splitting.specs.FindBest.{FindOutcome, findForm, findDone, findNot}
+use Rattle.finding.specs.FindBest.{FindOutcome, findForm, findDone, findNot}
 use Rattle.running.specs.declared.run_sheet.RunAnswer.{RunAnswer}
 use Rattle.running.specs.RunSheet.{runForm, runDone, runNot}
-use Rattle.running.specs.RebuildTable.{RebuildOutcome, rebuildForm, rebuildDone, rebuildNot}
+use Rattle.rebuilding.specs.RebuildTable.{RebuildOutcome, rebuildForm, rebuildDone, rebuildNot}
 use Rattle.bench.specs.MakeSheet.{MakeOutcome, sheetFor, cellsIn, makeForm, makeDone, makeNot}
-use Rattle.inspection.specs.declared.shorter.Kept.{Kept}
+use Rattle.comparing.specs.declared.shorter.Kept.{Kept}
 use Rattle.inspection.specs.CheckSheet.{tableLines, againstLines, checkOutcome}
-use Rattle.inspection.specs.Shorter.{kept}
+use Rattle.comparing.specs.Shorter.{kept}
 
 -- 7 where n is at most K, and the best split of the whole table
 abbrev pub findBefore : Edition → ℕ → ℕ → List ℕ → List ℕ → FindOutcome

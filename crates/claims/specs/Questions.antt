@@ -6,15 +6,15 @@ use lib.ListN.{replicate, take}
 use Rattle.bits.specs.Numbers.{val}
 use Rattle.tables.specs.Cells.{tableNumber}
 use Rattle.sheets.specs.Edition.{recordSize, mostRecords, firstEdition}
-use Rattle.making.specs.Area.{workLength}
+use Rattle.tables.specs.Work.{workLength}
 use Rattle.refusals.specs.Lines.{numberOf, placeOf}
 use Rattle.splitting.specs.TrySplit.{TryOutcome, tryOutcome}
-use Rattle.splitting.specs.FindBest.{FindOutcome, findOutcome}
+use Rattle.finding.specs.FindBest.{FindOutcome, findOutcome}
 use Rattle.running.specs.declared.run_sheet.RunAnswer.{RunAnswer}
 use Rattle.running.specs.RunSheet.{runOwn}
-use Rattle.running.specs.RebuildTable.{RebuildOutcome, rebuildOwn}
+use Rattle.rebuilding.specs.RebuildTable.{RebuildOutcome, rebuildOwn}
 use Rattle.bench.specs.MakeSheet.{MakeOutcome, makeOutcome}
-use Rattle.bench.specs.BenchProgram.{written}
+use Rattle.programs.specs.BenchProgram.{written}
 use Rattle.formulas.specs.Text.{mostText}
 use Rattle.formulas.specs.ReadFormula.{ReadOutcome, readOutcome}
 use Rattle.printing.specs.WriteFormula.{WriteOutcome, writeOwn}

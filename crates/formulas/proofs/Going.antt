@@ -5,7 +5,7 @@ use Prim.Native.Nat.{ℕ, zero, suc, _<_, _≤_}
 use native.Mathlib.Omega.{arith}
 use lib.Dec.{eqb}
 use borrow.Author.Tests.{eq-eqb, ne-eqb}
-use Rattle.formulas.specs.Formula.{Formula, constant, negated, joined}
+use Rattle.values.specs.Formula.{Formula, constant, negated, joined}
 use Rattle.formulas.specs.Text.{mark, Spells, a-zero, a-not, a-nest, only, more}
 use Rattle.formulas.specs.Reading.{bang, opening, stuck}
 use Rattle.formulas.proofs.Steps.{Run, r-tired, r-other, r-deep-not, r-deep-open, r-not-bad, r-open-bad, r-open-left, r-first-bad, r-next-bad}

@@ -4,7 +4,7 @@ use mathlib.Core.Bool.{Bool, true, false}
 use Prim.Native.Nat.{ℕ, zero, suc, _+_, _-_, _*_, _<_, _≤_}
 use native.Mathlib.Omega.{arith}
 use native.Mathlib.Decide.{decLt}
-use Rattle.formulas.specs.Formula.{Formula, letter, constant}
+use Rattle.values.specs.Formula.{Formula, letter, constant}
 use Rattle.formulas.specs.Text.{mark, Spells, a-letter, a-zero, a-one, a-not, a-nest, only, more}
 use Rattle.formulas.specs.Reading.{bang, opening, digit, input, kind, upTo}
 use Rattle.formulas.proofs.Steps.{Run, r-digit, r-input, r-not, r-open, r-last, r-next}

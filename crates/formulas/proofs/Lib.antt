@@ -1,5 +1,4 @@
 -- Why the readers read what the grammar has, and the call what its lines say.
-pub mod Bitwise
 pub mod Steps
 pub mod ByteKinds
 pub mod Grammar

@@ -10,7 +10,7 @@ use lib.Dec.{eqb}
 use lib.ListN.{length, getD, take, drop, length-append, take-append-drop, List·getD-append, List·getD-eq-default}
 use lib.Seq.{length-take-le, getD-take, getD-append-add, take-add}
 use borrow.Author.Tests.{eq-eqb, eqb-true, eqb-false, lt-ltb, le-ltb}
-use Rattle.formulas.specs.Formula.{Formula}
+use Rattle.values.specs.Formula.{Formula}
 use Rattle.formulas.specs.Text.{Spells, byteAt, IsFormula, IsPlace, ReadAs, RefusedAt, mostLevels, mostText}
 use Rattle.formulas.specs.Reading.{Reading, upTo, stuck, reads, Answer, formula, refused, ended, textOf, Told, enough}
 use Rattle.formulas.proofs.Steps.{Run, run, runs}

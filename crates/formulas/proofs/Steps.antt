@@ -4,7 +4,7 @@ use mathlib.Core.Bool.{Bool, true, false, cond}
 use Prim.Native.Nat.{ℕ, zero, suc}
 use lib.Dec.{eqb}
 use borrow.Author.Tests.{eq-eqb, ne-eqb, eqb-true, eqb-false}
-use Rattle.formulas.specs.Formula.{Formula, letter, constant, negated, joined}
+use Rattle.values.specs.Formula.{Formula, letter, constant, negated, joined}
 use Rattle.formulas.specs.Text.{mark}
 use Rattle.formulas.specs.Reading.{Kind, bang, opening, digit, input, other, kind, Reading, upTo, stuck, after, deeper, closed, begun, continued, reads}
 

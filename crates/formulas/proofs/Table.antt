@@ -8,13 +8,14 @@ use lib.ListN.{length}
 use borrow.Author.Tests.{eq-eqb, ne-eqb}
 use Rattle.refusals.specs.declared.verdicts.Verdict.the-variants.{Fine, Refused}
 use Rattle.refusals.specs.Lines.{refusal, naming, verdict}
-use Rattle.formulas.specs.declared.stretches.Stretch.{Stretch}
+use Rattle.values.specs.declared.stretches.Stretch.{Stretch}
 use Rattle.formulas.specs.declared.reading.Found.{Found}
 use Rattle.formulas.specs.declared.reading.Found.the-variants.{Read, Stuck}
-use Rattle.formulas.specs.Formula.{Formula, value}
+use Rattle.values.specs.Formula.{Formula, value}
 use Rattle.formulas.specs.Text.{byteAt, mostText, mostLevels}
 use Rattle.formulas.specs.Reading.{Reading, upTo, reads, Answer, formula, refused, ended, textOf, valueIn, Told, enough}
-use Rattle.formulas.specs.Words.{stretchOf, Gives}
+use Rattle.formulas.specs.Words.{Gives}
+use Rattle.values.specs.Stretches.{stretchOf}
 use Rattle.formulas.specs.Refusals.{isRefused, placeIn, badText}
 use Rattle.formulas.proofs.Steps.{Run, runs}
 use Rattle.formulas.proofs.Place.{told, whole-run, text-of, short-text}

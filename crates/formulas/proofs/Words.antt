@@ -9,16 +9,17 @@ use native.Mathlib.Decide.{decLt}
 use lib.Dec.{eqb}
 use lib.ListN.{length, List·getD-eq-default}
 use borrow.Author.Tests.{eq-eqb, ne-eqb, eqb-true, eqb-false}
-use Rattle.formulas.specs.declared.stretches.Stretch.{Stretch}
+use Rattle.values.specs.declared.stretches.Stretch.{Stretch}
 use Rattle.formulas.specs.declared.reading.Found.{Found}
 use Rattle.formulas.specs.declared.reading.Found.the-variants.{Read, Stuck}
-use Rattle.formulas.specs.Formula.{Formula, letter, constant, negated, joined, value}
+use Rattle.values.specs.Formula.{Formula, letter, constant, negated, joined, value}
 use Rattle.formulas.specs.Text.{byteAt, mark}
 use Rattle.formulas.specs.Reading.{bang, opening, digit, input, other, kind, Reading, upTo, stuck, reads}
-use Rattle.formulas.specs.Words.{stretchOf, inEach, foundOf, Gives, closedAt}
+use Rattle.formulas.specs.Words.{foundOf, Gives, closedAt}
+use Rattle.values.specs.Stretches.{stretchOf, inEach}
 use Rattle.formulas.proofs.Steps.{Run, run, runs, r-other, r-digit, r-input, r-deep-not, r-deep-open, r-not-bad, r-not, r-open-bad, r-open-left, r-open, r-first-bad, r-last, r-next-bad, r-next}
 use Rattle.formulas.proofs.Grammar.{mark-pos, sound, spells-lt, spells-bytes}
-use Rattle.formulas.proofs.Bitwise.{not-stretch}
+use Rattle.values.proofs.Bitwise.{not-stretch}
 
 -- ---- `)`
 

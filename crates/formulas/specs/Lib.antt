@@ -1,5 +1,4 @@
--- Gates written as formulas: what a formula is worth, which text stands for which, and the call that reads one.
-pub mod Formula
+-- Which text stands for which formula, and the call that reads one.
 pub mod Text
 pub mod Reading
 pub mod Words

@@ -4,7 +4,7 @@ use mathlib.Core.List.{List}
 use Prim.Native.Nat.{ℕ, zero, suc, _+_, _-_}
 use lib.ListN.{length}
 use lib.Dec.{eqb, ltb}
-use Rattle.formulas.specs.Formula.{Formula, letter, constant, negated, joined, value}
+use Rattle.values.specs.Formula.{Formula, letter, constant, negated, joined, value}
 use Rattle.formulas.specs.Text.{mark, byteAt, mostLevels, mostText, IsFormula, IsPlace}
 
 -- what a byte is, where a factor is to begin

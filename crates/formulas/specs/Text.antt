@@ -5,7 +5,7 @@ use mathlib.Core.Bool.{true, false}
 use mathlib.Core.List.{List, _++_}
 use Prim.Native.Nat.{ℕ, zero, suc, _+_, _<_, _≤_}
 use lib.ListN.{length, getD, take}
-use Rattle.formulas.specs.Formula.{Formula, letter, constant, negated, joined}
+use Rattle.values.specs.Formula.{Formula, letter, constant, negated, joined}
 
 -- the byte between two that are joined at a level: `&`, `^`, `|`
 abbrev pub mark : ℕ → ℕ

@@ -1,15 +1,15 @@
 // Reading a formula into a table.
 use crate::reading::Found;
 use crate::reading::sum;
-use crate::stretches::Stretch;
-use crate::stretches::same;
-use crate::stretches::word_in;
 use refusals::form;
 use refusals::verdicts::Refusal;
 use refusals::verdicts::Verdict;
 use refusals::verdicts::refuse;
 use refusals::verdicts::refuse_at;
 use runs::words::first_bits;
+use values::stretches::Stretch;
+use values::stretches::same;
+use values::stretches::word_in;
 ghost use mathlib.Core.Path.{_≡_};
 ghost use mathlib.Core.Bool.{false};
 ghost use mathlib.Core.List.{[], _∷_};
@@ -18,7 +18,7 @@ ghost use lib.ListN.{length};
 ghost use Rattle.tables.specs.Table.{mostInputs, tableLength, tableOf};
 ghost use Rattle.refusals.specs.Lines.{verdict};
 ghost use Rattle.formulas.specs.Reading.{textOf, valueIn};
-ghost use Rattle.formulas.specs.Words.{stretchOf};
+ghost use Rattle.values.specs.Stretches.{stretchOf};
 ghost use Rattle.formulas.specs.Refusals.{badText};
 ghost use Rattle.formulas.specs.ReadFormula.{readLines, readOutcome};
 

@@ -1,12 +1,12 @@
 // The readers of sum, term, part and factor, which call each other in a cycle: each call has a byte less before it, or
 // goes one step down. They work on a stretch of 256 assignments at a time, the one from 256 w on.
-use crate::stretches::Stretch;
-use crate::stretches::both;
-use crate::stretches::either;
-use crate::stretches::of_input;
-use crate::stretches::one_of;
-use crate::stretches::same;
-use crate::stretches::turned;
+use values::stretches::Stretch;
+use values::stretches::both;
+use values::stretches::either;
+use values::stretches::of_input;
+use values::stretches::one_of;
+use values::stretches::same;
+use values::stretches::turned;
 ghost use mathlib.Core.Path.{_≡_};
 ghost use Prim.Native.Nat.{_<_, _≤_};
 ghost use lib.ListN.{length};

@@ -1,14 +1,14 @@
 // The inspecting program: one byte n, then the table, then the sheet to the end of standard input. It writes the answer
 // number, a space and the place in decimal. What is handed over to be written is defined of the bytes read alone
-// (`written`, inspection/specs/InspectProgram).
-use inspection::inspect_program::MOST_READ;
-use inspection::inspect_program::MOST_WRITTEN;
-use inspection::inspect_program::answer_input;
+// (`written`, programs/specs/InspectProgram).
 use libc::STDIN_FILENO;
 use libc::STDOUT_FILENO;
+use programs::inspect_program::MOST_READ;
+use programs::inspect_program::MOST_WRITTEN;
+use programs::inspect_program::answer_input;
 ghost use mathlib.Core.Path.{_≡_};
 ghost use lib.ListN.{length};
-ghost use Rattle.inspection.specs.InspectProgram.{mostRead, mostWritten};
+ghost use Rattle.programs.specs.InspectProgram.{mostRead, mostWritten};
 
 fn input_room() -> [u8; MOST_READ]
     ensures { λ r. ⌜ mostRead ≡ length r ⌝ }

@@ -1,5 +1,3 @@
--- Looking over sheets that anyone made.
+-- What the check of a sheet against a table says.
 pub mod CheckSheet
 pub mod CheckTold
-pub mod Shorter
-pub mod InspectProgram

@@ -1,11 +1,11 @@
 // Checking a sheet, whoever made it, against a gate's table.
+use records::desk::desk_of;
 use refusals::form;
 use refusals::verdicts::Refusal;
 use refusals::verdicts::Verdict;
 use refusals::verdicts::refuse;
 use refusals::verdicts::refuse_at;
 use runs::checking::first_difference;
-use sheets::desk::desk_of;
 use sheets::kinds::Edition;
 ghost use mathlib.Core.Path.{_≡_};
 ghost use Rattle.sheets.specs.Edition.{IsEdition, firstEdition};

@@ -1,6 +1,3 @@
-// Looking over sheets that anyone made. A call has one file.
-// The inspecting program but for its reading and writing is `inspect_program`: it asks for the length of its room.
+// A sheet that anyone made, looked over: in the first edition, or in the one that is told.
 pub mod check_sheet;
 pub mod check_told;
-pub mod inspect_program;
-pub mod shorter;

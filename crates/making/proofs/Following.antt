@@ -13,7 +13,7 @@ use Rattle.bits.specs.Sets.{size}
 use Rattle.bits.specs.Lists.{listOf}
 use Rattle.bits.proofs.Numbers.{number-ext}
 use Rattle.bits.proofs.Lists.{length-list}
-use Rattle.splits.specs.declared.split.Split.{Split}
+use Rattle.columns.specs.declared.split.Split.{Split}
 use Rattle.splits.specs.Split.{readsD, readsH}
 use Rattle.splits.specs.Pair.{tableD, tableH, bitH}
 use Rattle.splits.specs.Columns.{mostFirst, fewColumns}
@@ -33,7 +33,8 @@ use Rattle.making.specs.declared.signals.Signals.{Signals}
 use Rattle.making.specs.declared.pile.Pile.{Pile}
 use Rattle.making.specs.declared.chaining.Stage.{Stage}
 use Rattle.making.specs.Stage.{signalsOf, Listed}
-use Rattle.making.specs.Area.{workLength, atHand}
+use Rattle.making.specs.Area.{atHand}
+use Rattle.tables.specs.Work.{workLength}
 use Rattle.making.specs.Pile.{mostPiled, Piled, Grown}
 use Rattle.making.specs.Chaining.{dCell, Stepped}
 use Rattle.making.proofs.Piling.{grown-piled}

@@ -16,11 +16,9 @@ use Rattle.bits.proofs.Numbers.{bit-number}
 use Rattle.tables.specs.Table.{mostInputs, tableLength, tableBit, byteOf}
 use Rattle.tables.proofs.Bytes.{length-holds}
 use Rattle.tables.proofs.Setting.{take-number}
-use Rattle.splits.specs.declared.split.Split.{Split}
-use Rattle.making.specs.Area.{half, workLength, atHand, nextBit, nextInputs, NextStored, NextTable}
-
-pub half-holds : (n : ℕ) → n ≤ mostInputs → tableLength n ≤ half
-half-holds n h = pow-mono {i = n - 3} {j = mostInputs - 3} (omega arith)
+use Rattle.columns.specs.declared.split.Split.{Split}
+use Rattle.making.specs.Area.{atHand, nextBit, nextInputs, NextStored, NextTable}
+use Rattle.tables.specs.Work.{half, workLength}
 
 module _ (work : List ℕ) (h : workLength ≤ length work) where
   pub half-whole : length (take half work) ≡ half

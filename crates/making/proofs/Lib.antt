@@ -2,6 +2,5 @@
 pub mod Halves
 pub mod Picking
 pub mod Piling
-pub mod Charting
 pub mod Following
 pub mod Loaded

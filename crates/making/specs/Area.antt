@@ -2,20 +2,13 @@
 use mathlib.Core.Path.{_≡_}
 use mathlib.Core.Bool.{Bool}
 use mathlib.Core.List.{List}
-use Prim.Native.Nat.{ℕ, _+_, _*_, _^_, _<_}
+use Prim.Native.Nat.{ℕ, _+_, _^_, _<_}
 use lib.ListN.{length, getD, take}
 use Rattle.bits.specs.Numbers.{bit}
-use Rattle.tables.specs.Table.{mostInputs, tableLength, tableBit, byteOf}
-use Rattle.splits.specs.declared.split.Split.{Split}
+use Rattle.tables.specs.Table.{tableBit, byteOf}
+use Rattle.columns.specs.declared.split.Split.{Split}
 use Rattle.splits.specs.Pair.{bitH, inputsH}
-
--- a half holds the table of as many inputs as a gate can have
-abbrev pub half : ℕ
-half = tableLength mostInputs
-
--- a work area has two halves
-abbrev pub workLength : ℕ
-workLength = 2 * half
+use Rattle.tables.specs.Work.{half}
 
 -- the table at hand: the bits of the first half
 abbrev pub atHand : List ℕ → ℕ → Bool

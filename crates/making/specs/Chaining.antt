@@ -7,7 +7,7 @@ use lib.ListN.{length, replicate}
 use Rattle.bits.specs.Numbers.{bit, number}
 use Rattle.bits.specs.Lists.{listOf}
 use Rattle.tables.specs.Table.{tableBit}
-use Rattle.splits.specs.declared.split.Split.{Split}
+use Rattle.columns.specs.declared.split.Split.{Split}
 use Rattle.splits.specs.Split.{readsD, readsH}
 use Rattle.splits.specs.Pair.{tableD}
 use Rattle.sheets.specs.Network.{Cell}

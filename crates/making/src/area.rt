@@ -6,21 +6,16 @@ ghost use Rattle.bits.specs.Numbers.{bit};
 ghost use Rattle.bits.specs.Sets.{size};
 ghost use Rattle.tables.specs.Table.{mostInputs};
 ghost use Rattle.splits.specs.Columns.{mostFirst};
-ghost use Rattle.splits.specs.Reading.{Held, Chart};
-ghost use Rattle.making.specs.Area.{half, workLength, atHand, nextInputs, NextStored, NextTable};
-use crate::signals::Signals;
+ghost use Rattle.columns.specs.Reading.{Held, Chart};
+ghost use Rattle.making.specs.Area.{atHand, nextInputs, NextStored, NextTable};
+ghost use Rattle.tables.specs.Work.{half, workLength};
 use bits::sets::parts;
-use splits::pair::h_byte;
-use splits::pair::h_word;
-use splits::split::Split;
+use charts::pair::h_byte;
+use charts::pair::h_word;
+use columns::split::Split;
+use tables::HALF;
 use tables::fixed::byte_in;
 use tables::length_for;
-
-// The table of as many inputs as a gate can have fills a half.
-pub const HALF: usize = 1 << (Signals::MOST - 3);
-
-// A work area has two halves.
-pub const WORK: usize = 2 * HALF;
 
 // The first len bytes of H's table, with r first cells, into the second half: byte by byte.
 fn store_bytes(work: &mut [u8], s: Split, r: u32, seen: &[u16], len: usize)

@@ -1,14 +1,14 @@
 // Making a sheet: best splits while the list of signals is longer than K, and at last what remains as the final cell.
-use crate::area::HALF;
 use crate::area::next_table;
 use crate::pile::Pile;
 use crate::signals::Signals;
+use charts::pair::blank;
+use charts::pair::chart;
+use charts::pair::first_cells;
 use choices::over::find_upto;
+use columns::split::Split;
 use sheets::kinds::Sheet;
-use splits::pair::blank;
-use splits::pair::chart;
-use splits::pair::first_cells;
-use splits::split::Split;
+use tables::HALF;
 use tables::aside::set_aside;
 use tables::cell::CellTable;
 use tables::clear;
@@ -21,12 +21,13 @@ ghost use Rattle.bits.specs.Numbers.{bit, number};
 ghost use Rattle.bits.specs.Lists.{listOf};
 ghost use Rattle.tables.specs.Table.{mostInputs, tableLength, tableBit};
 ghost use Rattle.splits.specs.Columns.{mostFirst, fewColumns};
-ghost use Rattle.splits.specs.Reading.{Held, Chart};
+ghost use Rattle.columns.specs.Reading.{Held, Chart};
 ghost use Rattle.best.specs.Best.{Candidate};
 ghost use Rattle.sheets.specs.Edition.{largestCell};
 ghost use Rattle.chains.specs.Chain.{stuck, chain};
 ghost use Rattle.making.specs.Stage.{signalsOf, Listed};
-ghost use Rattle.making.specs.Area.{workLength, atHand};
+ghost use Rattle.making.specs.Area.{atHand};
+ghost use Rattle.tables.specs.Work.{workLength};
 ghost use Rattle.making.specs.Pile.{mostPiled, Grown};
 ghost use Rattle.making.specs.Chaining.{dCell, Stepped, Tells, ChainedUpTo, Chained};
 

@@ -1,13 +1,13 @@
 // The cells of a chain so far.
 use crate::signals::Signals;
+use charts::pair::FirstCells;
 use sheets::kinds::HeldCell;
 use sheets::kinds::Sheet;
-use splits::pair::FirstCells;
 ghost use mathlib.Core.List.{[], _∷_};
 ghost use Prim.Native.Nat.{_+_, _≤_};
 ghost use Rattle.bits.specs.Lists.{listOf};
 ghost use Rattle.splits.specs.Columns.{mostFirst};
-ghost use Rattle.splits.specs.Cells.{tableIn};
+ghost use Rattle.charts.specs.Cells.{tableIn};
 ghost use Rattle.sheets.specs.Edition.{largestCell};
 ghost use Rattle.sheets.specs.Held.{networkCell};
 ghost use Rattle.chains.specs.Chain.{lastCell};

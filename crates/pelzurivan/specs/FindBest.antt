@@ -1,6 +1,6 @@
 -- The best split sought, for C.
 use Rattle.refusals.specs.Lines.{numberOf}
-use Rattle.splitting.specs.FindBest.{FindOutcome}
+use Rattle.finding.specs.FindBest.{FindOutcome}
 use Rattle.pelzurivan.specs.declared.find_best.SoughtC.{SoughtC}
 
 -- the number, the own and the shared mask

@@ -1,6 +1,6 @@
 -- A table rebuilt, for C.
 use Rattle.refusals.specs.Lines.{numberOf, placeOf}
-use Rattle.running.specs.RebuildTable.{RebuildOutcome}
+use Rattle.rebuilding.specs.RebuildTable.{RebuildOutcome}
 use Rattle.pelzurivan.specs.declared.rebuild_table.RebuiltC.{RebuiltC}
 
 -- the number, and the first bad or unread record

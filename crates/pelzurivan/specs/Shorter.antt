@@ -3,8 +3,8 @@ use mathlib.Core.List.{List}
 use Prim.Native.Nat.{ℕ}
 use lib.ListN.{length}
 use Rattle.refusals.specs.Lines.{numberOf}
-use Rattle.inspection.specs.declared.shorter.Kept.{Kept}
-use Rattle.inspection.specs.Shorter.{partOf}
+use Rattle.comparing.specs.declared.shorter.Kept.{Kept}
+use Rattle.comparing.specs.Shorter.{partOf}
 use Rattle.pelzurivan.specs.declared.shorter.ShorterC.{ShorterC}
 
 -- which of x and y, how many bytes it has, and the number of the call beside

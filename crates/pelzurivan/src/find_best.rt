@@ -1,9 +1,9 @@
 // Finding the best split, for C.
+use finding::find_best::find_best;
 use refusals::verdicts::number_of;
-use splitting::find_best::find_best;
 ghost use mathlib.Core.Path.{_≡_};
 ghost use Rattle.sheets.specs.Edition.{firstEdition};
-ghost use Rattle.splitting.specs.FindBest.{findOutcome};
+ghost use Rattle.finding.specs.FindBest.{findOutcome};
 ghost use Rattle.pelzurivan.specs.FindBest.{soughtC};
 
 // The number, the own and the shared mask.

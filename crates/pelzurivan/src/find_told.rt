@@ -1,9 +1,9 @@
 // Finding the best split in a told edition, for C.
 use crate::find_best::SoughtC;
+use finding::find_told::find_told;
 use refusals::verdicts::number_of;
-use splitting::find_told::find_told;
 ghost use mathlib.Core.Path.{_≡_};
-ghost use Rattle.splitting.specs.FindTold.{findTold};
+ghost use Rattle.finding.specs.FindTold.{findTold};
 ghost use Rattle.pelzurivan.specs.FindBest.{soughtC};
 
 // Finds the best split into cells of the edition with that number: two masks.

@@ -1,6 +1,6 @@
 // A load that is cut, for C.
 use crate::load_desk::LoadedC;
-use cards::load_cut::load_cut;
+use loads::load_cut::load_cut;
 use refusals::verdicts::number_of;
 use refusals::verdicts::place_of;
 ghost use mathlib.Core.Path.{_≡_};

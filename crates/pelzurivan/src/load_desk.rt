@@ -1,5 +1,5 @@
 // Loading a desk, for C.
-use cards::load_desk::load_desk;
+use loads::load_desk::load_desk;
 use refusals::verdicts::number_of;
 use refusals::verdicts::place_of;
 ghost use mathlib.Core.Path.{_≡_};

@@ -1,6 +1,6 @@
 // One store of a load, for C.
 use crate::load_desk::LoadedC;
-use cards::load_store::load_store;
+use loads::load_store::load_store;
 use refusals::verdicts::number_of;
 use refusals::verdicts::place_of;
 ghost use mathlib.Core.Path.{_≡_};

@@ -1,10 +1,10 @@
 // Rebuilding a table, for C.
+use rebuilding::rebuild_table::rebuild_table;
 use refusals::verdicts::number_of;
 use refusals::verdicts::place_of;
-use running::rebuild_table::rebuild_table;
 ghost use mathlib.Core.Path.{_≡_};
 ghost use Rattle.sheets.specs.Edition.{firstEdition};
-ghost use Rattle.running.specs.RebuildTable.{rebuildOwn};
+ghost use Rattle.rebuilding.specs.RebuildTable.{rebuildOwn};
 ghost use Rattle.pelzurivan.specs.RebuildTable.{rebuiltC};
 
 // The number, the index of a bad record (10) or of an unread one (15).

@@ -1,10 +1,10 @@
 // Rebuilding a table from a sheet of a told edition, for C.
 use crate::rebuild_table::RebuiltC;
+use rebuilding::rebuild_told::rebuild_told;
 use refusals::verdicts::number_of;
 use refusals::verdicts::place_of;
-use running::rebuild_told::rebuild_told;
 ghost use mathlib.Core.Path.{_≡_};
-ghost use Rattle.running.specs.RebuildTold.{rebuildTold};
+ghost use Rattle.rebuilding.specs.RebuildTold.{rebuildTold};
 ghost use Rattle.pelzurivan.specs.RebuildTable.{rebuiltC};
 
 // Rebuilds a table from a sheet of the edition with the number `edition` into lent bytes.

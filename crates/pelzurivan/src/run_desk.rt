@@ -1,6 +1,6 @@
 // Running a desk, for C.
 use crate::run_sheet::RanC;
-use cards::run_desk::run_desk;
+use desks::run_desk::run_desk;
 use refusals::verdicts::number_of;
 use refusals::verdicts::place_of;
 ghost use mathlib.Core.Path.{_≡_};

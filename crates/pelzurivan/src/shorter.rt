@@ -1,10 +1,10 @@
 // The shorter of two sheets, for C.
-use inspection::shorter::keep_shorter;
-use inspection::shorter::part_of;
+use comparing::shorter::keep_shorter;
+use comparing::shorter::part_of;
 use refusals::verdicts::number_of;
 ghost use mathlib.Core.Path.{_≡_};
 ghost use Rattle.sheets.specs.Edition.{firstEdition};
-ghost use Rattle.inspection.specs.Shorter.{keptOutcome};
+ghost use Rattle.comparing.specs.Shorter.{keptOutcome};
 ghost use Rattle.pelzurivan.specs.Shorter.{shorterC};
 
 // Which of the two (0 none), its length in bytes, and the number of the call beside.

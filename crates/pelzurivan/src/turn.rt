@@ -1,8 +1,8 @@
 // Turning one three-input table into another, for C.
-use book::turn::turn;
 use refusals::verdicts::number_of;
+use turning::turn::turn;
 ghost use mathlib.Core.Path.{_≡_};
-ghost use Rattle.book.specs.Turn.{turnOutcome};
+ghost use Rattle.turning.specs.Turn.{turnOutcome};
 ghost use Rattle.pelzurivan.specs.Turn.{turnedC};
 
 // The number, whether the output is flipped, the mask of input flips, the order of the inputs.

@@ -13,7 +13,7 @@ use Rattle.bits.proofs.Numbers.{bit-number, number-lt}
 use Rattle.tables.specs.Depends.{DependsOn}
 use Rattle.tables.specs.Counting.{counts, support}
 use Rattle.tables.proofs.Depending.{support-counting, support-all}
-use Rattle.formulas.specs.Formula.{Formula, value, join}
+use Rattle.values.specs.Formula.{Formula, value, join}
 use Rattle.formulas.specs.Text.{mark}
 use Rattle.printing.specs.Forms.{markOf, flipsLow, flipsHigh}
 use Rattle.printing.specs.Print.{levelOf, negatedIf, oneFormula, twoFormula}

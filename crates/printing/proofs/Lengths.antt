@@ -13,7 +13,7 @@ use Rattle.bits.specs.Numbers.{val}
 use Rattle.sheets.specs.Network.{Cell, Wired}
 use Rattle.sheets.specs.Reading.{times, reads}
 use Rattle.printing.specs.Forms.{markOf, flipsLow, flipsHigh}
-use Rattle.printing.specs.Print.{inTurn, bySides, flipped, oneText, twoText, cellText, letterText, printed}
+use Rattle.printing.specs.Print.{inTurn, bySides, flippedText, oneText, twoText, cellText, letterText, printed}
 use Rattle.printing.specs.Printable.{AllPlain, Printable}
 
 -- the weight of what is read, each as often as it is
@@ -94,19 +94,19 @@ module _ (K : ℕ) where
 
 -- ---- the text of one cell
 
-flip-short : (f : Bool) (w : List ℕ) → length (flipped f w) ≤ 1 + length w
+flip-short : (f : Bool) (w : List ℕ) → length (flippedText f w) ≤ 1 + length w
 flip-short true w = omega arith
 flip-short false w = omega arith
 
-one-short : (a b f : Bool) (w : List ℕ) → length (cond a (48 ∷ []) (cond b (49 ∷ []) (flipped f w))) ≤ 1 + length w
+one-short : (a b f : Bool) (w : List ℕ) → length (cond a (48 ∷ []) (cond b (49 ∷ []) (flippedText f w))) ≤ 1 + length w
 one-short true b f w = omega arith
 one-short false true f w = omega arith
 one-short false false f w = flip-short f w
 
 two-short : (t : ℕ) (l r : List ℕ) → length (twoText t l r) ≤ 5 + (length l + length r)
 two-short t l r =
-    let a = flipped (flipsLow t) l in
-    let b = flipped (flipsHigh t) r in
+    let a = flippedText (flipsLow t) l in
+    let b = flippedText (flipsHigh t) r in
     omega (arith, length-append a (markOf t ∷ (b ++ (41 ∷ []))), length-append b (41 ∷ []), flip-short (flipsLow t) l, flip-short (flipsHigh t) r)
 
 sides-short : (l : List ℕ) (t : ℕ) (v : ℕ → List ℕ) → length (bySides [] oneText twoText l t v) ≤ 5 + weighed (λ s. length (v s)) l

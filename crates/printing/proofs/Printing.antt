@@ -23,7 +23,7 @@ use Rattle.refusals.specs.declared.verdicts.Verdict.the-variants.{Fine}
 use Rattle.refusals.specs.Lines.{InOrder}
 use Rattle.refusals.proofs.Tests.{inside}
 use Rattle.refusals.proofs.Sheets.{good-sheet}
-use Rattle.formulas.specs.Formula.{value}
+use Rattle.values.specs.Formula.{value}
 use Rattle.formulas.specs.Text.{mostText, ReadAs}
 use Rattle.printing.specs.Forms.{markOf}
 use Rattle.printing.specs.Print.{printed, sheetText, formulaOf}

@@ -8,10 +8,10 @@ use lib.ListN.{length, getD, length-append}
 use borrow.Author.Tests.{lt-ltb}
 use Rattle.bits.specs.Numbers.{bit}
 use Rattle.sheets.specs.Network.{Cell, packed, output, run, Wired}
-use Rattle.formulas.specs.Formula.{Formula, letter, constant, joined, value}
+use Rattle.values.specs.Formula.{Formula, letter, constant, joined, value}
 use Rattle.formulas.specs.Text.{mark, Spells, a-letter, a-zero, a-one, a-not, a-nest, only, more, byteAt, mostLevels, IsFormula}
 use Rattle.printing.specs.Forms.{markOf, flipsLow, flipsHigh}
-use Rattle.printing.specs.Print.{inTurn, bySides, flipped, oneText, twoText, cellText, letterText, printed, negatedIf, oneFormula, twoFormula, levelOf, cellFormula, formulaOf}
+use Rattle.printing.specs.Print.{inTurn, bySides, flippedText, oneText, twoText, cellText, letterText, printed, negatedIf, oneFormula, twoFormula, levelOf, cellFormula, formulaOf}
 use Rattle.printing.specs.Printable.{Plain}
 use Rattle.printing.proofs.Forms.{depends-mark, level-le, mark-of, one-value, two-value}
 use Rattle.printing.proofs.Turns.{Each, each-signal, run-last}
@@ -57,7 +57,7 @@ module _ (n : ℕ) where
   letter-spelled : (s : ℕ) → s < n → Spelled n 0 ((97 + s) ∷ []) (letter s)
   letter-spelled s h c p e l x = ends (omega arith) (a-letter s h (x .0))
 
-  flip-spelled : (f : Bool) (d : ℕ) (w : List ℕ) (F : Formula) → Spelled n d w F → Spelled n (suc d) (flipped f w) (negatedIf f F)
+  flip-spelled : (f : Bool) (d : ℕ) (w : List ℕ) (F : Formula) → Spelled n d w F → Spelled n (suc d) (flippedText f w) (negatedIf f F)
   flip-spelled true d w F h c p zero l x = absurd (omega arith)
   flip-spelled true d w F h c p (suc e) l x = ends (omega arith) (a-not (x .0) (h c (suc p) e (omega arith) (x .1)))
   flip-spelled false d w F h c p e l x = h c p e (omega arith) x
@@ -73,8 +73,8 @@ module _ (n : ℕ) where
       → Spelled n (suc (suc d)) (twoText t v w) (twoFormula t F G)
   two-spelled t d v w F G h l a b c p zero k x = absurd (omega arith)
   two-spelled t d v w F G h l a b c p (suc e) k x =
-      let v′ = flipped (flipsLow t) v in
-      let w′ = flipped (flipsHigh t) w in
+      let v′ = flippedText (flipsLow t) v in
+      let w′ = flippedText (flipsHigh t) w in
       let y = has-append c (suc p) v′ (markOf t ∷ (w′ ++ (41 ∷ []))) (x .1) in
       let z = has-append c (suc (suc p + length v′)) w′ (41 ∷ []) (y .1 .1) in
       ends (omega (arith, length-append v′ (markOf t ∷ (w′ ++ (41 ∷ []))), length-append w′ (41 ∷ [])))

@@ -17,7 +17,7 @@ use Rattle.sheets.proofs.Places.{record-within}
 use Rattle.sheets.proofs.Wiring.{cells-length}
 use Rattle.printing.specs.declared.pairs.Pair.{Pair}
 use Rattle.printing.specs.Forms.{markOf, flipsLow, flipsHigh}
-use Rattle.printing.specs.Print.{bySides, flipped, oneText, twoText, cellText, letterText, printed}
+use Rattle.printing.specs.Print.{bySides, flippedText, oneText, twoText, cellText, letterText, printed}
 use Rattle.printing.specs.Printable.{Plain}
 use Rattle.printing.specs.Pairs.{pairCell}
 use Rattle.printing.specs.Put.{Put, Room}
@@ -77,21 +77,21 @@ all-put x = put-as (sym (append-nil (x .done)) ∙ x .all) (x .put)
 
 -- ---- `!` or nothing
 
-pub flip-room : (f : Bool) (p l : ℕ) → f ≡ true → p + length (flipped f []) ≤ l → p < l
+pub flip-room : (f : Bool) (p l : ℕ) → f ≡ true → p + length (flippedText f []) ≤ l → p < l
 flip-room true p l e h = omega arith
 flip-room false p l e h = absurd (let z : _≡_ {A = ℕ} 0 1 = cc in omega arith)
 
-pub flip-yes : {f : Bool} {a b : List ℕ} {p q : ℕ} → f ≡ true → Put a p (33 ∷ []) b q → Put a p (flipped f []) b q
-flip-yes e x = put-as (ap (λ (t : Bool). flipped t []) (sym e)) x
+pub flip-yes : {f : Bool} {a b : List ℕ} {p q : ℕ} → f ≡ true → Put a p (33 ∷ []) b q → Put a p (flippedText f []) b q
+flip-yes e x = put-as (ap (λ (t : Bool). flippedText t []) (sym e)) x
 
-pub flip-no : {f : Bool} {a : List ℕ} {p : ℕ} → f ≡ false → Put a p (flipped f []) a p
-flip-no {f} {a} {p} e = put-as (ap (λ (t : Bool). flipped t []) (sym e)) (put-none a p)
+pub flip-no : {f : Bool} {a : List ℕ} {p : ℕ} → f ≡ false → Put a p (flippedText f []) a p
+flip-no {f} {a} {p} e = put-as (ap (λ (t : Bool). flippedText t []) (sym e)) (put-none a p)
 
-flip-first : (f : Bool) (w : List ℕ) → flipped f [] ++ w ≡ flipped f w
+flip-first : (f : Bool) (w : List ℕ) → flippedText f [] ++ w ≡ flippedText f w
 flip-first true w = refl
 flip-first false w = refl
 
-flip-length : (f : Bool) (w : List ℕ) → length (flipped f []) ≤ length (flipped f w)
+flip-length : (f : Bool) (w : List ℕ) → length (flippedText f []) ≤ length (flippedText f w)
 flip-length true w = omega arith
 flip-length false w = omega arith
 
@@ -112,19 +112,19 @@ module _ {e : Edition} {n : ℕ} {s : List ℕ} {x : ℕ} {flip : Bool} {room : 
   abbrev text : ℕ → List ℕ
   text = printed n (sheetCells e s m)
 
-  pub flip-fits : p + length (flipped flip []) ≤ length room
+  pub flip-fits : p + length (flippedText flip []) ≤ length room
   flip-fits = omega (arith, h .fits, flip-length flip (text x))
 
   -- `!` or nothing is put, and the parts of the text are left
-  begun : {ws : List (List ℕ)} {room′ : List ℕ} {q : ℕ} → text x ≡ joinAll ws → Put room p (flipped flip []) room′ q → Stage room p (flipped flip (text x)) ws room′ q
-  begun {ws} t y = record { done = flipped flip []; put = y; all = flip-first flip (joinAll ws) ∙ ap (flipped flip) (sym t); fits = h .fits }
+  begun : {ws : List (List ℕ)} {room′ : List ℕ} {q : ℕ} → text x ≡ joinAll ws → Put room p (flippedText flip []) room′ q → Stage room p (flippedText flip (text x)) ws room′ q
+  begun {ws} t y = record { done = flippedText flip []; put = y; all = flip-first flip (joinAll ws) ∙ ap (flippedText flip) (sym t); fits = h .fits }
 
   letter-text : x < n → text x ≡ (97 + x) ∷ []
   unfolding printed
   letter-text l =
       turn-below cellText (sheetCells e s m) n (letterText n) x l ∙ ap (λ (b : Bool). cond b ((97 + x) ∷ []) []) (lt-ltb x n l)
 
-  pub letter-parts : {room′ : List ℕ} {q : ℕ} → x < n → Put room p (flipped flip []) room′ q → Stage room p (flipped flip (text x)) (((97 + x) ∷ []) ∷ []) room′ q
+  pub letter-parts : {room′ : List ℕ} {q : ℕ} → x < n → Put room p (flippedText flip []) room′ q → Stage room p (flippedText flip (text x)) (((97 + x) ∷ []) ∷ []) room′ q
   letter-parts l y = begun {ws = ((97 + x) ∷ []) ∷ []} (letter-text l) y
 
   -- what its record is asked for
@@ -161,43 +161,43 @@ module _ {e : Edition} {n : ℕ} {s : List ℕ} {x : ℕ} {flip : Bool} {room : 
 
     -- ( , ! or not, the lower signal, the mark, ! or not, the other, )
     pub two-parts : {f i : Bool} {b : ℕ} {room′ : List ℕ} {q : ℕ} → c .two ≡ true → f ≡ flipsLow (c .table) → b ≡ markOf (c .table) → i ≡ flipsHigh (c .table)
-        → Put room p (flipped flip []) room′ q
-        → Stage room p (flipped flip (text x)) ((40 ∷ []) ∷ flipped f (text (c .low)) ∷ (b ∷ []) ∷ flipped i (text (c .high)) ∷ (41 ∷ []) ∷ []) room′ q
+        → Put room p (flippedText flip []) room′ q
+        → Stage room p (flippedText flip (text x)) ((40 ∷ []) ∷ flippedText f (text (c .low)) ∷ (b ∷ []) ∷ flippedText i (text (c .high)) ∷ (41 ∷ []) ∷ []) room′ q
     two-parts {f} {i} {b} q u v w y =
-        begun {ws = (40 ∷ []) ∷ flipped f (text (c .low)) ∷ (b ∷ []) ∷ flipped i (text (c .high)) ∷ (41 ∷ []) ∷ []}
+        begun {ws = (40 ∷ []) ∷ flippedText f (text (c .low)) ∷ (b ∷ []) ∷ flippedText i (text (c .high)) ∷ (41 ∷ []) ∷ []}
         (pair-text ∙ ap (λ (t : Bool). bySides [] oneText twoText (cond t (c .low ∷ c .high ∷ []) (c .low ∷ [])) (c .table) text) q
-        ∙ ap₂ (λ (f i : Bool). 40 ∷ (flipped f (text (c .low)) ++ (markOf (c .table) ∷ (flipped i (text (c .high)) ++ (41 ∷ []))))) (sym u) (sym w)
-        ∙ ap (λ (b : ℕ). 40 ∷ (flipped f (text (c .low)) ++ (b ∷ (flipped i (text (c .high)) ++ (41 ∷ []))))) (sym v)) y
+        ∙ ap₂ (λ (f i : Bool). 40 ∷ (flippedText f (text (c .low)) ++ (markOf (c .table) ∷ (flippedText i (text (c .high)) ++ (41 ∷ []))))) (sym u) (sym w)
+        ∙ ap (λ (b : ℕ). 40 ∷ (flippedText f (text (c .low)) ++ (b ∷ (flippedText i (text (c .high)) ++ (41 ∷ []))))) (sym v)) y
 
     one-text : c .two ≡ false → text x ≡ oneText (c .table) (text (c .low))
     one-text q = pair-text ∙ ap (λ (t : Bool). bySides [] oneText twoText (cond t (c .low ∷ c .high ∷ []) (c .low ∷ [])) (c .table) text) q
 
     -- `0` or `1`
-    pub digit-parts : {room′ : List ℕ} {q : ℕ} (b t : ℕ) → oneText t (text (c .low)) ≡ b ∷ [] → c .two ≡ false → c .table ≡ t → Put room p (flipped flip []) room′ q
-        → Stage room p (flipped flip (text x)) ((b ∷ []) ∷ []) room′ q
+    pub digit-parts : {room′ : List ℕ} {q : ℕ} (b t : ℕ) → oneText t (text (c .low)) ≡ b ∷ [] → c .two ≡ false → c .table ≡ t → Put room p (flippedText flip []) room′ q
+        → Stage room p (flippedText flip (text x)) ((b ∷ []) ∷ []) room′ q
     digit-parts b t d q z y = begun {ws = (b ∷ []) ∷ []} (one-text q ∙ ap (λ (k : ℕ). oneText k (text (c .low))) z ∙ d) y
 
-    pub same-parts : {room′ : List ℕ} {q : ℕ} → c .two ≡ false → (c .table ≡ 0 → ⊥) → (c .table ≡ 3 → ⊥) → Put room p (flipped flip []) room′ q
-        → Stage room p (flipped flip (text x)) (flipped (eqb (c .table) 1) (text (c .low)) ∷ []) room′ q
+    pub same-parts : {room′ : List ℕ} {q : ℕ} → c .two ≡ false → (c .table ≡ 0 → ⊥) → (c .table ≡ 3 → ⊥) → Put room p (flippedText flip []) room′ q
+        → Stage room p (flippedText flip (text x)) (flippedText (eqb (c .table) 1) (text (c .low)) ∷ []) room′ q
     same-parts q t u y =
-        let w = flipped (eqb (c .table) 1) (text (c .low)) in
+        let w = flippedText (eqb (c .table) 1) (text (c .low)) in
         begun {ws = w ∷ []}
         (one-text q
         ∙ ap₂ (λ (a b : Bool). cond a (48 ∷ []) (cond b (49 ∷ []) w)) (ne-eqb (c .table) 0 t) (ne-eqb (c .table) 3 u)
         ∙ sym (append-nil w)) y
 
     -- a side's room; the signal falls
-    side-room : {y t : ℕ} {f : Bool} {room′ : List ℕ} {q : ℕ} → y < x → x ≡ t → q + length (flipped f (text y)) ≤ length room′ → (y < t) × Room e n s y f room′ q
+    side-room : {y t : ℕ} {f : Bool} {room′ : List ℕ} {q : ℕ} → y < x → x ≡ t → q + length (flippedText f (text y)) ≤ length room′ → (y < t) × Room e n s y f room′ q
     side-room l z r = (omega arith, record { sheet = h .sheet; signal = omega (arith, h .signal); fits = r })
 
-    pub low-room : {t : ℕ} {f : Bool} {room′ : List ℕ} {q : ℕ} → x ≡ t → q + length (flipped f (text (c .low))) ≤ length room′ → (c .low < t) × Room e n s (c .low) f room′ q
+    pub low-room : {t : ℕ} {f : Bool} {room′ : List ℕ} {q : ℕ} → x ≡ t → q + length (flippedText f (text (c .low))) ≤ length room′ → (c .low < t) × Room e n s (c .low) f room′ q
     low-room z r = side-room (go (c .two) reads-lower) z r
       where
         go : (b : Bool) → ((k : ℕ) → k < length (cond b (c .low ∷ c .high ∷ []) (c .low ∷ [])) → getD (cond b (c .low ∷ c .high ∷ []) (c .low ∷ [])) k 0 < x) → c .low < x
         go true a = a 0 (omega arith)
         go false a = a 0 (omega arith)
 
-    pub high-room : {t : ℕ} {f : Bool} {room′ : List ℕ} {q : ℕ} → c .two ≡ true → x ≡ t → q + length (flipped f (text (c .high))) ≤ length room′ → (c .high < t) × Room e n s (c .high) f room′ q
+    pub high-room : {t : ℕ} {f : Bool} {room′ : List ℕ} {q : ℕ} → c .two ≡ true → x ≡ t → q + length (flippedText f (text (c .high))) ≤ length room′ → (c .high < t) × Room e n s (c .high) f room′ q
     high-room two z r = side-room (go (c .two) two reads-lower) z r
       where
         go : (b : Bool) → b ≡ true → ((k : ℕ) → k < length (cond b (c .low ∷ c .high ∷ []) (c .low ∷ [])) → getD (cond b (c .low ∷ c .high ∷ []) (c .low ∷ [])) k 0 < x) → c .high < x

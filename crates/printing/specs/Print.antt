@@ -7,7 +7,7 @@ use lib.Dec.{eqb, ltb}
 use Rattle.sheets.specs.declared.kinds.Edition.{Edition}
 use Rattle.sheets.specs.Network.{Cell}
 use Rattle.sheets.specs.Sheet.{records, sheetCells}
-use Rattle.formulas.specs.Formula.{Formula, letter, constant, negated, joined}
+use Rattle.values.specs.Formula.{Formula, letter, constant, negated, joined}
 use Rattle.printing.specs.Forms.{markOf, flipsLow, flipsHigh}
 
 -- what each signal is, where signal s is v s before the cells, and a cell makes its own of what the others are: the
@@ -25,17 +25,17 @@ bySides none one two (l ∷ r ∷ more) t v = two t (v l) (v r)
 -- ---- the text
 
 -- `!` before what is flipped
-abbrev pub flipped : Bool → List ℕ → List ℕ
-flipped true w = 33 ∷ w
-flipped false w = w
+abbrev pub flippedText : Bool → List ℕ → List ℕ
+flippedText true w = 33 ∷ w
+flippedText false w = w
 
 -- a cell of one signal: 0, !L, L or 1
 abbrev pub oneText : ℕ → List ℕ → List ℕ
-oneText t l = cond (eqb t 0) (48 ∷ []) (cond (eqb t 3) (49 ∷ []) (flipped (eqb t 1) l))
+oneText t l = cond (eqb t 0) (48 ∷ []) (cond (eqb t 3) (49 ∷ []) (flippedText (eqb t 1) l))
 
 -- a cell of two: (, L, the mark, R, )
 abbrev pub twoText : ℕ → List ℕ → List ℕ → List ℕ
-twoText t l r = 40 ∷ (flipped (flipsLow t) l ++ (markOf t ∷ (flipped (flipsHigh t) r ++ (41 ∷ []))))
+twoText t l r = 40 ∷ (flippedText (flipsLow t) l ++ (markOf t ∷ (flippedText (flipsHigh t) r ++ (41 ∷ []))))
 
 abbrev pub cellText : Cell → (ℕ → List ℕ) → List ℕ
 cellText c v = bySides [] oneText twoText (c .signals) (c .table) v

@@ -10,7 +10,7 @@ use Rattle.sheets.specs.declared.kinds.Edition.{Edition}
 use Rattle.sheets.specs.Edition.{IsEdition, mostRecords}
 use Rattle.sheets.specs.Network.{Wired}
 use Rattle.sheets.specs.Sheet.{records, sheetCells}
-use Rattle.printing.specs.Print.{flipped, printed}
+use Rattle.printing.specs.Print.{flippedText, printed}
 use Rattle.printing.specs.Printable.{AllPlain}
 
 -- the bytes w are put into the room at p, and q is the place after them; all other bytes stay
@@ -31,4 +31,4 @@ pub record Written (e : Edition) (n : ℕ) (s : List ℕ) : Type 0 where
 pub record Room (e : Edition) (n : ℕ) (s : List ℕ) (x : ℕ) (flip : Bool) (room : List ℕ) (p : ℕ) : Type 0 where
   pub sheet : Written e n s
   pub signal : x < n + records e s
-  pub fits : p + length (flipped flip (printed n (sheetCells e s (records e s)) x)) ≤ length room
+  pub fits : p + length (flippedText flip (printed n (sheetCells e s (records e s)) x)) ≤ length room

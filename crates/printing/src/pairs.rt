@@ -1,6 +1,6 @@
 // Cells of one or two signals, and how their tables are printed.
+use records::rules::record_of;
 use sheets::kinds::Edition;
-use sheets::rules::record_of;
 ghost use mathlib.Core.Path.{_≡_};
 ghost use Prim.Native.Nat.{_+_, _*_, _<_, _≤_};
 ghost use lib.ListN.{length};

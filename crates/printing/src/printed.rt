@@ -3,8 +3,8 @@
 use crate::pairs::pair_of;
 use crate::pairs::plain;
 use crate::pairs::times_in;
+use records::rules::record_of;
 use sheets::kinds::Edition;
-use sheets::rules::record_of;
 ghost use mathlib.Core.Path.{_≡_};
 ghost use mathlib.Core.Bool.{_&&_};
 ghost use Prim.Native.Nat.{_+_, _*_, _<_, _≤_};

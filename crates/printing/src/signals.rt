@@ -8,7 +8,7 @@ ghost use mathlib.Core.List.{[], _∷_};
 ghost use Prim.Native.Nat.{_+_, _<_, _≤_};
 ghost use lib.ListN.{length};
 ghost use Rattle.sheets.specs.Sheet.{records, sheetCells};
-ghost use Rattle.printing.specs.Print.{flipped, printed};
+ghost use Rattle.printing.specs.Print.{flippedText, printed};
 ghost use Rattle.printing.specs.Put.{Put, Room};
 
 // One byte at a place of the room; the place after it.
@@ -22,8 +22,8 @@ fn put(room: &mut [u8], at: usize, b: u8) -> usize
 
 // `!` or nothing.
 fn put_flip(room: &mut [u8], at: usize, flip: bool) -> usize
-    requires { ⌜ at + length (flipped flip []) ≤ length (now room) ⌝ }
-    ensures { λ r. ⌜ Put (now (room .entry)) at (flipped flip []) (now (room .exit)) r ⌝ }
+    requires { ⌜ at + length (flippedText flip []) ≤ length (now room) ⌝ }
+    ensures { λ r. ⌜ Put (now (room .entry)) at (flippedText flip []) (now (room .exit)) r ⌝ }
 {
     if flip {
         return put(room, at, b'!');
@@ -43,7 +43,8 @@ pub fn write(
 ) -> usize
     requires { ⌜ Room e n (now s) x flip (now room) at ⌝ }
     ensures { λ r. ⌜
-        Put (now (room .entry)) at (flipped flip (printed n (sheetCells e (now (s .entry)) (records e (now (s .entry)))) x))
+        Put (now (room .entry)) at
+        (flippedText flip (printed n (sheetCells e (now (s .entry)) (records e (now (s .entry)))) x))
         (now (room .exit)) r
         ⌝ }
 {

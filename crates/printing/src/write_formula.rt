@@ -1,11 +1,11 @@
 // Writing a sheet as a formula into a lent room.
 use crate::printed::is_printed;
 use crate::signals::write;
+use records::desk::desk_of;
 use refusals::form;
 use refusals::verdicts::Refusal;
 use refusals::verdicts::Verdict;
 use refusals::verdicts::refuse;
-use sheets::desk::desk_of;
 use sheets::kinds::Edition;
 ghost use mathlib.Core.Path.{_≡_};
 ghost use Rattle.sheets.specs.Edition.{IsEdition, firstEdition};

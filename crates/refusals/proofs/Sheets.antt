@@ -10,9 +10,10 @@ use borrow.Author.Tests.{lt-ltb, le-ltb, ltb-true, ltb-false}
 use Rattle.bits.proofs.Least.{is-least}
 use Rattle.tables.specs.Table.{mostInputs}
 use Rattle.sheets.specs.declared.kinds.Edition.{Edition}
-use Rattle.sheets.specs.declared.rules.Looked.the-variants.{Fine, BadAt}
+use Rattle.records.specs.declared.rules.Looked.the-variants.{Fine, BadAt}
 use Rattle.sheets.specs.Edition.{IsEdition, mostRecords}
-use Rattle.sheets.specs.Sheet.{bad, firstBad, records, Saw, Good, AllReadable}
+use Rattle.sheets.specs.Sheet.{bad, firstBad, records, Good, AllReadable}
+use Rattle.records.specs.Look.{Saw}
 use Rattle.sheets.specs.Reading.{unread, firstUnread, EachRead, IsFirstUnread}
 use Rattle.sheets.proofs.Looks.{good, all-readable, right-length}
 use Rattle.sheets.proofs.Unread.{each-read, none-unread, first-unread, unread-first}

@@ -1,7 +1,7 @@
 -- The table of refusals: each line under its number, with its words and what it names besides (nothing, where nothing
--- is said). The code has the numbers in src/verdicts.rt. 13 and 14 stand with the times (settling, Refusals), 16
--- with texts (formulas, Refusals; printing, Printable), 17 with the sheet for any gate (any_gate, MakeAny), 18 to 20
--- with the cards (cards, Refusals), 21 with the book (book, Turn).
+-- is said). The code has the numbers in src/verdicts.rt. 8 of make stands with the chain (bench, Refusals), 13 and 14
+-- with the times (settling, Refusals), 16 with texts (formulas, Refusals; printing, Printable), 17 with the sheet for
+-- any gate (any_gate, MakeAny), 18 to 20 with the cards (cards, Refusals), 21 with turning (turning, Turn).
 use mathlib.Core.Bool.{Bool, true, false, not, _&&_, _||_}
 use mathlib.Core.List.{List, [], _∷_, _++_}
 use Prim.Native.Nat.{ℕ, _+_, _-_, _*_, _^_}
@@ -19,8 +19,7 @@ use Rattle.sheets.specs.Edition.{mostRecords, mostDesk, lastEdition}
 use Rattle.sheets.specs.Sheet.{badLength, records, firstBad}
 use Rattle.sheets.specs.Reading.{firstUnread}
 use Rattle.runs.specs.Checking.{firstDifference}
-use Rattle.making.specs.Area.{workLength}
-use Rattle.chains.specs.Chain.{Made, stuck, made}
+use Rattle.tables.specs.Work.{workLength}
 use Rattle.refusals.specs.Lines.{Line, line, naming}
 
 -- 1: n outside 1 to 16
@@ -87,15 +86,6 @@ isNone (split A B) = false
 -- 8: none is possible
 abbrev pub noneBest : Answer → Line
 noneBest a = line 8 (isNone a)
-
--- whether the chain is stuck
-abbrev pub isStuck : Made → Bool
-isStuck stuck = true
-isStuck (made cs) = false
-
--- 8: a table in the chain with more than K inputs has none
-abbrev pub chainStuck : Made → Line
-chainStuck c = line 8 (isStuck c)
 
 -- 9: sheet empty, not a multiple of the record size, or over the bytes of the most records
 abbrev pub badSheet : Edition → List ℕ → Line

@@ -1,13 +1,13 @@
 // Writing a first-edition sheet in the second edition.
 use crate::cells::cell_of;
+use records::desk::desk_of;
+use records::rules::record_of;
 use refusals::form;
 use refusals::verdicts::Refusal;
 use refusals::verdicts::Verdict;
 use refusals::verdicts::refuse;
-use sheets::desk::desk_of;
 use sheets::kinds::Edition;
 use sheets::kinds::Sheet;
-use sheets::rules::record_of;
 use sheets::writing::put;
 ghost use mathlib.Core.Path.{_≡_};
 ghost use mathlib.Core.List.{_++_};

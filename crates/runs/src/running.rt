@@ -1,8 +1,8 @@
 // Running a sheet at an assignment, and rebuilding its table.
 use crate::words::word_of;
 use bits::patterns::half;
+use records::rules;
 use sheets::kinds::Edition;
-use sheets::rules;
 use tables::words::bits_from;
 ghost use mathlib.Core.Path.{_≡_};
 ghost use Prim.Native.Nat.{_*_, _^_, _<_, _≤_};

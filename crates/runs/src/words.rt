@@ -1,8 +1,8 @@
 // A sheet's table 64 assignments at a time. The word of a signal has, as bit i, its value at assignment 64 w + i.
 use bits::patterns::choose;
 use bits::patterns::of_input;
+use records::rules::record_of;
 use sheets::kinds::Edition;
-use sheets::rules::record_of;
 ghost use mathlib.Core.Path.{_≡_};
 ghost use mathlib.Core.Bool.{cond, _&&_};
 ghost use Prim.Native.Nat.{ℕ, _+_, _-_, _*_, _^_, _<_, _≤_};

@@ -1,6 +1,6 @@
 // Whether the times of a gate's inputs are sound, and there where a cell reads them.
+use records::rules::record_of;
 use sheets::kinds::Edition;
-use sheets::rules::record_of;
 use times::input_time::InputTime;
 use times::input_time::is_given;
 use times::input_time::sound_time;

@@ -1,10 +1,10 @@
 // When does the gate settle?
 use crate::reading::inputs_sound;
+use records::desk::desk_of;
 use refusals::form;
 use refusals::verdicts::Refusal;
 use refusals::verdicts::Verdict;
 use refusals::verdicts::refuse;
-use sheets::desk::desk_of;
 use sheets::kinds::Edition;
 use times::input_time::InputTime;
 use times::input_time::in_range;

@@ -1,9 +1,9 @@
 // The slack: how much earlier than a deadline the output settles.
 use crate::settle::settle_in;
+use records::desk::desk_of;
 use refusals::verdicts::Refusal;
 use refusals::verdicts::Verdict;
 use refusals::verdicts::refuse;
-use sheets::desk::desk_of;
 use sheets::kinds::Edition;
 use times::input_time::InputTime;
 use times::sixteenths::count_of;

@@ -10,7 +10,7 @@ use Rattle.refusals.specs.declared.verdicts.Verdict.the-variants.{Fine, Refused
 use Rattle.refusals.specs.Lines.{Line, line, verdict, reply}
 use Rattle.refusals.specs.Refusals.{nothingToSplit}
 use Rattle.refusals.specs.Lent.{workAfter}
-use Rattle.splitting.specs.FindBest.{findForm}
+use Rattle.finding.specs.FindBest.{findForm}
 use Rattle.several.specs.declared.find_several.FindSeveralAnswer.{FindSeveralAnswer}
 use Rattle.choices.specs.Search.{Choice, nothing, choice, bestOver}
 

@@ -1,18 +1,18 @@
 // Finding the best split with several first cells.
 use bits::sets::members;
 use choices::counted::find_over;
+use finding::find_best::find_form;
 use refusals::verdicts::Refusal;
 use refusals::verdicts::Verdict;
 use refusals::verdicts::refuse;
 use sheets::kinds::Edition;
-use splitting::find_best::find_form;
 use tables::counting::support_of;
 ghost use mathlib.Core.Path.{_≡_};
 ghost use Prim.Native.Nat.{_≤_};
 ghost use lib.ListN.{length};
 ghost use Rattle.tables.specs.Table.{mostInputs, tableLength};
 ghost use Rattle.sheets.specs.Edition.{firstEdition};
-ghost use Rattle.making.specs.Area.{workLength};
+ghost use Rattle.tables.specs.Work.{workLength};
 ghost use Rattle.refusals.specs.Lines.{verdict, reply};
 ghost use Rattle.several.specs.FindSeveral.{bestSeveral, severalSays, severalDone, severalNot};
 ghost use Rattle.several.specs.FindSeveral.{findSeveralOutcome};

@@ -8,7 +8,7 @@ use Rattle.bits.specs.Numbers.{bit}
 use Rattle.tables.specs.Table.{tableBit}
 use Rattle.splits.specs.Columns.{columns}
 use Rattle.splits.specs.Pair.{bytesH}
-use Rattle.splits.specs.Cells.{firstCells, noCells}
+use Rattle.charts.specs.Cells.{firstCells, noCells}
 use Rattle.sheets.specs.declared.kinds.Edition.{Edition}
 use Rattle.refusals.specs.declared.verdicts.Refusal.{Refusal}
 use Rattle.refusals.specs.declared.verdicts.Verdict.the-variants.{Fine, Refused}

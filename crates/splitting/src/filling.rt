@@ -1,7 +1,7 @@
 // The fixed answer to a split: the first cells' tables, and H stored into a lent room.
-use splits::pair;
-use splits::pair::FirstCells;
-use splits::split::Split;
+use charts::pair;
+use charts::pair::FirstCells;
+use columns::split::Split;
 ghost use mathlib.Core.Path.{_≡_};
 ghost use mathlib.Core.Bool.{true};
 ghost use Prim.Native.Nat.{_*_, _^_, _≤_};
@@ -10,8 +10,8 @@ ghost use Rattle.bits.specs.Numbers.{bit};
 ghost use Rattle.tables.specs.Table.{mostInputs, tableLength, tableBit};
 ghost use Rattle.splits.specs.Columns.{mostFirst, fewColumns};
 ghost use Rattle.splits.specs.Pair.{inputsH, bytesH};
-ghost use Rattle.splits.specs.Cells.{firstCells};
-ghost use Rattle.splits.specs.Reading.{Held, Chart};
+ghost use Rattle.charts.specs.Cells.{firstCells};
+ghost use Rattle.columns.specs.Reading.{Held, Chart};
 ghost use Rattle.best.specs.Best.{Candidate};
 ghost use Rattle.sheets.specs.Edition.{largestCell};
 ghost use Rattle.refusals.specs.Lent.{into};

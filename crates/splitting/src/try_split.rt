@@ -1,15 +1,15 @@
 // Trying a named split.
 use crate::filling;
 use bits::sets::members;
+use charts::pair::FirstCells;
+use columns::columns::break_of;
+use columns::split::Split;
 use refusals::form;
 use refusals::verdicts::Refusal;
 use refusals::verdicts::Verdict;
 use refusals::verdicts::refuse;
 use refusals::verdicts::refuse_at;
 use sheets::kinds::Edition;
-use splits::columns::break_of;
-use splits::pair::FirstCells;
-use splits::split::Split;
 ghost use mathlib.Core.Path.{_≡_};
 ghost use mathlib.Core.List.{[], _∷_};
 ghost use Prim.Native.Nat.{_+_, _-_, _^_, _<_, _≤_};
@@ -18,7 +18,7 @@ ghost use Rattle.bits.specs.Numbers.{bit};
 ghost use Rattle.bits.specs.Sets.{size};
 ghost use Rattle.tables.specs.Table.{mostInputs, tableLength};
 ghost use Rattle.splits.specs.Columns.{mostFirst};
-ghost use Rattle.splits.specs.Reading.{Held};
+ghost use Rattle.columns.specs.Reading.{Held};
 ghost use Rattle.best.specs.Best.{Candidate};
 ghost use Rattle.sheets.specs.Edition.{IsEdition, largestCell, firstEdition};
 ghost use Rattle.refusals.specs.Lines.{verdict, reply};

@@ -1,10 +1,10 @@
 // Trying a named split into cells of a told edition.
 use crate::try_split::TryAnswer;
 use crate::try_split::try_in;
+use charts::pair::FirstCells;
 use refusals::form;
 use refusals::verdicts::Verdict;
 use sheets::kinds::Edition;
-use splits::pair::FirstCells;
 ghost use mathlib.Core.Path.{_≡_};
 ghost use Rattle.splitting.specs.TryTold.{tryTold};
 

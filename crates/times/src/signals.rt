@@ -1,8 +1,8 @@
 // The times of the signals of a sheet, cell by cell.
 use crate::input_time::InputTime;
 use crate::input_time::time_of;
+use records::rules::record_of;
 use sheets::kinds::Edition;
-use sheets::rules::record_of;
 ghost use mathlib.Core.Path.{_≡_};
 ghost use Prim.Native.Nat.{ℕ, _≤_};
 ghost use lib.ListN.{length, getD, replicate};

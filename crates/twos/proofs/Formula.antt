@@ -26,8 +26,8 @@ use Rattle.chains.specs.Aside.{sheetAside}
 use Rattle.chains.proofs.Lists.{inputs-at}
 use Rattle.chains.proofs.Aside.{table-gives, table-fits}
 use Rattle.chains.proofs.FirstReads.{sheet-constant}
-use Rattle.formulas.specs.Formula.{Formula, letter, constant, negated, joined, join}
-use Rattle.formulas.specs.Formula as formula
+use Rattle.values.specs.Formula.{Formula, letter, constant, negated, joined, join}
+use Rattle.values.specs.Formula as formula
 use Rattle.printing.specs.Forms.{flipsLow, flipsHigh}
 use Rattle.printing.specs.Print.{inTurn, bySides, negatedIf, oneFormula, twoFormula, cellFormula, formulaOf}
 use Rattle.printing.proofs.Lengths.{weighed, weighedIn, measured}

@@ -1,6 +1,6 @@
 -- The tree that a formula is: a letter is an input, `!` flips, and a mark is a node.
 use mathlib.Core.Bool.{false, not}
-use Rattle.formulas.specs.Formula.{Formula, letter, constant, negated, joined, join}
+use Rattle.values.specs.Formula.{Formula, letter, constant, negated, joined, join}
 use Rattle.trees.specs.Tree as tree
 use Rattle.trees.specs.Tree.{Tree}
 

@@ -2,7 +2,7 @@
 use mathlib.Core.Path.{sym}
 use lib.Seq.{length-take-le}
 use borrow.Author.Needs.{needs}
-use Rattle.bench.proofs.BenchProgram.{within}
+use Rattle.programs.proofs.BenchProgram.{within}
 use Rattle.bench_main.proofs.main.Statement.{statement}
 use Rattle.bench_main.proofs.main.Tie as tie
 

@@ -2,7 +2,7 @@
 use mathlib.Core.Path.{sym}
 use lib.Seq.{length-take-le}
 use borrow.Author.Needs.{needs}
-use Rattle.inspection.proofs.InspectProgram.{within}
+use Rattle.programs.proofs.InspectProgram.{within}
 use Rattle.inspect_main.proofs.main.Statement.{statement}
 use Rattle.inspect_main.proofs.main.Tie as tie
 

@@ -9,7 +9,7 @@ use borrow.Author.Needs.{needs}
 use borrow.Author.Tests.{lt-ltb, le-ltb}
 use Rattle.bits.proofs.Bools.{or-left, or-right}
 use Rattle.sheets.specs.Edition.{mostRecords, mostDesk}
-use Rattle.making.specs.Area.{workLength}
+use Rattle.tables.specs.Work.{workLength}
 use Rattle.refusals.specs.Refusals.{gateLines, badDesk, shortSheet}
 use Rattle.refusals.proofs.Lines.{fine, here, later, stopped, decided}
 use Rattle.refusals.proofs.Lent.{both-long}

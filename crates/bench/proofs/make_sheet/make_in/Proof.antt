@@ -8,7 +8,8 @@ use borrow.Author.Tests.{ltb-false}
 use Rattle.sheets.specs.Edition.{mostDesk}
 use Rattle.refusals.specs.declared.verdicts.Verdict.{Verdict}
 use Rattle.refusals.specs.declared.verdicts.Verdict.the-variants.{Refused}
-use Rattle.refusals.specs.Refusals.{badDesk, shortSheet, chainStuck}
+use Rattle.refusals.specs.Refusals.{badDesk, shortSheet}
+use Rattle.bench.specs.Refusals.{chainStuck}
 use Rattle.refusals.proofs.Lines.{in-order, refused-by, left-to}
 use Rattle.refusals.proofs.Lent.{form-leaves, long-both}
 use Rattle.refusals.proofs.Tests.{sound-before}

@@ -15,7 +15,7 @@ use Rattle.chains.proofs.Aside.{table-few}
 use Rattle.refusals.specs.declared.verdicts.Verdict.{Verdict}
 use Rattle.refusals.specs.declared.verdicts.Verdict.the-variants.{Fine}
 use Rattle.refusals.specs.Lines.{verdict, reply}
-use Rattle.refusals.specs.Refusals.{chainStuck}
+use Rattle.bench.specs.Refusals.{chainStuck}
 use Rattle.bench.specs.MakeSheet.{MakeOutcome, cellsIn, makeDone, makeNot}
 use Rattle.bench.proofs.Written.{written}
 use Rattle.bench.proofs.make_sheet.write_chain.Statement.{statement}

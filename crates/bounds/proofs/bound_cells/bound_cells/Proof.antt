@@ -11,7 +11,7 @@ use Rattle.refusals.specs.declared.verdicts.Verdict.the-variants.{Refused}
 use Rattle.refusals.specs.Refusals.{toldForm}
 use Rattle.refusals.proofs.Lines.{refused-by, left-to}
 use Rattle.refusals.proofs.Lent.{form-leaves}
-use Rattle.splitting.specs.FindBest.{findForm}
+use Rattle.finding.specs.FindBest.{findForm}
 use Rattle.bounds.specs.BoundCells.{boundDone, boundNot, boundIn, boundOutcome}
 use Rattle.bounds.proofs.bound_cells.bound_cells.Statement.{statement}
 use Rattle.bounds.proofs.bound_cells.bound_cells.Tie as tie

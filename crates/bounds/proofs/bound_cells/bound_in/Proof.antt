@@ -6,7 +6,7 @@ use native.Mathlib.Omega.{arith}
 use lib.ListN.{length}
 use borrow.Author.Needs.{needs}
 use borrow.Author.Tests.{ltb-false}
-use Rattle.making.specs.Area.{workLength}
+use Rattle.tables.specs.Work.{workLength}
 use Rattle.refusals.specs.declared.verdicts.Verdict.{Verdict}
 use Rattle.refusals.specs.declared.verdicts.Verdict.the-variants.{Fine, Refused}
 use Rattle.refusals.specs.Lines.{reply}
@@ -14,7 +14,7 @@ use Rattle.refusals.specs.Refusals.{shortWork}
 use Rattle.refusals.proofs.Lines.{in-order}
 use Rattle.refusals.proofs.Lent.{form-leaves}
 use Rattle.refusals.proofs.Tests.{sound-before}
-use Rattle.splitting.specs.FindBest.{findForm}
+use Rattle.finding.specs.FindBest.{findForm}
 use Rattle.bounds.specs.BoundCells.{boundDone, boundNot}
 use Rattle.bounds.proofs.bound_cells.bound_in.Statement.{statement}
 use Rattle.bounds.proofs.bound_cells.bound_in.Tie as tie

@@ -2,7 +2,7 @@
 use mathlib.Core.Path.{_∙_}
 use native.Mathlib.Omega.{arith}
 use borrow.Author.Needs.{needs}
-use Rattle.making.proofs.Halves.{half-holds}
+use Rattle.tables.proofs.Work.{half-holds}
 use Rattle.bounds.proofs.Found.{cleared, own-few, fits, fits-not}
 use Rattle.bounds.proofs.least.by_split.Statement.{statement}
 use Rattle.bounds.proofs.least.by_split.Tie as tie

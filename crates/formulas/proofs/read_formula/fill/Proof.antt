@@ -15,8 +15,8 @@ use Rattle.tables.specs.Table.{bytesOf, tableOf}
 use Rattle.tables.proofs.Pieces.{word-byte}
 use Rattle.runs.proofs.Choosing.{word-starts}
 use Rattle.formulas.specs.Reading.{textOf, valueIn}
-use Rattle.formulas.specs.Words.{stretchOf}
-use Rattle.formulas.proofs.Bitwise.{table-word}
+use Rattle.values.specs.Stretches.{stretchOf}
+use Rattle.values.proofs.Bitwise.{table-word}
 use Rattle.formulas.proofs.read_formula.fill.Statement.{statement}
 use Rattle.formulas.proofs.read_formula.fill.Tie as tie
 

@@ -5,8 +5,8 @@ use borrow.Author.Needs.{needs}
 use lib.ListN.{length}
 use lib.Bits.{bitAnd, bitOr, bitXor}
 use Rattle.formulas.proofs.ByteKinds.{kind-bang, kind-open}
-use Rattle.formulas.specs.Words.{inBoth}
-use Rattle.formulas.proofs.Bitwise.{number-and, number-or, number-xor, joined-stretch}
+use Rattle.values.specs.Stretches.{inBoth}
+use Rattle.values.proofs.Bitwise.{number-and, number-or, number-xor, joined-stretch}
 use Rattle.formulas.proofs.Words.{ahead, first-bad, last, last-end, next-bad, next, f-end, f-deep-not, f-deep-open, f-not-bad, f-not, f-open-bad, f-closed}
 use borrow.Fn.Kinds.{In}
 use borrow.Fn.PlainCycle.{Measures, is, falls, and}
@@ -24,10 +24,10 @@ use Rattle.formulas.proofs.reading.term.Kinds as term-kinds
 use Rattle.formulas.proofs.reading.+factor+part+sum+term.Lts-term as term-lts
 use Rattle.formulas.proofs.reading.closed.Reads as closed-reads
 use Rattle.formulas.proofs.reading.single.Reads as single-reads
-use Rattle.formulas.proofs.stretches.turned.Reads as turned-reads
-use Rattle.formulas.proofs.stretches.both.Reads as both-reads
-use Rattle.formulas.proofs.stretches.one_of.Reads as one-of-reads
-use Rattle.formulas.proofs.stretches.either.Reads as either-reads
+use Rattle.values.proofs.stretches.turned.Reads as turned-reads
+use Rattle.values.proofs.stretches.both.Reads as both-reads
+use Rattle.values.proofs.stretches.one_of.Reads as one-of-reads
+use Rattle.values.proofs.stretches.either.Reads as either-reads
 use Rattle.formulas.proofs.reading.+factor+part+sum+term.{statement}
 use Rattle.formulas.proofs.reading.+factor+part+sum+term.Tie.{close}
 

@@ -6,7 +6,7 @@ use borrow.Author.Needs.{needs}
 use Rattle.formulas.proofs.ByteKinds.{kind-zero, kind-one, kind-input, kind-other}
 use Rattle.bits.proofs.Numbers.{none-zero}
 use Rattle.bits.proofs.Sums.{all-ones}
-use Rattle.formulas.proofs.Bitwise.{digit-stretch, letter-stretch}
+use Rattle.values.proofs.Bitwise.{digit-stretch, letter-stretch}
 use Rattle.formulas.proofs.Words.{f-other, f-digit, f-input}
 use Rattle.formulas.proofs.reading.single.Statement.{statement}
 use Rattle.formulas.proofs.reading.single.Tie as tie

@@ -3,7 +3,8 @@ use mathlib.Core.Path.{sym, ap, _∙_}
 use native.Mathlib.Omega.{arith}
 use borrow.Author.Needs.{needs}
 use Rattle.tables.specs.Table.{tableLength}
-use Rattle.making.proofs.Halves.{half-holds, taken-back}
+use Rattle.making.proofs.Halves.{taken-back}
+use Rattle.tables.proofs.Work.{half-holds}
 use Rattle.making.proofs.area.next_table.Statement.{statement}
 use Rattle.making.proofs.area.next_table.Tie as tie
 

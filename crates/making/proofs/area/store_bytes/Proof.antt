@@ -10,12 +10,13 @@ use borrow.Author.Needs.{needs}
 use Rattle.bits.specs.Numbers.{bit}
 use Rattle.tables.specs.Table.{tableBit, byteOf}
 use Rattle.bits.proofs.Filling.{Filled, filled-none, filled-more, filled-front}
-use Rattle.splits.specs.declared.split.Split.{Split}
+use Rattle.columns.specs.declared.split.Split.{Split}
 use Rattle.splits.specs.Columns.{mostFirst}
 use Rattle.splits.specs.Pair.{bitH, inputsH}
-use Rattle.splits.specs.Reading.{Chart}
-use Rattle.making.specs.Area.{half, nextBit, nextInputs}
-use Rattle.making.proofs.Charting.{power}
+use Rattle.columns.specs.Reading.{Chart}
+use Rattle.making.specs.Area.{nextBit, nextInputs}
+use Rattle.tables.specs.Work.{half}
+use Rattle.charts.proofs.Charting.{power}
 use Rattle.making.proofs.area.store_bytes.Statement.{statement}
 use Rattle.making.proofs.area.store_bytes.Tie as tie
 

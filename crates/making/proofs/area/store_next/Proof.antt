@@ -1,6 +1,6 @@
 -- Both ways store the same. Assumes nothing.
 use native.Mathlib.Omega.{arith}
-use Rattle.splits.proofs.Reading.{free-lt}
+use Rattle.columns.proofs.Reading.{free-lt}
 use Rattle.making.proofs.area.store_next.Statement.{statement}
 use Rattle.making.proofs.area.store_next.Tie as tie
 

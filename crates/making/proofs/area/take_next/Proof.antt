@@ -6,7 +6,7 @@ use native.Mathlib.Omega.{arith}
 use lib.ListN.{getD}
 use borrow.Author.Needs.{needs}
 use Rattle.bits.proofs.Filling.{Filled, filled-none, filled-more}
-use Rattle.making.specs.Area.{half}
+use Rattle.tables.specs.Work.{half}
 use Rattle.making.proofs.area.take_next.Statement.{statement}
 use Rattle.making.proofs.area.take_next.Tie as tie
 

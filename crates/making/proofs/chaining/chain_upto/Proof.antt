@@ -11,7 +11,7 @@ use Rattle.tables.proofs.Keeping.{kept-lt}
 use Rattle.chains.specs.Chain.{pick, inputs}
 use Rattle.making.specs.Stage.{signalsOf}
 use Rattle.making.specs.Chaining.{Tells}
-use Rattle.making.proofs.Halves.{half-holds}
+use Rattle.tables.proofs.Work.{half-holds}
 use Rattle.making.proofs.Loaded.{kept-few, kept-more, kept-chain}
 use Rattle.making.proofs.chaining.chain_upto.Statement.{statement}
 use Rattle.making.proofs.chaining.chain_upto.Tie as tie

@@ -18,14 +18,14 @@ use Rattle.bits.proofs.Masks.{mask-lt}
 use Rattle.tables.specs.Table.{tableBit}
 use Rattle.tables.specs.declared.cell.CellTable.{CellTable}
 use Rattle.tables.specs.Cells.{tableNumber, noTable}
-use Rattle.splits.specs.declared.pair.FirstCells.{FirstCells}
+use Rattle.charts.specs.declared.pair.FirstCells.{FirstCells}
 use Rattle.splits.specs.Columns.{mostFirst}
 use Rattle.splits.specs.Split.{readsD}
 use Rattle.splits.specs.Pair.{tableD}
-use Rattle.splits.specs.Cells.{heldD, firstCells, tableIn}
-use Rattle.splits.proofs.Reading.{below-mask}
+use Rattle.charts.specs.Cells.{heldD, firstCells, tableIn}
+use Rattle.columns.proofs.Reading.{below-mask}
 use Rattle.splits.proofs.Respect.{reads-D}
-use Rattle.splits.proofs.HeldCells.{table-D}
+use Rattle.charts.proofs.HeldCells.{table-D}
 use Rattle.sheets.specs.Network.{Cell}
 use Rattle.chains.specs.Chain.{lastCell}
 use Rattle.making.specs.Stage.{signalsOf}

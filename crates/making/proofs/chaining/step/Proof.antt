@@ -12,13 +12,13 @@ use Rattle.bits.specs.Lists.{listOf}
 use Rattle.bits.proofs.Masks.{mask-lt}
 use Rattle.splits.specs.Columns.{mostFirst, fewColumns}
 use Rattle.splits.specs.Split.{readsH}
-use Rattle.splits.proofs.Reading.{beside-mask}
+use Rattle.columns.proofs.Reading.{beside-mask}
 use Rattle.splits.proofs.Respect.{reads-H}
 use Rattle.making.specs.Stage.{signalsOf}
 use Rattle.making.specs.Area.{atHand}
 use Rattle.making.proofs.Halves.{half-whole, half-bits}
 use Rattle.making.proofs.Picking.{picked-set, picked-count}
-use Rattle.making.proofs.Charting.{chart-room, power, charted}
+use Rattle.charts.proofs.Charting.{chart-room, power, charted}
 use Rattle.making.proofs.chaining.step.Statement.{statement}
 use Rattle.making.proofs.chaining.step.Tie as tie
 

@@ -2,8 +2,8 @@
 use mathlib.Core.Path.{sym, ap, _∙_, subst}
 use Prim.Native.Nat.{ℕ}
 use borrow.Author.Needs.{needs}
-use Rattle.sheets.specs.declared.rules.Looked.{Looked}
-use Rattle.sheets.specs.Sheet.{Saw}
+use Rattle.records.specs.declared.rules.Looked.{Looked}
+use Rattle.records.specs.Look.{Saw}
 use Rattle.refusals.specs.declared.verdicts.Verdict.the-variants.{Refused}
 use Rattle.refusals.specs.Lines.{refusal}
 use Rattle.refusals.specs.Refusals.{sheetLines}

@@ -8,7 +8,7 @@ use borrow.Author.Needs.{needs}
 use borrow.Author.Tests.{ltb-false}
 use Rattle.sheets.specs.declared.kinds.Edition.{Edition}
 use Rattle.sheets.specs.Edition.{firstEdition}
-use Rattle.making.specs.Area.{workLength}
+use Rattle.tables.specs.Work.{workLength}
 use Rattle.refusals.specs.declared.verdicts.Verdict.{Verdict}
 use Rattle.refusals.specs.declared.verdicts.Verdict.the-variants.{Fine, Refused}
 use Rattle.refusals.specs.Lines.{Line, verdict}
@@ -16,7 +16,7 @@ use Rattle.refusals.specs.Refusals.{shortWork}
 use Rattle.refusals.proofs.Lines.{in-order, refused-by, left-to}
 use Rattle.refusals.proofs.Lent.{form-leaves}
 use Rattle.refusals.proofs.Tests.{Sound, sound-before}
-use Rattle.splitting.specs.FindBest.{findForm}
+use Rattle.finding.specs.FindBest.{findForm}
 use Rattle.several.specs.declared.find_several.FindSeveralAnswer.{FindSeveralAnswer}
 use Rattle.several.specs.FindSeveral.{bestSeveral, severalSays, severalDone, severalNot, findSeveralOutcome}
 use Rattle.several.proofs.find_several.find_several.Statement.{statement}

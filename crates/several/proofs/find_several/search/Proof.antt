@@ -11,7 +11,7 @@ use Rattle.bits.specs.Sets.{size}
 use Rattle.bits.proofs.Numbers.{number-lt}
 use Rattle.tables.specs.Table.{tableBit}
 use Rattle.tables.specs.Counting.{counts, support}
-use Rattle.making.proofs.Halves.{half-holds}
+use Rattle.tables.proofs.Work.{half-holds}
 use Rattle.refusals.specs.declared.verdicts.Verdict.{Verdict}
 use Rattle.refusals.specs.declared.verdicts.Verdict.the-variants.{Fine}
 use Rattle.refusals.specs.Lines.{line, verdict, reply}

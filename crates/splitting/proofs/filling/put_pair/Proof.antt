@@ -8,7 +8,7 @@ use borrow.Author.Needs.{needs}
 use Rattle.bits.specs.Numbers.{bit}
 use Rattle.tables.specs.Table.{tableBit}
 use Rattle.splits.specs.Columns.{mostFirst, fewColumns}
-use Rattle.making.proofs.Charting.{chart-room, power, charted}
+use Rattle.charts.proofs.Charting.{chart-room, power, charted}
 use Rattle.splitting.proofs.filling.put_pair.Statement.{statement}
 use Rattle.splitting.proofs.filling.put_pair.Tie as tie
 

@@ -12,11 +12,11 @@ use Rattle.bits.specs.Numbers.{bit}
 use Rattle.bits.specs.Lists.{listOf}
 use Rattle.tables.specs.Table.{tableLength, tableBit, bytesOf, tableOf}
 use Rattle.tables.proofs.Bytes.{written-more, length-bytes}
-use Rattle.splits.specs.declared.split.Split.{Split}
+use Rattle.columns.specs.declared.split.Split.{Split}
 use Rattle.splits.specs.Columns.{mostFirst}
 use Rattle.splits.specs.Pair.{inputsH, bitH, bytesH}
-use Rattle.splits.specs.Reading.{Chart}
-use Rattle.making.proofs.Charting.{power}
+use Rattle.columns.specs.Reading.{Chart}
+use Rattle.charts.proofs.Charting.{power}
 use Rattle.splitting.proofs.filling.store_h.Statement.{statement}
 use Rattle.splitting.proofs.filling.store_h.Tie as tie
 

@@ -13,12 +13,12 @@ use Rattle.bits.specs.Numbers.{bit}
 use Rattle.bits.proofs.Machine.{shl-one}
 use Rattle.tables.specs.Table.{tableBit}
 use Rattle.tables.proofs.Bytes.{length-holds}
-use Rattle.splits.specs.declared.split.Split.{Split}
-use Rattle.splits.specs.declared.pair.FirstCells.{FirstCells}
-use Rattle.splits.specs.declared.columns.Broken.{Broken}
+use Rattle.columns.specs.declared.split.Split.{Split}
+use Rattle.charts.specs.declared.pair.FirstCells.{FirstCells}
+use Rattle.columns.specs.declared.columns.Broken.{Broken}
 use Rattle.splits.specs.Columns.{mostFirst, columns, fewColumns, firstBroken}
-use Rattle.splits.specs.Broken.{brokenAt}
-use Rattle.splits.proofs.Breaking.{broken-some}
+use Rattle.columns.specs.Broken.{brokenAt}
+use Rattle.columns.proofs.Breaking.{broken-some}
 use Rattle.refusals.specs.declared.verdicts.Verdict.{Verdict}
 use Rattle.refusals.specs.declared.verdicts.Verdict.the-variants.{Fine, Refused}
 use Rattle.refusals.specs.Lines.{refusal, naming, verdict, reply}

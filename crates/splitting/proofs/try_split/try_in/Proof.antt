@@ -11,8 +11,8 @@ use Rattle.bits.specs.Numbers.{bit}
 use Rattle.bits.specs.Sets.{size}
 use Rattle.tables.specs.Table.{mostInputs, tableLength, tableBit}
 use Rattle.splits.specs.Columns.{mostFirst}
-use Rattle.splits.specs.declared.pair.FirstCells.{FirstCells}
-use Rattle.splits.specs.Cells.{noCells}
+use Rattle.charts.specs.declared.pair.FirstCells.{FirstCells}
+use Rattle.charts.specs.Cells.{noCells}
 use Rattle.best.specs.Best.{Candidate}
 use Rattle.sheets.specs.declared.kinds.Edition.{Edition}
 use Rattle.sheets.specs.Edition.{largestCell}

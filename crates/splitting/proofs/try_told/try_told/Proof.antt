@@ -2,8 +2,8 @@
 use mathlib.Core.Path.{refl, sym, ap, ap₂, _∙_, subst}
 use Prim.Native.Nat.{ℕ}
 use borrow.Author.Needs.{needs}
-use Rattle.splits.specs.declared.pair.FirstCells.{FirstCells}
-use Rattle.splits.specs.Cells.{noCells}
+use Rattle.charts.specs.declared.pair.FirstCells.{FirstCells}
+use Rattle.charts.specs.Cells.{noCells}
 use Rattle.sheets.specs.declared.kinds.Edition.{Edition}
 use Rattle.sheets.specs.Edition.{IsEdition, editionOf}
 use Rattle.sheets.proofs.Keeping.{is-edition}

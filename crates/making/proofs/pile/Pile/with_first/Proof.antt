@@ -3,8 +3,8 @@ use mathlib.Core.Path.{_≡_, refl, ap, _∙_}
 use Prim.Native.Nat.{ℕ}
 use native.Mathlib.Omega.{arith}
 use borrow.Author.Needs.{needs}
-use Rattle.splits.specs.declared.pair.FirstCells.{FirstCells}
-use Rattle.splits.specs.Cells.{tableIn}
+use Rattle.charts.specs.declared.pair.FirstCells.{FirstCells}
+use Rattle.charts.specs.Cells.{tableIn}
 use Rattle.sheets.specs.Network.{Cell}
 use Rattle.chains.specs.Chain.{lastCell}
 use Rattle.making.specs.declared.signals.Signals.{Signals}

@@ -1,0 +1,2 @@
+-- The tables of the first cells as they are handed back.
+pub mod Cells

@@ -1,0 +1,2 @@
+-- What is said of two sheets, and which is kept.
+pub mod Shorter

@@ -1,0 +1,2 @@
+// Of two sheets that anyone made, the shorter.
+pub mod shorter;

@@ -1,0 +1,2 @@
+// A desk of a card run, whatever its bytes are.
+pub mod run_desk;

@@ -1,2 +1,0 @@
--- The laws of the inspecting program.
-pub mod InspectProgram

@@ -1,0 +1,3 @@
+-- The laws of the two programs.
+pub mod BenchProgram
+pub mod InspectProgram

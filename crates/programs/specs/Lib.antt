@@ -1,0 +1,3 @@
+-- What the two programs write.
+pub mod BenchProgram
+pub mod InspectProgram

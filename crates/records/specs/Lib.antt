@@ -1,0 +1,2 @@
+-- What a look at a sheet says.
+pub mod Look

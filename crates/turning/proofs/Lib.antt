@@ -1,0 +1,3 @@
+-- The laws of ways.
+pub mod Listed
+pub mod Group

@@ -1,0 +1,2 @@
+-- The law of the masks of signals that are read.
+pub mod ReadMasks

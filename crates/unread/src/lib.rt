@@ -1,0 +1,2 @@
+// Which records of a sheet no later one reads.
+pub mod reading;
