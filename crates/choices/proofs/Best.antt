@@ -1,5 +1,5 @@
 -- The best over r, alone and over the inputs that count: both are the first over r of what works. Assumes nothing.
-use mathlib.Core.Path.{_≡_, refl, sym, ap, _∙_, fun-ext}
+use mathlib.Core.Path.{_≡_, refl, ap, fun-ext}
 use mathlib.Core.Logic.{_↔_}
 use mathlib.Core.Bool.{Bool}
 use Prim.Native.Nat.{ℕ, _^_, _<_}

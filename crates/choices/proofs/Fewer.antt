@@ -1,6 +1,6 @@
 -- What H ignores is not needed: without an output of a first cell that it ignores, one first cell less does. Assumes
 -- nothing.
-use mathlib.Core.Path.{_≡_, refl, sym, ap, _∙_}
+use mathlib.Core.Path.{_≡_, sym, ap, _∙_}
 use mathlib.Core.Bool.{Bool, cond}
 use Prim.Native.Nat.{ℕ, suc, _+_, _-_, _*_, _^_, _<_}
 use native.Mathlib.Decide.{decLt}

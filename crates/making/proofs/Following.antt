@@ -1,13 +1,10 @@
 -- The chain as the code follows it: behind the cells so far stands the chain of the table at hand. Assumes nothing.
-use mathlib.Core.Path.{_≡_, refl, sym, ap, ap₂, _∙_, subst}
-use mathlib.Core.Bool.{Bool, true, cond}
+use mathlib.Core.Path.{_≡_, sym, ap, ap₂, _∙_, subst}
+use mathlib.Core.Bool.{Bool, true}
 use mathlib.Core.List.{List, [], _∷_, _++_}
-use Prim.Native.Nat.{ℕ, zero, suc, _+_, _*_, _-_, _^_, _<_, _≤_}
-use native.Mathlib.Nat.{add-zero}
+use Prim.Native.Nat.{ℕ, suc, _+_, _*_, _-_, _^_, _<_, _≤_}
 use native.Mathlib.Omega.{arith}
-use lib.Dec.{eqb}
 use lib.ListN.{length, getD}
-use borrow.Author.Tests.{eq-eqb, ne-eqb}
 use Rattle.bits.specs.Numbers.{bit, number}
 use Rattle.bits.specs.Sets.{size}
 use Rattle.bits.specs.Lists.{listOf}
@@ -19,10 +16,8 @@ use Rattle.splits.specs.Pair.{tableD, tableH, bitH}
 use Rattle.splits.specs.Columns.{mostFirst, fewColumns}
 use Rattle.splits.proofs.Possible.{possible-iff}
 use Rattle.best.specs.Best.{Candidate}
-use Rattle.choices.specs.declared.over.Chosen.{Chosen}
 use Rattle.choices.specs.Best.{BestUpTo}
-use Rattle.choices.specs.Search.{Choice, nothing, choice, bestUpTo}
-use Rattle.choices.specs.Chosen.{choiceOf}
+use Rattle.choices.specs.Search.{nothing, choice, bestUpTo}
 use Rattle.choices.proofs.Best.{upto-best}
 use Rattle.sheets.specs.Network.{Cell}
 use Rattle.sheets.specs.Edition.{largestCell}
@@ -35,7 +30,7 @@ use Rattle.making.specs.declared.chaining.Stage.{Stage}
 use Rattle.making.specs.Stage.{signalsOf, Listed}
 use Rattle.making.specs.Area.{atHand}
 use Rattle.tables.specs.Work.{workLength}
-use Rattle.making.specs.Pile.{mostPiled, Piled, Grown}
+use Rattle.making.specs.Pile.{Piled}
 use Rattle.making.specs.Chaining.{dCell, Stepped}
 use Rattle.making.proofs.Piling.{grown-piled}
 

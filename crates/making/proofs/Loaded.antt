@@ -2,8 +2,8 @@
 -- one first cell at a step a sheet has room for them. Assumes nothing.
 use mathlib.Core.Path.{_≡_, refl, sym, ap, ap₂, _∙_, subst}
 use mathlib.Core.Bool.{Bool, cond}
-use mathlib.Core.List.{List, []}
-use Prim.Native.Nat.{ℕ, _+_, _^_, _≤_}
+use mathlib.Core.List.{List}
+use Prim.Native.Nat.{ℕ, _^_, _≤_}
 use native.Mathlib.Omega.{arith}
 use lib.ListN.{length, getD}
 use Rattle.bits.specs.Numbers.{bit, number}
@@ -13,7 +13,6 @@ use Rattle.bits.proofs.Lists.{length-list}
 use Rattle.tables.specs.Table.{mostInputs, tableBit}
 use Rattle.tables.specs.Counting.{kept, tableOver}
 use Rattle.tables.proofs.Keeping.{kept-some}
-use Rattle.sheets.specs.Network.{Cell}
 use Rattle.sheets.specs.Edition.{mostRecords}
 use Rattle.sheets.specs.Writing.{AtMost}
 use Rattle.sheets.specs.Held.{cellsOf}
@@ -25,7 +24,7 @@ use Rattle.making.specs.declared.signals.Signals.{Signals}
 use Rattle.making.specs.declared.chaining.ChainEnd.{ChainEnd}
 use Rattle.making.specs.Stage.{signalsOf}
 use Rattle.making.specs.Area.{atHand}
-use Rattle.making.specs.Chaining.{Tells, endOf, ChainedUpTo, Chained}
+use Rattle.making.specs.Chaining.{Tells, ChainedUpTo, Chained}
 use Rattle.making.proofs.Halves.{at-hand}
 use Rattle.making.proofs.Piling.{cells-count}
 

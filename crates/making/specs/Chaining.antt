@@ -13,7 +13,7 @@ use Rattle.splits.specs.Pair.{tableD}
 use Rattle.sheets.specs.Network.{Cell}
 use Rattle.sheets.specs.Edition.{mostRecords}
 use Rattle.sheets.specs.Writing.{AtMost}
-use Rattle.sheets.specs.Held.{emptySheet, cellsOf}
+use Rattle.sheets.specs.Held.{cellsOf}
 use Rattle.chains.specs.Chain.{pick, Made, stuck, made, chain}
 use Rattle.chains.specs.Aside.{cellsAside, sheetAside}
 use Rattle.making.specs.declared.chaining.Stage.{Stage}

@@ -1,6 +1,6 @@
 // The work area: the table at hand in the first half, the next one in the second.
 ghost use mathlib.Core.Path.{_≡_};
-ghost use Prim.Native.Nat.{ℕ, _+_, _*_, _^_, _<_, _≤_};
+ghost use Prim.Native.Nat.{ℕ, _+_, _^_, _<_, _≤_};
 ghost use lib.ListN.{length, getD};
 ghost use Rattle.bits.specs.Numbers.{bit};
 ghost use Rattle.bits.specs.Sets.{size};

@@ -1,22 +1,19 @@
 -- No split has some inputs among its own ones: each set of others that cannot be free together takes one input more. Assumes nothing.
-use mathlib.Core.Path.{_≡_, refl, sym, ap, ap₂, _∙_, subst}
+use mathlib.Core.Path.{_≡_, refl, sym, ap, ap₂, _∙_}
 use mathlib.Core.Bool.{Bool, true, false, not, _&&_, _||_}
-use Prim.Native.Nat.{ℕ, zero, suc, _+_, _-_, _^_, _<_, _≤_}
+use Prim.Native.Nat.{ℕ, _+_, _-_, _^_, _<_, _≤_}
 use native.Mathlib.Decide.{ℕ-discrete}
-use native.Mathlib.Numerals.{add-one}
 use native.Mathlib.Omega.{arith}
-use lib.Dec.{eqb}
 use lib.Bits.{bitOr}
 use borrow.Author.Tests.{eqb-true}
 use Rattle.bits.specs.Numbers.{bit, val}
 use Rattle.bits.specs.Sets.{union, size}
-use Rattle.bits.proofs.Bools.{clash, false-of, and-right, or-left, or-right}
+use Rattle.bits.proofs.Bools.{clash, false-of, and-right, or-left}
 use Rattle.bits.proofs.Counting.{size-part, size-or}
 use Rattle.bits.proofs.Numbers.{bit-zero}
 use Rattle.bits.proofs.Sizes.{size-le, size-lt, size-more, size-sum}
 use Rattle.bits.proofs.Machine.{bit-or}
 use Rattle.splits.specs.Columns.{fewColumns}
-use Rattle.best.specs.Best.{Candidate}
 use Rattle.best.specs.Search.{none, best}
 use Rattle.witness.specs.Witness.{Inside}
 use Rattle.witness.proofs.Members.{power-bit, bit-within}

@@ -1,7 +1,7 @@
 -- Why no split has some inputs among its own ones: whatever else is own or shared, it would be too many.
 use mathlib.Core.Path.{_≡_}
 use mathlib.Core.Bool.{Bool, true, false, _&&_, _||_}
-use Prim.Native.Nat.{ℕ, _+_, _^_, _<_, _≤_}
+use Prim.Native.Nat.{ℕ, _^_, _≤_}
 use Rattle.bits.specs.Numbers.{bit}
 use Rattle.bits.specs.Sets.{size}
 use Rattle.splits.specs.Columns.{fewColumns}

@@ -1,17 +1,16 @@
 -- With room for the columns of all own assignments none is one too many. Assumes nothing.
 use mathlib.Core.Path.{_≡_, sym, ap, _∙_, subst}
 use mathlib.Core.Bool.{Bool}
-use Prim.Native.Nat.{ℕ, _^_, _<_, _≤_}
+use Prim.Native.Nat.{ℕ, _^_, _≤_}
 use native.Mathlib.Decide.{decLt}
 use native.Mathlib.Omega.{arith}
 use lib.Pow.{pow-mono}
 use lib.ListN.{length}
 use borrow.Author.Needs.{needs}
 use Rattle.bits.specs.Numbers.{bit}
-use Rattle.bits.specs.Sets.{size, gather, spread}
+use Rattle.bits.specs.Sets.{size, gather}
 use Rattle.bits.proofs.Spreading.{gather-spread}
 use Rattle.tables.specs.Table.{tableBit}
-use Rattle.columns.specs.declared.split.Split.{Split}
 use Rattle.splits.specs.Columns.{mostOwn, columns, column}
 use Rattle.columns.specs.Reading.{Within, columnsOf}
 use Rattle.columns.proofs.Reading.{within-spread}

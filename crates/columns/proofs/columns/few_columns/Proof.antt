@@ -1,8 +1,6 @@
 -- The test holds where the first that breaks is past the last. Assumes nothing.
 use mathlib.Core.Path.{sym, ap₂, _∙_}
-use Prim.Native.Nat.{ℕ}
 use lib.Dec.{eqb}
-use borrow.Author.Needs.{needs}
 use Rattle.bits.specs.Numbers.{bit}
 use Rattle.tables.specs.Table.{tableBit}
 use Rattle.columns.proofs.Breaking.{broken-few}

@@ -2,15 +2,14 @@
 use mathlib.Core.Path.{_≡_, refl, sym, ap, ap₂, _∙_, subst}
 use mathlib.Core.Bool.{true}
 use mathlib.Core.List.{[], _∷_, _++_}
-use Prim.Native.Nat.{ℕ, _+_, _*_, _^_, _≤_}
+use Prim.Native.Nat.{_^_}
 use native.Mathlib.Omega.{arith}
-use lib.ListN.{length, length-append}
+use lib.ListN.{length}
 use lib.Pow.{pow-mono}
 use borrow.Author.Needs.{needs}
 use Rattle.bits.specs.Numbers.{number}
 use Rattle.tables.specs.Cells.{cellWords, tableNumber}
 use Rattle.tables.proofs.CellTables.{words-joined}
-use Rattle.splits.specs.Columns.{mostFirst}
 use Rattle.choices.specs.Search.{choice, bestUpTo}
 use Rattle.choices.proofs.Best.{upto-best}
 use Rattle.choices.proofs.Choosing.{is-nothing, is-choice}

@@ -1,22 +1,19 @@
 -- The signals picked by own + shared are those of A and B, and each table handed back is that of its first cell. Assumes
 -- nothing.
-use mathlib.Core.Path.{_≡_, sym, ap, ap₂, _∙_}
-use mathlib.Core.Bool.{Bool, true, cond}
+use mathlib.Core.Path.{_≡_, ap, ap₂, _∙_}
+use mathlib.Core.Bool.{Bool, cond}
 use mathlib.Core.List.{List}
 use Prim.Native.Nat.{ℕ, zero, suc, _+_, _<_, _≤_}
 use native.Mathlib.Omega.{arith}
 use lib.Dec.{ltb}
-use lib.ListN.{length}
 use lib.Pow.{pow-mono}
 use borrow.Author.Needs.{needs}
 use borrow.Author.Tests.{lt-ltb}
 use Rattle.bits.specs.Numbers.{bit}
 use Rattle.bits.specs.Sets.{size}
-use Rattle.bits.specs.Lists.{listOf}
 use Rattle.bits.proofs.Lists.{list-ext}
 use Rattle.bits.proofs.Masks.{mask-lt}
 use Rattle.tables.specs.Table.{tableBit}
-use Rattle.tables.specs.declared.cell.CellTable.{CellTable}
 use Rattle.tables.specs.Cells.{tableNumber, noTable}
 use Rattle.charts.specs.declared.pair.FirstCells.{FirstCells}
 use Rattle.splits.specs.Columns.{mostFirst}
@@ -26,7 +23,6 @@ use Rattle.charts.specs.Cells.{heldD, firstCells, tableIn}
 use Rattle.columns.proofs.Reading.{below-mask}
 use Rattle.splits.proofs.Respect.{reads-D}
 use Rattle.charts.proofs.HeldCells.{table-D}
-use Rattle.sheets.specs.Network.{Cell}
 use Rattle.chains.specs.Chain.{lastCell}
 use Rattle.making.specs.Stage.{signalsOf}
 use Rattle.making.specs.Chaining.{dCell}

@@ -1,6 +1,5 @@
 -- Each turn passes one input or two; where two are bad, one input more is taken. Assumes nothing.
-use mathlib.Core.Path.{_≡_}
-use Prim.Native.Nat.{_-_, _≤_}
+use Prim.Native.Nat.{_-_}
 use native.Mathlib.Omega.{arith}
 use lib.Bits.{bitAnd, and-le-r}
 use lib.Pow.{pow-pos}

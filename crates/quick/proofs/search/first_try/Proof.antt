@@ -3,7 +3,6 @@ use mathlib.Core.Path.{_≡_, refl, sym, ap, _∙_}
 use Prim.Native.Nat.{ℕ, _-_, _*_, _%_, _^_, _<_}
 use native.Mathlib.Omega.{arith}
 use lib.Pow.{pow-pos, pow-mono}
-use borrow.Author.Needs.{needs}
 use Rattle.bits.specs.Numbers.{bit}
 use Rattle.bits.specs.Sets.{size}
 use Rattle.bits.proofs.Bools.{clash}

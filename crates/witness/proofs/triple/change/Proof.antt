@@ -1,7 +1,6 @@
 -- Both words lie in the table, and where they differ the bit changes. Assumes nothing.
 use mathlib.Core.Path.{ap₂, _∙_}
 use lib.Bits.{or-lt}
-use borrow.Author.Needs.{needs}
 use Rattle.tables.proofs.Pieces.{word-at}
 use Rattle.witness.specs.Points.{differ}
 use Rattle.witness.proofs.Members.{bit-xor}

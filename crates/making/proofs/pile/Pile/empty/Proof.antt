@@ -1,5 +1,5 @@
 -- An empty sheet has no cells. Assumes nothing.
-use mathlib.Core.Path.{_≡_, refl, ap}
+use mathlib.Core.Path.{refl, ap}
 use native.Mathlib.Omega.{arith}
 use borrow.Author.Needs.{needs}
 use Rattle.sheets.specs.declared.kinds.Sheet.{Sheet}
