@@ -81,7 +81,8 @@ static void a_sheet_for_any_gate(void) {
     uint8_t sheet[PELZURIVAN_SHEET], work[PELZURIVAN_WORK], same[PELZURIVAN_SHEET];
     memset(sheet, PRESET, sizeof sheet);
     memset(work, PRESET, sizeof work);
-    pelzurivan_made made = pelzurivan_make(4, 3, two_of_four, sizeof two_of_four, sheet, sizeof sheet, work, sizeof work);
+    pelzurivan_made made =
+        pelzurivan_make(4, 3, two_of_four, sizeof two_of_four, sheet, sizeof sheet, work, sizeof work);
     expect(made.number == 8 && made.count == 0, "make: at least 2 of 4 with cells of 3 is 8");
     memset(work, PRESET, sizeof work);
     made = pelzurivan_make_any(4, 3, 2, two_of_four, sizeof two_of_four, sheet, sizeof sheet, work, sizeof work);

@@ -49,25 +49,33 @@ module _ (e : Edition) (d n K : ℕ) (t s work : List ℕ) where
   refused-alike : (r : Refusal) → verdict form ≡ Refused r → makeOutcome e d n K t s work ≡ anyOutcome e d n K t s work
   unfolding makeOutcome anyOutcome
   refused-alike r q =
-      ap (λ (v : Verdict). reply v (makeDone e d (cellsIn (sheetFor n K t)) s work) (makeNot s work)) (stops form (chainStuck (sheetFor n K t) ∷ []) r q)
-      ∙ ap (λ (v : Verdict). reply v (makeDone e d (cellsAny (anyFor n K t)) s work) (makeNot s work)) (sym (stops form (anySays (anyFor n K t)) r q))
+      ap (λ (v : Verdict). reply v (makeDone e d (cellsIn (sheetFor n K t)) s work) (makeNot s work))
+      (stops form (chainStuck (sheetFor n K t) ∷ []) r q)
+      ∙ ap (λ (v : Verdict). reply v (makeDone e d (cellsAny (anyFor n K t)) s work) (makeNot s work))
+      (sym (stops form (anySays (anyFor n K t)) r q))
 
   -- both are in order: the chains decide
   make-by : InOrder form → makeOutcome e d n K t s work ≡ byMake (sheetFor n K t)
   unfolding makeOutcome
-  make-by o = ap (λ (v : Verdict). reply v (makeDone e d (cellsIn (sheetFor n K t)) s work) (makeNot s work)) (passes form (chainStuck (sheetFor n K t) ∷ []) o)
+  make-by o = ap (λ (v : Verdict). reply v (makeDone e d (cellsIn (sheetFor n K t)) s work) (makeNot s work))
+      (passes form (chainStuck (sheetFor n K t) ∷ []) o)
 
   any-by : InOrder form → anyOutcome e d n K t s work ≡ byAny (either (sheetFor n K t) others) work
   unfolding anyOutcome anyAside
-  any-by o = ap (λ (v : Verdict). reply v (makeDone e d (cellsAny (anyFor n K t)) s work) (makeNot s work)) (passes form (anySays (anyFor n K t)) o)
+  any-by o = ap (λ (v : Verdict). reply v (makeDone e d (cellsAny (anyFor n K t)) s work) (makeNot s work))
+      (passes form (anySays (anyFor n K t)) o)
 
   -- where make gives another number than 8, its outcome is make_any's
-  pub as-make : (numberOf (makeOutcome e d n K t s work .answer .verdict) ≡ 8 → ⊥) → makeOutcome e d n K t s work ≡ anyOutcome e d n K t s work
+  pub as-make : (numberOf (makeOutcome e d n K t s work .answer .verdict) ≡ 8 → ⊥) → makeOutcome e d n K t s work
+      ≡ anyOutcome e d n K t s work
   as-make not-eight = go (verdict form) refl
     where
-      chains : InOrder form → (x : Made) → sheetFor n K t ≡ x → makeOutcome e d n K t s work ≡ anyOutcome e d n K t s work
-      chains o stuck q = absurd (not-eight (ap (λ (m : MakeOutcome). numberOf (m .answer .verdict)) (make-by o ∙ ap byMake q)))
-      chains o (made cs) q = make-by o ∙ ap byMake q ∙ sym (any-by o ∙ ap (λ (x : Made). byAny (either x others) work) q)
+      chains : InOrder form → (x : Made) → sheetFor n K t ≡ x → makeOutcome e d n K t s work
+          ≡ anyOutcome e d n K t s work
+      chains o stuck q = absurd (not-eight (ap (λ (m : MakeOutcome). numberOf (m .answer .verdict))
+          (make-by o ∙ ap byMake q)))
+      chains o (made cs) q = make-by o ∙ ap byMake q
+          ∙ sym (any-by o ∙ ap (λ (x : Made). byAny (either x others) work) q)
 
       go : (v : Verdict) → verdict form ≡ v → makeOutcome e d n K t s work ≡ anyOutcome e d n K t s work
       go (Refused r) q = refused-alike r q
@@ -75,13 +83,15 @@ module _ (e : Edition) (d n K : ℕ) (t s work : List ℕ) where
 
   -- where it gives 8
   module _ (eight : numberOf (makeOutcome e d n K t s work .answer .verdict) ≡ 8) where
-    says : (v : Verdict) → numberOf (reply v (makeDone e d (cellsIn (sheetFor n K t)) s work) (makeNot s work) .answer .verdict) ≡ numberOf v
+    says : (v : Verdict) → numberOf (reply v (makeDone e d (cellsIn (sheetFor n K t)) s work)
+        (makeNot s work) .answer .verdict) ≡ numberOf v
     says Fine = refl
     says (Refused r) = refl
 
     both : InOrder form × (numberOf (verdict (chainStuck (sheetFor n K t) ∷ [])) ≡ 8)
     unfolding makeOutcome
-    both = passed form (chainStuck (sheetFor n K t) ∷ []) 8 refl (sym (says (verdict (makeLines e d n K t s work))) ∙ eight)
+    both = passed form (chainStuck (sheetFor n K t) ∷ []) 8 refl
+        (sym (says (verdict (makeLines e d n K t s work))) ∙ eight)
 
     -- form and room are in order
     pub eight-form : InOrder (makeForm e d n K t s work)
@@ -103,13 +113,27 @@ module _ (e : Edition) (d n K : ℕ) (t s work : List ℕ) where
 
     -- the other chain decides, with any work area of that length
     pub by-several : (w : List ℕ) → length w ≡ length work
-        → reply (verdict (anySays (severally others))) (makeDone e d (cellsAny (severally others)) s w) (makeNot s w) ≡ anyOutcome e d n K t s work
-    by-several w l = same (severally others) ∙ sym (any-by eight-form ∙ ap (λ (x : Made). byAny (either x others) work) is-stuck)
+        → reply (verdict (anySays (severally others))) (makeDone e d (cellsAny (severally others)) s w) (makeNot s w)
+        ≡ anyOutcome e d n K t s work
+    by-several w l = same (severally others) ∙ sym
+        (any-by eight-form ∙ ap (λ (x : Made). byAny (either x others) work) is-stuck)
       where
         same : (a : Any) → byAny a w ≡ byAny a work
-        same (sheet cs) = ap (λ (k : ℕ). record { answer = record { verdict = Fine; count = length cs }; sheet = sheetBytes e d cs ++ drop (length (sheetBytes e d cs)) s; work = replicate k 0 }) l
-        same unsplit = ap (λ (k : ℕ). record { answer = record { verdict = Refused (refusal 8 0); count = 0 }; sheet = s; work = replicate k 0 }) l
-        same overlong = ap (λ (k : ℕ). record { answer = record { verdict = Refused (refusal 17 0); count = 0 }; sheet = s; work = replicate k 0 }) l
+        same (sheet cs) = ap (λ (k : ℕ). record {
+          answer = record { verdict = Fine; count = length cs };
+          sheet = sheetBytes e d cs ++ drop (length (sheetBytes e d cs)) s;
+          work = replicate k 0;
+        }) l
+        same unsplit = ap (λ (k : ℕ). record {
+          answer = record { verdict = Refused (refusal 8 0); count = 0 };
+          sheet = s;
+          work = replicate k 0;
+        }) l
+        same overlong = ap (λ (k : ℕ). record {
+          answer = record { verdict = Refused (refusal 17 0); count = 0 };
+          sheet = s;
+          work = replicate k 0;
+        }) l
 
 -- ---- from what the code holds of a chain
 module _ (r : ChainEnd) where
@@ -135,6 +159,7 @@ module _ (r : ChainEnd) where
       let cells = w .2 few in
       record {
         chain = ap made (sym cells);
-        answer = ap (λ (b : Bool). cond b (sheet cs) overlong) (le-leb (length cs) mostRecords few) ∙ ap sheet (sym cells);
+        answer = ap (λ (b : Bool). cond b (sheet cs) overlong) (le-leb (length cs) mostRecords few)
+            ∙ ap sheet (sym cells);
         count = sym (cells-count (r .sheet)) ∙ ap length cells ∙ sym (w .1);
       }

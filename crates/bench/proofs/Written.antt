@@ -14,9 +14,19 @@ use Rattle.bench.specs.MakeSheet.{makeDone}
 
 -- its count, and its records over the first bytes
 pub written : (e : Edition) (d : ℕ) (held : Sheet) (sheet work : List ℕ)
-    → record { answer = record { verdict = Fine; count = held .count }; sheet = sheetBytes e d (cellsOf held) ++ drop (e .size * held .count) sheet; work = replicate (length work) 0 }
+    → record {
+      answer = record { verdict = Fine; count = held .count };
+      sheet = sheetBytes e d (cellsOf held)
+          ++ drop (e .size * held .count) sheet;
+      work = replicate (length work) 0;
+    }
     ≡ makeDone e d (cellsOf held) sheet work
 written e d held sheet work =
     let count : length (cellsOf held) ≡ held .count = length-list (held .count) _ in
-    ap₂ (λ (k m : ℕ). record { answer = record { verdict = Fine; count = k }; sheet = sheetBytes e d (cellsOf held) ++ drop m sheet; work = replicate (length work) 0 })
+    ap₂ (λ (k m : ℕ). record {
+      answer = record { verdict = Fine; count = k };
+      sheet = sheetBytes e d (cellsOf held)
+          ++ drop m sheet;
+      work = replicate (length work) 0;
+    })
     (sym count) (sym (length-sheet e d (cellsOf held) ∙ ap (λ (k : ℕ). e .size * k) count))

@@ -60,7 +60,8 @@ module _ (n : ℕ) (F : ℕ → Bool) (S : ℕ → Bool) (sees : Sees n F S) (K 
         go false p e = spread-inside n S B j l e
 
     spread-possible : Possible c G (bit A) (bit B) r → Possible n F (bit (spread n S A)) (bit (spread n S B)) r
-    spread-possible = possible-whole n F S sees (bit (spread n S A)) (bit (spread n S B)) (bit A) (bit B) (bit-spread-in n S A) (bit-spread-in n S B) r
+    spread-possible = possible-whole n F S sees (bit (spread n S A)) (bit (spread n S B)) (bit A) (bit B)
+        (bit-spread-in n S A) (bit-spread-in n S B) r
 
   module _ (A B : ℕ) (k : Candidate n K r A B) (inside : Inside A B) where
     backA : spread n S (gather n S A) ≡ A
@@ -88,7 +89,8 @@ module _ (n : ℕ) (F : ℕ → Bool) (S : ℕ → Bool) (sees : Sees n F S) (K 
         go q e w = gather-place n S A q w ∙ k .apart (w .at) (w .below) (sym (gather-place n S B q w) ∙ e)
 
     pub gather-possible : Possible n F (bit A) (bit B) r → Possible c G (bit (gather n S A)) (bit (gather n S B)) r
-    gather-possible = possible-over n F S sees (bit A) (bit B) (bit (gather n S A)) (bit (gather n S B)) (λ j l e. sym (gather-bit n S A j l e))
+    gather-possible = possible-over n F S sees (bit A) (bit B) (bit (gather n S A)) (bit (gather n S B))
+        (λ j l e. sym (gather-bit n S A j l e))
         (λ j l e. sym (gather-bit n S B j l e)) r
 
   -- the order is kept
@@ -99,14 +101,16 @@ module _ (n : ℕ) (F : ℕ → Bool) (S : ℕ → Bool) (sees : Sees n F S) (K 
     smallestB = λ p. omega (arith, size-spread n S B, size-spread n S B′, a .smallestB (same A A′ p));
     leastA = λ p q. spread-rises n S A A′ (k .belowA) (k′ .belowA) (a .leastA (same A A′ p) (same B B′ q));
     leastB = λ p q e. spread-rises n S B B′ (k .belowB) (k′ .belowB)
-        (a .leastB (same A A′ p) (same B B′ q) (sym (gather-spread n S A′ (k′ .belowA)) ∙ ap (gather n S) e ∙ gather-spread n S A (k .belowA)));
+        (a .leastB (same A A′ p) (same B B′ q) (sym (gather-spread n S A′ (k′ .belowA)) ∙ ap (gather n S) e
+        ∙ gather-spread n S A (k .belowA)));
   }
     where
       same : (X X′ : ℕ) → size n (bit (spread n S X′)) ≡ size n (bit (spread n S X)) → size c (bit X′) ≡ size c (bit X)
       same X X′ p = sym (size-spread n S X′) ∙ p ∙ size-spread n S X
 
   -- so the best split over S, spread back, comes before every possible candidate inside S
-  ahead-inside : (A B : ℕ) → Best c K r G A B → (A′ B′ : ℕ) → Candidate n K r A′ B′ → Inside A′ B′ → Possible n F (bit A′) (bit B′) r
+  ahead-inside : (A B : ℕ) → Best c K r G A B → (A′ B′ : ℕ) → Candidate n K r A′ B′ → Inside A′ B′
+      → Possible n F (bit A′) (bit B′) r
       → Ahead n (spread n S A) (spread n S B) A′ B′
   ahead-inside A B b A′ B′ k i P =
       subst₂ (Ahead n (spread n S A) (spread n S B)) (backA A′ B′ k i) (backB A′ B′ k i)
@@ -150,7 +154,8 @@ module _ (n r : ℕ) (F : ℕ → Bool) (K : ℕ) where
           subst₂ (BestCounting n K r F) p t (counting-best A′ B′ (best-split m r H K A′ B′ q))
 
   -- and it answers none only where there is none
-  pub counting-none : bestCounting n r F K ≡ none → (A B : ℕ) → Candidate n K r A B → Counting n F (readsD (bit A) (bit B)) → Possible n F (bit A) (bit B) r → ⊥
+  pub counting-none : bestCounting n r F K ≡ none → (A B : ℕ) → Candidate n K r A B
+      → Counting n F (readsD (bit A) (bit B)) → Possible n F (bit A) (bit B) r → ⊥
   unfolding bestCounting
   counting-none e A B k counting P = go (best m r H K) refl e
     where
@@ -158,7 +163,8 @@ module _ (n r : ℕ) (F : ℕ → Bool) (K : ℕ) where
       go none q e =
           let sees = support-sees n F in
           let i = within A B counting in
-          best-none m r H K q (gather n s A) (gather n s B) (gather-candidate n F s sees K r A B k i) (gather-possible n F s sees K r A B k i P)
+          best-none m r H K q (gather n s A) (gather n s B) (gather-candidate n F s sees K r A B k i)
+          (gather-possible n F s sees K r A B k i P)
       go (split A′ B′) q e = let z : _≡_ {A = ℕ} 0 1 = cc in omega arith
 
   -- a best split over the inputs that count is what find answers
@@ -190,15 +196,18 @@ module _ (n r : ℕ) (F : ℕ → Bool) (K : ℕ) where
         where
           nothing : (a : Answer) → bestCounting n r F K ≡ a → a ≡ none
           nothing none q = refl
-          nothing (split A B) q = let b = counting-split A B q in absurd (best-none n r F K e A B (b .candidate) (b .possible))
+          nothing (split A B) q = let b = counting-split A B q
+              in absurd (best-none n r F K e A B (b .candidate) (b .possible))
 
 -- where the table over the inputs that count stands in front of a list of bytes, the search there finds it
-pub counting-found : (n r K S : ℕ) (F : ℕ → Bool) (work : List ℕ) (c len : ℕ) → S ≡ support n F → c ≡ size n (bit S) → 2 ^ c ≤ 8 * len
+pub counting-found : (n r K S : ℕ) (F : ℕ → Bool) (work : List ℕ) (c len : ℕ) → S ≡ support n F → c ≡ size n (bit S)
+    → 2 ^ c ≤ 8 * len
     → number (2 ^ size n (bit S)) (tableBit work) ≡ tableOver n (bit S) F
     → spreadAnswer n (bit S) (best c r (tableBit (take len work)) K) ≡ bestCounting n r F K
 unfolding bestCounting
 counting-found n r K S F work c len is count long over =
-    ap (spreadAnswer n (bit S)) (best-ext c r K G (bit (tableOver n (bit S) F)) same ∙ ap (λ (k : ℕ). best k r (bit (tableOver n (bit S) F)) K) count)
+    ap (spreadAnswer n (bit S)) (best-ext c r K G (bit (tableOver n (bit S) F)) same
+    ∙ ap (λ (k : ℕ). best k r (bit (tableOver n (bit S) F)) K) count)
     ∙ ap (λ (s : ℕ). spreadAnswer n (bit s) (best (size n (bit s)) r (bit (tableOver n (bit s) F)) K)) is
   where
     G : ℕ → Bool
@@ -207,4 +216,5 @@ counting-found n r K S F work c len is count long over =
     same : (x : ℕ) → x < 2 ^ c → tableBit (take len work) x ≡ bit (tableOver n (bit S) F) x
     same x h =
         sym (bit-number (2 ^ c) G x h)
-        ∙ ap (λ (m : ℕ). bit m x) (take-number work len c long ∙ ap (λ (k : ℕ). number (2 ^ k) (tableBit work)) count ∙ over)
+        ∙ ap (λ (m : ℕ). bit m x) (take-number work len c long ∙ ap (λ (k : ℕ). number (2 ^ k) (tableBit work)) count
+        ∙ over)

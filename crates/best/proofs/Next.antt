@@ -48,7 +48,8 @@ module _ {n K r A B : ℕ} (c : Candidate n K r A B) (p : ℕ) (l : p < n) (shar
 
   moreA : size n (bit A) + 1 ≡ size n (bit A′)
   moreA = ap (λ (m : ℕ). size n (bit A) + m) (sym one)
-      ∙ size-sum n (bit A) (λ j. eqb j p) (bit A′) (λ j h. go (bit A j) (eqb j p) (λ e. c .apart j h (at-p j e)) ∙ ap val (sym (bitA j h)))
+      ∙ size-sum n (bit A) (λ j. eqb j p) (bit A′) (λ j h. go (bit A j) (eqb j p) (λ e. c .apart j h (at-p j e))
+      ∙ ap val (sym (bitA j h)))
     where
       go : (s t : Bool) → (t ≡ true → s ≡ false) → val s + val t ≡ val (s || t)
       go true true f = absurd (clash refl (f refl))
@@ -57,7 +58,8 @@ module _ {n K r A B : ℕ} (c : Candidate n K r A B) (p : ℕ) (l : p < n) (shar
 
   lessB : size n (bit B′) + 1 ≡ size n (bit B)
   lessB = ap (λ (m : ℕ). size n (bit B′) + m) (sym one)
-      ∙ size-sum n (bit B′) (λ j. eqb j p) (bit B) (λ j h. ap (λ (t : Bool). val t + val (eqb j p)) (bitB j h) ∙ go (bit B j) (eqb j p) (at-p j))
+      ∙ size-sum n (bit B′) (λ j. eqb j p) (bit B) (λ j h. ap (λ (t : Bool). val t + val (eqb j p)) (bitB j h)
+      ∙ go (bit B j) (eqb j p) (at-p j))
     where
       go : (s t : Bool) → (t ≡ true → s ≡ true) → val (s && not t) + val t ≡ val s
       go true true f = refl
@@ -92,7 +94,8 @@ module _ {n K r A B : ℕ} (F : ℕ → Bool) (b : Best n K r F A B) (all : AllC
   H = bitH n F (bit A) (bit B)
 
   shared-counts : (p : ℕ) → p < n → s p ≡ true → bit B p ≡ true → DependsOn (k + r) H (size p s)
-  shared-counts p l in-s shared = ⊎-elim (λ d. d) (λ idle. absurd (never idle)) (depends-or (k + r) H (size p s) (omega (arith, size-lt n s p l in-s)))
+  shared-counts p l in-s shared = ⊎-elim (λ d. d) (λ idle. absurd (never idle))
+      (depends-or (k + r) H (size p s) (omega (arith, size-lt n s p l in-s)))
     where
       c : Candidate n K r A B
       c = b .candidate
@@ -100,7 +103,8 @@ module _ {n K r A B : ℕ} (F : ℕ → Bool) (b : Best n K r F A B) (all : AllC
       never : Ignores (k + r) H (size p s) → ⊥
       never idle =
           let larger = b .ahead (A′ c p l shared) (B′ c p l shared) (moved c p l shared)
-          (shared-to-own n F (bit A) (bit B) (c .apart) r (b .possible) p (bit (A′ c p l shared)) (bit (B′ c p l shared)) (bitA c p l shared)
+          (shared-to-own n F (bit A) (bit B) (c .apart) r (b .possible) p (bit (A′ c p l shared))
+          (bit (B′ c p l shared)) (bitA c p l shared)
           (bitB c p l shared) idle) in
           omega (arith, larger .largestA, moreA c p l shared)
 
@@ -111,10 +115,12 @@ module _ {n K r A B : ℕ} (F : ℕ → Bool) (b : Best n K r F A B) (all : AllC
       go : Place n s q → DependsOn (k + r) H q
       go w = subst (DependsOn (k + r) H) (w .rank) (at (bit A (w .at)) (bit B (w .at)) refl refl (w .member))
         where
-          at : (a t : Bool) → bit A (w .at) ≡ a → bit B (w .at) ≡ t → (t || not (a || t)) ≡ true → DependsOn (k + r) H (size (w .at) s)
+          at : (a t : Bool) → bit A (w .at) ≡ a → bit B (w .at) ≡ t → (t || not (a || t)) ≡ true
+              → DependsOn (k + r) H (size (w .at) s)
           at a true e f m = shared-counts (w .at) (w .below) (w .member) f
           at true false e f m = absurd (clash m refl)
-          at false false e f m = free-counts n F (bit A) (bit B) (b .candidate .apart) r (b .possible) (w .at) (ap₂ _||_ e f) (all (w .at) (w .below))
+          at false false e f m = free-counts n F (bit A) (bit B) (b .candidate .apart) r (b .possible) (w .at)
+              (ap₂ _||_ e f) (all (w .at) (w .below))
 
 -- with one first cell, on that one's output too
 pub next-counts : (n K : ℕ) (F : ℕ → Bool) (A B : ℕ) → Best n K 1 F A B → AllCount n F
@@ -122,7 +128,8 @@ pub next-counts : (n K : ℕ) (F : ℕ → Bool) (A B : ℕ) → Best n K 1 F A 
 unfolding tableH
 next-counts n K F A B b all =
     count-ext (k + 1) H (bit (tableH n F (bit A) (bit B) 1)) (λ x h. sym (bit-number (2 ^ (k + 1)) H x h))
-    (λ q h. ⊎-elim (next-reads F b all q) (λ e. subst (DependsOn (k + 1) H) (sym e) (own (place n (bit A) 0 (omega (arith, b .candidate .more)))))
+    (λ q h. ⊎-elim (next-reads F b all q) (λ e. subst (DependsOn (k + 1) H) (sym e)
+    (own (place n (bit A) 0 (omega (arith, b .candidate .more)))))
     (below-suc {j = q} {n = k} (omega arith)))
   where
     k : ℕ
@@ -132,4 +139,5 @@ next-counts n K F A B b all =
     H = bitH n F (bit A) (bit B)
 
     own : Place n (bit A) 0 → DependsOn (k + 1) H k
-    own w = output-counts n F (bit A) (bit B) (b .candidate .apart) (b .possible) (w .at) (w .below) (w .member) (all (w .at) (w .below))
+    own w = output-counts n F (bit A) (bit B) (b .candidate .apart) (b .possible) (w .at) (w .below) (w .member)
+        (all (w .at) (w .below))

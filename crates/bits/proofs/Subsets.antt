@@ -1,4 +1,5 @@
--- The numbers that have bits at a set's members alone, as a word: with one position more they come twice, without it and, if it is a
+-- The numbers that have bits at a set's members alone, as a word: with one position more they come twice, without it
+-- and, if it is a
 -- member, with it. Assumes nothing.
 use mathlib.Core.Path.{_≡_, refl, sym, ap, ap₂, _∙_}
 use mathlib.Core.Bool.{Bool, true, false, cond, not, _&&_, _||_}
@@ -31,10 +32,12 @@ part-all p s k h = every-all p (λ j. not (bit k j) || s j) (λ j l. go (bit k j
 
 module _ (p : ℕ) (s : ℕ → Bool) where
   -- one position more, which k has or has not; i is k below it
-  step : (k i : ℕ) → ((j : ℕ) → j < p → bit k j ≡ bit i j) → (u : Bool) → bit k p ≡ u → partOf (suc p) s k ≡ ((not u || s p) && partOf p s i)
+  step : (k i : ℕ) → ((j : ℕ) → j < p → bit k j ≡ bit i j) → (u : Bool) → bit k p ≡ u → partOf (suc p) s k
+      ≡ ((not u || s p) && partOf p s i)
   unfolding partOf
   step k i same u at =
-      ap₂ (λ (t e : Bool). cond (not t || s p) e false) at (every-ext p _ (λ j. not (bit i j) || s j) (λ j l. ap (λ (t : Bool). not t || s j) (same j l)))
+      ap₂ (λ (t e : Bool). cond (not t || s p) e false) at
+      (every-ext p _ (λ j. not (bit i j) || s j) (λ j l. ap (λ (t : Bool). not t || s j) (same j l)))
       ∙ both (not u || s p) (every p (λ j. not (bit i j) || s j))
     where
       both : (x y : Bool) → cond x y false ≡ (x && y)
@@ -47,14 +50,17 @@ module _ (p : ℕ) (s : ℕ → Bool) where
   high : (k : ℕ) → k < 2 ^ p → partOf (suc p) s (2 ^ p + k) ≡ (s p && partOf p s k)
   high k h =
       let e : 2 ^ p + k ≡ k + val true * 2 ^ p = omega arith in
-      step (2 ^ p + k) k (λ j l. ap (λ (m : ℕ). bit m j) e ∙ bit-below k (val true) p j l) true (ap (λ (m : ℕ). bit m p) e ∙ bit-top k true p h)
+      step (2 ^ p + k) k (λ j l. ap (λ (m : ℕ). bit m j) e ∙ bit-below k (val true) p j l) true
+      (ap (λ (m : ℕ). bit m p) e ∙ bit-top k true p h)
 
   -- twice
-  pub subsets-more : number (2 ^ (p + 1)) (partOf (p + 1) s) ≡ number (2 ^ p) (partOf p s) + number (2 ^ p) (partOf p s) * val (s p) * 2 ^ (2 ^ p)
+  pub subsets-more : number (2 ^ (p + 1)) (partOf (p + 1) s) ≡ number (2 ^ p) (partOf p s)
+      + number (2 ^ p) (partOf p s) * val (s p) * 2 ^ (2 ^ p)
   subsets-more =
       let two : 2 ^ (p + 1) ≡ 2 ^ p + 2 ^ p = omega (arith, pow-suc 2 p, ap (λ (q : ℕ). 2 ^ q) (add-one p)) in
       ap₂ (λ (m q : ℕ). number m (partOf q s)) two (add-one p) ∙ number-append (2 ^ p) (2 ^ p) (partOf (suc p) s)
-      ∙ ap₂ (λ (x y : ℕ). x + y * 2 ^ (2 ^ p)) (number-ext (2 ^ p) _ (partOf p s) low) (number-ext (2 ^ p) _ (λ k. s p && partOf p s k) high ∙ go (s p))
+      ∙ ap₂ (λ (x y : ℕ). x + y * 2 ^ (2 ^ p)) (number-ext (2 ^ p) _ (partOf p s) low)
+      (number-ext (2 ^ p) _ (λ k. s p && partOf p s k) high ∙ go (s p))
     where
       go : (t : Bool) → number (2 ^ p) (λ k. t && partOf p s k) ≡ number (2 ^ p) (partOf p s) * val t
       go true = omega arith
@@ -78,7 +84,8 @@ module _ (m : ℕ) {j r : ℕ} (l : j < wordPositions) (is : r ≡ number (2 ^ j
       small false = omega (arith, pow-pos (2 ^ j))
 
   pub subsets-turn : r + again ≡ number (2 ^ (j + 1)) (partOf (j + 1) (bit m))
-  subsets-turn = ap (λ (x : ℕ). r + x) again-is ∙ ap (λ (x : ℕ). x + x * val (bit m j) * 2 ^ (2 ^ j)) is ∙ sym (subsets-more j (bit m))
+  subsets-turn = ap (λ (x : ℕ). r + x) again-is ∙ ap (λ (x : ℕ). x + x * val (bit m j) * 2 ^ (2 ^ j)) is
+      ∙ sym (subsets-more j (bit m))
 
   pub subsets-fits : r + again < 2 ^ 64
   subsets-fits =

@@ -1,4 +1,5 @@
--- A loop over all the numbers that a mask spreads, in increasing order: at turn v the number at hand is v spread. Its step is
+-- A loop over all the numbers that a mask spreads, in increasing order: at turn v the number at hand is v spread. Its
+-- step is
 -- that of `next`. Assumes nothing.
 use mathlib.Core.Path.{_≡_, sym, ap, _∙_}
 use Prim.Native.Nat.{ℕ, _+_, _^_, _<_, _≤_}
@@ -29,7 +30,8 @@ module _ {n m many s v : ℕ} (w : Walked n m many s v) where
   walked-end h = omega (arith, w .all, w .upto)
 
   module _ (l : v < many) where
-    pub walked-more : {s′ : ℕ} → ((u : ℕ) → s ≡ spread n (bit m) u → s′ ≡ spread n (bit m) (u + 1)) → Walked n m many s′ (v + 1)
+    pub walked-more : {s′ : ℕ} → ((u : ℕ) → s ≡ spread n (bit m) u → s′ ≡ spread n (bit m) (u + 1))
+        → Walked n m many s′ (v + 1)
     walked-more step = record { all = w .all; few = w .few; upto = omega arith; at = step v (w .at) }
 
     pub walked-turn : v < 2 ^ size n (bit m)

@@ -65,7 +65,8 @@ rule = refl
 turned-is : (w : Way) (f g : ℕ) → g < tableCount → Turns w f g → turnedAt (listOf 8 (moved w)) (w .flip) f ≡ g
 unfolding turnedAt
 turned-is w f g l t =
-    number-ext 8 _ (bit g) (λ x b. ap (λ (y : ℕ). flipped (w .flip) (bit f y)) (list-at 8 (moved w) x 0 b) ∙ sym (t x b))
+    number-ext 8 _ (bit g) (λ x b. ap (λ (y : ℕ). flipped (w .flip) (bit f y)) (list-at 8 (moved w) x 0 b)
+    ∙ sym (t x b))
     ∙ number-bit 8 g l
 
 module _ (f : ℕ) (h : f < tableCount) where

@@ -29,7 +29,11 @@ use Rattle.bounds.proofs.Reaching.{reached, reaching-least}
 -- ---- the three ways to compute it
 module _ (n K : ℕ) (F : ℕ → Bool) where
   by : Bool → Bool → Made → Answer → ℕ
-  by few pairs r a = elim few as (λ z. ℕ) [ true ↦ 1 | false ↦ elim pairs as (λ z. ℕ) [ true ↦ byChain (counted n F) r | false ↦ bySplit n K (counted n F) a ] ]
+  by few pairs r a = elim few as (λ z. ℕ) [
+    | true ↦ 1
+    | false ↦ elim pairs as (λ z. ℕ)
+        [ true ↦ byChain (counted n F) r | false ↦ bySplit n K (counted n F) a ]
+  ]
 
   least-by : (few pairs : Bool) → leb (counted n F) K ≡ few → eqb K 2 ≡ pairs
       → leastCells n K F ≡ by few pairs (sheetAside n 2 (number (2 ^ n) F)) (bestCounting n 1 F K)
@@ -40,7 +44,8 @@ module _ (n K : ℕ) (F : ℕ → Bool) where
   unfolding by
   least-few h = least-by true (eqb K 2) (le-leb (counted n F) K h) refl
 
-  pub least-chain : K < counted n F → K ≡ 2 → leastCells n K F ≡ byChain (counted n F) (sheetAside n 2 (number (2 ^ n) F))
+  pub least-chain : K < counted n F → K ≡ 2 → leastCells n K F
+      ≡ byChain (counted n F) (sheetAside n 2 (number (2 ^ n) F))
   unfolding by
   least-chain h e = least-by false true (lt-leb (counted n F) K h) (eq-eqb K 2 e)
 
@@ -60,11 +65,13 @@ module _ (n K : ℕ) (F : ℕ → Bool) (p : 1 ≤ n) (q : 2 ≤ K) where
   pairs stuck e h = treeless refl h (λ w. stuck-treeless n F p .0 e (w .0) (w .1))
   pairs (made cs) e h =
       let C = made-carries n 2 F p (omega arith) cs e in
-      let long : length cs ≡ c - 1 = omega (arith, reached n 2 (length cs) F C, table-most n 2 F p (omega arith) cs e) in
+      let long : length cs ≡ c - 1 = omega (arith, reached n 2 (length cs) F C, table-most n 2 F p (omega arith) cs e)
+      in
       elim (decLt 3 c) [
         | yes g ↦ let is : max 3 (c - 1) ≡ c - 1 = omega arith in
             subst (Bound n 2 F) is
-            (more h (λ D. omega (arith, reached n 2 2 F D)) (λ _. made-tree n F p cs e) (record { enough = omega arith; least = λ k l. omega arith }))
+            (more h (λ D. omega (arith, reached n 2 2 F D)) (λ _. made-tree n F p cs e)
+            (record { enough = omega arith; least = λ k l. omega arith }))
         | no g ↦ let is : 2 ≡ c - 1 = omega arith in
             subst (Bound n 2 F) is (two h (subst (λ (m : ℕ). Carries n 2 m F) (long ∙ sym is) C))
       ]
@@ -82,7 +89,13 @@ module _ (n K : ℕ) (F : ℕ → Bool) (p : 1 ≤ n) (q : 2 ≤ K) where
       go true r = two h (carried a e (leb-true (c + 1) (K + size n (bit (ownOf a))) r))
       go false r =
           more h (λ C. let w = two-fits n K F p some h C in let same = ap ownOf (sym e ∙ w .best) in
-          omega (arith, w .large, leb-false (c + 1) (K + size n (bit (ownOf a))) r, ap (λ (m : ℕ). size n (bit m)) same)) (λ t. absurd (f t)) (reaching-least c K q h)
+          omega (
+            arith,
+            w .large,
+            leb-false (c + 1) (K + size n (bit (ownOf a))) r,
+            ap (λ (m : ℕ). size n (bit m))
+                same,
+          )) (λ t. absurd (f t)) (reaching-least c K q h)
 
   pub least-bound : Bound n K F (leastCells n K F)
   least-bound = elim (decLt K c) [
@@ -94,5 +107,7 @@ module _ (n K : ℕ) (F : ℕ → Bool) (p : 1 ≤ n) (q : 2 ≤ K) where
       go h true e =
           let k = eqb-true K 2 e in
           subst (Bound n K F) (sym (least-chain n K F h k))
-          (subst (λ (m : ℕ). Bound n m F (byChain c (sheetAside n 2 (number (2 ^ n) F)))) (sym k) (pairs (sheetAside n 2 (number (2 ^ n) F)) refl (omega arith)))
-      go h false e = let f = eqb-false K 2 e in subst (Bound n K F) (sym (least-split n K F h f)) (by-split h f (bestCounting n 1 F K) refl)
+          (subst (λ (m : ℕ). Bound n m F (byChain c (sheetAside n 2 (number (2 ^ n) F)))) (sym k)
+          (pairs (sheetAside n 2 (number (2 ^ n) F)) refl (omega arith)))
+      go h false e = let f = eqb-false K 2 e in subst (Bound n K F) (sym (least-split n K F h f))
+          (by-split h f (bestCounting n 1 F K) refl)

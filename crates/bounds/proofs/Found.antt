@@ -24,13 +24,15 @@ use Rattle.bounds.specs.Bound.{counted}
 use Rattle.bounds.specs.Least.{reaching, bySplit}
 
 -- the members of the mask of the inputs that count, as the machine counts them
-pub counted-is : (n m S : ℕ) (F : ℕ → Bool) → S ≡ support n F → ((p : ℕ) → S < 2 ^ p → m ≡ size p (bit S)) → m ≡ counted n F
+pub counted-is : (n m S : ℕ) (F : ℕ → Bool) → S ≡ support n F → ((p : ℕ) → S < 2 ^ p → m ≡ size p (bit S)) → m
+    ≡ counted n F
 unfolding support
 counted-is n m S F is count =
     count n (subst (λ (s : ℕ). s < 2 ^ n) (sym is) (number-lt n (counts n F))) ∙ ap (λ (s : ℕ). size n (bit s)) is
 
 -- ---- where more than K inputs count
-module _ (n K c : ℕ) (t work work′ : List ℕ) (f : Counted) (w : FoundCounting n 1 K t work f work′) (is : c ≡ counted n (tableBit t)) (more : K < c) where
+module _ (n K c : ℕ) (t work work′ : List ℕ) (f : Counted) (w : FoundCounting n 1 K t work f work′)
+    (is : c ≡ counted n (tableBit t)) (more : K < c) where
   abbrev a : Answer
   a = bestCounting n 1 (tableBit t) K
 
@@ -59,7 +61,9 @@ module _ (n K c : ℕ) (t work work′ : List ℕ) (f : Counted) (w : FoundCount
     own-few = omega (arith, own-size, size-le n (bit (ownOf a)))
 
     pub fits : c + 1 ≤ K + m → 2 ≡ bySplit n K c a
-    fits h = ap (λ (b : Bool). cond b 2 (max 3 (reaching c K))) (sym (le-leb (c + 1) (K + size n (bit (ownOf a))) (omega (arith, own-size))))
+    fits h = ap (λ (b : Bool). cond b 2 (max 3 (reaching c K)))
+        (sym (le-leb (c + 1) (K + size n (bit (ownOf a))) (omega (arith, own-size))))
 
     pub fits-not : K + m < c + 1 → max 3 (reaching c K) ≡ bySplit n K c a
-    fits-not h = ap (λ (b : Bool). cond b 2 (max 3 (reaching c K))) (sym (lt-leb (c + 1) (K + size n (bit (ownOf a))) (omega (arith, own-size))))
+    fits-not h = ap (λ (b : Bool). cond b 2 (max 3 (reaching c K)))
+        (sym (lt-leb (c + 1) (K + size n (bit (ownOf a))) (omega (arith, own-size))))

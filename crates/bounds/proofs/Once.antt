@@ -89,11 +89,21 @@ module _ (i : ℕ) (c : Cell) (N : ℕ → Bool) (p : Two i (c .signals) N) (t :
   -- they are read in place of the cell's own
   put-read : (q : ℕ) → N q ≡ false → uses q (graft put t) ≤ 1
   unfolding put by
-  put-read q new = omega (arith, uses-graft put t q i (λ j r. go j r (eqb j i) refl), once i, val-le (N i) true (λ _. refl))
+  put-read q new = omega (
+    arith,
+    uses-graft put t q i (λ j r. go j r (eqb j i) refl),
+    once i,
+    val-le (N i) true
+        (λ _. refl),
+  )
     where
       go : (j : ℕ) → 1 ≤ uses j t → (cell : Bool) → eqb j i ≡ cell → uses q (by cell j) ≤ val (eqb j i)
       go j r true e = omega (arith, pair-once q, ap val e)
-      go j r false e = omega (arith, ap val (ne-eqb j q (λ z. omega (arith, once j, ap (λ (s : ℕ). val (N s)) z, ap val new))))
+      go j r false e = omega (
+        arith,
+        ap val (ne-eqb j q
+            (λ z. omega (arith, once j, ap (λ (s : ℕ). val (N s)) z, ap val new))),
+      )
 
   -- another signal is read as often as before
   put-other : (q : ℕ) → (a ≡ q → ⊥) → (b ≡ q → ⊥) → uses q (graft put t) ≤ uses q t
@@ -111,7 +121,13 @@ module _ (i : ℕ) (c : Cell) (N : ℕ → Bool) (p : Two i (c .signals) N) (t :
       go true t′ e f = omega (arith, put-read q (ap N (eqb-true q a e) ∙ p .newA), ap val (or-right (N q) true refl))
       go false true e f = omega (arith, put-read q (ap N (eqb-true q b f) ∙ p .newB), ap val (or-right (N q) true refl))
       go false false e f =
-          omega (arith, put-other q (λ z. eqb-false q a e (sym z)) (λ z. eqb-false q b f (sym z)), once q, ap val (or-false (N q)))
+          omega (
+            arith,
+            put-other q (λ z. eqb-false q a e (sym z)) (λ z. eqb-false q b f (sym z)),
+            once q,
+            ap val
+                (or-false (N q)),
+          )
 
   -- and the cell's own no more, nor any after
   put-within : (q : ℕ) → i ≤ q → uses q (graft put t) ≡ 0
@@ -129,14 +145,17 @@ module _ (i : ℕ) (c : Cell) (N : ℕ → Bool) (p : Two i (c .signals) N) (t :
       ]))
 
 -- ---- what the cells after c leave for it, where they need its signal, suc i: with c there are two signals more
-module _ (i : ℕ) (c : Cell) (cs : List Cell) (few : length (c .signals) ≤ 2) (low : (j : ℕ) → j < length (c .signals) → getD (c .signals) j 0 < suc i)
-    (N : ℕ → Bool) (most : size (suc i) N ≤ length cs) (more : suc (length cs) < size (suc i) (λ s. N s || member s (c .signals))) where
+module _ (i : ℕ) (c : Cell) (cs : List Cell) (few : length (c .signals) ≤ 2)
+    (low : (j : ℕ) → j < length (c .signals) → getD (c .signals) j 0 < suc i)
+    (N : ℕ → Bool) (most : size (suc i) N ≤ length cs)
+    (more : suc (length cs) < size (suc i) (λ s. N s || member s (c .signals))) where
   -- it reads not one alone beside what they need
   not-one : (x : ℕ) → ((s : ℕ) → member s (c .signals) ≡ true → (N s || eqb s x) ≡ true) → ⊥
   not-one x h =
       omega (
         arith,
-        size-part (suc i) (λ s. N s || member s (c .signals)) (λ s. N s || eqb s x) (λ s _ e. go s (N s) (member s (c .signals)) refl refl e),
+        size-part (suc i) (λ s. N s || member s (c .signals)) (λ s. N s || eqb s x)
+            (λ s _ e. go s (N s) (member s (c .signals)) refl refl e),
         size-or (suc i) N (λ s. eqb s x),
         size-one (suc i) x,
       )
@@ -151,16 +170,20 @@ module _ (i : ℕ) (c : Cell) (cs : List Cell) (few : length (c .signals) ≤ 2)
     where
       go : (l : List ℕ) → c .signals ≡ l → Two (suc i) (c .signals) N
       go [] e = absurd (not-one 0 (λ s m. let z = rw e at m in cc))
-      go (a ∷ []) e = absurd (not-one a (λ s m. let z = rw e at m in or-right (N s) (eqb s a) (sym (or-false (eqb s a)) ∙ z)))
+      go (a ∷ []) e = absurd (not-one a (λ s m. let z = rw e at m
+          in or-right (N s) (eqb s a) (sym (or-false (eqb s a)) ∙ z)))
       go (a ∷ b ∷ []) e = record {
         a = a;
         b = b;
         are = e;
         belowA = low-at 0 (omega arith);
         belowB = low-at 1 (omega arith);
-        apart = λ q. not-one a (λ s m. both s (rw e at m) (λ f. or-right (N s) (eqb s a) (eq-eqb s a (eqb-true s b f ∙ sym q))) (λ f. or-right (N s) (eqb s a) f));
-        newA = false-of (N a) (λ n. not-one b (λ s m. both s (rw e at m) (λ f. or-right (N s) (eqb s b) f) (λ f. or-left (N s) (eqb s b) (ap N (eqb-true s a f) ∙ n))));
-        newB = false-of (N b) (λ n. not-one a (λ s m. both s (rw e at m) (λ f. or-left (N s) (eqb s a) (ap N (eqb-true s b f) ∙ n)) (λ f. or-right (N s) (eqb s a) f)));
+        apart = λ q. not-one a (λ s m. both s (rw e at m)
+            (λ f. or-right (N s) (eqb s a) (eq-eqb s a (eqb-true s b f ∙ sym q))) (λ f. or-right (N s) (eqb s a) f));
+        newA = false-of (N a) (λ n. not-one b (λ s m. both s (rw e at m) (λ f. or-right (N s) (eqb s b) f)
+            (λ f. or-left (N s) (eqb s b) (ap N (eqb-true s a f) ∙ n))));
+        newB = false-of (N b) (λ n. not-one a (λ s m. both s (rw e at m)
+            (λ f. or-left (N s) (eqb s a) (ap N (eqb-true s b f) ∙ n)) (λ f. or-right (N s) (eqb s a) f)));
       }
         where
           low-at : (j : ℕ) → j < 2 → getD (a ∷ b ∷ []) j 0 < suc i
@@ -194,17 +217,34 @@ grown i (c ∷ cs) w h = go (needed (suc (suc i)) cs (suc i)) refl (grown (suc i
 
     go : (t : Bool) → N (suc i) ≡ t → (length cs < size (suc (suc i)) N → Grown (suc i) cs) → Grown i (c ∷ cs)
     go false e ih =
-        absurd (omega (arith, most, size-ext (suc i) (needed (suc i) (c ∷ cs)) N (λ s _. ap (λ (t : Bool). N s || (t && member s (c .signals))) e ∙ or-false (N s))))
+        absurd (omega (
+          arith,
+          most,
+          size-ext (suc i) (needed (suc i) (c ∷ cs)) N
+              (λ s _. ap (λ (t : Bool). N s || (t && member s (c .signals))) e ∙ or-false (N s)),
+        ))
     go true e ih = from (two i c cs (w .0) (w .1) N (omega (arith, most, ap val e)) more) (ih enough)
       where
         same : (s : ℕ) → needed (suc i) (c ∷ cs) s ≡ (N s || member s (c .signals))
         same s = ap (λ (t : Bool). N s || (t && member s (c .signals))) e
 
         more : suc (length cs) < size (suc i) (λ s. N s || member s (c .signals))
-        more = omega (arith, size-ext (suc i) (needed (suc i) (c ∷ cs)) (λ s. N s || member s (c .signals)) (λ s _. same s))
+        more = omega (
+          arith,
+          size-ext (suc i) (needed (suc i) (c ∷ cs)) (λ s. N s || member s (c .signals))
+              (λ s _. same s),
+        )
 
         enough : length cs < size (suc (suc i)) N
-        enough = omega (arith, ap val e, more, size-or (suc i) N (λ s. member s (c .signals)), size-member (suc i) (c .signals), w .0)
+        enough = omega (
+          arith,
+          ap val e,
+          more,
+          size-or (suc i) N (λ s. member s (c .signals)),
+          size-member (suc i)
+              (c .signals),
+          w .0,
+        )
 
         from : Two (suc i) (c .signals) N → Grown (suc i) cs → Grown i (c ∷ cs)
         from p g = record {
@@ -222,12 +262,18 @@ grown i (c ∷ cs) w h = go (needed (suc (suc i)) cs (suc i)) refl (grown (suc i
             σ = put (suc i) c N p (g .tree) (g .once) (g .within)
 
 -- ---- m cells of two inputs that carry a table of which more than m inputs count are a tree of it
-pub network-tree : (n m : ℕ) (F : ℕ → Bool) → Carries n 2 m F → m < size n (bit (support n F)) → (t : Tree) × TreeOf n F t
+pub network-tree : (n m : ℕ) (F : ℕ → Bool) → Carries n 2 m F → m < size n (bit (support n F)) → (t : Tree)
+    × TreeOf n F t
 unfolding run
 network-tree n m F C h = go n (C .cells) (C .network) (omega (arith, C .count))
   where
     go : (k : ℕ) (cs : List Cell) → Gives k 2 F cs → length cs < size k (bit (support k F)) → (t : Tree) × TreeOf k F t
-    go zero cs N l = absurd (omega (arith, size-none 0, size-part 0 (bit (support 0 F)) (λ j. false) (λ j b _. absurd (not-suc-le-zero b))))
+    go zero cs N l = absurd (omega (
+      arith,
+      size-none 0,
+      size-part 0 (bit (support 0 F)) (λ j. false)
+          (λ j b _. absurd (not-suc-le-zero b)),
+    ))
     go (suc k) [] N l = absurd (omega (arith, N .some))
     go (suc k) (c ∷ cs) N l =
         from (grown k (c ∷ cs) (N .wired) (omega (

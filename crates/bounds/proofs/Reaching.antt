@@ -20,7 +20,8 @@ reached n K m F C = reach n K m F (bit (support n F)) (support-counting n F) C
 pub reaching-least : (c K : ℕ) → 2 ≤ K → K < c → Reaching c K (reaching c K)
 reaching-least c K two h = record {
   enough = omega (arith, div-add-mod' (c + K - 3) (K - 1), mod-lt (c + K - 3) positive);
-  least = λ k l. let small = div-lt-iff-lt-mul {k = K - 1} {x = c + K - 3} {y = suc k} positive .1 (omega (arith, suc-mul k (K - 1))) in omega arith;
+  least = λ k l. let small = div-lt-iff-lt-mul {k = K - 1} {x = c + K - 3} {y = suc k} positive .1
+      (omega (arith, suc-mul k (K - 1))) in omega arith;
 }
   where
     positive : 0 < K - 1

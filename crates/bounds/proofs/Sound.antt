@@ -1,5 +1,7 @@
--- What the bound says: no network has fewer cells, and there is one such number only. Where it is 1 or 2 the chain makes
--- so many cells; it reaches the inputs that count; and every sheet of at most three cells, and every one of cells of two
+-- What the bound says: no network has fewer cells, and there is one such number only. Where it is 1 or 2 the chain
+-- makes
+-- so many cells; it reaches the inputs that count; and every sheet of at most three cells, and every one of cells of
+-- two
 -- inputs, has so many. Assumes nothing.
 use mathlib.Core.Path.{_≡_, refl, sym, _∙_, subst}
 use mathlib.Core.Bool.{Bool}
@@ -79,7 +81,8 @@ module _ (n K : ℕ) (F : ℕ → Bool) where
   bound-asks {L} q b m h = reaching-most c K L m (bound-reaches q b) h
 
   -- a network of no more cells has the fewest
-  pub bound-fewest : {L : ℕ} → 1 ≤ K → Bound n K F L → (cs : List Cell) → Gives n K F cs → length cs ≤ L → Fewest n K F cs
+  pub bound-fewest : {L : ℕ} → 1 ≤ K → Bound n K F L → (cs : List Cell) → Gives n K F cs → length cs ≤ L
+      → Fewest n K F cs
   bound-fewest q b cs N h = record { network = N; least = λ m C. omega (arith, bound-sound q b m C) }
 
 -- ---- sheets
@@ -91,7 +94,8 @@ module _ (n K : ℕ) (F : ℕ → Bool) (p : 1 ≤ n) (q : 2 ≤ K) {L : ℕ} (b
   pub bound-made : L ≤ 2 → (cs : List Cell) × (sheetAside n K (number (2 ^ n) F) ≡ made cs) × (length cs ≡ L)
   bound-made = go b
     where
-      go : {M : ℕ} → Bound n K F M → M ≤ 2 → (cs : List Cell) × (sheetAside n K (number (2 ^ n) F) ≡ made cs) × (length cs ≡ M)
+      go : {M : ℕ} → Bound n K F M → M ≤ 2 → (cs : List Cell) × (sheetAside n K (number (2 ^ n) F) ≡ made cs)
+          × (length cs ≡ M)
       go (one h) l = let w = few-made n K F p some h in (w .0 ∷ [], w .1, refl)
       go (two h C) l = let w = fits-made n K F p some h (two-fits n K F p some h C) in (w .0 ∷ w .1 ∷ [], w .2, refl)
       go (treeless k h f) l = absurd (omega arith)
@@ -99,15 +103,19 @@ module _ (n K : ℕ) (F : ℕ → Bool) (p : 1 ≤ n) (q : 2 ≤ K) {L : ℕ} (b
 
   -- so many carry the table
   pub bound-carried : L ≤ 2 → Carries n K L F
-  bound-carried h = let w = bound-made h in subst (λ (m : ℕ). Carries n K m F) (w .2) (made-carries n K F p some (w .0) (w .1))
+  bound-carried h = let w = bound-made h in subst (λ (m : ℕ). Carries n K m F) (w .2)
+      (made-carries n K F p some (w .0) (w .1))
 
   -- where neither one nor two cells carry the table it is 3 or more
   pub bound-three : (Carries n K 1 F → ⊥) → (Carries n K 2 F → ⊥) → 3 ≤ L
   bound-three f g = elim (decLt L 3) [
     | no h ↦ omega arith
     | yes h ↦ elim (decLt L 2) [
-      | yes l ↦ absurd (f (subst (λ (m : ℕ). Carries n K m F) (let e : L ≡ 1 = omega (arith, bound-carried (omega arith) .count, bound-carried (omega arith) .network .some) in e) (bound-carried (omega arith))))
-      | no l ↦ let e : L ≡ 2 = omega arith in absurd (g (subst (λ (m : ℕ). Carries n K m F) e (bound-carried (omega arith))))
+      | yes l ↦ absurd (f (subst (λ (m : ℕ). Carries n K m F)
+          (let e : L ≡ 1 = omega (arith, bound-carried (omega arith) .count, bound-carried (omega arith) .network .some)
+          in e) (bound-carried (omega arith))))
+      | no l ↦ let e : L ≡ 2 = omega arith in absurd
+          (g (subst (λ (m : ℕ). Carries n K m F) e (bound-carried (omega arith))))
     ]
   ]
 
@@ -136,7 +144,8 @@ module _ (n K : ℕ) (F : ℕ → Bool) (p : 1 ≤ n) (q : 2 ≤ K) {L : ℕ} (b
         go : {M : ℕ} → Bound n K F M → length cs ≤ M
         go (one h) = omega (arith, table-most n K F p some cs is)
         go (two h C) = omega (arith, table-most n K F p some cs is, reached n K 2 F C)
-        go (treeless k h f) = absurd (f (made-tree n F p cs (subst (λ (j : ℕ). sheetAside n j (number (2 ^ n) F) ≡ made cs) k is)))
+        go (treeless k h f) = absurd (f (made-tree n F p cs
+            (subst (λ (j : ℕ). sheetAside n j (number (2 ^ n) F) ≡ made cs) k is)))
         go (more {m = m} h f t r) =
             omega (arith, table-most n K F p some cs is, subst (λ (j : ℕ). counted n F ≤ m * (j - 1) + 1) k (r .enough))
 
@@ -148,7 +157,8 @@ module _ (n K : ℕ) (F : ℕ → Bool) (p : 1 ≤ n) (q : 2 ≤ K) {L : ℕ} (b
       none w = stuck-treeless n F p .0 (subst (λ (j : ℕ). sheetAside n j (number (2 ^ n) F) ≡ stuck) k is) (w .0) (w .1)
 
       go : {M : ℕ} → Bound n K F M → M ≡ counted n F
-      go (one h) = let w = few-made n K F p some h in let z : made (w .0 ∷ []) ≡ stuck = sym (w .1) ∙ is in let e : _≡_ {A = ℕ} 0 1 = cc in absurd (omega arith)
+      go (one h) = let w = few-made n K F p some h in let z : made (w .0 ∷ []) ≡ stuck = sym (w .1) ∙ is
+          in let e : _≡_ {A = ℕ} 0 1 = cc in absurd (omega arith)
       go (two h C) = absurd (none (few-tree n K F k 2 C (omega arith)))
       go (treeless j h f) = refl
       go (more h f t r) = absurd (none (t k))

@@ -25,21 +25,28 @@ use Rattle.cards.proofs.Mingled.{Numbered, mingled}
 use Rattle.cards.proofs.Desks.{accepts}
 
 -- of the card only its length is looked at
-pub load-verdict : (c e : List ℕ) (d n : ℕ) (s : List ℕ) → length c ≡ length e → verdict (loadLines c d n s) ≡ verdict (loadLines e d n s)
+pub load-verdict : (c e : List ℕ) (d n : ℕ) (s : List ℕ) → length c ≡ length e → verdict (loadLines c d n s)
+    ≡ verdict (loadLines e d n s)
 load-verdict c e d n s q = ap (λ (l : ℕ). verdict (line 20 (not (eqb l cardBytes)) ∷ badLoad d s ∷ filedLines d n s)) q
 
 pub accepted-alike : (ls : List Load) (c e : List ℕ) → length c ≡ length e → accepted c ls ≡ accepted e ls
 accepted-alike [] c e q = refl
 accepted-alike (l ∷ ls) c e q =
-    ap₂ (λ (v : Verdict) (r : List Load). reply v (l ∷ r) (λ (f : Refusal). r)) (load-verdict c e (l .desk) (l .inputs) (l .sheet) q) (accepted-alike ls c e q)
+    ap₂ (λ (v : Verdict) (r : List Load). reply v (l ∷ r) (λ (f : Refusal). r))
+    (load-verdict c e (l .desk) (l .inputs) (l .sheet) q) (accepted-alike ls c e q)
 
 -- what is accepted is for a desk that a card has
 pub numbered : (ls : List Load) (c : List ℕ) → Numbered (accepted c ls)
 numbered [] c = tt
 numbered (l ∷ ls) c = go (verdict (loadLines c (l .desk) (l .inputs) (l .sheet))) refl (numbered ls c)
   where
-    go : (v : Verdict) → verdict (loadLines c (l .desk) (l .inputs) (l .sheet)) ≡ v → Numbered (accepted c ls) → Numbered (reply v (l ∷ accepted c ls) (λ r. accepted c ls))
-    go Fine q ih = (accepts c (l .desk) (l .inputs) (l .sheet) (in-order (loadLines c (l .desk) (l .inputs) (l .sheet)) q) .least, ih)
+    go : (v : Verdict) → verdict (loadLines c (l .desk) (l .inputs) (l .sheet)) ≡ v → Numbered (accepted c ls)
+        → Numbered (reply v (l ∷ accepted c ls) (λ r. accepted c ls))
+    go Fine q ih = (
+      accepts c (l .desk) (l .inputs) (l .sheet)
+          (in-order (loadLines c (l .desk) (l .inputs) (l .sheet)) q) .least,
+      ih,
+    )
     go (Refused r) q ih = ih
 
 -- one call after another makes the stores of those that are accepted, one after another
@@ -49,19 +56,23 @@ calls-made [] c = refl
 calls-made (l ∷ ls) c = go (verdict (loadLines c (l .desk) (l .inputs) (l .sheet))) (calls-made ls)
   where
     go : (v : Verdict) → ((e : List ℕ) → called ls e ≡ made (storesInTurn (accepted e ls)) e)
-        → called ls (reply v (loadDone (storesOf l) c) (loadNot c) .card) ≡ made (storesInTurn (reply v (l ∷ accepted c ls) (λ r. accepted c ls))) c
+        → called ls (reply v (loadDone (storesOf l) c) (loadNot c) .card)
+        ≡ made (storesInTurn (reply v (l ∷ accepted c ls) (λ r. accepted c ls))) c
     go Fine ih =
         let e = made (storesOf l) c in
         ih e ∙ ap (λ (r : List Load). made (storesInTurn r) e) (accepted-alike ls e c (made-length (storesOf l) c))
         ∙ sym (made-append (storesOf l) (storesInTurn (accepted c ls)) c)
     go (Refused r) ih = ih c
 
-pub mingled-calls : (ls : List Load) (c : List ℕ) (w : List Store) → Mingling (waiting (accepted c ls)) w → made w c ≡ called ls c
+pub mingled-calls : (ls : List Load) (c : List ℕ) (w : List Store) → Mingling (waiting (accepted c ls)) w → made w c
+    ≡ called ls c
 mingled-calls ls c w m = mingled (accepted c ls) (numbered ls c) w m c ∙ sym (calls-made ls c)
 
 -- store i of a load alone is one byte
-pub one-byte : (d n : ℕ) (s c : List ℕ) (i : ℕ) → i < storeCount → made (oneStore i d n s) c ≡ set c (storeAt d n s i .place) (storeAt d n s i .byte)
-one-byte d n s c i h = ap (λ (u : List Store). made (take 1 u) c) (drop-cons (loadStores d n s) i (storing 0 0) (omega (arith, length-load d n s)))
+pub one-byte : (d n : ℕ) (s c : List ℕ) (i : ℕ) → i < storeCount → made (oneStore i d n s) c
+    ≡ set c (storeAt d n s i .place) (storeAt d n s i .byte)
+one-byte d n s c i h = ap (λ (u : List Store). made (take 1 u) c)
+    (drop-cons (loadStores d n s) i (storing 0 0) (omega (arith, length-load d n s)))
 
 -- the order of the stores: each beginning of a load is the one before it and the next store
 pub cut-next : (d n : ℕ) (s c : List ℕ) (k : ℕ) → k < storeCount

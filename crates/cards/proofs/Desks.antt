@@ -38,7 +38,8 @@ use Rattle.cards.proofs.Loaded.{mark-zero, desk-holds, says-inputs, say
 -- what running a sheet of n inputs at the assignment x asks
 abbrev pub Ready : Edition → ℕ → List ℕ → ℕ → Type 0
 Ready e n s x =
-    (IsEdition e × (length s / recordSize ≤ mostRecords) × (n ≤ mostInputs) × (e .size * (length s / recordSize) ≤ length s)
+    (IsEdition e × (length s / recordSize ≤ mostRecords) × (n ≤ mostInputs)
+    × (e .size * (length s / recordSize) ≤ length s)
     × AllReadable e s (length s / recordSize))
     × (x < 2 ^ n)
 
@@ -51,19 +52,23 @@ count-line o l = ap (line 9) (go (cells o))
     go : (m : ℕ) → not (leb 1 m && leb m mostRecords) ≡ badLength firstEdition (take (recordSize * m) o)
     go zero = refl
     go (suc m) = elim (decLt m mostRecords) [
-      | yes h ↦ let k : length (take (recordSize * suc m) o) ≡ recordSize * suc m = length-take-le (recordSize * suc m) o (omega arith) in
+      | yes h ↦ let k : length (take (recordSize * suc m) o)
+          ≡ recordSize * suc m = length-take-le (recordSize * suc m) o (omega arith) in
           ap₂ (λ (a b : Bool). not (a && b)) (le-leb 1 (suc m) (omega arith)) (le-leb (suc m) mostRecords (omega arith))
           ∙ sym (right-length firstEdition (take (recordSize * suc m) o) (λ q. omega arith) (omega arith) (omega arith))
       | no h ↦ let k : take (recordSize * suc m) o ≡ o = take-all (recordSize * suc m) o (omega arith) in
           ap₂ (λ (a b : Bool). not (a && b)) (le-leb 1 (suc m) (omega arith)) (lt-leb (suc m) mostRecords (omega arith))
-          ∙ sym (ap (λ (j : ℕ). eqb j 0 || (not (eqb (j % recordSize) 0) || ltb (recordSize * mostRecords) j)) (ap length k ∙ l))
+          ∙ sym (ap (λ (j : ℕ). eqb j 0 || (not (eqb (j % recordSize) 0) || ltb (recordSize * mostRecords) j))
+          (ap length k ∙ l))
     ]
 
 -- so after 19 and 18 they are those of the sheet that it holds, and 11
 pub desk-lines : (o : List ℕ) (d x : ℕ) → length o ≡ deskBytes
-    → deskLines o d x ≡ missingDesk d ∷ closedDesk o ∷ (filedLines d (inputs o) (sheetOn o) ++ (badAssignment (inputs o) x ∷ []))
+    → deskLines o d x ≡ missingDesk d ∷ closedDesk o ∷
+    (filedLines d (inputs o) (sheetOn o) ++ (badAssignment (inputs o) x ∷ []))
 desk-lines o d x l =
-    ap (λ (t : Line). missingDesk d ∷ closedDesk o ∷ badInputs (inputs o) ∷ t ∷ badRecord firstEdition d (inputs o) (sheetOn o)
+    ap (λ (t : Line). missingDesk d ∷ closedDesk o ∷ badInputs (inputs o) ∷ t ∷ badRecord firstEdition d (inputs o)
+    (sheetOn o)
     ∷ unreadRecord firstEdition (inputs o) (sheetOn o) ∷ badAssignment (inputs o) x ∷ []) (count-line o l)
 
 -- and where it is open, only those
@@ -71,15 +76,19 @@ pub open-lines : (o : List ℕ) (d x : ℕ) → length o ≡ deskBytes → noDes
     → verdict (deskLines o d x) ≡ verdict (filedLines d (inputs o) (sheetOn o) ++ (badAssignment (inputs o) x ∷ []))
 open-lines o d x l g h =
     ap verdict (desk-lines o d x l)
-    ∙ passes (missingDesk d ∷ closedDesk o ∷ []) (filedLines d (inputs o) (sheetOn o) ++ (badAssignment (inputs o) x ∷ [])) (g, (ap (λ (m : ℕ). not (eqb m 1)) h, tt))
+    ∙ passes (missingDesk d ∷ closedDesk o ∷ []) (filedLines d (inputs o) (sheetOn o)
+    ++ (badAssignment (inputs o) x ∷ [])) (g, (ap (λ (m : ℕ). not (eqb m 1)) h, tt))
 
 -- a desk whose lines are in order can be run
-pub ready : (o : List ℕ) (d x : ℕ) → length o ≡ deskBytes → verdict (deskLines o d x) ≡ Fine → Ready firstEdition (inputs o) (sheetOn o) x
+pub ready : (o : List ℕ) (d x : ℕ) → length o ≡ deskBytes → verdict (deskLines o d x) ≡ Fine
+    → Ready firstEdition (inputs o) (sheetOn o) x
 ready o d x l e =
     let n = inputs o in
     let s = sheetOn o in
-    let w = in-order (missingDesk d ∷ closedDesk o ∷ (filedLines d n s ++ (badAssignment n x ∷ []))) (sym (ap verdict (desk-lines o d x l)) ∙ e) .1 .1 in (
-      runnable firstEdition d n s first-edition (records firstEdition s) (inside 1 n mostInputs (w .0) .1) (good-sheet firstEdition d n s first-edition (w .1 .0, (w .1 .1 .0, tt))),
+    let w = in-order (missingDesk d ∷ closedDesk o ∷ (filedLines d n s ++ (badAssignment n x ∷ [])))
+    (sym (ap verdict (desk-lines o d x l)) ∙ e) .1 .1 in (
+      runnable firstEdition d n s first-edition (records firstEdition s) (inside 1 n mostInputs (w .0) .1)
+          (good-sheet firstEdition d n s first-edition (w .1 .0, (w .1 .1 .0, tt))),
       leb-false (2 ^ n) x (w .1 .1 .1 .1 .0),
     )
 
@@ -88,51 +97,63 @@ ready o d x l e =
 pub run-own : (c : List ℕ) (d x : ℕ) → length c ≡ cardBytes → runDeskOutcome c d x ≡ deskOutcome (ownBytes c d) d x
 unfolding runDeskOutcome
 run-own c d x h =
-    ap (λ (v : Verdict). reply v (deskOutcome (ownBytes c d) d x) runNot) (passes (badCard c ∷ []) [] (ap not (eq-eqb (length c) cardBytes h), tt))
+    ap (λ (v : Verdict). reply v (deskOutcome (ownBytes c d) d x) runNot)
+    (passes (badCard c ∷ []) [] (ap not (eq-eqb (length c) cardBytes h), tt))
 
 pub run-short : (c : List ℕ) (d x : ℕ) → (length c ≡ cardBytes → ⊥) → runDeskOutcome c d x ≡ runNot (refusal 20 0)
 unfolding runDeskOutcome
 run-short c d x h =
-    ap (λ (v : Verdict). reply v (deskOutcome (ownBytes c d) d x) runNot) (sym (decides (badCard c ∷ []) (here (ap not (ne-eqb (length c) cardBytes h)))))
+    ap (λ (v : Verdict). reply v (deskOutcome (ownBytes c d) d x) runNot)
+    (sym (decides (badCard c ∷ []) (here (ap not (ne-eqb (length c) cardBytes h)))))
 
 pub no-such-desk : (o : List ℕ) (d x : ℕ) → noDesk d ≡ true → deskOutcome o d x ≡ runNot (refusal 19 0)
 unfolding deskOutcome
 no-such-desk o d x h =
-    ap (λ (v : Verdict). reply v (runDone firstEdition (inputs o) (sheetOn o) x) runNot) (sym (decides (deskLines o d x) (here h)))
+    ap (λ (v : Verdict). reply v (runDone firstEdition (inputs o) (sheetOn o) x) runNot)
+    (sym (decides (deskLines o d x) (here h)))
 
 -- a desk answers as the stores into it alone would have it
-pub answers-own : (u : List Store) (c : List ℕ) (d x : ℕ) → runDeskOutcome (made u c) d x ≡ runDeskOutcome (made (onto d u) c) d x
+pub answers-own : (u : List Store) (c : List ℕ) (d x : ℕ) → runDeskOutcome (made u c) d x
+    ≡ runDeskOutcome (made (onto d u) c) d x
 answers-own u c d x = go (eqb (length c) cardBytes) refl (noDesk d) refl
   where
     v : List Store
     v = onto d u
 
-    go : (a : Bool) → eqb (length c) cardBytes ≡ a → (b : Bool) → noDesk d ≡ b → runDeskOutcome (made u c) d x ≡ runDeskOutcome (made v c) d x
+    go : (a : Bool) → eqb (length c) cardBytes ≡ a → (b : Bool) → noDesk d ≡ b → runDeskOutcome (made u c) d x
+        ≡ runDeskOutcome (made v c) d x
     go false p b q =
         let h = eqb-false (length c) cardBytes p in
-        run-short (made u c) d x (λ e. h (sym (made-length u c) ∙ e)) ∙ sym (run-short (made v c) d x (λ e. h (sym (made-length v c) ∙ e)))
-    go true p b q = let h = eqb-true (length c) cardBytes p in run-own (made u c) d x (made-length u c ∙ h) ∙ same b q h ∙ sym (run-own (made v c) d x (made-length v c ∙ h))
+        run-short (made u c) d x (λ e. h (sym (made-length u c) ∙ e))
+        ∙ sym (run-short (made v c) d x (λ e. h (sym (made-length v c) ∙ e)))
+    go true p b q = let h = eqb-true (length c) cardBytes p in run-own (made u c) d x (made-length u c ∙ h) ∙ same b q h
+        ∙ sym (run-own (made v c) d x (made-length v c ∙ h))
       where
-        same : (b : Bool) → noDesk d ≡ b → length c ≡ cardBytes → deskOutcome (ownBytes (made u c) d) d x ≡ deskOutcome (ownBytes (made v c) d) d x
+        same : (b : Bool) → noDesk d ≡ b → length c ≡ cardBytes → deskOutcome (ownBytes (made u c) d) d x
+            ≡ deskOutcome (ownBytes (made v c) d) d x
         same true q h = no-such-desk (ownBytes (made u c) d) d x q ∙ sym (no-such-desk (ownBytes (made v c) d) d x q)
-        same false q h = let w = inside 1 d desks q in ap (λ (o : List ℕ). deskOutcome o d x) (own-made u c d h (w .0) (w .1))
+        same false q h = let w = inside 1 d desks q in ap (λ (o : List ℕ). deskOutcome o d x)
+            (own-made u c d h (w .0) (w .1))
 
 -- 20 is a line before its own
 pub run-by-lines : (c : List ℕ) (d x : ℕ)
-    → runDeskOutcome c d x ≡ reply (verdict (runDeskLines c d x)) (runDone firstEdition (inputs (ownBytes c d)) (sheetOn (ownBytes c d)) x) runNot
+    → runDeskOutcome c d x ≡ reply (verdict (runDeskLines c d x))
+    (runDone firstEdition (inputs (ownBytes c d)) (sheetOn (ownBytes c d)) x) runNot
 unfolding runDeskOutcome deskOutcome
 run-by-lines c d x = go (badCard c .holds) (verdict (deskLines (ownBytes c d) d x))
   where
     done : RunAnswer
     done = runDone firstEdition (inputs (ownBytes c d)) (sheetOn (ownBytes c d)) x
 
-    go : (t : Bool) (v : Verdict) → reply (cond t (Refused (refusal 20 0)) Fine) (reply v done runNot) runNot ≡ reply (cond t (Refused (refusal 20 0)) v) done runNot
+    go : (t : Bool) (v : Verdict) → reply (cond t (Refused (refusal 20 0)) Fine) (reply v done runNot) runNot
+        ≡ reply (cond t (Refused (refusal 20 0)) v) done runNot
     go true v = refl
     go false v = refl
 
 -- ---- while it is loaded, and afterwards
 
-pub closed-answer : (o : List ℕ) (d x : ℕ) → noDesk d ≡ false → openMark o ≡ 0 → deskOutcome o d x ≡ runNot (refusal 18 0)
+pub closed-answer : (o : List ℕ) (d x : ℕ) → noDesk d ≡ false → openMark o ≡ 0 → deskOutcome o d x
+    ≡ runNot (refusal 18 0)
 unfolding deskOutcome
 closed-answer o d x g h =
     ap (λ (v : Verdict). reply v (runDone firstEdition (inputs o) (sheetOn o) x) runNot)
@@ -166,39 +187,49 @@ accepts c d n s w =
 
 -- a sheet that is filed answers as on the bench, where 11 comes before 15
 as-on-bench : (d n : ℕ) (s : List ℕ) (x : ℕ) → InOrder (filedLines d n s)
-    → reply (verdict (filedLines d n s ++ (badAssignment n x ∷ []))) (runDone firstEdition n s x) runNot ≡ runOutcome firstEdition d n s x
+    → reply (verdict (filedLines d n s ++ (badAssignment n x ∷ []))) (runDone firstEdition n s x) runNot
+    ≡ runOutcome firstEdition d n s x
 unfolding runOutcome
 as-on-bench d n s x w =
     ap (λ (v : Verdict). reply v (runDone firstEdition n s x) runNot)
     (passes (filedLines d n s) (badAssignment n x ∷ []) w
     ∙ sym (lapses (badAssignment n x ∷ []) (unreadRecord firstEdition n s ∷ []) (w .1 .1 .1 .0, tt))
-    ∙ sym (passes (badInputs n ∷ sheetLines firstEdition d n s) (badAssignment n x ∷ unreadRecord firstEdition n s ∷ []) (w .0, (w .1 .0, (w .1 .1 .0, tt)))))
+    ∙ sym (passes (badInputs n ∷ sheetLines firstEdition d n s) (badAssignment n x ∷ unreadRecord firstEdition n s ∷ [])
+    (w .0, (w .1 .0, (w .1 .1 .0, tt)))))
 
 -- an open desk that holds it, too
-pub holding-answer : (o : List ℕ) (d n : ℕ) (s : List ℕ) (x : ℕ) → length o ≡ deskBytes → noDesk d ≡ false → Holds o n s → Good firstEdition d n s (records firstEdition s)
+pub holding-answer : (o : List ℕ) (d n : ℕ) (s : List ℕ) (x : ℕ) → length o ≡ deskBytes → noDesk d ≡ false → Holds o n s
+    → Good firstEdition d n s (records firstEdition s)
     → InOrder (filedLines d n s) → deskOutcome o d x ≡ runOutcome firstEdition d n s x
 unfolding deskOutcome
 holding-answer o d n s x l g h k w =
-    ap (λ (v : Verdict). reply v (runDone firstEdition (inputs o) (sheetOn o) x) runNot) (open-lines o d x l g (h .marked))
-    ∙ ap₂ (λ (i : ℕ) (t : List ℕ). reply (verdict (filedLines d i t ++ (badAssignment i x ∷ []))) (runDone firstEdition i t x) runNot)
+    ap (λ (v : Verdict). reply v (runDone firstEdition (inputs o) (sheetOn o) x) runNot)
+    (open-lines o d x l g (h .marked))
+    ∙ ap₂ (λ (i : ℕ) (t : List ℕ). reply (verdict (filedLines d i t ++ (badAssignment i x ∷ [])))
+    (runDone firstEdition i t x) runNot)
     (says-inputs o n s h) (says-sheet o n s h l (k .whole) (k .most))
     ∙ as-on-bench d n s x w
 
 module _ (c : List ℕ) (d n : ℕ) (s : List ℕ) (a : Accepted c d n s) (x : ℕ) where
   -- from the first store to before the last the desk is closed
-  pub cut-closed : (k : ℕ) → 1 ≤ k → k < storeCount → runDeskOutcome (made (cutLoad k d n s) c) d x ≡ runNot (refusal 18 0)
+  pub cut-closed : (k : ℕ) → 1 ≤ k → k < storeCount → runDeskOutcome (made (cutLoad k d n s) c) d x
+      ≡ runNot (refusal 18 0)
   cut-closed k h g =
       run-own (made (cutLoad k d n s) c) d x (made-length (cutLoad k d n s) c ∙ a .long)
-      ∙ closed-answer (ownBytes (made (cutLoad k d n s) c) d) d x (a .desk) (mark-zero d n s c (a .long) (a .least) (a .most) k h g)
+      ∙ closed-answer (ownBytes (made (cutLoad k d n s) c) d) d x (a .desk)
+      (mark-zero d n s c (a .long) (a .least) (a .most) k h g)
 
   -- after the last it answers as the new sheet does on the bench
   pub load-answers : runDeskOutcome (made (loadStores d n s) c) d x ≡ runOutcome firstEdition d n s x
   load-answers =
       let l = made-length (loadStores d n s) c ∙ a .long in
       run-own (made (loadStores d n s) c) d x l
-      ∙ holding-answer (ownBytes (made (loadStores d n s) c) d) d n s x (own-length (made (loadStores d n s) c) d l (a .most)) (a .desk)
+      ∙ holding-answer (ownBytes (made (loadStores d n s) c) d) d n s x
+      (own-length (made (loadStores d n s) c) d l (a .most)) (a .desk)
       (desk-holds d n s c (a .long) (a .least) (a .most)) (a .good) (a .filed)
 
 -- a store into one desk changes no answer of another's
-pub others-answer : (d f : ℕ) (u : List Store) (c : List ℕ) (x : ℕ) → (d ≡ f → ⊥) → Every (Into d) u → runDeskOutcome (made u c) f x ≡ runDeskOutcome c f x
-others-answer d f u c x e h = answers-own u c f x ∙ ap (λ (v : List Store). runDeskOutcome (made v c) f x) (onto-other d f u e h)
+pub others-answer : (d f : ℕ) (u : List Store) (c : List ℕ) (x : ℕ) → (d ≡ f → ⊥) → Every (Into d) u
+    → runDeskOutcome (made u c) f x ≡ runDeskOutcome c f x
+others-answer d f u c x e h = answers-own u c f x
+    ∙ ap (λ (v : List Store). runDeskOutcome (made v c) f x) (onto-other d f u e h)

@@ -22,7 +22,8 @@ module _ (d x : ℕ) where
   -- what a desk answers, from the mark, n, whether the count is wrong, and the sheet
   says : ℕ → ℕ → Bool → List ℕ → RunAnswer
   says m n w s =
-      reply (verdict (line 19 (noDesk d) ∷ line 18 (not (eqb m 1)) ∷ badInputs n ∷ line 9 w ∷ badRecord firstEdition d n s
+      reply (verdict (line 19 (noDesk d) ∷ line 18 (not (eqb m 1)) ∷ badInputs n ∷ line 9 w ∷ badRecord firstEdition d n
+      s
       ∷ unreadRecord firstEdition n s ∷ badAssignment n x ∷ [])) (runDone firstEdition n s x) runNot
 
   abbrev wrong : ℕ → Bool
@@ -34,9 +35,11 @@ module _ (d x : ℕ) where
   no-sheet m n s t = go (noDesk d) (not (eqb m 1)) (badInputs n .holds)
     where
       go : (a b c : Bool)
-          → reply (verdict (line 19 a ∷ line 18 b ∷ line 1 c ∷ line 9 true ∷ badRecord firstEdition d n s ∷ unreadRecord firstEdition n s ∷ badAssignment n x ∷ []))
+          → reply (verdict (line 19 a ∷ line 18 b ∷ line 1 c ∷ line 9 true ∷ badRecord firstEdition d n s ∷ unreadRecord
+          firstEdition n s ∷ badAssignment n x ∷ []))
           (runDone firstEdition n s x) runNot
-          ≡ reply (verdict (line 19 a ∷ line 18 b ∷ line 1 c ∷ line 9 true ∷ badRecord firstEdition d n t ∷ unreadRecord firstEdition n t ∷ badAssignment n x ∷ []))
+          ≡ reply (verdict (line 19 a ∷ line 18 b ∷ line 1 c ∷ line 9 true ∷ badRecord firstEdition d n t ∷ unreadRecord
+          firstEdition n t ∷ badAssignment n x ∷ []))
           (runDone firstEdition n t x) runNot
       go true b c = refl
       go false true c = refl
@@ -49,7 +52,8 @@ module _ (d x : ℕ) where
       ap₂ (λ (m n : ℕ). says m n (wrong (cells o)) (sheetOn o)) (u .marks) (u .ns) ∙ sheets
       ∙ ap (λ (k : ℕ). says (openMark p) (inputs p) (wrong k) (take (recordSize * k) p)) (u .counts)
     where
-      sheets : says (openMark p) (inputs p) (wrong (cells o)) (take (recordSize * cells o) o) ≡ says (openMark p) (inputs p) (wrong (cells o)) (take (recordSize * cells o) p)
+      sheets : says (openMark p) (inputs p) (wrong (cells o)) (take (recordSize * cells o) o)
+          ≡ says (openMark p) (inputs p) (wrong (cells o)) (take (recordSize * cells o) p)
       sheets = elim (decLt mostRecords (cells o)) [
         | yes h ↦ let w : wrong (cells o) ≡ true = many (cells o) h in
             ap (λ (t : Bool). says (openMark p) (inputs p) t (take (recordSize * cells o) o)) w
@@ -69,7 +73,8 @@ module _ (d x : ℕ) where
           alike h =
               let m = recordSize * cells o in
               ext-getD 0 (take m o) (take m p) (length-take m o ∙ ap (min m) (u .lengths) ∙ sym (length-take m p))
-              (λ j l. let i : j < m = short m o j l in getD-take m o j 0 i ∙ u .used j i (omega arith) ∙ sym (getD-take m p j 0 i))
+              (λ j l. let i : j < m = short m o j l in getD-take m o j 0 i ∙ u .used j i (omega arith)
+              ∙ sym (getD-take m p j 0 i))
             where
               short : (m : ℕ) (l : List ℕ) (j : ℕ) → j < length (take m l) → j < m
               short m l j h = omega (arith, h, length-take m l)

@@ -33,7 +33,8 @@ module _ (P : Store → Type 0) where
   pub every-list : (k : ℕ) (f : ℕ → Store) → ((j : ℕ) → j < k → P (f j)) → Every P (listOf k f)
   unfolding listOf
   every-list zero f h = tt
-  every-list (suc k) f h = every-append (listOf k f) (f k ∷ []) (every-list k f (λ j l. h j (omega arith))) (h k (omega arith), tt)
+  every-list (suc k) f h = every-append (listOf k f) (f k ∷ []) (every-list k f (λ j l. h j (omega arith)))
+      (h k (omega arith), tt)
 
   pub every-take : (k : ℕ) (u : List Store) → Every P u → Every P (take k u)
   every-take zero u a = tt
@@ -61,33 +62,41 @@ made-length [] c = refl
 made-length (t ∷ u) c = made-length u (set c (t .place) (t .byte)) ∙ length-set c (t .place) (t .byte)
 
 -- a byte to which no store goes stays
-pub untouched : (u : List Store) (c : List ℕ) (a : ℕ) → Every (λ t. a ≡ t .place → ⊥) u → getD (made u c) a 0 ≡ getD c a 0
+pub untouched : (u : List Store) (c : List ℕ) (a : ℕ) → Every (λ t. a ≡ t .place → ⊥) u → getD (made u c) a 0
+    ≡ getD c a 0
 untouched [] c a h = refl
-untouched (t ∷ u) c a h = untouched u (set c (t .place) (t .byte)) a (h .1) ∙ getD-set-other c (t .place) a (t .byte) 0 (h .0)
+untouched (t ∷ u) c a h = untouched u (set c (t .place) (t .byte)) a (h .1)
+    ∙ getD-set-other c (t .place) a (t .byte) 0 (h .0)
 
 -- ---- stores upward
 
 module _ (a : ℕ) (f : ℕ → ℕ) where
   -- before them and past them nothing changes
-  pub upward-out : (k b : ℕ) (c : List ℕ) → ((j : ℕ) → j < k → b ≡ a + j → ⊥) → getD (made (upward a k f) c) b 0 ≡ getD c b 0
-  upward-out k b c h = untouched (upward a k f) c b (every-list (λ t. b ≡ t .place → ⊥) k (λ j. storing (a + j) (f j)) h)
+  pub upward-out : (k b : ℕ) (c : List ℕ) → ((j : ℕ) → j < k → b ≡ a + j → ⊥) → getD (made (upward a k f) c) b 0
+      ≡ getD c b 0
+  upward-out k b c h = untouched (upward a k f) c b
+      (every-list (λ t. b ≡ t .place → ⊥) k (λ j. storing (a + j) (f j)) h)
 
   -- and there they leave the values
   pub upward-in : (k j : ℕ) (c : List ℕ) → j < k → a + k ≤ length c → getD (made (upward a k f) c) (a + j) 0 ≡ f j
   unfolding listOf
   upward-in zero j c h g = absurd (not-suc-le-zero h)
   upward-in (suc k) j c h g =
-      ap (λ (l : List ℕ). getD l (a + j) 0) (made-append (upward a k f) (storing (a + k) (f k) ∷ []) c) ∙ elim (decLt j k) [
-        | yes l ↦ getD-set-other (made (upward a k f) c) (a + k) (a + j) (f k) 0 (λ q. omega arith) ∙ upward-in k j c l (omega arith)
+      ap (λ (l : List ℕ). getD l (a + j) 0) (made-append (upward a k f) (storing (a + k) (f k) ∷ []) c)
+      ∙ elim (decLt j k) [
+        | yes l ↦ getD-set-other (made (upward a k f) c) (a + k) (a + j) (f k) 0 (λ q. omega arith)
+            ∙ upward-in k j c l (omega arith)
         | no l ↦ let q : j ≡ k = omega arith in
             ap (λ (i : ℕ). getD (set (made (upward a k f) c) (a + k) (f k)) (a + i) 0) q
-            ∙ getD-set-same (made (upward a k f) c) (a + k) (f k) 0 (omega (arith, made-length (upward a k f) c)) ∙ ap f (sym q)
+            ∙ getD-set-same (made (upward a k f) c) (a + k) (f k) 0 (omega (arith, made-length (upward a k f) c))
+            ∙ ap f (sym q)
       ]
 
 -- ---- a byte is decided by the stores into its own desk
 
 -- a store leaves two cards that agree at j agreeing at j
-set-agree : (c e : List ℕ) (p b j : ℕ) → length c ≡ length e → getD c j 0 ≡ getD e j 0 → getD (set c p b) j 0 ≡ getD (set e p b) j 0
+set-agree : (c e : List ℕ) (p b j : ℕ) → length c ≡ length e → getD c j 0 ≡ getD e j 0 → getD (set c p b) j 0
+    ≡ getD (set e p b) j 0
 set-agree c e p b j l h = go (eqb j p) refl
   where
     go : (t : Bool) → eqb j p ≡ t → getD (set c p b) j 0 ≡ getD (set e p b) j 0
@@ -95,10 +104,12 @@ set-agree c e p b j l h = go (eqb j p) refl
     go true q = elim (decLt p (length c)) [
       | yes g ↦ ap (λ (i : ℕ). getD (set c p b) i 0) (eqb-true j p q) ∙ getD-set-same c p b 0 g
           ∙ sym (ap (λ (i : ℕ). getD (set e p b) i 0) (eqb-true j p q) ∙ getD-set-same e p b 0 (omega arith))
-      | no g ↦ ap (λ (x : List ℕ). getD x j 0) (set-out c p b (omega arith)) ∙ h ∙ sym (ap (λ (x : List ℕ). getD x j 0) (set-out e p b (omega arith)))
+      | no g ↦ ap (λ (x : List ℕ). getD x j 0) (set-out c p b (omega arith)) ∙ h
+          ∙ sym (ap (λ (x : List ℕ). getD x j 0) (set-out e p b (omega arith)))
     ]
 
-agree : (u : List Store) (c e : List ℕ) (j : ℕ) → length c ≡ length e → getD c j 0 ≡ getD e j 0 → getD (made u c) j 0 ≡ getD (made u e) j 0
+agree : (u : List Store) (c e : List ℕ) (j : ℕ) → length c ≡ length e → getD c j 0 ≡ getD e j 0 → getD (made u c) j 0
+    ≡ getD (made u e) j 0
 agree [] c e j l h = h
 agree (t ∷ u) c e j l h =
     agree u (set c (t .place) (t .byte)) (set e (t .place) (t .byte)) j
@@ -110,12 +121,15 @@ by-own [] c j = refl
 by-own (t ∷ u) c j = go (eqb (holder (t .place)) (holder j)) refl (by-own u (set c (t .place) (t .byte)) j)
   where
     go : (r : Bool) → eqb (holder (t .place)) (holder j) ≡ r
-        → getD (made u (set c (t .place) (t .byte))) j 0 ≡ getD (made (onto (holder j) u) (set c (t .place) (t .byte))) j 0
-        → getD (made u (set c (t .place) (t .byte))) j 0 ≡ getD (made (cond r (t ∷ onto (holder j) u) (onto (holder j) u)) c) j 0
+        → getD (made u (set c (t .place) (t .byte))) j 0
+        ≡ getD (made (onto (holder j) u) (set c (t .place) (t .byte))) j 0
+        → getD (made u (set c (t .place) (t .byte))) j 0
+        ≡ getD (made (cond r (t ∷ onto (holder j) u) (onto (holder j) u)) c) j 0
     go true q ih = ih
     go false q ih =
         ih ∙ agree (onto (holder j) u) (set c (t .place) (t .byte)) c j (length-set c (t .place) (t .byte))
-        (getD-set-other c (t .place) j (t .byte) 0 (λ e. eqb-false (holder (t .place)) (holder j) q (ap holder (sym e))))
+        (getD-set-other c (t .place) j (t .byte) 0 (λ e. eqb-false (holder (t .place)) (holder j) q
+        (ap holder (sym e))))
 
 -- two lists of stores that each desk sees alike make the same card
 pub alike : (u w : List Store) (c : List ℕ) → ((d : ℕ) → onto d u ≡ onto d w) → made u c ≡ made w c
@@ -142,7 +156,8 @@ pub held-by : (d j : ℕ) → 1 ≤ d → j < deskBytes → holder (base d + j) 
 held-by d j h g = omega arith
 
 -- they are as its own stores alone leave them
-pub own-made : (u : List Store) (c : List ℕ) (d : ℕ) → length c ≡ cardBytes → 1 ≤ d → d ≤ desks → ownBytes (made u c) d ≡ ownBytes (made (onto d u) c) d
+pub own-made : (u : List Store) (c : List ℕ) (d : ℕ) → length c ≡ cardBytes → 1 ≤ d → d ≤ desks → ownBytes (made u c) d
+    ≡ ownBytes (made (onto d u) c) d
 own-made u c d h l m =
     own-ext (made u c) (made (onto d u) c) d (made-length u c ∙ h) (made-length (onto d u) c ∙ h) m
     (λ j g. by-own u c (base d + j) ∙ ap (λ (f : ℕ). getD (made (onto f u) c) (base d + j) 0) (held-by d j l g))

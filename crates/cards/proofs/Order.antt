@@ -13,7 +13,8 @@ use Rattle.bits.proofs.Lists.{length-list, list-at}
 use Rattle.sheets.specs.Edition.{recordSize}
 use Rattle.cards.specs.declared.stores.Store.{Store}
 use Rattle.cards.specs.Card.{desks, placeBytes, deskBytes, cardBytes, base, holder}
-use Rattle.cards.specs.Stores.{storing, made, upward, placeByte, statusByte, marking, filling, loadStores, storeCount, storeAt, onto}
+use Rattle.cards.specs.Stores.{storing, made, upward, placeByte, statusByte, marking, filling, loadStores}
+use Rattle.cards.specs.Stores.{storeCount, storeAt, onto}
 use Rattle.cards.proofs.Making.{Every, every-map, every-append, every-list, every-at, made-append}
 
 module _ (d n : ℕ) (s : List ℕ) where
@@ -25,7 +26,9 @@ module _ (d n : ℕ) (s : List ℕ) where
 
   pub length-filling : length (filling d n s) ≡ deskBytes - 1
   unfolding filling
-  length-filling = length-append places status ∙ ap₂ _+_ (length-list placeBytes (λ j. storing (base d + j) (placeByte s j))) (length-list (recordSize - 1) (λ j. storing (base d + (placeBytes + 1) + j) (statusByte n s j)))
+  length-filling = length-append places status ∙ ap₂ _+_
+      (length-list placeBytes (λ j. storing (base d + j) (placeByte s j)))
+      (length-list (recordSize - 1) (λ j. storing (base d + (placeBytes + 1) + j) (statusByte n s j)))
 
   pub length-load : length (loadStores d n s) ≡ storeCount
   unfolding loadStores
@@ -45,9 +48,11 @@ module _ (d n : ℕ) (s : List ℕ) where
   unfolding filling
   at-place j h =
       let f : ℕ → Store = λ i. storing (base d + i) (placeByte s i) in
-      fill-at j (omega arith) ∙ List·getD-append places status (storing 0 0) j (omega (arith, length-list placeBytes f)) ∙ list-at placeBytes f j (storing 0 0) h
+      fill-at j (omega arith) ∙ List·getD-append places status (storing 0 0) j (omega (arith, length-list placeBytes f))
+      ∙ list-at placeBytes f j (storing 0 0) h
 
-  at-status : (j : ℕ) → j < recordSize - 1 → storeAt d n s (suc (placeBytes + j)) ≡ storing (base d + (placeBytes + 1) + j) (statusByte n s j)
+  at-status : (j : ℕ) → j < recordSize - 1 → storeAt d n s (suc (placeBytes + j))
+      ≡ storing (base d + (placeBytes + 1) + j) (statusByte n s j)
   unfolding filling
   at-status j h =
       let f : ℕ → Store = λ i. storing (base d + i) (placeByte s i) in
@@ -66,12 +71,14 @@ module _ (d n : ℕ) (s : List ℕ) where
   pub store-first : (i : ℕ) → i ≡ 0 → marking d 0 ≡ storeAt d n s i
   store-first i q = sym (ap (storeAt d n s) q ∙ at-first)
 
-  pub store-place : (i b : ℕ) → 1 ≤ i → i ≤ placeBytes → b ≡ placeByte s (i - 1) → storing (base d + (i - 1)) b ≡ storeAt d n s i
+  pub store-place : (i b : ℕ) → 1 ≤ i → i ≤ placeBytes → b ≡ placeByte s (i - 1) → storing (base d + (i - 1)) b
+      ≡ storeAt d n s i
   store-place i b h g q =
       let e : i ≡ suc (i - 1) = omega arith in
       ap (storing (base d + (i - 1))) q ∙ sym (ap (storeAt d n s) e ∙ at-place (i - 1) (omega arith))
 
-  pub store-status : (i b : ℕ) → placeBytes < i → i < deskBytes → b ≡ statusByte n s (i - (placeBytes + 1)) → storing (base d + i) b ≡ storeAt d n s i
+  pub store-status : (i b : ℕ) → placeBytes < i → i < deskBytes → b ≡ statusByte n s (i - (placeBytes + 1))
+      → storing (base d + i) b ≡ storeAt d n s i
   store-status i b h g q =
       let j = i - (placeBytes + 1) in
       let e : i ≡ suc (placeBytes + j) = omega arith in
@@ -90,10 +97,12 @@ module _ (d n : ℕ) (s : List ℕ) where
       let j = i - first in
       let k : i + 1 - first ≡ suc j = omega arith in
       let at : first + j ≡ i = omega arith in
-      let w : getD l j (storing 0 0) ≡ t = getD-drop first (loadStores d n s) j (storing 0 0) ∙ ap (storeAt d n s) at ∙ sym q in
+      let w : getD l j (storing 0 0) ≡ t = getD-drop first (loadStores d n s) j (storing 0 0) ∙ ap (storeAt d n s) at
+      ∙ sym q in
       ap (λ (y : List ℕ). set y (t .place) (t .byte)) e
       ∙ sym (ap (λ (m : ℕ). made (take m l) c) k
-      ∙ ap (λ (u : List Store). made u c) (take-suc l j (storing 0 0) (omega (arith, length-drop first (loadStores d n s), length-load)))
+      ∙ ap (λ (u : List Store). made u c) (take-suc l j (storing 0 0)
+      (omega (arith, length-drop first (loadStores d n s), length-load)))
       ∙ made-append (take j l) (getD l j (storing 0 0) ∷ []) c
       ∙ ap (λ (y : Store). set (made (take j l) c) (y .place) (y .byte)) w)
 
@@ -104,8 +113,10 @@ module _ (d n : ℕ) (s : List ℕ) where
   unfolding filling
   avoids-mark =
       let P : Store → Type 0 = λ t. base d + placeBytes ≡ t .place → ⊥ in
-      every-append P places status (every-list P placeBytes (λ j. storing (base d + j) (placeByte s j)) (λ j l q. omega arith))
-      (every-list P (recordSize - 1) (λ j. storing (base d + (placeBytes + 1) + j) (statusByte n s j)) (λ j l q. omega arith))
+      every-append P places status (every-list P placeBytes (λ j. storing (base d + j) (placeByte s j))
+      (λ j l q. omega arith))
+      (every-list P (recordSize - 1) (λ j. storing (base d + (placeBytes + 1) + j) (statusByte n s j))
+      (λ j l q. omega arith))
 
   -- each goes to one of the desk's own bytes
   abbrev Within : Store → Type 0
@@ -116,14 +127,17 @@ module _ (d n : ℕ) (s : List ℕ) where
   all-within = (
     (omega arith, omega arith),
     every-append Within (places ++ status) (marking d 1 ∷ [])
-        (every-append Within places status (every-list Within placeBytes (λ j. storing (base d + j) (placeByte s j)) (λ j l. (omega arith, omega arith)))
-        (every-list Within (recordSize - 1) (λ j. storing (base d + (placeBytes + 1) + j) (statusByte n s j)) (λ j l. (omega arith, omega arith))))
+        (every-append Within places status (every-list Within placeBytes (λ j. storing (base d + j) (placeByte s j))
+        (λ j l. (omega arith, omega arith)))
+        (every-list Within (recordSize - 1) (λ j. storing (base d + (placeBytes + 1) + j) (statusByte n s j))
+        (λ j l. (omega arith, omega arith))))
         ((omega arith, omega arith), tt),
   )
 
 -- so it lies on the card
 pub on-card : (d n : ℕ) (s : List ℕ) (i : ℕ) → 1 ≤ d → d ≤ desks → i < storeCount → storeAt d n s i .place < cardBytes
-on-card d n s i l m h = let w = every-at (Within d n s) (loadStores d n s) (storing 0 0) i (all-within d n s) (omega (arith, length-load d n s)) in omega (arith, w .1)
+on-card d n s i l m h = let w = every-at (Within d n s) (loadStores d n s) (storing 0 0) i (all-within d n s)
+    (omega (arith, length-load d n s)) in omega (arith, w .1)
 
 -- ---- stores into one desk
 
@@ -135,22 +149,26 @@ pub onto-append : (d : ℕ) (u w : List Store) → onto d (u ++ w) ≡ onto d u 
 onto-append d [] w = refl
 onto-append d (t ∷ u) w = go (eqb (holder (t .place)) d) (onto-append d u w)
   where
-    go : (r : Bool) → onto d (u ++ w) ≡ onto d u ++ onto d w → cond r (t ∷ onto d (u ++ w)) (onto d (u ++ w)) ≡ cond r (t ∷ onto d u) (onto d u) ++ onto d w
+    go : (r : Bool) → onto d (u ++ w) ≡ onto d u ++ onto d w → cond r (t ∷ onto d (u ++ w)) (onto d (u ++ w))
+        ≡ cond r (t ∷ onto d u) (onto d u) ++ onto d w
     go true ih = ap (λ (l : List Store). t ∷ l) ih
     go false ih = ih
 
 pub onto-own : (d : ℕ) (u : List Store) → Every (Into d) u → onto d u ≡ u
 onto-own d [] h = refl
 onto-own d (t ∷ u) h =
-    ap (λ (r : Bool). cond r (t ∷ onto d u) (onto d u)) (eq-eqb (holder (t .place)) d (h .0)) ∙ ap (λ (l : List Store). t ∷ l) (onto-own d u (h .1))
+    ap (λ (r : Bool). cond r (t ∷ onto d u) (onto d u)) (eq-eqb (holder (t .place)) d (h .0))
+    ∙ ap (λ (l : List Store). t ∷ l) (onto-own d u (h .1))
 
 pub onto-other : (d f : ℕ) (u : List Store) → (d ≡ f → ⊥) → Every (Into d) u → onto f u ≡ []
 onto-other d f [] e h = refl
 onto-other d f (t ∷ u) e h =
-    ap (λ (r : Bool). cond r (t ∷ onto f u) (onto f u)) (ne-eqb (holder (t .place)) f (λ q. e (sym (h .0) ∙ q))) ∙ onto-other d f u e (h .1)
+    ap (λ (r : Bool). cond r (t ∷ onto f u) (onto f u)) (ne-eqb (holder (t .place)) f (λ q. e (sym (h .0) ∙ q)))
+    ∙ onto-other d f u e (h .1)
 
 pub all-into : (d n : ℕ) (s : List ℕ) → 1 ≤ d → Every (Into d) (loadStores d n s)
-all-into d n s l = every-map (Within d n s) (Into d) (λ t w. at (t .place) (w .0) (w .1)) (loadStores d n s) (all-within d n s)
+all-into d n s l = every-map (Within d n s) (Into d) (λ t w. at (t .place) (w .0) (w .1)) (loadStores d n s)
+    (all-within d n s)
   where
     at : (p : ℕ) → base d ≤ p → p < base d + deskBytes → holder p ≡ d
     at p a b = omega arith

@@ -1,4 +1,5 @@
--- The sheet for any gate: each of its answers in words, and what holds of its cells, which are those of a chain with one
+-- The sheet for any gate: each of its answers in words, and what holds of its cells, which are those of a chain with
+-- one
 -- first cell at each step or with up to 3. Assumes nothing.
 use mathlib.Core.Path.{_≡_, refl, ap, ap₂, _∙_, subst}
 use mathlib.Core.Logic.{_↔_}
@@ -22,10 +23,15 @@ use Rattle.chains.specs.Aside.{cellsAside, sheetAside}
 use Rattle.chains.specs.Words.{Blocked}
 use Rattle.chains.specs.Over.{MakesOver, BlockedOver}
 use Rattle.chains.specs.Any.{Any, sheet, unsplit, overlong, severally, either, anyAside}
-use Rattle.chains.proofs.Aside.{cells-made, cells-stuck, cells-give, cells-fit, cells-read, sheet-stuck, table-records}
+use Rattle.chains.proofs.Aside.{cells-made, cells-stuck, cells-give, cells-fit, cells-read, sheet-stuck}
+use Rattle.chains.proofs.Aside.{table-records}
 
 no-answer : {P : Type 0} {cs : List Cell} {a : Any} → a ≡ sheet cs → (a ≡ unsplit → P) × (a ≡ overlong → P)
-no-answer p = (λ q. let z : _≡_ {A = ℕ} 0 1 = cc in absurd (omega arith), λ q. let z : _≡_ {A = ℕ} 0 1 = cc in absurd (omega arith))
+no-answer p = (
+  λ q. let z : _≡_ {A = ℕ} 0 1 = cc in absurd (omega arith),
+  λ q. let z : _≡_ {A = ℕ} 0 1 = cc
+      in absurd (omega arith),
+)
 
 -- ---- how an answer comes about, from what the two chains make
 module _ (one more : Made) where
@@ -62,7 +68,8 @@ module _ (n K T : ℕ) where
   pub any-chain : (cs : List Cell) → anyAside n K T ≡ sheet cs → (m : ℕ) × (cellsAside m n K T ≡ made cs)
   any-chain cs e = go (anyAside n K T) any-came e
     where
-      go : (a : Any) → Came (sheetAside n K T) (cellsAside mostFirst n K T) a → a ≡ sheet cs → (m : ℕ) × (cellsAside m n K T ≡ made cs)
+      go : (a : Any) → Came (sheetAside n K T) (cellsAside mostFirst n K T) a → a ≡ sheet cs → (m : ℕ)
+          × (cellsAside m n K T ≡ made cs)
       go a (by-make ds f) e = let d : ds ≡ cs = cc in (1, f ∙ ap made d)
       go a (by-more ds f g h) e = let d : ds ≡ cs = cc in (mostFirst, g ∙ ap made d)
       go a (too-long ds f g h) e = no-answer e .1 refl
@@ -90,7 +97,8 @@ module _ (n K : ℕ) (F : ℕ → Bool) (p : 1 ≤ n) (q : 1 ≤ K) where
     pub any-records : n + 1 ≤ K + mostRecords → length cs ≤ mostRecords
     any-records h = go (anyAside n K T) (any-came n K T) is
       where
-        go : (a : Any) → Came (sheetAside n K (number (2 ^ n) F)) (cellsAside mostFirst n K (number (2 ^ n) F)) a → a ≡ sheet cs → length cs ≤ mostRecords
+        go : (a : Any) → Came (sheetAside n K (number (2 ^ n) F)) (cellsAside mostFirst n K (number (2 ^ n) F)) a → a
+            ≡ sheet cs → length cs ≤ mostRecords
         go a (by-make ds f) e = let d : ds ≡ cs = cc in table-records n K F p q cs (f ∙ ap made d) h
         go a (by-more ds f g l) e = let d : ds ≡ cs = cc in subst (λ (x : List Cell). length x ≤ mostRecords) d l
         go a (too-long ds f g l) e = no-answer e .1 refl
@@ -112,7 +120,8 @@ module _ (n K : ℕ) (F : ℕ → Bool) (p : 1 ≤ n) (q : 1 ≤ K) where
     λ w. any-more n K T stuck (sheet-stuck n K F p q .1 (w .0)) (cells-stuck mostFirst n K F p q .1 (w .1)),
   )
     where
-      go : (a : Any) → Came (sheetAside n K (number (2 ^ n) F)) (cellsAside mostFirst n K (number (2 ^ n) F)) a → a ≡ unsplit
+      go : (a : Any) → Came (sheetAside n K (number (2 ^ n) F)) (cellsAside mostFirst n K (number (2 ^ n) F)) a → a
+          ≡ unsplit
           → Blocked K n (pick n (bit (kept n F)) (inputs n)) (tableOver n (bit (kept n F)) F)
           × BlockedOver mostFirst K n (pick n (bit (kept n F)) (inputs n)) (tableOver n (bit (kept n F)) F)
       go a (no-split f g) e = (sheet-stuck n K F p q .0 f, cells-stuck mostFirst n K F p q .0 g)
@@ -125,16 +134,19 @@ module _ (n K : ℕ) (F : ℕ → Bool) (p : 1 ≤ n) (q : 1 ≤ K) where
       ↔ (Blocked K n l U × ((cs : List Cell) × MakesOver mostFirst K n l U cs × (mostRecords < length cs)))
   any-overlong = (go (anyAside n K T) (any-came n K T), λ w. back (w .0) (w .1))
     where
-      go : (a : Any) → Came (sheetAside n K (number (2 ^ n) F)) (cellsAside mostFirst n K (number (2 ^ n) F)) a → a ≡ overlong
+      go : (a : Any) → Came (sheetAside n K (number (2 ^ n) F)) (cellsAside mostFirst n K (number (2 ^ n) F)) a → a
+          ≡ overlong
           → Blocked K n (pick n (bit (kept n F)) (inputs n)) (tableOver n (bit (kept n F)) F)
-          × ((cs : List Cell) × MakesOver mostFirst K n (pick n (bit (kept n F)) (inputs n)) (tableOver n (bit (kept n F)) F) cs × (mostRecords < length cs))
+          × ((cs : List Cell) × MakesOver mostFirst K n (pick n (bit (kept n F)) (inputs n))
+          (tableOver n (bit (kept n F)) F) cs × (mostRecords < length cs))
       go a (too-long ds f g h) e = (sheet-stuck n K F p q .0 f, (ds, cells-made mostFirst n K F p q ds .0 g, h))
       go a (by-make ds f) e = no-answer refl .1 e
       go a (by-more ds f g h) e = no-answer refl .1 e
       go a (no-split f g) e = let z : _≡_ {A = ℕ} 0 1 = cc in absurd (omega arith)
 
       back : Blocked K n (pick n (bit (kept n F)) (inputs n)) (tableOver n (bit (kept n F)) F)
-          → (cs : List Cell) × MakesOver mostFirst K n (pick n (bit (kept n F)) (inputs n)) (tableOver n (bit (kept n F)) F) cs × (mostRecords < length cs)
+          → (cs : List Cell) × MakesOver mostFirst K n (pick n (bit (kept n F)) (inputs n))
+          (tableOver n (bit (kept n F)) F) cs × (mostRecords < length cs)
           → anyAside n K (number (2 ^ n) F) ≡ overlong
       back b w =
           any-more n K T (made (w .0)) (sheet-stuck n K F p q .1 b) (cells-made mostFirst n K F p q (w .0) .1 (w .1))

@@ -26,7 +26,8 @@ use Rattle.chains.specs.Chain.{pick, stuck, made, chain, inputs, sheetOf
 use Rattle.chains.specs.Aside.{keptSignals, keptTable, cellsAside, sheetAside}
 use Rattle.chains.specs.Words.{Makes, Blocked}
 use Rattle.chains.specs.Over.{MakesOver, BlockedOver}
-use Rattle.chains.proofs.Lists.{AllBelow, pick-length, pick-below, pick-rising, packed-pick, inputs-length, inputs-at, inputs-below, inputs-rising}
+use Rattle.chains.proofs.Lists.{AllBelow, pick-length, pick-below, pick-rising, packed-pick, inputs-length}
+use Rattle.chains.proofs.Lists.{inputs-at, inputs-below, inputs-rising}
 use Rattle.chains.proofs.View.{over-made, over-stuck}
 use Rattle.chains.proofs.One.{makes-over, over-one, chain-stuck}
 use Rattle.chains.proofs.Once.{aside-plain, aside-once}
@@ -59,15 +60,18 @@ module _ (n : ℕ) (F : ℕ → Bool) where
       let q = sym (inputs-length n) in
       aside-plain 1 n K n (inputs n) (number (2 ^ n) F)
       (subst (λ (c : ℕ). number (2 ^ n) F < 2 ^ (2 ^ c)) q (number-lt (2 ^ n) F))
-      (subst (λ (c : ℕ). AllCount c (bit (number (2 ^ n) F))) q (count-ext n F (bit (number (2 ^ n) F)) (λ x h. sym (is x h)) all))
+      (subst (λ (c : ℕ). AllCount c (bit (number (2 ^ n) F))) q
+      (count-ext n F (bit (number (2 ^ n) F)) (λ x h. sym (is x h)) all))
 
 -- set aside once, then the chain: what the code does
 pub cells-once : (m n K : ℕ) (F : ℕ → Bool) → 1 ≤ n → 1 ≤ K
-    → cellsAside m n K (number (2 ^ n) F) ≡ chain m n K n (pick n (bit (kept n F)) (inputs n)) (tableOver n (bit (kept n F)) F)
+    → cellsAside m n K (number (2 ^ n) F) ≡ chain m n K n (pick n (bit (kept n F)) (inputs n))
+    (tableOver n (bit (kept n F)) F)
 unfolding cellsAside
 cells-once m zero K F p q = absurd (omega arith)
 cells-once m (suc n) K F p q =
-    aside-once m n K (suc n) (inputs (suc n)) (number (2 ^ suc n) F) q ∙ ap₂ (chain m (suc n) K (suc n)) (signals-are (suc n) F) (table-is (suc n) F)
+    aside-once m n K (suc n) (inputs (suc n)) (number (2 ^ suc n) F) q
+    ∙ ap₂ (chain m (suc n) K (suc n)) (signals-are (suc n) F) (table-is (suc n) F)
 
 -- ---- its cells, with up to m first cells at each step
 module _ (m n K : ℕ) (F : ℕ → Bool) (p : 1 ≤ n) (q : 1 ≤ K) where
@@ -108,7 +112,8 @@ module _ (m n K : ℕ) (F : ℕ → Bool) (p : 1 ≤ n) (q : 1 ≤ K) where
     pub cells-give : Gives n K F cs
     cells-give =
         over-network F makes low
-        (λ x h. ap (bit U) (packed-pick n S (inputs n) (bit x) x (λ j g. ap (bit x) (sym (inputs-at n j g)))) ∙ over-gather n F S (kept-sees n F) x h)
+        (λ x h. ap (bit U) (packed-pick n S (inputs n) (bit x) x (λ j g. ap (bit x) (sym (inputs-at n j g))))
+        ∙ over-gather n F S (kept-sees n F) x h)
 
     -- no cell reads more than K signals, nor more than any larger number
     pub cells-few : (L : ℕ) → K ≤ L → AtMost L cs
@@ -132,21 +137,25 @@ module _ (m n K : ℕ) (F : ℕ → Bool) (p : 1 ≤ n) (q : 1 ≤ K) where
     -- at most m for each input that counts beyond K, and one
     pub cells-most : length cs ≤ (size n (bit (support n F)) - K) * m + 1
     cells-most =
-        let few : length l - K ≤ size n (bit (support n F)) - K = omega (arith, pick-length n S (inputs n), kept-most n F) in
+        let few : length l - K ≤ size n (bit (support n F)) - K = omega
+        (arith, pick-length n S (inputs n), kept-most n F) in
         omega (arith, over-most makes, mul-le-mul-right m few)
 
 -- ---- its sheet, with one first cell at each step
 module _ (n K : ℕ) (F : ℕ → Bool) (p : 1 ≤ n) (q : 1 ≤ K) where
   -- it is made, exactly as document 01 makes the sheet of the table over what is kept
   pub sheet-made : (cs : List Cell)
-      → (sheetAside n K (number (2 ^ n) F) ≡ made cs) ↔ Makes K n (pick n (bit (kept n F)) (inputs n)) (tableOver n (bit (kept n F)) F) cs
+      → (sheetAside n K (number (2 ^ n) F) ≡ made cs)
+      ↔ Makes K n (pick n (bit (kept n F)) (inputs n)) (tableOver n (bit (kept n F)) F) cs
   sheet-made cs = let w = cells-made 1 n K F p q cs in (λ e. over-one (w .0 e), λ c. w .1 (makes-over c))
 
   -- and stuck, exactly where a table of that chain with more than K inputs has no possible split
-  pub sheet-stuck : (sheetAside n K (number (2 ^ n) F) ≡ stuck) ↔ Blocked K n (pick n (bit (kept n F)) (inputs n)) (tableOver n (bit (kept n F)) F)
+  pub sheet-stuck : (sheetAside n K (number (2 ^ n) F) ≡ stuck)
+      ↔ Blocked K n (pick n (bit (kept n F)) (inputs n)) (tableOver n (bit (kept n F)) F)
   sheet-stuck =
       let once = cells-once 1 n K F p q in
-      let exactly = chain-stuck n K n (pick n (bit (kept n F)) (inputs n)) (tableOver n (bit (kept n F)) F) p (enough 1 n K F p q) in
+      let exactly = chain-stuck n K n (pick n (bit (kept n F)) (inputs n)) (tableOver n (bit (kept n F)) F) p
+      (enough 1 n K F p q) in
       (λ e. exactly .0 (sym once ∙ e), λ w. once ∙ exactly .1 w)
 
   module _ (cs : List Cell) (made-is : sheetAside n K (number (2 ^ n) F) ≡ made cs) where

@@ -30,7 +30,8 @@ use Rattle.chains.proofs.Aside.{sheet-made}
 -- ---- find and make
 
 -- the first cell of a chain over more than K signals reads what the best split of its table names
-chain-first : {K i : ℕ} {l : List ℕ} {T : ℕ} {c : Cell} {cs : List Cell} → Makes K i l T (c ∷ cs) → K < length l → (A B : ℕ)
+chain-first : {K i : ℕ} {l : List ℕ} {T : ℕ} {c : Cell} {cs : List Cell} → Makes K i l T (c ∷ cs) → K < length l
+    → (A B : ℕ)
     → best (length l) 1 (bit T) K ≡ split A B
     → c .signals ≡ pick (length l) (readsD (bit A) (bit B)) l
 chain-first (ends h) g A B e = absurd (omega arith)
@@ -41,8 +42,10 @@ chain-first {K} (goes {l = l} {T = T} {A = A′} {B = B′} h b rest) g A B e =
     ap₂ (λ (x y : ℕ). pick (length l) (readsD (bit x) (bit y)) l) a d
 
 -- where more than K inputs count and both answer, find's masks are the inputs that make's first cell reads
-pub first-reads : (n K : ℕ) (F : ℕ → Bool) (A B : ℕ) (c : Cell) (cs : List Cell) → 1 ≤ n → 1 ≤ K → K < size n (bit (support n F))
-    → sheetAside n K (number (2 ^ n) F) ≡ made (c ∷ cs) → bestCounting n 1 F K ≡ split A B → c .signals ≡ pick n (readsD (bit A) (bit B)) (inputs n)
+pub first-reads : (n K : ℕ) (F : ℕ → Bool) (A B : ℕ) (c : Cell) (cs : List Cell) → 1 ≤ n → 1 ≤ K → K
+    < size n (bit (support n F))
+    → sheetAside n K (number (2 ^ n) F) ≡ made (c ∷ cs) → bestCounting n 1 F K ≡ split A B → c .signals
+    ≡ pick n (readsD (bit A) (bit B)) (inputs n)
 unfolding bestCounting
 first-reads n K F A B c cs p q h e f = go (best (size n S) 1 (bit U) K) refl
   where
@@ -56,20 +59,23 @@ first-reads n K F A B c cs p q h e f = go (best (size n S) 1 (bit U) K) refl
     l = pick n (bit (support n F)) (inputs n)
 
     makes : Makes K n (pick n (bit (support n F)) (inputs n)) (tableOver n (bit (support n F)) F) (c ∷ cs)
-    makes = subst (λ (m : ℕ). Makes K n (pick n (bit m) (inputs n)) (tableOver n (bit m) F) (c ∷ cs)) (some-kept n F (omega arith))
+    makes = subst (λ (m : ℕ). Makes K n (pick n (bit m) (inputs n)) (tableOver n (bit m) F) (c ∷ cs))
+        (some-kept n F (omega arith))
         (sheet-made n K F p q (c ∷ cs) .0 e)
 
     size-is : length (pick n (bit (support n F)) (inputs n)) ≡ size n (bit (support n F))
     size-is = pick-length n S (inputs n)
 
-    once : (A B : ℕ) → pick (length l) (readsD (bit A) (bit B)) l ≡ pick n (readsD (bit (spread n S A)) (bit (spread n S B))) (inputs n)
+    once : (A B : ℕ) → pick (length l) (readsD (bit A) (bit B)) l
+        ≡ pick n (readsD (bit (spread n S A)) (bit (spread n S B))) (inputs n)
     once A B =
         ap (λ (m : ℕ). pick m (readsD (bit A) (bit B)) l) size-is
         ∙ pick-pick n S (readsD (bit (spread n S A)) (bit (spread n S B))) (readsD (bit A) (bit B)) (inputs n)
         (λ j h e. ap₂ (λ (a b : Bool). a || b) (bit-spread-in n S A j h e) (bit-spread-in n S B j h e))
         (λ j h e. inside j h (bit (spread n S A) j) refl e)
       where
-        inside : (j : ℕ) → j < n → (t : Bool) → bit (spread n S A) j ≡ t → (t || bit (spread n S B) j) ≡ true → S j ≡ true
+        inside : (j : ℕ) → j < n → (t : Bool) → bit (spread n S A) j ≡ t → (t || bit (spread n S B) j) ≡ true → S j
+            ≡ true
         inside j h true p e = spread-inside n S A j h p
         inside j h false p e = spread-inside n S B j h e
 
@@ -89,7 +95,8 @@ pub sheet-constant : (n K : ℕ) (F : ℕ → Bool) → 1 ≤ n → 1 ≤ K → 
 unfolding size tableOver number
 sheet-constant n K F p q flatly =
     sheet-made n K F p q (lastCell (0 ∷ []) (cond (F 0) 3 0) ∷ []) .1
-    (subst₂ (λ (l : List ℕ) (U : ℕ). Makes K n (pick n S (inputs n)) (tableOver n S F) (lastCell l U ∷ [])) signals table (ends few))
+    (subst₂ (λ (l : List ℕ) (U : ℕ). Makes K n (pick n S (inputs n)) (tableOver n S F) (lastCell l U ∷ [])) signals
+    table (ends few))
   where
     S : ℕ → Bool
     S = bit (kept n F)
@@ -114,11 +121,13 @@ sheet-constant n K F p q flatly =
 
     -- the table is the same everywhere
     flat : (v : ℕ) → F (spread n (bit (kept n F)) v) ≡ F 0
-    flat v = support-sees n F (spread n S v) 0 (spread-lt n S v) (pow-pos n) (λ j l e. absurd (omega (arith, size-lt n (bit (support n F)) j l e)))
+    flat v = support-sees n F (spread n S v) 0 (spread-lt n S v) (pow-pos n)
+        (λ j l e. absurd (omega (arith, size-lt n (bit (support n F)) j l e)))
 
     both : (t : Bool) → number 2 (λ v. t) ≡ cond t 3 0
     both true = refl
     both false = refl
 
     table : tableOver n (bit (kept n F)) F ≡ cond (F 0) 3 0
-    table = ap (λ (c : ℕ). number (2 ^ c) (λ v. F (spread n S v))) one ∙ number-ext 2 (λ v. F (spread n S v)) (λ v. F 0) (λ v _. flat v) ∙ both (F 0)
+    table = ap (λ (c : ℕ). number (2 ^ c) (λ v. F (spread n S v))) one
+        ∙ number-ext 2 (λ v. F (spread n S v)) (λ v. F 0) (λ v _. flat v) ∙ both (F 0)

@@ -1,4 +1,5 @@
--- With one first cell at most, the chain is document 01's: the same cells, and stuck at the same tables. Assumes nothing.
+-- With one first cell at most, the chain is document 01's: the same cells, and stuck at the same tables. Assumes
+-- nothing.
 use mathlib.Core.Path.{_≡_, sym, ap, _∙_, subst}
 use mathlib.Core.Logic.{_↔_}
 use mathlib.Core.Bool.{Bool}
@@ -18,7 +19,8 @@ use Rattle.choices.specs.Best.{Splits, BestUpTo}
 use Rattle.choices.specs.Search.{nothing, better, firstOver}
 use Rattle.choices.proofs.Best.{upto-best, upto-own}
 use Rattle.sheets.specs.Network.{Cell}
-use Rattle.chains.specs.Chain.{pick, nextSignals, nextTable, newCells, signalsAfter, tableAfter, stuck, made, chain, inputs, sheetOf}
+use Rattle.chains.specs.Chain.{pick, nextSignals, nextTable, newCells, signalsAfter, tableAfter, stuck, made}
+use Rattle.chains.specs.Chain.{chain, inputs, sheetOf}
 use Rattle.chains.specs.Words.{Makes, InChain, Blocked}
 use Rattle.chains.specs.Words as words
 use Rattle.chains.specs.Over.{MakesOver, ends, goes, InChainOver, itself, later, BlockedOver}
@@ -61,12 +63,14 @@ module _ {K A B : ℕ} {F : ℕ → Bool} (l : List ℕ) (i : ℕ) (b : Best (le
 -- ---- what is made
 module _ (i : ℕ) (l : List ℕ) (T A B : ℕ) where
   -- what follows the step is the same
-  follows : (P : ℕ → List ℕ → ℕ → Type 0) → P (i + 1) (signalsAfter l 1 A B i) (tableAfter l T 1 A B) → P (suc i) (nextSignals l A B i) (nextTable l T A B)
+  follows : (P : ℕ → List ℕ → ℕ → Type 0) → P (i + 1) (signalsAfter l 1 A B i) (tableAfter l T 1 A B)
+      → P (suc i) (nextSignals l A B i) (nextTable l T A B)
   follows P p =
       subst (λ (j : ℕ). P j (nextSignals l A B i) (nextTable l T A B)) (add-one i)
       (subst (λ (s : List ℕ). P (i + 1) s (nextTable l T A B)) (one-signals l A B i) p)
 
-  before : (P : ℕ → List ℕ → ℕ → Type 0) → P (suc i) (nextSignals l A B i) (nextTable l T A B) → P (i + 1) (signalsAfter l 1 A B i) (tableAfter l T 1 A B)
+  before : (P : ℕ → List ℕ → ℕ → Type 0) → P (suc i) (nextSignals l A B i) (nextTable l T A B)
+      → P (i + 1) (signalsAfter l 1 A B i) (tableAfter l T 1 A B)
   before P p =
       subst (λ (s : List ℕ). P (i + 1) s (nextTable l T A B)) (sym (one-signals l A B i))
       (subst (λ (j : ℕ). P j (nextSignals l A B i) (nextTable l T A B)) (sym (add-one i)) p)
@@ -83,13 +87,15 @@ over-one (ends h) = words.ends h
 over-one {K} (goes {i = i} {l = l} {T = T} r A B {cs = cs} h b c) = subst Step (sym (one-only b)) step b (over-one c)
   where
     Step : ℕ → Type 0
-    Step r = BestUpTo (length l) K 1 (bit T) r A B → Makes K (i + r) (signalsAfter l r A B i) (tableAfter l T r A B) cs → Makes K i l T (newCells l T r A B ++ cs)
+    Step r = BestUpTo (length l) K 1 (bit T) r A B → Makes K (i + r) (signalsAfter l r A B i) (tableAfter l T r A B) cs
+        → Makes K i l T (newCells l T r A B ++ cs)
 
     step : Step 1
     step b w = words.goes h (upto-own (length l) K (bit T) 1 1 A B b) (follows i l T A B (λ j s U. Makes K j s U cs) w)
 
 -- with turns enough, the chain with one first cell makes the cells of document 01's chain in words
-pub chain-made : (k K i : ℕ) (l : List ℕ) (T : ℕ) (cs : List Cell) → 1 ≤ k → length l < k + K → (chain 1 k K i l T ≡ made cs) ↔ Makes K i l T cs
+pub chain-made : (k K i : ℕ) (l : List ℕ) (T : ℕ) (cs : List Cell) → 1 ≤ k → length l < k + K
+    → (chain 1 k K i l T ≡ made cs) ↔ Makes K i l T cs
 chain-made k K i l T cs p h =
     let w = over-made 1 k K i l T cs p h in
     (λ e. over-one (w .0 e), λ c. w .1 (makes-over c))
@@ -108,16 +114,20 @@ in-over {K} {l′ = l′} {T′ = T′} (words.later {i = i} {l = l} {T = T} {A 
 
 over-in : {K i : ℕ} {l l′ : List ℕ} {T T′ : ℕ} → InChainOver 1 K l′ T′ i l T → InChain K l′ T′ i l T
 over-in itself = words.itself
-over-in {K} {l′ = l′} {T′ = T′} (later {i = i} {l = l} {T = T} r A B h b c) = subst Step (sym (one-only b)) step b (over-in c)
+over-in {K} {l′ = l′} {T′ = T′} (later {i = i} {l = l} {T = T} r A B h b c) = subst Step (sym (one-only b)) step b
+    (over-in c)
   where
     Step : ℕ → Type 0
-    Step r = BestUpTo (length l) K 1 (bit T) r A B → InChain K l′ T′ (i + r) (signalsAfter l r A B i) (tableAfter l T r A B) → InChain K l′ T′ i l T
+    Step r = BestUpTo (length l) K 1 (bit T) r A B
+        → InChain K l′ T′ (i + r) (signalsAfter l r A B i) (tableAfter l T r A B) → InChain K l′ T′ i l T
 
     step : Step 1
-    step b w = words.later h (upto-own (length l) K (bit T) 1 1 A B b) (follows i l T A B (λ j s U. InChain K l′ T′ j s U) w)
+    step b w = words.later h (upto-own (length l) K (bit T) 1 1 A B b)
+        (follows i l T A B (λ j s U. InChain K l′ T′ j s U) w)
 
 -- with turns enough, it is stuck exactly where a table in it with more than K inputs has no possible split
-pub chain-stuck : (k K i : ℕ) (l : List ℕ) (T : ℕ) → 1 ≤ k → length l < k + K → (chain 1 k K i l T ≡ stuck) ↔ Blocked K i l T
+pub chain-stuck : (k K i : ℕ) (l : List ℕ) (T : ℕ) → 1 ≤ k → length l < k + K → (chain 1 k K i l T ≡ stuck)
+    ↔ Blocked K i l T
 chain-stuck k K i l T p h = let s = over-stuck 1 k K i l T p h in (λ e. to (s .0 e), λ w. s .1 (from w))
   where
     to : BlockedOver 1 K i l T → Blocked K i l T
@@ -126,7 +136,12 @@ chain-stuck k K i l T p h = let s = over-stuck 1 k K i l T p h in (λ e. to (s .
       table = w .table;
       inChain = over-in (w .inChain);
       more = w .more;
-      never = λ A B k P. w .never 1 A B (record { some = omega arith; most = omega arith; candidate = k; possible = P });
+      never = λ A B k P. w .never 1 A B (record {
+        some = omega arith;
+        most = omega arith;
+        candidate = k;
+        possible = P;
+      });
     }
 
     from : Blocked K i l T → BlockedOver 1 K i l T

@@ -37,7 +37,12 @@ reads-list : (s r : ℕ) (f : ℕ → Cell) → 1 ≤ r → 1 ≤ times s (f 0 .
 unfolding listOf
 reads-list s zero f p h = absurd (not-suc-le-zero p)
 reads-list s (suc zero) f p h = omega arith
-reads-list s (suc (suc r)) f p h = omega (arith, reads-append s (listOf (suc r) f) (f (suc r) ∷ []), reads-list s (suc r) f (omega arith) h)
+reads-list s (suc (suc r)) f p h = omega (
+  arith,
+  reads-append s (listOf (suc r) f) (f (suc r) ∷ []),
+  reads-list s
+      (suc r) f (omega arith) h,
+)
 
 -- ---- where a signal stands
 
@@ -49,7 +54,8 @@ module _ (l : List ℕ) (r A B i : ℕ) where
   sH = readsH (bit A) (bit B)
 
   kept-at : (j : ℕ) → j < n → sH j ≡ true → getD (signalsAfter l r A B i) (size j sH) 0 ≡ getD l j 0
-  kept-at j h e = List·getD-append (pick n sH l) (listOf r (λ t. i + t)) 0 (size j sH) (omega (arith, pick-length n sH l, size-lt n sH j h e)) ∙ pick-at n sH l j h e
+  kept-at j h e = List·getD-append (pick n sH l) (listOf r (λ t. i + t)) 0 (size j sH)
+      (omega (arith, pick-length n sH l, size-lt n sH j h e)) ∙ pick-at n sH l j h e
 
   new-at : (t : ℕ) → t < r → getD (signalsAfter l r A B i) (size n sH + t) 0 ≡ i + t
   new-at t h =
@@ -57,26 +63,31 @@ module _ (l : List ℕ) (r A B i : ℕ) where
       ∙ getD-append-add (pick n sH l) (listOf r (λ t. i + t)) t 0 ∙ list-at r (λ t. i + t) t 0 h
 
 -- ---- every signal at hand is read
-signals-read : {m K i : ℕ} {l : List ℕ} {T : ℕ} {cs : List Cell} → MakesOver m K i l T cs → (p : ℕ) → p < length l → 1 ≤ reads (getD l p 0) cs
+signals-read : {m K i : ℕ} {l : List ℕ} {T : ℕ} {cs : List Cell} → MakesOver m K i l T cs → (p : ℕ) → p < length l → 1
+    ≤ reads (getD l p 0) cs
 signals-read (ends {l = l} h) p q = omega (arith, times-at l p q)
 signals-read (goes {i = i} {l = l} {T = T} r A B {cs = cs} h b c) p q =
     let s = getD l p 0 in
     omega (arith, reads-append s (newCells l T r A B) cs, go (bit A p) refl (λ k g. signals-read c k g))
   where
-    go : (t : Bool) → bit A p ≡ t → ((p : ℕ) → p < length (signalsAfter l r A B i) → 1 ≤ reads (getD (signalsAfter l r A B i) p 0) cs)
+    go : (t : Bool) → bit A p ≡ t → ((p : ℕ) → p < length (signalsAfter l r A B i) → 1
+        ≤ reads (getD (signalsAfter l r A B i) p 0) cs)
         → 1 ≤ reads (getD l p 0) (newCells l T r A B) + reads (getD l p 0) cs
     go true e ih =
         let sD = readsD (bit A) (bit B) in
         let o : sD p ≡ true = or-left (bit A p) (bit B p) e in
         let f : 1 ≤ times (getD (pick (length l) sD l) (size p sD) 0) (pick (length l) sD l) =
-        times-at (pick (length l) sD l) (size p sD) (omega (arith, pick-length (length l) sD l, size-lt (length l) sD p q o)) in
-        let g : 1 ≤ times (getD l p 0) (pick (length l) sD l) = subst (λ (s : ℕ). 1 ≤ times s (pick (length l) sD l)) (pick-at (length l) sD l p q o) f in
+        times-at (pick (length l) sD l) (size p sD) (omega
+        (arith, pick-length (length l) sD l, size-lt (length l) sD p q o)) in
+        let g : 1 ≤ times (getD l p 0) (pick (length l) sD l) = subst (λ (s : ℕ). 1 ≤ times s (pick (length l) sD l))
+        (pick-at (length l) sD l p q o) f in
         omega (arith, reads-list (getD l p 0) r (cellAt l T A B) (b .works .some) g)
     go false e ih =
         let s = readsH (bit A) (bit B) in
         let o : s p ≡ true = either (bit A p) (bit B p) e in
         let g : 1 ≤ reads (getD l p 0) cs =
-        subst (λ (k : ℕ). 1 ≤ reads k cs) (kept-at l r A B i p q o) (ih (size p s) (omega (arith, after-inputs l r A B i, size-lt (length l) s p q o))) in
+        subst (λ (k : ℕ). 1 ≤ reads k cs) (kept-at l r A B i p q o)
+        (ih (size p s) (omega (arith, after-inputs l r A B i, size-lt (length l) s p q o))) in
         omega arith
       where
         either : (a t : Bool) → a ≡ false → (t || not (a || t)) ≡ true
@@ -85,7 +96,8 @@ signals-read (goes {i = i} {l = l} {T = T} r A B {cs = cs} h b c) p q =
         either false false z = refl
 
 -- every cell but the last, that is every signal from i on but the last, is read
-each-read : {m K i : ℕ} {l : List ℕ} {T : ℕ} {cs : List Cell} → MakesOver m K i l T cs → (s : ℕ) → i ≤ s → s + 1 < i + length cs → 1 ≤ reads s cs
+each-read : {m K i : ℕ} {l : List ℕ} {T : ℕ} {cs : List Cell} → MakesOver m K i l T cs → (s : ℕ) → i ≤ s → s + 1 < i
+    + length cs → 1 ≤ reads s cs
 each-read (ends h) s p q = absurd (omega arith)
 each-read (goes {i = i} {l = l} {T = T} r A B {cs = cs} h b c) s p q = elim (decLt s (i + r)) [
   | yes g ↦
@@ -94,13 +106,19 @@ each-read (goes {i = i} {l = l} {T = T} r A B {cs = cs} h b c) s p q = elim (dec
       let t = s - i in
       let f : t < r = omega arith in
       let e : i + t ≡ s = omega arith in
-      let y : 1 ≤ reads s cs = subst (λ (k : ℕ). 1 ≤ reads k cs) (new-at l r A B i t f ∙ e) (signals-read c (size n sH + t) (omega (arith, after-inputs l r A B i))) in
+      let y : 1 ≤ reads s cs = subst (λ (k : ℕ). 1 ≤ reads k cs) (new-at l r A B i t f ∙ e)
+      (signals-read c (size n sH + t) (omega (arith, after-inputs l r A B i))) in
       omega (arith, reads-append s (newCells l T r A B) cs)
   | no g ↦
       omega (
         arith,
         reads-append s (newCells l T r A B) cs,
-        each-read c s (omega arith) (omega (arith, length-append (newCells l T r A B) cs, length-list r (cellAt l T A B))),
+        each-read c s (omega arith) (omega (
+          arith,
+          length-append (newCells l T r A B) cs,
+          length-list r
+              (cellAt l T A B),
+        )),
       )
 ]
 
@@ -120,4 +138,9 @@ later-reads K i (c ∷ cs) w (suc j) s h =
 
 pub over-read : {m K i : ℕ} {l : List ℕ} {T : ℕ} {cs : List Cell} → MakesOver m K i l T cs → AllBelow i l → AllRead i cs
 over-read {m} {K} {i} {l} {T} {cs} c low j h =
-    omega (arith, each-read c (i + j) (omega arith) (omega arith), later-reads K i cs (over-wired c low) (suc j) (i + j) (omega arith))
+    omega (
+      arith,
+      each-read c (i + j) (omega arith) (omega arith),
+      later-reads K i cs (over-wired c low) (suc j) (i + j)
+          (omega arith),
+    )

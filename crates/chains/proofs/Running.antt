@@ -1,4 +1,5 @@
--- Cells that read only signals below i, run in turn from signal i on: the signals below i stay, and signal i + t is what
+-- Cells that read only signals below i, run in turn from signal i on: the signals below i stay, and signal i + t is
+-- what
 -- cell t gives. Assumes nothing.
 use mathlib.Core.Path.{_≡_, refl, sym, ap, _∙_}
 use mathlib.Core.Logic.{⊎-elim}
@@ -24,15 +25,18 @@ after i [] v = v
 after i (c ∷ cs) v = after (suc i) cs (λ s. cond (eqb s i) (output c v) (v s))
 
 -- some cells, then others
-pub run-append : (o : Bool) (i : ℕ) (cs ds : List Cell) (v : ℕ → Bool) → run o i (cs ++ ds) v ≡ run (run o i cs v) (i + length cs) ds (after i cs v)
+pub run-append : (o : Bool) (i : ℕ) (cs ds : List Cell) (v : ℕ → Bool) → run o i (cs ++ ds) v
+    ≡ run (run o i cs v) (i + length cs) ds (after i cs v)
 unfolding run after
 run-append o i [] ds v = ap (λ (j : ℕ). run o j ds v) (sym (add-zero i))
 run-append o i (c ∷ cs) ds v =
     let w : ℕ → Bool = λ s. cond (eqb s i) (output c v) (v s) in
     let e : suc i + length cs ≡ i + suc (length cs) = omega arith in
-    run-append (output c v) (suc i) cs ds w ∙ ap (λ (j : ℕ). run (run (output c v) (suc i) cs w) j ds (after (suc i) cs w)) e
+    run-append (output c v) (suc i) cs ds w ∙ ap (λ (j : ℕ). run (run (output c v) (suc i) cs w) j ds
+    (after (suc i) cs w)) e
 
-after-append : (i : ℕ) (cs ds : List Cell) (v : ℕ → Bool) → after i (cs ++ ds) v ≡ after (i + length cs) ds (after i cs v)
+after-append : (i : ℕ) (cs ds : List Cell) (v : ℕ → Bool) → after i (cs ++ ds) v
+    ≡ after (i + length cs) ds (after i cs v)
 unfolding after
 after-append i [] ds v = ap (λ (j : ℕ). after j ds v) (sym (add-zero i))
 after-append i (c ∷ cs) ds v =
@@ -56,22 +60,27 @@ module _ (i : ℕ) (f : ℕ → Cell) (v : ℕ → Bool) (low : (t : ℕ) → Al
   unfolding listOf after
   after-old zero s h = refl
   after-old (suc r) s h =
-      one-more r s ∙ ap (λ (t : Bool). cond t (output (f r) (w r)) (w r s)) (ne-eqb s (i + r) (omega arith)) ∙ after-old r s h
+      one-more r s ∙ ap (λ (t : Bool). cond t (output (f r) (w r)) (w r s)) (ne-eqb s (i + r) (omega arith))
+      ∙ after-old r s h
 
   same-output : (r t : ℕ) → output (f t) (w r) ≡ output (f t) v
   unfolding output
   same-output r t =
-      ap (bit (f t .table)) (number-ext (length (f t .signals)) (λ j. w r (getD (f t .signals) j 0)) (λ j. v (getD (f t .signals) j 0))
+      ap (bit (f t .table)) (number-ext (length (f t .signals)) (λ j. w r (getD (f t .signals) j 0))
+      (λ j. v (getD (f t .signals) j 0))
       (λ j h. after-old r (getD (f t .signals) j 0) (low t j h)))
 
   pub after-new : (r t : ℕ) → t < r → w r (i + t) ≡ output (f t) v
   after-new zero t h = absurd (not-suc-le-zero h)
   after-new (suc r) t h = one-more r (i + t) ∙ ⊎-elim (old (after-new r t)) new (below-suc {j = t} {n = r} h)
     where
-      old : (t < r → w r (i + t) ≡ output (f t) v) → t < r → cond (eqb (i + t) (i + r)) (output (f r) (w r)) (w r (i + t)) ≡ output (f t) v
-      old ih l = ap (λ (b : Bool). cond b (output (f r) (w r)) (w r (i + t))) (ne-eqb (i + t) (i + r) (omega arith)) ∙ ih l
+      old : (t < r → w r (i + t) ≡ output (f t) v) → t < r
+          → cond (eqb (i + t) (i + r)) (output (f r) (w r)) (w r (i + t)) ≡ output (f t) v
+      old ih l = ap (λ (b : Bool). cond b (output (f r) (w r)) (w r (i + t))) (ne-eqb (i + t) (i + r) (omega arith))
+          ∙ ih l
 
       new : t ≡ r → cond (eqb (i + t) (i + r)) (output (f r) (w r)) (w r (i + t)) ≡ output (f t) v
       new e =
-          ap (λ (b : Bool). cond b (output (f r) (w r)) (w r (i + t))) (eq-eqb (i + t) (i + r) (ap (λ (k : ℕ). i + k) e))
+          ap (λ (b : Bool). cond b (output (f r) (w r)) (w r (i + t)))
+          (eq-eqb (i + t) (i + r) (ap (λ (k : ℕ). i + k) e))
           ∙ same-output r r ∙ ap (λ (k : ℕ). output (f k) v) (sym e)

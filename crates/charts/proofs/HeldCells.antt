@@ -15,4 +15,5 @@ pub table-D : (n : ℕ) (F : ℕ → Bool) (A B : ℕ → Bool) (t : ℕ) → si
     → tableNumber (heldD n F A B t) ≡ tableD n F A B t
 unfolding tableD
 table-D n F A B t h =
-    words-joined cellWords (size n (readsD A B)) (bitD n F A B t) (omega (arith, pow-mono {i = size n (readsD A B)} {j = 8} h))
+    words-joined cellWords (size n (readsD A B)) (bitD n F A B t)
+    (omega (arith, pow-mono {i = size n (readsD A B)} {j = 8} h))

@@ -33,7 +33,8 @@ module _ (n K : ℕ) (F : ℕ → Bool) where
     where
       go : (a : Answer) → best n r F K ≡ a → Says n Right r a
       go none e = λ A B k. best-none n r F K e A B (k .0) (k .1)
-      go (split A B) e = let b = best-split n r F K A B e in ((b .candidate, b .possible), λ A′ B′ k. b .ahead A′ B′ (k .0) (k .1))
+      go (split A B) e = let b = best-split n r F K A B e
+          in ((b .candidate, b .possible), λ A′ B′ k. b .ahead A′ B′ (k .0) (k .1))
 
   -- the answer is the best with up to m first cells, and that is the answer
   pub upto-best : (m r A B : ℕ) → (bestUpTo n F K m ≡ choice r A B) ↔ BestUpTo n K m F r A B
@@ -86,7 +87,8 @@ module _ (n K : ℕ) (F : ℕ → Bool) where
   over-none = first-none n (λ m. Works n K m F) Counted up-counted (λ r. bestCounting n r F K) says-counted
 
   -- only one is best
-  pub over-unique : (m r A B r′ A′ B′ : ℕ) → BestOver n K m F r A B → BestOver n K m F r′ A′ B′ → (r ≡ r′) × (A ≡ A′) × (B ≡ B′)
+  pub over-unique : (m r A B r′ A′ B′ : ℕ) → BestOver n K m F r A B → BestOver n K m F r′ A′ B′ → (r ≡ r′) × (A ≡ A′)
+      × (B ≡ B′)
   over-unique m = first-unique n (Works n K m F)
 
   -- the best over r is the best of its own r
@@ -96,5 +98,6 @@ module _ (n K : ℕ) (F : ℕ → Bool) where
     counting = b .works .counting;
     possible = b .works .possible;
     ahead = λ A′ B′ k z P.
-        first-own n (λ m. Works n K m F) Counted up-counted (λ r. bestCounting n r F K) says-counted m r A B b A′ B′ (k, z, P);
+        first-own n (λ m. Works n K m F) Counted up-counted (λ r. bestCounting n r F K) says-counted m r A B b A′ B′
+        (k, z, P);
   })

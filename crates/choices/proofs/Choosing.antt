@@ -35,7 +35,8 @@ module _ (n r : ℕ) (some : 1 ≤ r) (c : Chosen) (A B : ℕ) where
   is-fresh = is-choice fresh (λ z. omega arith)
 
   -- where there was nothing it is taken
-  pub taken-first : c .first ≡ 0 → choiceOf (record { first = r; own = A; shared = B }) ≡ better n r (choiceOf c) (split A B)
+  pub taken-first : c .first ≡ 0 → choiceOf (record { first = r; own = A; shared = B })
+      ≡ better n r (choiceOf c) (split A B)
   taken-first h = is-fresh ∙ ap (λ (c : Choice). better n r c (split A B)) (sym (is-nothing c h))
 
   module _ (h : c .first ≡ 0 → ⊥) where
@@ -76,7 +77,8 @@ module _ (n K low : ℕ) (F : ℕ → Bool) (m : ℕ) (c : Chosen) (is : choiceO
       go : (d : Choice) → bestUpTo n F K m ≡ d → Held (sparing n low d)
       go nothing e = (tt, tt)
       go (choice q A B) e = elim (decLt (low + q) (size n (bit A))) [
-        | yes l ↦ subst Held (sym (is-sparing n low q A B l)) (upto-best n K F m q A B .0 e .works .candidate .belowA, l)
+        | yes l ↦ subst Held (sym (is-sparing n low q A B l))
+            (upto-best n K F m q A B .0 e .works .candidate .belowA, l)
         | no l ↦ subst Held (sym (not-sparing n low q A B (omega arith))) (tt, tt)
       ]
 
@@ -107,7 +109,8 @@ module _ {n K m low : ℕ} {F : ℕ → Bool} {c : Chosen} {r : ℕ} (w : Chose 
           | no l ↦ subst (SplitBelow n) (sym (not-above n f A B (omega arith))) tt
         ]
 
-    pub chose-more : Floor n r low (choiceOf c) f → (c′ : Chosen) → r ≤ m → (choiceOf c′ ≡ better n r (choiceOf c) a) × (c′ .first ≤ mostFirst)
+    pub chose-more : Floor n r low (choiceOf c) f → (c′ : Chosen) → r ≤ m → (choiceOf c′ ≡ better n r (choiceOf c) a)
+        × (c′ .first ≤ mostFirst)
         → Chose n K m low F c′ (r + 1)
     chose-more fl c′ h e = let q : r ≡ r + 1 - 1 = omega arith in record {
       best = e .0 ∙ ap (better n r (choiceOf c)) is ∙ fl .enough (best n r F K)
@@ -120,4 +123,5 @@ module _ {n K m low : ℕ} {F : ℕ → Bool} {c : Chosen} {r : ℕ} (w : Chose 
     }
 
   pub chose-all : m < r → choiceOf c ≡ sparing n low (bestUpTo n F K m)
-  chose-all h = let q : r - 1 ≡ m = omega (arith, w .most) in w .best ∙ ap (λ (i : ℕ). sparing n low (bestUpTo n F K i)) q
+  chose-all h = let q : r - 1 ≡ m = omega (arith, w .most) in w .best
+      ∙ ap (λ (i : ℕ). sparing n low (bestUpTo n F K i)) q

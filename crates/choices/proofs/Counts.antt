@@ -38,8 +38,10 @@ module _ (n K m A B : ℕ) (F : ℕ → Bool) (all : AllCount n F) where
       subst (DependsOn (k + 1) H) e (own (place n (bit A) 0 (omega (arith, b .works .candidate .more))))
     where
       own : Place n (bit A) 0 → DependsOn (k + 1) H k
-      own w = output-counts n F (bit A) (bit B) (b .works .candidate .apart) (b .works .possible) (w .at) (w .below) (w .member) (all (w .at) (w .below))
-  reads-output (suc (suc u)) b t h = ⊎-elim (λ d. d) (λ idle. absurd (never idle)) (depends-or (k + suc (suc u)) H (k + t) (omega arith))
+      own w = output-counts n F (bit A) (bit B) (b .works .candidate .apart) (b .works .possible) (w .at) (w .below)
+          (w .member) (all (w .at) (w .below))
+  reads-output (suc (suc u)) b t h = ⊎-elim (λ d. d) (λ idle. absurd (never idle))
+      (depends-or (k + suc (suc u)) H (k + t) (omega arith))
     where
       never : Ignores (k + suc (suc u)) H (k + t) → ⊥
       never idle =
@@ -49,7 +51,13 @@ module _ (n K m A B : ℕ) (F : ℕ → Bool) (all : AllCount n F) where
             b .ahead (suc u) A B (record {
               some = omega arith;
               most = omega (arith, b .works .most);
-              candidate = record { belowA = c .belowA; belowB = c .belowB; apart = c .apart; more = omega (arith, c .more); most = c .most };
+              candidate = record {
+                belowA = c .belowA;
+                belowB = c .belowB;
+                apart = c .apart;
+                more = omega (arith, c .more);
+                most = c .most;
+              };
               possible = one-less n F (bit A) (bit B) (c .apart) (suc u) (b .works .possible) t h idle;
             }) .largest,
           )
@@ -70,5 +78,6 @@ upto-counts n K m F r A B b all =
     each : AllCount (size n (readsH (bit A) (bit B)) + r) (bitH n F (bit A) (bit B))
     each q h = elim (decLt q k) [
       | yes l ↦ next-reads F (upto-own n K F m r A B b) all q l
-      | no l ↦ let e : k + (q - k) ≡ q = omega arith in subst (DependsOn (k + r) H) e (reads-output n K m A B F all r b (q - k) (omega arith))
+      | no l ↦ let e : k + (q - k) ≡ q = omega arith
+          in subst (DependsOn (k + r) H) e (reads-output n K m A B F all r b (q - k) (omega arith))
     ]

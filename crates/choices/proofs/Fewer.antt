@@ -17,7 +17,8 @@ use Rattle.splits.specs.Pair.{bitH}
 use Rattle.splits.proofs.Asked.{code, code-small, code-sees, gives, input-lt, input-high}
 use Rattle.splits.proofs.Respect.{possible-of}
 
-module _ (n : ℕ) (F : ℕ → Bool) (A B : ℕ → Bool) (apart : Apart n A B) (u : ℕ) (P : Possible n F A B (suc u)) (t : ℕ) (lt : t < suc u)
+module _ (n : ℕ) (F : ℕ → Bool) (A B : ℕ → Bool) (apart : Apart n A B) (u : ℕ) (P : Possible n F A B (suc u)) (t : ℕ)
+    (lt : t < suc u)
     (idle : Ignores (size n (readsH A B) + suc u) (bitH n F A B) (size n (readsH A B) + t)) where
   abbrev k : ℕ
   k = size n (readsH A B)
@@ -29,7 +30,8 @@ module _ (n : ℕ) (F : ℕ → Bool) (A B : ℕ → Bool) (apart : Apart n A B)
   given = code n F A B apart (suc u) P
 
   -- codes that are alike but for output t, behind the same inputs
-  codes-alike : (x c d : ℕ) → ((s : ℕ) → s < suc u → (s ≡ t → ⊥) → bit c s ≡ bit d s) → AlikeBut (k + suc u) (k + t) (inputH n A B x c) (inputH n A B x d)
+  codes-alike : (x c d : ℕ) → ((s : ℕ) → s < suc u → (s ≡ t → ⊥) → bit c s ≡ bit d s)
+      → AlikeBut (k + suc u) (k + t) (inputH n A B x c) (inputH n A B x d)
   codes-alike x c d same i h ne = elim (decLt i k) [
     | yes g ↦ bit-below (gather n (readsH A B) x) c k i g ∙ sym (bit-below (gather n (readsH A B) x) d k i g)
     | no g ↦ let e : i ≡ k + (i - k) = omega arith in
@@ -51,7 +53,8 @@ module _ (n : ℕ) (F : ℕ → Bool) (A B : ℕ → Bool) (apart : Apart n A B)
   -- all but output t are as they were
   back : (x s : ℕ) → s < suc u → (s ≡ t → ⊥) → bit (given x) s ≡ bit (number (suc u) (filled (left x))) s
   unfolding filled left skip
-  back x s h ne = sym (bit-number (suc u) (filled (left x)) s h ∙ elim (decLt s t) [ yes l ↦ before l | no l ↦ beyond (omega arith) ])
+  back x s h ne = sym (bit-number (suc u) (filled (left x)) s h
+      ∙ elim (decLt s t) [ yes l ↦ before l | no l ↦ beyond (omega arith) ])
     where
       before : s < t → filled (left x) s ≡ bit (given x) s
       before l =

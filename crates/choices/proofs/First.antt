@@ -18,7 +18,8 @@ use Rattle.choices.specs.Search.{Choice, nothing, choice, better, firstO
 
 -- ---- the order
 
-over-antisym : (n r A B r′ A′ B′ : ℕ) → AheadOver n r A B r′ A′ B′ → AheadOver n r′ A′ B′ r A B → (r ≡ r′) × (A ≡ A′) × (B ≡ B′)
+over-antisym : (n r A B r′ A′ B′ : ℕ) → AheadOver n r A B r′ A′ B′ → AheadOver n r′ A′ B′ r A B → (r ≡ r′) × (A ≡ A′)
+    × (B ≡ B′)
 over-antisym n r A B r′ A′ B′ p q =
     let a : size n (bit A′) + r ≡ size n (bit A) + r′ = omega (arith, p .largest, q .largest) in
     let e : r ≡ r′ = omega (arith, p .least a, q .least (sym a)) in
@@ -30,9 +31,11 @@ pub smaller : (n : ℕ) {r A B r′ A′ B′ : ℕ} → size n (bit A′) + r <
 smaller n h = record { largest = omega arith; least = λ e. absurd (omega arith); inOrder = λ e q. absurd (omega arith) }
 
 -- only one is first
-pub first-unique : (n : ℕ) (Work : ℕ → ℕ → ℕ → Type 0) (r A B r′ A′ B′ : ℕ) → FirstOf n Work r A B → FirstOf n Work r′ A′ B′
+pub first-unique : (n : ℕ) (Work : ℕ → ℕ → ℕ → Type 0) (r A B r′ A′ B′ : ℕ) → FirstOf n Work r A B
+    → FirstOf n Work r′ A′ B′
     → (r ≡ r′) × (A ≡ A′) × (B ≡ B′)
-first-unique n Work r A B r′ A′ B′ p q = over-antisym n r A B r′ A′ B′ (p .ahead r′ A′ B′ (q .works)) (q .ahead r A B (p .works))
+first-unique n Work r A B r′ A′ B′ p q = over-antisym n r A B r′ A′ B′ (p .ahead r′ A′ B′ (q .works))
+    (q .ahead r A B (p .works))
 
 -- what an answer of one r says of those that are right for it
 abbrev pub Says : ℕ → (ℕ → ℕ → ℕ → Type 0) → ℕ → Answer → Type 0
@@ -58,7 +61,8 @@ module _ (n : ℕ) (Work : ℕ → ℕ → ℕ → ℕ → Type 0) (Right : ℕ 
     lift : {r A B : ℕ} → Work m r A B → Work (suc m) r A B
     lift k = up .work (up .some k) (omega (arith, up .most k)) (up .right k)
 
-    by : (P : ℕ → ℕ → ℕ → Type 0) → ((r A B : ℕ) → Work m r A B → P r A B) → ((A B : ℕ) → Right (suc m) A B → P (suc m) A B)
+    by : (P : ℕ → ℕ → ℕ → Type 0) → ((r A B : ℕ) → Work m r A B → P r A B)
+        → ((A B : ℕ) → Right (suc m) A B → P (suc m) A B)
         → (r A B : ℕ) → Work (suc m) r A B → P r A B
     by P old new r A B k =
         ⊎-elim (λ h. old r A B (up .work (up .some k) (omega arith) (up .right k)))
@@ -74,16 +78,21 @@ module _ (n : ℕ) (Work : ℕ → ℕ → ℕ → ℕ → Type 0) (Right : ℕ 
 
     next : (c : Choice) (a : Answer) → Tells m c → Says n Right (suc m) a → Tells (suc m) (better n (suc m) c a)
     next nothing none t s = by (λ r A B. ⊥) t s
-    next (choice r A B) none t s = record { works = lift (t .works); ahead = by (AheadOver n r A B) (t .ahead) (λ A′ B′ k. absurd (s A′ B′ k)) }
+    next (choice r A B) none t s = record {
+      works = lift (t .works);
+      ahead = by (AheadOver n r A B) (t .ahead) (λ A′ B′ k. absurd (s A′ B′ k));
+    }
     next nothing (split A B) t s = record {
       works = own (s .0);
       ahead = by (AheadOver n (suc m) A B) (λ r′ A′ B′ k. absurd (t r′ A′ B′ k)) (λ A′ B′ k. same-r (s .1 A′ B′ k));
     }
     next (choice r C D) (split A B) t s = go (ltb (size n (bit C) + suc m) (size n (bit A) + r)) refl
       where
-        go : (u : Bool) → ltb (size n (bit C) + suc m) (size n (bit A) + r) ≡ u → Tells (suc m) (cond u (choice (suc m) A B) (choice r C D))
+        go : (u : Bool) → ltb (size n (bit C) + suc m) (size n (bit A) + r) ≡ u
+            → Tells (suc m) (cond u (choice (suc m) A B) (choice r C D))
         go true e =
-            let l : size n (bit C) + suc m < size n (bit A) + r = ltb-true (size n (bit C) + suc m) (size n (bit A) + r) e in
+            let l : size n (bit C) + suc m < size n (bit A)
+            + r = ltb-true (size n (bit C) + suc m) (size n (bit A) + r) e in
             record {
               works = own (s .0);
               ahead = by (AheadOver n (suc m) A B)
@@ -91,7 +100,8 @@ module _ (n : ℕ) (Work : ℕ → ℕ → ℕ → ℕ → Type 0) (Right : ℕ 
                   (λ A′ B′ k. same-r (s .1 A′ B′ k));
             }
         go false e =
-            let l : size n (bit A) + r ≤ size n (bit C) + suc m = ltb-false (size n (bit C) + suc m) (size n (bit A) + r) e in
+            let l : size n (bit A) + r ≤ size n (bit C) + suc m = ltb-false (size n (bit C) + suc m)
+            (size n (bit A) + r) e in
             record {
               works = lift (t .works);
               ahead = by (AheadOver n r C D) (t .ahead) (λ A′ B′ k. record {
@@ -112,7 +122,8 @@ module _ (n : ℕ) (Work : ℕ → ℕ → ℕ → ℕ → Type 0) (Right : ℕ 
     where
       go : (c : Choice) → Tells m c → FirstOf n (Work m) r A B → c ≡ choice r A B
       go nothing t b = absurd (t r A B (b .works))
-      go (choice r′ A′ B′) t b = let w = first-unique n (Work m) r′ A′ B′ r A B t b in let x = w .0 in let y = w .1 in let z = w .2 in cc
+      go (choice r′ A′ B′) t b = let w = first-unique n (Work m) r′ A′ B′ r A B t b in let x = w .0 in let y = w .1
+          in let z = w .2 in cc
 
   -- there is none exactly where nothing works, for any r
   pub first-none : (m : ℕ) → (firstOver n f m ≡ nothing) ↔ ((r A B : ℕ) → Work m r A B → ⊥)

@@ -27,7 +27,8 @@ module _ (n low r A B : ℕ) where
 
 -- ---- for each r, or at the end
 module _ (n low r : ℕ) where
-  pub spare-better : (c : Choice) (a : Answer) → sparing n low (better n r c a) ≡ better n r (sparing n low c) (above n (low + r) a)
+  pub spare-better : (c : Choice) (a : Answer) → sparing n low (better n r c a)
+      ≡ better n r (sparing n low c) (above n (low + r) a)
   spare-better c none = refl
   spare-better nothing (split A B) = go (ltb (low + r) (size n (bit A)))
     where
@@ -35,11 +36,13 @@ module _ (n low r : ℕ) where
       go true = refl
       go false = refl
   spare-better (choice q C D) (split A B) =
-      go (ltb (size n (bit C) + r) (size n (bit A) + q)) (ltb (low + q) (size n (bit C))) (ltb (low + r) (size n (bit A))) refl refl refl
+      go (ltb (size n (bit C) + r) (size n (bit A) + q)) (ltb (low + q) (size n (bit C)))
+      (ltb (low + r) (size n (bit A))) refl refl refl
     where
       go : (t p s : Bool) → ltb (size n (bit C) + r) (size n (bit A) + q) ≡ t → ltb (low + q) (size n (bit C)) ≡ p
           → ltb (low + r) (size n (bit A)) ≡ s
-          → sparing n low (cond t (choice r A B) (choice q C D)) ≡ better n r (cond p (choice q C D) nothing) (cond s (split A B) none)
+          → sparing n low (cond t (choice r A B) (choice q C D))
+          ≡ better n r (cond p (choice q C D) nothing) (cond s (split A B) none)
       go true true true t p s = cc
       go true true false t p s = absurd (omega (
         arith,
@@ -62,12 +65,14 @@ module _ (n low r : ℕ) where
 -- ---- beside a choice made
 module _ (n r low q C D : ℕ) where
   -- what doesn't beat it may be left out
-  unbeaten : (f : ℕ) → f + q ≤ size n (bit C) + r → (a : Answer) → better n r (choice q C D) (above n f a) ≡ better n r (choice q C D) a
+  unbeaten : (f : ℕ) → f + q ≤ size n (bit C) + r → (a : Answer) → better n r (choice q C D) (above n f a)
+      ≡ better n r (choice q C D) a
   unbeaten f h none = refl
   unbeaten f h (split A B) = elim (decLt f (size n (bit A))) [
     | yes l ↦ ap (better n r (choice q C D)) (is-above n f A B l)
     | no l ↦ ap (better n r (choice q C D)) (not-above n f A B (omega arith))
-        ∙ sym (ap (λ (t : Bool). cond t (choice r A B) (choice q C D)) (le-ltb (size n (bit C) + r) (size n (bit A) + q) (omega arith)))
+        ∙ sym (ap (λ (t : Bool). cond t (choice r A B) (choice q C D))
+        (le-ltb (size n (bit C) + r) (size n (bit A) + q) (omega arith)))
   ]
 
   pub floor-beside : low + q < size n (bit C) → Floor n r low (choice q C D) (size n (bit C) - q + r)
@@ -90,11 +95,13 @@ module _ (n K : ℕ) (F : ℕ → Bool) where
   pub one-more : (r : ℕ) → 1 ≤ r → better n r (bestUpTo n F K (r - 1)) (best n r F K) ≡ bestUpTo n F K r
   unfolding firstOver
   one-more zero h = absurd (omega arith)
-  one-more (suc k) h = let e : suc k - 1 ≡ k = omega arith in ap (λ (i : ℕ). better n (suc k) (bestUpTo n F K i) (best n (suc k) F K)) e
+  one-more (suc k) h = let e : suc k - 1 ≡ k = omega arith
+      in ap (λ (i : ℕ). better n (suc k) (bestUpTo n F K i) (best n (suc k) F K)) e
 
   module _ (m r A B : ℕ) (w : Whole n K m F r A B) where
     pub fits : Splits n K r F r A B
-    fits = let b = best-split n r F K A B (w .answer) in record { some = w .some; most = omega arith; candidate = b .candidate; possible = b .possible }
+    fits = let b = best-split n r F K A B (w .answer)
+        in record { some = w .some; most = omega arith; candidate = b .candidate; possible = b .possible }
 
     pub whole-more : r < K
     whole-more = omega (arith, w .whole, fits .candidate .more)
@@ -117,13 +124,24 @@ module _ (n K : ℕ) (F : ℕ → Bool) where
         go nothing e = absurd (upto-none n K F r .0 e r A B fits)
         go (choice q C D) e = let b = upto-best n K F r q C D .0 e in let b′ = b .works in
             sym (upto-best n K F m q C D .1 (record {
-              works = record { some = b′ .some; most = omega (arith, b′ .most, w .most); candidate = b′ .candidate; possible = b′ .possible };
+              works = record {
+                some = b′ .some;
+                most = omega (arith, b′ .most, w .most);
+                candidate = b′ .candidate;
+                possible = b′ .possible;
+              };
               ahead = λ r′ A′ B′ k. elim (decLt r r′) [
                 | yes l ↦ smaller n (omega (arith, b .ahead r A B fits .largest, w .whole, k .candidate .most))
-                | no l ↦ b .ahead r′ A′ B′ (record { some = k .some; most = omega arith; candidate = k .candidate; possible = k .possible })
+                | no l ↦ b .ahead r′ A′ B′ (record {
+                  some = k .some;
+                  most = omega arith;
+                  candidate = k .candidate;
+                  possible = k .possible;
+                })
               ];
             }))
 
     pub whole-best : better n r (sparing n (K - r - 1) (bestUpTo n F K (r - 1))) (split A B) ≡ bestUpTo n F K m
     whole-best =
-        fewer (bestUpTo n F K (r - 1)) ∙ ap (better n r (bestUpTo n F K (r - 1))) (sym (w .answer)) ∙ one-more r (w .some) ∙ more
+        fewer (bestUpTo n F K (r - 1)) ∙ ap (better n r (bestUpTo n F K (r - 1))) (sym (w .answer))
+        ∙ one-more r (w .some) ∙ more

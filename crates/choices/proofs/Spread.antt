@@ -19,7 +19,8 @@ use Rattle.choices.specs.Search.{Choice, nothing, choice, better, firstO
 use Rattle.choices.specs.Chosen.{choiceOf}
 
 module _ (n : ℕ) (s : ℕ → Bool) where
-  spread-cond : (t : Bool) (c d : Choice) → spreadChoice n s (cond t c d) ≡ cond t (spreadChoice n s c) (spreadChoice n s d)
+  spread-cond : (t : Bool) (c d : Choice) → spreadChoice n s (cond t c d)
+      ≡ cond t (spreadChoice n s c) (spreadChoice n s d)
   spread-cond true c d = refl
   spread-cond false c d = refl
 
@@ -29,10 +30,12 @@ module _ (n : ℕ) (s : ℕ → Bool) where
   spread-better r nothing (split A B) = refl
   spread-better r (choice q C D) (split A B) =
       spread-cond (ltb (size (size n s) (bit C) + r) (size (size n s) (bit A) + q)) (choice r A B) (choice q C D)
-      ∙ ap₂ (λ (x y : ℕ). cond (ltb (x + r) (y + q)) (spreadChoice n s (choice r A B)) (spreadChoice n s (choice q C D)))
+      ∙ ap₂ (λ (x y : ℕ). cond (ltb (x + r) (y + q)) (spreadChoice n s (choice r A B))
+      (spreadChoice n s (choice q C D)))
       (sym (size-spread n s C)) (sym (size-spread n s A))
 
-  spread-first : (f : ℕ → Answer) (m : ℕ) → spreadChoice n s (firstOver (size n s) f m) ≡ firstOver n (λ r. spreadAnswer n s (f r)) m
+  spread-first : (f : ℕ → Answer) (m : ℕ) → spreadChoice n s (firstOver (size n s) f m)
+      ≡ firstOver n (λ r. spreadAnswer n s (f r)) m
   unfolding firstOver
   spread-first f zero = refl
   spread-first f (suc m) =
@@ -41,11 +44,13 @@ module _ (n : ℕ) (s : ℕ → Bool) where
 
   -- a choice as the code holds it, spread
   pub spread-chosen : (c : Chosen)
-      → choiceOf (record { first = c .first; own = spread n s (c .own); shared = spread n s (c .shared) }) ≡ spreadChoice n s (choiceOf c)
+      → choiceOf (record { first = c .first; own = spread n s (c .own); shared = spread n s (c .shared) })
+      ≡ spreadChoice n s (choiceOf c)
   spread-chosen c = sym (spread-cond (eqb (c .first) 0) nothing (choice (c .first) (c .own) (c .shared)))
 
 -- where the table over the inputs that count stands in front of a list of bytes, the search there finds it
-pub over-found : (n m K S : ℕ) (F : ℕ → Bool) (work : List ℕ) (c len : ℕ) → S ≡ support n F → c ≡ size n (bit S) → 2 ^ c ≤ 8 * len
+pub over-found : (n m K S : ℕ) (F : ℕ → Bool) (work : List ℕ) (c len : ℕ) → S ≡ support n F → c ≡ size n (bit S) → 2 ^ c
+    ≤ 8 * len
     → number (2 ^ size n (bit S)) (tableBit work) ≡ tableOver n (bit S) F
     → spreadChoice n (bit S) (bestUpTo c (tableBit (take len work)) K m) ≡ bestOver n F K m
 over-found n m K S F work c len is count long over =

@@ -28,7 +28,8 @@ use Rattle.claims.proofs.Sheets.{index-first, unread-exactly}
 module _ (ts : List Store) (c : List ℕ) (d n : ℕ) (s : List ℕ) where
   pub load-says : partOutcome ts c d n s .verdict ≡ verdict (loadLines c d n s)
   unfolding partOutcome
-  load-says = says-verdict (λ (o : LoadOutcome). o .verdict) (loadDone ts c) (loadNot c) refl (λ r. refl) (verdict (loadLines c d n s))
+  load-says = says-verdict (λ (o : LoadOutcome). o .verdict) (loadDone ts c) (loadNot c) refl (λ r. refl)
+      (verdict (loadLines c d n s))
 
   -- the verdict is that of lines 20, 19, 1, 9, 10 and 15
   pub load-lines : ByLines (partOutcome ts c d n s .verdict) (loadLines c d n s)
@@ -38,12 +39,14 @@ module _ (ts : List Store) (c : List ℕ) (d n : ℕ) (s : List ℕ) where
   pub load-refused : (r : Refusal) → partOutcome ts c d n s .verdict ≡ Refused r → partOutcome ts c d n s .card ≡ c
   unfolding partOutcome
   load-refused r h =
-      ap (λ o. o .card) (is-refused (λ (o : LoadOutcome). o .verdict) (loadDone ts c) (loadNot c) refl (λ q. refl) (verdict (loadLines c d n s)) r h)
+      ap (λ o. o .card) (is-refused (λ (o : LoadOutcome). o .verdict) (loadDone ts c) (loadNot c) refl (λ q. refl)
+      (verdict (loadLines c d n s)) r h)
 
   -- done: the stores are made
   pub load-made : partOutcome ts c d n s .verdict ≡ Fine → partOutcome ts c d n s .card ≡ made ts c
   unfolding partOutcome
-  load-made h = ap (λ o. o .card) (is-done (λ (o : LoadOutcome). o .verdict) (loadDone ts c) (loadNot c) refl (λ q. refl) (verdict (loadLines c d n s)) h)
+  load-made h = ap (λ o. o .card) (is-done (λ (o : LoadOutcome). o .verdict) (loadDone ts c) (loadNot c) refl
+      (λ q. refl) (verdict (loadLines c d n s)) h)
 
   -- what is then known: the card's length, the desk, and that the sheet is good
   pub load-accepted : partOutcome ts c d n s .verdict ≡ Fine → Accepted c d n s
@@ -58,25 +61,33 @@ module _ (ts : List Store) (c : List ℕ) (d n : ℕ) (s : List ℕ) where
       go (Refused r) h = subst P (sym (load-refused r h)) same
 
   -- nothing is named but for numbers 10 and 15
-  pub load-no-index : (eqb (numberOf (partOutcome ts c d n s .verdict)) 10 || eqb (numberOf (partOutcome ts c d n s .verdict)) 15) ≡ false
+  pub load-no-index : (eqb (numberOf (partOutcome ts c d n s .verdict)) 10
+      || eqb (numberOf (partOutcome ts c d n s .verdict)) 15) ≡ false
       → placeOf (partOutcome ts c d n s .verdict) ≡ 0
   load-no-index h =
       ap placeOf load-says
-      ∙ names-nothing (λ k. eqb k 10 || eqb k 15) (loadLines c d n s) refl (ap (λ (v : Verdict). eqb (numberOf v) 10 || eqb (numberOf v) 15) (sym load-says) ∙ h)
+      ∙ names-nothing (λ k. eqb k 10 || eqb k 15) (loadLines c d n s) refl
+      (ap (λ (v : Verdict). eqb (numberOf v) 10 || eqb (numberOf v) 15) (sym load-says) ∙ h)
 
   -- 10 names the first bad record, one of another desk being bad
-  pub load-index : numberOf (partOutcome ts c d n s .verdict) ≡ 10 → FirstBad firstEdition d n s (placeOf (partOutcome ts c d n s .verdict))
+  pub load-index : numberOf (partOutcome ts c d n s .verdict) ≡ 10
+      → FirstBad firstEdition d n s (placeOf (partOutcome ts c d n s .verdict))
   load-index h =
-      index-first firstEdition first-edition d n s (badCard c ∷ badLoad d s ∷ badInputs n ∷ badSheet firstEdition s ∷ []) (unreadRecord firstEdition n s ∷ []) refl refl
+      index-first firstEdition first-edition d n s (badCard c ∷ badLoad d s ∷ badInputs n ∷ badSheet firstEdition s ∷
+      []) (unreadRecord firstEdition n s ∷ []) refl refl
       (partOutcome ts c d n s .verdict) load-says h
 
-  -- 15 is given exactly where the other lines are in order and some record but the last isn't read, and names the first such
+  -- 15 is given exactly where the other lines are in order and some record but the last isn't read, and names the first
+  -- such
   pub load-unread : (i : ℕ) → (partOutcome ts c d n s .verdict ≡ Refused (refusal 15 i))
-      ↔ (InOrder (badCard c ∷ badLoad d s ∷ badInputs n ∷ sheetLines firstEdition d n s) × IsFirstUnread firstEdition n s (records firstEdition s) i)
+      ↔ (InOrder (badCard c ∷ badLoad d s ∷ badInputs n ∷ sheetLines firstEdition d n s)
+      × IsFirstUnread firstEdition n s (records firstEdition s) i)
   load-unread =
-      unread-exactly firstEdition n s (badCard c ∷ badLoad d s ∷ badInputs n ∷ sheetLines firstEdition d n s) refl (partOutcome ts c d n s .verdict) load-says
+      unread-exactly firstEdition n s (badCard c ∷ badLoad d s ∷ badInputs n ∷ sheetLines firstEdition d n s) refl
+      (partOutcome ts c d n s .verdict) load-says
 
   -- two outcomes that keep the promise are equal: the verdict, and the card afterwards
-  pub load-once : (v v′ : Verdict) (l l′ : List ℕ) → record { verdict = v; card = l } ≡ partOutcome ts c d n s → record { verdict = v′; card = l′ } ≡ partOutcome ts c d n s
+  pub load-once : (v v′ : Verdict) (l l′ : List ℕ) → record { verdict = v; card = l } ≡ partOutcome ts c d n s
+      → record { verdict = v′; card = l′ } ≡ partOutcome ts c d n s
       → (v ≡ v′) × (l ≡ l′)
   load-once v v′ l l′ p q = (ap (λ o. o .verdict) (p ∙ sym q), ap (λ o. o .card) (p ∙ sym q))

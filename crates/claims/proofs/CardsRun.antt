@@ -37,7 +37,8 @@ module _ (c : List ℕ) (d x : ℕ) where
   pub run-desk-says : runDeskOutcome c d x .verdict ≡ verdict (runDeskLines c d x)
   run-desk-says =
       ap (λ (a : RunAnswer). a .verdict) (run-by-lines c d x)
-      ∙ says-verdict (λ (a : RunAnswer). a .verdict) (runDone firstEdition n s x) runNot refl (λ r. refl) (verdict (runDeskLines c d x))
+      ∙ says-verdict (λ (a : RunAnswer). a .verdict) (runDone firstEdition n s x) runNot refl (λ r. refl)
+      (verdict (runDeskLines c d x))
 
   -- the verdict is that of lines 20, 19, 18, 1, 9, 10, 15 and 11
   pub run-desk-lines : ByLines (runDeskOutcome c d x .verdict) (runDeskLines c d x)
@@ -47,35 +48,45 @@ module _ (c : List ℕ) (d x : ℕ) where
   pub run-desk-refused : (r : Refusal) → runDeskOutcome c d x .verdict ≡ Refused r → runDeskOutcome c d x .bit ≡ false
   run-desk-refused r h =
       let e = run-by-lines c d x in
-      ap (λ (a : RunAnswer). a .bit) (e ∙ is-refused (λ (a : RunAnswer). a .verdict) (runDone firstEdition n s x) runNot refl (λ q. refl) (verdict (runDeskLines c d x)) r
+      ap (λ (a : RunAnswer). a .bit) (e ∙ is-refused (λ (a : RunAnswer). a .verdict) (runDone firstEdition n s x) runNot
+      refl (λ q. refl) (verdict (runDeskLines c d x)) r
       (sym (ap (λ (a : RunAnswer). a .verdict) e) ∙ h))
 
   -- done: the bit that the network of the desk's sheet gives
-  pub run-desk-done : runDeskOutcome c d x .verdict ≡ Fine → runDeskOutcome c d x .bit ≡ sheetBit firstEdition n s (records firstEdition s) x
+  pub run-desk-done : runDeskOutcome c d x .verdict ≡ Fine → runDeskOutcome c d x .bit
+      ≡ sheetBit firstEdition n s (records firstEdition s) x
   run-desk-done h =
       let e = run-by-lines c d x in
-      ap (λ (a : RunAnswer). a .bit) (e ∙ is-done (λ (a : RunAnswer). a .verdict) (runDone firstEdition n s x) runNot refl (λ q. refl) (verdict (runDeskLines c d x))
+      ap (λ (a : RunAnswer). a .bit) (e ∙ is-done (λ (a : RunAnswer). a .verdict) (runDone firstEdition n s x) runNot
+      refl (λ q. refl) (verdict (runDeskLines c d x))
       (sym (ap (λ (a : RunAnswer). a .verdict) e) ∙ h))
 
   -- nothing is named but for numbers 10 and 15
-  pub run-desk-no-index : (eqb (numberOf (runDeskOutcome c d x .verdict)) 10 || eqb (numberOf (runDeskOutcome c d x .verdict)) 15) ≡ false
+  pub run-desk-no-index : (eqb (numberOf (runDeskOutcome c d x .verdict)) 10
+      || eqb (numberOf (runDeskOutcome c d x .verdict)) 15) ≡ false
       → placeOf (runDeskOutcome c d x .verdict) ≡ 0
   run-desk-no-index h =
       ap placeOf run-desk-says
-      ∙ names-nothing (λ k. eqb k 10 || eqb k 15) (runDeskLines c d x) refl (ap (λ (v : Verdict). eqb (numberOf v) 10 || eqb (numberOf v) 15) (sym run-desk-says) ∙ h)
+      ∙ names-nothing (λ k. eqb k 10 || eqb k 15) (runDeskLines c d x) refl
+      (ap (λ (v : Verdict). eqb (numberOf v) 10 || eqb (numberOf v) 15) (sym run-desk-says) ∙ h)
 
   -- 10 names the first bad record, counted within the desk; one of another desk is bad
-  pub run-desk-index : numberOf (runDeskOutcome c d x .verdict) ≡ 10 → FirstBad firstEdition d n s (placeOf (runDeskOutcome c d x .verdict))
+  pub run-desk-index : numberOf (runDeskOutcome c d x .verdict) ≡ 10
+      → FirstBad firstEdition d n s (placeOf (runDeskOutcome c d x .verdict))
   run-desk-index h =
-      index-first firstEdition first-edition d n s (badCard c ∷ missingDesk d ∷ closedDesk (ownBytes c d) ∷ badInputs n ∷ badCount (ownBytes c d) ∷ [])
+      index-first firstEdition first-edition d n s (badCard c ∷ missingDesk d ∷ closedDesk (ownBytes c d) ∷ badInputs n
+      ∷ badCount (ownBytes c d) ∷ [])
       (unreadRecord firstEdition n s ∷ badAssignment n x ∷ []) refl refl (runDeskOutcome c d x .verdict) run-desk-says h
 
   -- 15 names the first unread one, counted likewise
-  pub run-desk-unread : numberOf (runDeskOutcome c d x .verdict) ≡ 15 → IsFirstUnread firstEdition n s (records firstEdition s) (placeOf (runDeskOutcome c d x .verdict))
+  pub run-desk-unread : numberOf (runDeskOutcome c d x .verdict) ≡ 15
+      → IsFirstUnread firstEdition n s (records firstEdition s) (placeOf (runDeskOutcome c d x .verdict))
   run-desk-unread h =
-      let w = held (badCard c ∷ missingDesk d ∷ closedDesk (ownBytes c d) ∷ badInputs n ∷ badCount (ownBytes c d) ∷ badRecord firstEdition d n s ∷ []) (unreadRecord firstEdition n s)
+      let w = held (badCard c ∷ missingDesk d ∷ closedDesk (ownBytes c d) ∷ badInputs n ∷ badCount (ownBytes c d) ∷
+      badRecord firstEdition d n s ∷ []) (unreadRecord firstEdition n s)
       (badAssignment n x ∷ []) 15 refl refl (λ z. omega arith) (ap numberOf (sym run-desk-says) ∙ h) in
-      subst (IsFirstUnread firstEdition n s (records firstEdition s)) (sym (ap placeOf (run-desk-says ∙ w .1))) (unread-named firstEdition n s (w .0))
+      subst (IsFirstUnread firstEdition n s (records firstEdition s)) (sym (ap placeOf (run-desk-says ∙ w .1)))
+      (unread-named firstEdition n s (w .0))
 
   -- two answers that keep the promise are equal
   pub run-desk-once : (a a′ : RunAnswer) → a ≡ runDeskOutcome c d x → a′ ≡ runDeskOutcome c d x → a ≡ a′

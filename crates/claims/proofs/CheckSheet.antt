@@ -59,23 +59,30 @@ module _ (e : Edition) (d n : ℕ) (t s : List ℕ) where
   check-lines = by-lines (checkLines e d n t s) refl (checkOutcome e d n t s) check-says
 
   -- nothing is named but for 10, 12 and 15
-  pub check-no-place : (eqb (numberOf (checkOutcome e d n t s)) 10 || (eqb (numberOf (checkOutcome e d n t s)) 12 || eqb (numberOf (checkOutcome e d n t s)) 15)) ≡ false
+  pub check-no-place : (eqb (numberOf (checkOutcome e d n t s)) 10
+      || (eqb (numberOf (checkOutcome e d n t s)) 12 || eqb (numberOf (checkOutcome e d n t s)) 15)) ≡ false
       → placeOf (checkOutcome e d n t s) ≡ 0
   unfolding checkOutcome
   check-no-place h = names-nothing (λ k. eqb k 10 || (eqb k 12 || eqb k 15)) (checkLines e d n t s) refl h
 
   -- 10 names the first bad record
-  pub check-index : IsEdition e → numberOf (checkOutcome e d n t s) ≡ 10 → FirstBad e d n s (placeOf (checkOutcome e d n t s))
-  check-index ok h = index-first e ok d n s (tableLines n t ++ (badSheet e s ∷ [])) (tableDiffers e n t s ∷ unreadRecord e n s ∷ []) refl refl (checkOutcome e d n t s) check-says h
+  pub check-index : IsEdition e → numberOf (checkOutcome e d n t s) ≡ 10
+      → FirstBad e d n s (placeOf (checkOutcome e d n t s))
+  check-index ok h = index-first e ok d n s (tableLines n t ++ (badSheet e s ∷ []))
+      (tableDiffers e n t s ∷ unreadRecord e n s ∷ []) refl refl (checkOutcome e d n t s) check-says h
 
-  -- 15 is given exactly where the other lines are in order and some record but the last isn't read, and names the first such
-  pub check-unread : (i : ℕ) → (checkOutcome e d n t s ≡ Refused (refusal 15 i)) ↔ (InOrder (tableLines n t ++ againstLines e d n t s) × IsFirstUnread e n s (records e s) i)
-  check-unread = unread-exactly e n s (tableLines n t ++ againstLines e d n t s) refl (checkOutcome e d n t s) check-says
+  -- 15 is given exactly where the other lines are in order and some record but the last isn't read, and names the first
+  -- such
+  pub check-unread : (i : ℕ) → (checkOutcome e d n t s ≡ Refused (refusal 15 i))
+      ↔ (InOrder (tableLines n t ++ againstLines e d n t s) × IsFirstUnread e n s (records e s) i)
+  check-unread = unread-exactly e n s (tableLines n t ++ againstLines e d n t s) refl (checkOutcome e d n t s)
+      check-says
 
   -- where each record but the last is read, every answer is as before
   pub check-as-before : EachRead e n s (records e s) → checkOutcome e d n t s ≡ checkBefore e d n t s
   unfolding checkOutcome
-  check-as-before r = lapses (tableLines n t ++ againstLines e d n t s) (unreadRecord e n s ∷ []) (read-fine e n s r, tt)
+  check-as-before r = lapses (tableLines n t ++ againstLines e d n t s) (unreadRecord e n s ∷ [])
+      (read-fine e n s r, tt)
 
   -- two answers that keep the promise are equal
   pub check-once : (v v′ : Verdict) → v ≡ checkOutcome e d n t s → v′ ≡ checkOutcome e d n t s → v ≡ v′
@@ -84,7 +91,8 @@ module _ (e : Edition) (d n : ℕ) (t s : List ℕ) where
   -- ---- 12 at x exactly when x differs and no smaller assignment does
 
   not-differs : (x : ℕ) → differs e n s (records e s) t x ≡ false → sheetBit e n s (records e s) x ≡ tableBit t x
-  not-differs x h = beq-same (sheetBit e n s (records e s) x) (tableBit t x) (not-false (Bool·beq (sheetBit e n s (records e s) x) (tableBit t x)) h)
+  not-differs x h = beq-same (sheetBit e n s (records e s) x) (tableBit t x)
+      (not-false (Bool·beq (sheetBit e n s (records e s) x) (tableBit t x)) h)
 
   no-differ : (x : ℕ) → sheetBit e n s (records e s) x ≡ tableBit t x → differs e n s (records e s) t x ≡ false
   no-differ x h = ap not (same-beq (sheetBit e n s (records e s) x) (tableBit t x) h)
@@ -92,12 +100,17 @@ module _ (e : Edition) (d n : ℕ) (t s : List ℕ) where
   pub check-least : numberOf (checkOutcome e d n t s) ≡ 12 → FirstDifferent e n t s (placeOf (checkOutcome e d n t s))
   unfolding checkOutcome
   check-least h =
-      let w = held (tableLines n t ++ sheetLines e d n s) (tableDiffers e n t s) (unreadRecord e n s ∷ []) 12 refl refl (λ z. omega arith) h in
+      let w = held (tableLines n t ++ sheetLines e d n s) (tableDiffers e n t s) (unreadRecord e n s ∷ []) 12 refl refl
+      (λ z. omega arith) h in
       let x = firstDifference e n s (records e s) t in
       let i = is-least (2 ^ n) (differs e n s (records e s) t) in
       let l = ltb-true x (2 ^ n) (w .0) in
       subst (FirstDifferent e n t s) (sym (ap placeOf (w .1)))
-      (record { within = l; differ = λ q. clash (i .here l) (no-differ x q); before = λ y g. not-differs y (i .before y g) })
+      (record {
+        within = l;
+        differ = λ q. clash (i .here l) (no-differ x q);
+        before = λ y g. not-differs y (i .before y g);
+      })
 
   module _ (form : InOrder (tableLines n t ++ sheetLines e d n s)) where
     by-bits : checkOutcome e d n t s ≡ verdict (tableDiffers e n t s ∷ unreadRecord e n s ∷ [])
@@ -114,9 +127,11 @@ module _ (e : Edition) (d n : ℕ) (t s : List ℕ) where
         by-bits ∙ rw (is, lt-ltb x (2 ^ n) (f .within)) refl
       where
         not-same : (sheetBit e n s (records e s) x ≡ tableBit t x → ⊥) → differs e n s (records e s) t x ≡ true
-        not-same h = ap not (false-of (Bool·beq (sheetBit e n s (records e s) x) (tableBit t x)) (λ q. h (beq-same (sheetBit e n s (records e s) x) (tableBit t x) q)))
+        not-same h = ap not (false-of (Bool·beq (sheetBit e n s (records e s) x) (tableBit t x))
+            (λ q. h (beq-same (sheetBit e n s (records e s) x) (tableBit t x) q)))
 
-    same-accepted : ((x : ℕ) → x < 2 ^ n → sheetBit e n s (records e s) x ≡ tableBit t x) → EachRead e n s (records e s) → checkOutcome e d n t s ≡ Fine
+    same-accepted : ((x : ℕ) → x < 2 ^ n → sheetBit e n s (records e s) x ≡ tableBit t x) → EachRead e n s (records e s)
+        → checkOutcome e d n t s ≡ Fine
     same-accepted h r =
         let is = least-of (2 ^ n) (differs e n s (records e s) t) (2 ^ n) (record {
           within = omega arith;
@@ -126,7 +141,8 @@ module _ (e : Edition) (d n : ℕ) (t s : List ℕ) where
         by-bits ∙ rw (is, le-ltb (2 ^ n) (2 ^ n) (omega arith), read-fine e n s r) refl
 
   module _ (ok : IsEdition e) where
-    -- an accepted sheet keeps the record rules and gives the table's bit at every assignment, and each record but the last is read
+    -- an accepted sheet keeps the record rules and gives the table's bit at every assignment, and each record but the
+    -- last is read
     pub check-accepted : checkOutcome e d n t s ≡ Fine → Accepted e d n t s
     unfolding checkOutcome
     check-accepted h =
@@ -157,7 +173,8 @@ module _ (e : Edition) (d n : ℕ) (t s : List ℕ) where
       accepted-rebuilds bytes room h = (
         λ q.
             let a = check-accepted q in
-            good-rebuild e ok d n s (records e s) (r .0) (r .1) (a .rules) (a .read) room h ∙ ap (λ (l : List ℕ). record { verdict = Fine; table = l }) (back a),
+            good-rebuild e ok d n s (records e s) (r .0) (r .1) (a .rules) (a .read) room h
+            ∙ ap (λ (l : List ℕ). record { verdict = Fine; table = l }) (back a),
         λ q.
             let g = rebuilt-good e d n s room ok (ap (λ o. o .verdict) q) in
             accepted-exactly .1 (record { rules = g .3; gives = λ x l. same q (g .3) (g .4) x l; read = g .4 }),
@@ -168,27 +185,33 @@ module _ (e : Edition) (d n : ℕ) (t s : List ℕ) where
 
           back : Accepted e d n t s → rebuilt e n s (records e s) ≡ t
           back a =
-              table-back n (sheetBit e n s (records e s)) t bytes (right-table n t (table .1 .0)) (not-false (spareClear n t) (sym (spare-line n t) ∙ table .1 .1 .0)) (a .gives)
+              table-back n (sheetBit e n s (records e s)) t bytes (right-table n t (table .1 .0))
+              (not-false (spareClear n t) (sym (spare-line n t) ∙ table .1 .1 .0)) (a .gives)
 
-          same : rebuildOutcome e d n s room ≡ record { verdict = Fine; table = t } → Good e d n s (records e s) → EachRead e n s (records e s) → (x : ℕ) → x < 2 ^ n
+          same : rebuildOutcome e d n s room ≡ record { verdict = Fine; table = t } → Good e d n s (records e s)
+              → EachRead e n s (records e s) → (x : ℕ) → x < 2 ^ n
               → sheetBit e n s (records e s) x ≡ tableBit t x
           same q g u x l =
               sym (rebuilt-bit e n s (records e s) x l)
-              ∙ ap (λ (o : RebuildOutcome). tableBit (o .table) x) (sym (good-rebuild e ok d n s (records e s) (r .0) (r .1) g u room h) ∙ q)
+              ∙ ap (λ (o : RebuildOutcome). tableBit (o .table) x)
+              (sym (good-rebuild e ok d n s (records e s) (r .0) (r .1) g u room h) ∙ q)
 
     -- 15 never hides another gate: without that record the others, renumbered, give the table (`sheet-without`, sheets)
-    pub check-without : (i : ℕ) → checkOutcome e d n t s ≡ Refused (refusal 15 i) → Gives n (e .most) (tableBit t) (without n i (sheetCells e s (records e s)))
+    pub check-without : (i : ℕ) → checkOutcome e d n t s ≡ Refused (refusal 15 i)
+        → Gives n (e .most) (tableBit t) (without n i (sheetCells e s (records e s)))
     check-without i h =
         let w = check-unread i .0 h in
         let f = w .0 .1 .1 .1 in
         let u = w .1 in
         let least = is-least (2 ^ n) (differs e n s (records e s) t) in
         let g = good-sheet e d n s ok (f .0, (f .1 .0, tt)) in
-        let N = sheet-without e ok d n s (records e s) i (g .rules) (u .within) (not-read e s n (records e s) i (omega (arith, u .within)) (u .alone)) in
+        let N = sheet-without e ok d n s (records e s) i (g .rules) (u .within)
+        (not-read e s n (records e s) i (omega (arith, u .within)) (u .alone)) in
         record {
           some = N .some;
           wired = N .wired;
-          gives = λ x l. N .gives x l ∙ not-differs x (least .before x (omega (arith, ltb-false (firstDifference e n s (records e s) t) (2 ^ n) (f .1 .1 .0))));
+          gives = λ x l. N .gives x l ∙ not-differs x (least .before x
+              (omega (arith, ltb-false (firstDifference e n s (records e s) t) (2 ^ n) (f .1 .1 .0))));
         }
 
     -- an accepted sheet is a network that carries the table
@@ -205,21 +228,29 @@ module _ (e : Edition) (d n : ℕ) (t s : List ℕ) where
     }
 
 -- every sheet that make writes is accepted
-pub made-accepted : (e : Edition) → IsEdition e → (d n K : ℕ) (t sheet work : List ℕ) → makeOutcome e d n K t sheet work .answer .verdict ≡ Fine
+pub made-accepted : (e : Edition) → IsEdition e → (d n K : ℕ) (t sheet work : List ℕ)
+    → makeOutcome e d n K t sheet work .answer .verdict ≡ Fine
     → checkOutcome e d n t (recordsOf e (makeOutcome e d n K t sheet work)) ≡ Fine
 made-accepted e ok d n K t sheet work done =
     let w = is-made e d n K t sheet work done in
     let s = recordsOf e (makeOutcome e d n K t sheet work) in
-    let good = subst (λ (l : List ℕ). Good e d n l (length (w .cells))) (sym (made-records e d n K t sheet work w)) (made-good e d n K t sheet work w ok) in
+    let good = subst (λ (l : List ℕ). Good e d n l (length (w .cells))) (sym (made-records e d n K t sheet work w))
+    (made-good e d n K t sheet work w ok) in
     let m = counted e d n s ok (length (w .cells)) good in
     let read = records-read e d n K t sheet work ok done in
-    let run : (x : ℕ) → x < 2 ^ n → _≡_ {A = RunAnswer} (record { verdict = Fine; bit = sheetBit e n s (records e s) x }) (record { verdict = Fine; bit = tableBit t x }) =
-    λ x h. sym (good-run e ok d n s (records e s) (w .gate .some) (w .gate .most) (subst (Good e d n s) (sym m) good) read x h) ∙ made-runs e d n K t sheet work ok done x h in
-    accepted-exactly e d n t s ok (table-fine e n K t (w .gate)) .1 (record { rules = subst (Good e d n s) (sym m) good; gives = λ x h. ap (λ a. a .bit) (run x h); read = read })
+    let run : (x : ℕ) → x < 2 ^ n → _≡_ {A = RunAnswer}
+    (record { verdict = Fine; bit = sheetBit e n s (records e s) x })
+    (record { verdict = Fine; bit = tableBit t x }) =
+    λ x h. sym (good-run e ok d n s (records e s) (w .gate .some) (w .gate .most) (subst (Good e d n s) (sym m) good)
+    read x h) ∙ made-runs e d n K t sheet work ok done x h in
+    accepted-exactly e d n t s ok (table-fine e n K t (w .gate)) .1
+    (record { rules = subst (Good e d n s) (sym m) good; gives = λ x h. ap (λ a. a .bit) (run x h); read = read })
 
 -- nor is it refused as 15 against any other table
-pub check-never-unread : (e : Edition) → IsEdition e → (d n K : ℕ) (t sheet work : List ℕ) → makeOutcome e d n K t sheet work .answer .verdict ≡ Fine
+pub check-never-unread : (e : Edition) → IsEdition e → (d n K : ℕ) (t sheet work : List ℕ)
+    → makeOutcome e d n K t sheet work .answer .verdict ≡ Fine
     → (t′ : List ℕ) → numberOf (checkOutcome e d n t′ (recordsOf e (makeOutcome e d n K t sheet work))) ≡ 15 → ⊥
 check-never-unread e ok d n K t sheet work done t′ =
     let s = recordsOf e (makeOutcome e d n K t sheet work) in
-    read-never e n s (tableLines n t′ ++ againstLines e d n t′ s) refl (checkOutcome e d n t′ s) (check-says e d n t′ s) (records-read e d n K t sheet work ok done)
+    read-never e n s (tableLines n t′ ++ againstLines e d n t′ s) refl (checkOutcome e d n t′ s) (check-says e d n t′ s)
+    (records-read e d n K t sheet work ok done)

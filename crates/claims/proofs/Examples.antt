@@ -1,6 +1,9 @@
--- The starred examples of documents 01 and 02: one listing, one claim, shown of the definitions by computation. Assumes nothing.
--- An answer is the number; then D, where the split broke, how many columns there are and the room for H (try), A and B (find), the count and the records (make), the bit and the index (run), the index and the table
--- (rebuild), the place and the table (a formula read), or the place and the text (a formula written). Of the bench program it is all that it writes.
+-- The starred examples of documents 01 and 02: one listing, one claim, shown of the definitions by computation. Assumes
+-- nothing.
+-- An answer is the number; then D, where the split broke, how many columns there are and the room for H (try), A and B
+-- (find), the count and the records (make), the bit and the index (run), the index and the table
+-- (rebuild), the place and the table (a formula read), or the place and the text (a formula written). Of the bench
+-- program it is all that it writes.
 use mathlib.Core.Path.{_≡_, refl}
 use mathlib.Core.List.{List, [], _∷_}
 use Prim.Native.Nat.{ℕ}
@@ -35,7 +38,8 @@ use Rattle.formulas.specs.Reading.{reads, textOf}
 use Rattle.formulas.specs.ReadFormula.{readOutcome}
 use Rattle.printing.specs.Print.{inTurn, printed}
 use Rattle.printing.specs.WriteFormula.{writeOutcome}
-use Rattle.claims.specs.Questions.{Question, trying, finding, making, running, rebuilding, parsing, printing, reading, Example, answers, expected}
+use Rattle.claims.specs.Questions.{Question, trying, finding, making, running, rebuilding, parsing, printing}
+use Rattle.claims.specs.Questions.{reading, Example, answers, expected}
 
 infix 90 _gets_
 abbrev pub _gets_ : Question → List ℕ → Example
@@ -79,7 +83,8 @@ listing =
     ∷ making 3 2 (0xE8 ∷ []) gets (8 ∷ 0 ∷ [])
     ∷ trying 3 2 3 0 (0xE8 ∷ []) (0xAA ∷ 0xAA ∷ []) gets (8 ∷ 0 ∷ 0 ∷ 3 ∷ 0xAA ∷ 0xAA ∷ [])
     ∷ finding 3 3 (0xE8 ∷ []) gets (7 ∷ 0 ∷ 0 ∷ [])
-    ∷ making 3 3 (0xE8 ∷ []) gets (0 ∷ 1 ∷ 0x03 ∷ 0 ∷ 1 ∷ 2 ∷ 0xFF ∷ 0xFF ∷ 0xFF ∷ 0 ∷ 0xE8 ∷ 0 ∷ 0 ∷ 0 ∷ 0 ∷ 0 ∷ 0 ∷ 0 ∷ [])
+    ∷ making 3 3 (0xE8 ∷ []) gets (0 ∷ 1 ∷ 0x03 ∷ 0 ∷ 1 ∷ 2 ∷ 0xFF ∷ 0xFF ∷ 0xFF ∷ 0 ∷ 0xE8 ∷ 0 ∷ 0 ∷ 0 ∷ 0 ∷ 0 ∷ 0 ∷ 0
+    ∷ [])
     -- 5: input 2 picks; the room's second byte stays
     ∷ finding 3 2 (0xCA ∷ []) gets (8 ∷ 0 ∷ 0 ∷ [])
     ∷ making 3 2 (0xCA ∷ []) gets (8 ∷ 0 ∷ [])
@@ -139,5 +144,9 @@ listing =
     ∷ []
 
 pub examples : answers listing ≡ expected listing
-unfolding listing asked deskOf readOutcome textOf reads value writeOutcome inTurn printed tryOutcome findOutcome makeOutcome runOutcome rebuildOutcome cellsAside chainAside turn firstOver keptSignals keptTable kept support counts tableOver bestCounting pick listOf best first tryA tryB disjoint fewColumns firstBroken tableD tableH bytesH codeAt code bitH columns column assign firsts number size gather spread least spareClear tableOf joined output run cellOf spareOk byteOk keeps cellsFrom sheetBit rebuilt recordByte encode
+unfolding listing asked deskOf readOutcome textOf reads value writeOutcome inTurn printed tryOutcome findOutcome
+    makeOutcome runOutcome rebuildOutcome cellsAside chainAside turn firstOver keptSignals keptTable kept support counts
+    tableOver bestCounting pick listOf best first tryA tryB disjoint fewColumns firstBroken tableD tableH bytesH codeAt
+    code bitH columns column assign firsts number size gather spread least spareClear tableOf joined output run cellOf
+    spareOk byteOk keeps cellsFrom sheetBit rebuilt recordByte encode
 examples = refl

@@ -30,8 +30,11 @@ module _ (input : List ℕ) where
   s = drop (tableLength n) (drop 1 input)
 
   -- a sheet longer than 240 bytes is 9 where n and the table are in order, whatever follows
-  pub long-sheet : InOrder (tableLines n t) → recordSize * mostRecords < length s → inspected input ≡ Refused (refusal 9 0)
+  pub long-sheet : InOrder (tableLines n t) → recordSize * mostRecords < length s → inspected input
+      ≡ Refused (refusal 9 0)
   unfolding inspected checkOutcome
   long-sheet w h =
-      let wrong : badSheet firstEdition s .holds ≡ true = or-right (eqb (length s) 0) _ (or-right (not (eqb (length s % recordSize) 0)) _ (lt-ltb (recordSize * mostRecords) (length s) h)) in
-      sym (decides (checkLines firstEdition (deskOf firstEdition s) n t s) (later (w .0) (later (w .1 .0) (later (w .1 .1 .0) (here wrong)))))
+      let wrong : badSheet firstEdition s .holds ≡ true = or-right (eqb (length s) 0) _
+      (or-right (not (eqb (length s % recordSize) 0)) _ (lt-ltb (recordSize * mostRecords) (length s) h)) in
+      sym (decides (checkLines firstEdition (deskOf firstEdition s) n t s)
+      (later (w .0) (later (w .1 .0) (later (w .1 .1 .0) (here wrong)))))

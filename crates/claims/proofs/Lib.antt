@@ -1,4 +1,5 @@
--- What an inspector reads: one file a call, the five tries, the examples. Verdicts, Sheets, Tables and Written are the steps that these share.
+-- What an inspector reads: one file a call, the five tries, the examples. Verdicts, Sheets, Tables and Written are the
+-- steps that these share.
 pub mod Verdicts
 pub mod Tables
 pub mod Sheets

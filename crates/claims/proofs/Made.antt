@@ -30,7 +30,8 @@ module _ (e : Edition) (d n K : ℕ) (t sheet work : List ℕ) where
   pub make-says : makeOutcome e d n K t sheet work .answer .verdict ≡ verdict (makeLines e d n K t sheet work)
   unfolding makeOutcome
   make-says =
-      says-verdict (λ (o : MakeOutcome). o .answer .verdict) (makeDone e d (cellsIn (sheetFor n K t)) sheet work) (makeNot sheet work) refl (λ r. refl)
+      says-verdict (λ (o : MakeOutcome). o .answer .verdict) (makeDone e d (cellsIn (sheetFor n K t)) sheet work)
+      (makeNot sheet work) refl (λ r. refl)
       (verdict (makeLines e d n K t sheet work))
 
   -- form and room are in order: so is the gate
@@ -60,13 +61,15 @@ module _ (e : Edition) (d n K : ℕ) (t sheet work : List ℕ) where
         cells = cs;
         chain = q;
         outcome =
-            is-done (λ (o : MakeOutcome). o .answer .verdict) (makeDone e d (cellsIn (sheetFor n K t)) sheet work) (makeNot sheet work) refl (λ r. refl)
+            is-done (λ (o : MakeOutcome). o .answer .verdict) (makeDone e d (cellsIn (sheetFor n K t)) sheet work)
+            (makeNot sheet work) refl (λ r. refl)
             (verdict (makeLines e d n K t sheet work)) h
             ∙ ap (λ (c : Made). makeDone e d (cellsIn c) sheet work) q;
       }
 
   -- the other way: form and room are in order, and the chain made cells
-  pub not-stuck : InOrder (makeForm e d n K t sheet work) → (cs : List Cell) → sheetFor n K t ≡ made cs → (w : IsMade) × (w .cells ≡ cs)
+  pub not-stuck : InOrder (makeForm e d n K t sheet work) → (cs : List Cell) → sheetFor n K t ≡ made cs → (w : IsMade)
+      × (w .cells ≡ cs)
   unfolding makeOutcome
   not-stuck s cs q = (
     record {
@@ -77,7 +80,8 @@ module _ (e : Edition) (d n K : ℕ) (t sheet work : List ℕ) where
       outcome =
           ap (λ (v : Verdict). reply v (makeDone e d (cellsIn (sheetFor n K t)) sheet work) (makeNot sheet work))
           (passes (makeForm e d n K t sheet work) (chainStuck (sheetFor n K t) ∷ []) s)
-          ∙ ap (λ (c : Made). reply (verdict (chainStuck c ∷ [])) (makeDone e d (cellsIn c) sheet work) (makeNot sheet work)) q;
+          ∙ ap (λ (c : Made). reply (verdict (chainStuck c ∷ [])) (makeDone e d (cellsIn c) sheet work)
+          (makeNot sheet work)) q;
     },
     refl,
   )
@@ -95,7 +99,8 @@ module _ (e : Edition) (d n K : ℕ) (t sheet work : List ℕ) where
       fits = table-fits n K (tableBit t) (w .gate .some) one (w .cells) (w .chain) e (w .gate .largest);
       give = table-gives n K (tableBit t) (w .gate .some) one (w .cells) (w .chain);
       read = table-read n K (tableBit t) (w .gate .some) one (w .cells) (w .chain);
-      few = table-records n K (tableBit t) (w .gate .some) one (w .cells) (w .chain) (omega (arith, w .gate .most, w .gate .two));
+      few = table-records n K (tableBit t) (w .gate .some) one (w .cells) (w .chain)
+          (omega (arith, w .gate .most, w .gate .two));
     }
 
     -- the first bytes are the sheet of these cells

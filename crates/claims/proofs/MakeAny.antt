@@ -34,11 +34,13 @@ use Rattle.running.specs.RunSheet.{runOutcome}
 use Rattle.rebuilding.specs.RebuildTable.{rebuildOutcome}
 use Rattle.bench.specs.declared.make_sheet.MakeAnswer.{MakeAnswer}
 use Rattle.bench.specs.MakeSheet.{MakeOutcome, makeForm, makeDone, makeNot, makeOutcome}
-use Rattle.any_gate.specs.MakeAny.{anyFor, cellsAny, isUnsplit, isOverlong, noneAny, tooLong, anySays, anyLines, anyOutcome}
+use Rattle.any_gate.specs.MakeAny.{anyFor, cellsAny, isUnsplit, isOverlong, noneAny, tooLong, anySays, anyLines}
+use Rattle.any_gate.specs.MakeAny.{anyOutcome}
 use Rattle.any_gate.proofs.Answers.{as-make}
 use Rattle.claims.specs.Words.{ByLines, AllBytes, recordsOf, networkOf}
 use Rattle.claims.proofs.Verdicts.{says-verdict, is-done, is-refused, area-left, by-lines, work-cleared}
-use Rattle.claims.proofs.Written.{IsWritten, outcome-network, outcome-runs, outcome-rebuilds, outcome-each-read, outcome-never-unread, outcome-gives}
+use Rattle.claims.proofs.Written.{IsWritten, outcome-network, outcome-runs, outcome-rebuilds}
+use Rattle.claims.proofs.Written.{outcome-each-read, outcome-never-unread, outcome-gives}
 
 module _ (e : Edition) (d n K : ℕ) (t s work : List ℕ) where
   abbrev o : MakeOutcome
@@ -54,13 +56,15 @@ module _ (e : Edition) (d n K : ℕ) (t s work : List ℕ) where
   says : anyOutcome e d n K t s work .answer .verdict ≡ verdict (anyLines e d n K t s work)
   unfolding anyOutcome
   says =
-      says-verdict (λ (o : MakeOutcome). o .answer .verdict) (makeDone e d (cellsAny (anyFor n K t)) s work) (makeNot s work) refl (λ r. refl)
+      says-verdict (λ (o : MakeOutcome). o .answer .verdict) (makeDone e d (cellsAny (anyFor n K t)) s work)
+      (makeNot s work) refl (λ r. refl)
       (verdict (anyLines e d n K t s work))
 
   left : anyOutcome e d n K t s work .work ≡ workAfter (anyOutcome e d n K t s work .answer .verdict) work
   unfolding anyOutcome
   left =
-      area-left (λ (o : MakeOutcome). o .answer .verdict) (makeDone e d (cellsAny (anyFor n K t)) s work) (makeNot s work) refl (λ r. refl) (λ (o : MakeOutcome). o .work) work refl (λ r. refl)
+      area-left (λ (o : MakeOutcome). o .answer .verdict) (makeDone e d (cellsAny (anyFor n K t)) s work)
+      (makeNot s work) refl (λ r. refl) (λ (o : MakeOutcome). o .work) work refl (λ r. refl)
       (verdict (anyLines e d n K t s work))
 
   -- the verdict is that of lines 1 to 6, 8 and 17
@@ -72,27 +76,39 @@ module _ (e : Edition) (d n K : ℕ) (t s work : List ℕ) where
       → (anyOutcome e d n K t s work .answer .count ≡ 0) × (anyOutcome e d n K t s work .sheet ≡ s)
   unfolding anyOutcome
   any-refused r h =
-      let q = is-refused (λ (o : MakeOutcome). o .answer .verdict) (makeDone e d (cellsAny (anyFor n K t)) s work) (makeNot s work) refl (λ u. refl)
+      let q = is-refused (λ (o : MakeOutcome). o .answer .verdict) (makeDone e d (cellsAny (anyFor n K t)) s work)
+      (makeNot s work) refl (λ u. refl)
       (verdict (anyLines e d n K t s work)) r h in
       (ap (λ o. o .answer .count) q, ap (λ o. o .sheet) q)
 
   -- 1 to 7 leave the work area as found
-  pub any-keeps : 1 ≤ numberOf (anyOutcome e d n K t s work .answer .verdict) → numberOf (anyOutcome e d n K t s work .answer .verdict) ≤ 7
+  pub any-keeps : 1 ≤ numberOf (anyOutcome e d n K t s work .answer .verdict)
+      → numberOf (anyOutcome e d n K t s work .answer .verdict) ≤ 7
       → anyOutcome e d n K t s work .work ≡ work
   any-keeps h g = left ∙ work-found (anyOutcome e d n K t s work .answer .verdict) work h g
 
   -- after 0, 8 or 17 the whole of it is zeros
-  pub any-clears : ((numberOf (anyOutcome e d n K t s work .answer .verdict) ≡ 0) ⊎ (numberOf (anyOutcome e d n K t s work .answer .verdict) ≡ 8))
-      ⊎ (numberOf (anyOutcome e d n K t s work .answer .verdict) ≡ 17) → anyOutcome e d n K t s work .work ≡ replicate (length work) 0
+  pub any-clears : ((numberOf (anyOutcome e d n K t s work .answer .verdict) ≡ 0)
+      ⊎ (numberOf (anyOutcome e d n K t s work .answer .verdict) ≡ 8))
+      ⊎ (numberOf (anyOutcome e d n K t s work .answer .verdict) ≡ 17) → anyOutcome e d n K t s work .work
+      ≡ replicate (length work) 0
   any-clears h = left ∙ ⊎-elim (work-cleared (anyOutcome e d n K t s work .answer .verdict) work) (λ q. rw q) h
 
   -- two outcomes that keep the promise are equal: the answer, the sheet and the work area afterwards
-  pub any-once : (a a′ : MakeAnswer) (l l′ w w′ : List ℕ) → record { answer = a; sheet = l; work = w } ≡ anyOutcome e d n K t s work
+  pub any-once : (a a′ : MakeAnswer) (l l′ w w′ : List ℕ) → record { answer = a; sheet = l; work = w }
+      ≡ anyOutcome e d n K t s work
       → record { answer = a′; sheet = l′; work = w′ } ≡ anyOutcome e d n K t s work → (a ≡ a′) × (l ≡ l′) × (w ≡ w′)
-  any-once a a′ l l′ w w′ p q = (ap (λ o. o .answer) (p ∙ sym q), ap (λ o. o .sheet) (p ∙ sym q), ap (λ o. o .work) (p ∙ sym q))
+  any-once a a′ l l′ w w′ p q = (
+    ap (λ o. o .answer) (p ∙ sym q),
+    ap (λ o. o .sheet) (p ∙ sym q),
+    ap (λ o. o .work)
+        (p ∙ sym q),
+  )
 
-  -- where make gives another number than 8, it is make's outcome, sheet and all; so what is claimed of make then holds of it
-  pub any-as-make : (numberOf (makeOutcome e d n K t s work .answer .verdict) ≡ 8 → ⊥) → anyOutcome e d n K t s work ≡ makeOutcome e d n K t s work
+  -- where make gives another number than 8, it is make's outcome, sheet and all; so what is claimed of make then holds
+  -- of it
+  pub any-as-make : (numberOf (makeOutcome e d n K t s work .answer .verdict) ≡ 8 → ⊥) → anyOutcome e d n K t s work
+      ≡ makeOutcome e d n K t s work
   any-as-make h = sym (as-make e d n K t s work h)
 
   gate : InOrder (makeForm e d n K t s work) → Sound e n K t
@@ -122,7 +138,8 @@ module _ (e : Edition) (d n K : ℕ) (t s work : List ℕ) where
           cells = cs;
           answer = q;
           outcome =
-              is-done (λ (o : MakeOutcome). o .answer .verdict) (makeDone e d (cellsAny (anyFor n K t)) s work) (makeNot s work) refl (λ r. refl)
+              is-done (λ (o : MakeOutcome). o .answer .verdict) (makeDone e d (cellsAny (anyFor n K t)) s work)
+              (makeNot s work) refl (λ r. refl)
               (verdict (anyLines e d n K t s work)) done
               ∙ ap (λ (a : Any). makeDone e d (cellsAny a) s work) q;
         }
@@ -146,16 +163,19 @@ module _ (e : Edition) (d n K : ℕ) (t s work : List ℕ) where
 
     module _ (ok : IsEdition e) where
       -- running them at any assignment gives the table's own bit (`written-bit`, chains)
-      pub any-runs : (x : ℕ) → x < 2 ^ n → runOutcome e d n (recordsOf e (anyOutcome e d n K t s work)) x ≡ record { verdict = Fine; bit = tableBit t x }
+      pub any-runs : (x : ℕ) → x < 2 ^ n → runOutcome e d n (recordsOf e (anyOutcome e d n K t s work)) x
+          ≡ record { verdict = Fine; bit = tableBit t x }
       any-runs = outcome-runs e d n K t s work o written ok
 
       -- rebuilding from them, into any lent table of the right length, gives the table back, byte for byte
       pub any-rebuilds : AllBytes t → (table : List ℕ) → length table ≡ tableLength n
-          → rebuildOutcome e d n (recordsOf e (anyOutcome e d n K t s work)) table ≡ record { verdict = Fine; table = t }
+          → rebuildOutcome e d n (recordsOf e (anyOutcome e d n K t s work)) table
+          ≡ record { verdict = Fine; table = t }
       any-rebuilds = outcome-rebuilds e d n K t s work o written ok
 
       -- each record but the last is read (`over-read`, chains): neither run nor rebuild refuses them as 15
-      pub any-each-read : EachRead e n (recordsOf e (anyOutcome e d n K t s work)) (records e (recordsOf e (anyOutcome e d n K t s work)))
+      pub any-each-read : EachRead e n (recordsOf e (anyOutcome e d n K t s work))
+          (records e (recordsOf e (anyOutcome e d n K t s work)))
       any-each-read = outcome-each-read e d n K t s work o written ok
 
       pub any-never-unread : (x : ℕ) (table : List ℕ)
@@ -163,36 +183,44 @@ module _ (e : Edition) (d n K : ℕ) (t s work : List ℕ) where
           × (numberOf (rebuildOutcome e d n (recordsOf e (anyOutcome e d n K t s work)) table .verdict) ≡ 15 → ⊥)
       any-never-unread = outcome-never-unread e d n K t s work o written ok
 
-      -- they are a network of cells of at most K inputs, each reading signals given before it, that gives the table (`any-gives`, chains)
+      -- they are a network of cells of at most K inputs, each reading signals given before it, that gives the table
+      -- (`any-gives`, chains)
       pub any-network-gives : Gives n K (tableBit t) (networkOf e (anyOutcome e d n K t s work))
       any-network-gives = outcome-gives e d n K t s work o written ok
 
       -- three cells or fewer are fewest (`any-three`, fewest)
-      pub any-fewest : anyOutcome e d n K t s work .answer .count ≤ 3 → Fewest n K (tableBit t) (networkOf e (anyOutcome e d n K t s work))
+      pub any-fewest : anyOutcome e d n K t s work .answer .count ≤ 3
+          → Fewest n K (tableBit t) (networkOf e (anyOutcome e d n K t s work))
       unfolding written is-any
       any-fewest h =
           let w = is-any in
           rw (outcome-network e d n K t s work o written ok)
-          (any-three n K (tableBit t) (w .sound-gate .some) one (w .cells) (w .answer) (omega (arith, ap (λ o. o .answer .count) (w .outcome))))
+          (any-three n K (tableBit t) (w .sound-gate .some) one (w .cells) (w .answer)
+          (omega (arith, ap (λ o. o .answer .count) (w .outcome))))
 
   -- ---- 8 and 17
 
-  -- refused as 8: make's chain has a table with more than K inputs and no split, and so has the chain with several first cells, for any r (`any-unsplit`, chains)
-  pub any-blocked : numberOf (anyOutcome e d n K t s work .answer .verdict) ≡ 8 → Blocked K n keptInputs keptOf × BlockedOver mostFirst K n keptInputs keptOf
+  -- refused as 8: make's chain has a table with more than K inputs and no split, and so has the chain with several
+  -- first cells, for any r (`any-unsplit`, chains)
+  pub any-blocked : numberOf (anyOutcome e d n K t s work .answer .verdict) ≡ 8 → Blocked K n keptInputs keptOf
+      × BlockedOver mostFirst K n keptInputs keptOf
   any-blocked h =
       let q = ap numberOf (sym says) ∙ h in
       let g = gate (passed (makeForm e d n K t s work) (anySays (anyFor n K t)) 8 refl q .0) in
       any-unsplit n K (tableBit t) (g .some) (omega (arith, g .two)) .0
-      (go (anyFor n K t) (held (makeForm e d n K t s work) (noneAny (anyFor n K t)) (tooLong (anyFor n K t) ∷ []) 8 refl refl (λ z. omega arith) q .0))
+      (go (anyFor n K t) (held (makeForm e d n K t s work) (noneAny (anyFor n K t)) (tooLong (anyFor n K t) ∷ []) 8 refl
+      refl (λ z. omega arith) q .0))
     where
       go : (a : Any) → isUnsplit a ≡ true → a ≡ unsplit
       go unsplit g = refl
       go overlong g = absurd (clash g refl)
       go (sheet cs) g = absurd (clash g refl)
 
-  -- refused as 17: make's chain has such a table, and the other comes to its end with more cells than a sheet has records (`any-overlong`, chains)
+  -- refused as 17: make's chain has such a table, and the other comes to its end with more cells than a sheet has
+  -- records (`any-overlong`, chains)
   pub any-too-long : numberOf (anyOutcome e d n K t s work .answer .verdict) ≡ 17
-      → Blocked K n keptInputs keptOf × ((cs : List Cell) × MakesOver mostFirst K n keptInputs keptOf cs × (mostRecords < length cs))
+      → Blocked K n keptInputs keptOf × ((cs : List Cell) × MakesOver mostFirst K n keptInputs keptOf cs
+      × (mostRecords < length cs))
   any-too-long h =
       let q = ap numberOf (sym says) ∙ h in
       let g = gate (passed (makeForm e d n K t s work) (anySays (anyFor n K t)) 17 refl q .0) in
@@ -206,12 +234,18 @@ module _ (e : Edition) (d n K : ℕ) (t s work : List ℕ) where
 
   -- the other way, where form and room are in order
   module _ (form : InOrder (makeForm e d n K t s work)) where
-    by-answer : (a : Any) → anyFor n K t ≡ a → numberOf (anyOutcome e d n K t s work .answer .verdict) ≡ numberOf (verdict (anySays a))
-    by-answer a q = ap numberOf (says ∙ passes (makeForm e d n K t s work) (anySays (anyFor n K t)) form) ∙ ap (λ (a : Any). numberOf (verdict (anySays a))) q
+    by-answer : (a : Any) → anyFor n K t ≡ a → numberOf (anyOutcome e d n K t s work .answer .verdict)
+        ≡ numberOf (verdict (anySays a))
+    by-answer a q = ap numberOf (says ∙ passes (makeForm e d n K t s work) (anySays (anyFor n K t)) form)
+        ∙ ap (λ (a : Any). numberOf (verdict (anySays a))) q
 
-    pub blocked-any : Blocked K n keptInputs keptOf → BlockedOver mostFirst K n keptInputs keptOf → numberOf (anyOutcome e d n K t s work .answer .verdict) ≡ 8
-    blocked-any b c = let g = gate form in by-answer unsplit (any-unsplit n K (tableBit t) (g .some) (omega (arith, g .two)) .1 (b, c))
+    pub blocked-any : Blocked K n keptInputs keptOf → BlockedOver mostFirst K n keptInputs keptOf
+        → numberOf (anyOutcome e d n K t s work .answer .verdict) ≡ 8
+    blocked-any b c = let g = gate form in by-answer unsplit
+        (any-unsplit n K (tableBit t) (g .some) (omega (arith, g .two)) .1 (b, c))
 
-    pub long-any : Blocked K n keptInputs keptOf → (cs : List Cell) → MakesOver mostFirst K n keptInputs keptOf cs → mostRecords < length cs
+    pub long-any : Blocked K n keptInputs keptOf → (cs : List Cell) → MakesOver mostFirst K n keptInputs keptOf cs
+        → mostRecords < length cs
         → numberOf (anyOutcome e d n K t s work .answer .verdict) ≡ 17
-    long-any b cs c l = let g = gate form in by-answer overlong (any-overlong n K (tableBit t) (g .some) (omega (arith, g .two)) .1 (b, (cs, c, l)))
+    long-any b cs c l = let g = gate form in by-answer overlong
+        (any-overlong n K (tableBit t) (g .some) (omega (arith, g .two)) .1 (b, (cs, c, l)))

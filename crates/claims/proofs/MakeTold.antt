@@ -1,4 +1,5 @@
--- Make a sheet in a told edition: what is claimed of it. Told an edition that there is, it is make in that edition: every claim on make (MakeSheet, Desks,
+-- Make a sheet in a told edition: what is claimed of it. Told an edition that there is, it is make in that edition:
+-- every claim on make (MakeSheet, Desks,
 -- Tries) holds of it, with either edition's K. Assumes nothing.
 use mathlib.Core.Path.{_≡_, refl, sym, ap, _∙_, subst}
 use mathlib.Core.Logic.{_⊎_}
@@ -38,46 +39,61 @@ use Rattle.claims.proofs.CheckTold.{check-told-is}
 module _ (w d n K : ℕ) (t sheet work : List ℕ) where
   says : makeTold w d n K t sheet work .answer .verdict ≡ verdict (makeToldLines w d n K t sheet work)
   says =
-      says-verdict (λ (o : MakeOutcome). o .answer .verdict) (makeDone (editionOf w) d (cellsIn (sheetFor n K t)) sheet work) (makeNot sheet work) refl (λ r. refl)
+      says-verdict (λ (o : MakeOutcome). o .answer .verdict)
+      (makeDone (editionOf w) d (cellsIn (sheetFor n K t)) sheet work) (makeNot sheet work) refl (λ r. refl)
       (verdict (makeToldLines w d n K t sheet work))
 
   left : makeTold w d n K t sheet work .work ≡ workAfter (makeTold w d n K t sheet work .answer .verdict) work
   left =
-      area-left (λ (o : MakeOutcome). o .answer .verdict) (makeDone (editionOf w) d (cellsIn (sheetFor n K t)) sheet work) (makeNot sheet work) refl (λ r. refl) (λ (o : MakeOutcome). o .work) work refl (λ r. refl)
+      area-left (λ (o : MakeOutcome). o .answer .verdict)
+      (makeDone (editionOf w) d (cellsIn (sheetFor n K t)) sheet work) (makeNot sheet work) refl (λ r. refl)
+      (λ (o : MakeOutcome). o .work) work refl (λ r. refl)
       (verdict (makeToldLines w d n K t sheet work))
 
   -- the verdict is that of 1, of 2 for the edition, and of lines 1 to 6 and 8 in that edition
   pub make-told-lines : ByLines (makeTold w d n K t sheet work .answer .verdict) (makeToldLines w d n K t sheet work)
-  make-told-lines = by-lines (makeToldLines w d n K t sheet work) refl (makeTold w d n K t sheet work .answer .verdict) says
+  make-told-lines = by-lines (makeToldLines w d n K t sheet work) refl (makeTold w d n K t sheet work .answer .verdict)
+      says
 
   -- refused: the count is 0, and the sheet is as it was lent
   pub make-told-refused : (r : Refusal) → makeTold w d n K t sheet work .answer .verdict ≡ Refused r
       → (makeTold w d n K t sheet work .answer .count ≡ 0) × (makeTold w d n K t sheet work .sheet ≡ sheet)
   make-told-refused r h =
-      let q = is-refused (λ (o : MakeOutcome). o .answer .verdict) (makeDone (editionOf w) d (cellsIn (sheetFor n K t)) sheet work) (makeNot sheet work) refl (λ u. refl)
+      let q = is-refused (λ (o : MakeOutcome). o .answer .verdict)
+      (makeDone (editionOf w) d (cellsIn (sheetFor n K t)) sheet work) (makeNot sheet work) refl (λ u. refl)
       (verdict (makeToldLines w d n K t sheet work)) r h in
       (ap (λ o. o .answer .count) q, ap (λ o. o .sheet) q)
 
   -- 1 to 7 leave the work area as found
-  pub make-told-keeps : 1 ≤ numberOf (makeTold w d n K t sheet work .answer .verdict) → numberOf (makeTold w d n K t sheet work .answer .verdict) ≤ 7
+  pub make-told-keeps : 1 ≤ numberOf (makeTold w d n K t sheet work .answer .verdict)
+      → numberOf (makeTold w d n K t sheet work .answer .verdict) ≤ 7
       → makeTold w d n K t sheet work .work ≡ work
   make-told-keeps h g = left ∙ work-found (makeTold w d n K t sheet work .answer .verdict) work h g
 
   -- after 0 or 8 the whole of it is zeros
-  pub make-told-clears : (numberOf (makeTold w d n K t sheet work .answer .verdict) ≡ 0) ⊎ (numberOf (makeTold w d n K t sheet work .answer .verdict) ≡ 8)
+  pub make-told-clears : (numberOf (makeTold w d n K t sheet work .answer .verdict) ≡ 0)
+      ⊎ (numberOf (makeTold w d n K t sheet work .answer .verdict) ≡ 8)
       → makeTold w d n K t sheet work .work ≡ replicate (length work) 0
   make-told-clears h = left ∙ work-cleared (makeTold w d n K t sheet work .answer .verdict) work h
 
   -- two outcomes that keep the promise are equal: the answer, the sheet and the work area afterwards
-  pub make-told-once : (a a′ : MakeAnswer) (l l′ x x′ : List ℕ) → record { answer = a; sheet = l; work = x } ≡ makeTold w d n K t sheet work
+  pub make-told-once : (a a′ : MakeAnswer) (l l′ x x′ : List ℕ) → record { answer = a; sheet = l; work = x }
+      ≡ makeTold w d n K t sheet work
       → record { answer = a′; sheet = l′; work = x′ } ≡ makeTold w d n K t sheet work → (a ≡ a′) × (l ≡ l′) × (x ≡ x′)
-  make-told-once a a′ l l′ x x′ p q = (ap (λ o. o .answer) (p ∙ sym q), ap (λ o. o .sheet) (p ∙ sym q), ap (λ o. o .work) (p ∙ sym q))
+  make-told-once a a′ l l′ x x′ p q = (
+    ap (λ o. o .answer) (p ∙ sym q),
+    ap (λ o. o .sheet) (p ∙ sym q),
+    ap
+        (λ o. o .work) (p ∙ sym q),
+  )
 
   -- told an edition that there is, it is make in that edition
-  pub make-told-is : badEdition w .holds ≡ false → makeTold w d n K t sheet work ≡ makeOutcome (editionOf w) d n K t sheet work
+  pub make-told-is : badEdition w .holds ≡ false → makeTold w d n K t sheet work
+      ≡ makeOutcome (editionOf w) d n K t sheet work
   unfolding makeOutcome
   make-told-is known =
-      ap (λ (v : Verdict). reply v (makeDone (editionOf w) d (cellsIn (sheetFor n K t)) sheet work) (makeNot sheet work))
+      ap (λ (v : Verdict). reply v (makeDone (editionOf w) d (cellsIn (sheetFor n K t)) sheet work)
+      (makeNot sheet work))
       (told-known w n (drop 1 (makeLines (editionOf w) d n K t sheet work)) known)
 
   -- ---- demand 2: done; s are the records that it wrote
@@ -96,16 +112,19 @@ module _ (w d n K : ℕ) (t sheet work : List ℕ) where
     s = recordsOf (editionOf w) (makeOutcome (editionOf w) d n K t sheet work)
 
     -- told the same edition, run of s at any assignment gives the table's own bit
-    pub told-runs : (x : ℕ) → x < 2 ^ n → runTold w n (recordsOf (editionOf w) (makeTold w d n K t sheet work)) x ≡ record { verdict = Fine; bit = tableBit t x }
+    pub told-runs : (x : ℕ) → x < 2 ^ n → runTold w n (recordsOf (editionOf w) (makeTold w d n K t sheet work)) x
+        ≡ record { verdict = Fine; bit = tableBit t x }
     told-runs x h =
         ap (λ (o : MakeOutcome). runTold w n (recordsOf (editionOf w) o) x) is ∙ run-told-is w n s x known
         ∙ made-runs-own (editionOf w) (is-edition w) d n K t sheet work done-there x h
 
     -- rebuild from s, into any lent table of the right length, gives the table back, byte for byte
     pub told-rebuilds : AllBytes t → (table : List ℕ) → length table ≡ tableLength n
-        → rebuildTold w n (recordsOf (editionOf w) (makeTold w d n K t sheet work)) table ≡ record { verdict = Fine; table = t }
+        → rebuildTold w n (recordsOf (editionOf w) (makeTold w d n K t sheet work)) table
+        ≡ record { verdict = Fine; table = t }
     told-rebuilds bytes table h =
-        ap (λ (o : MakeOutcome). rebuildTold w n (recordsOf (editionOf w) o) table) is ∙ rebuild-told-is w n s table known
+        ap (λ (o : MakeOutcome). rebuildTold w n (recordsOf (editionOf w) o) table) is
+        ∙ rebuild-told-is w n s table known
         ∙ made-rebuilds-own (editionOf w) (is-edition w) d n K t sheet work done-there bytes table h
 
     -- check accepts s
@@ -120,10 +139,13 @@ module _ (w d n K : ℕ) (t sheet work : List ℕ) where
         subst (λ (o : MakeOutcome). Gives n K (tableBit t) (networkOf (editionOf w) o)) (sym is)
         (made-gives (editionOf w) d n K t sheet work (is-edition w) done-there)
 
-  -- ---- demand 3: where form and room are in order and one or two cells of the told edition carry the table, wired in any way at all: make is done, the
+  -- ---- demand 3: where form and room are in order and one or two cells of the told edition carry the table, wired in
+  -- any way at all: make is done, the
   -- network that it wrote gives the table with the fewest cells, and its count is that fewest number
-  pub told-fewest : badEdition w .holds ≡ false → InOrder (makeForm (editionOf w) d n K t sheet work) → (m : ℕ) → Carries n K m (tableBit t) → m ≤ 2
-      → (makeTold w d n K t sheet work .answer .verdict ≡ Fine) × Fewest n K (tableBit t) (networkOf (editionOf w) (makeTold w d n K t sheet work))
+  pub told-fewest : badEdition w .holds ≡ false → InOrder (makeForm (editionOf w) d n K t sheet work) → (m : ℕ)
+      → Carries n K m (tableBit t) → m ≤ 2
+      → (makeTold w d n K t sheet work .answer .verdict ≡ Fine)
+      × Fewest n K (tableBit t) (networkOf (editionOf w) (makeTold w d n K t sheet work))
       × ((m′ : ℕ) → Carries n K m′ (tableBit t) → makeTold w d n K t sheet work .answer .count ≤ m′)
   told-fewest known form m c h =
       subst (λ (o : MakeOutcome). (o .answer .verdict ≡ Fine) × Fewest n K (tableBit t) (networkOf (editionOf w) o)
@@ -131,5 +153,7 @@ module _ (w d n K : ℕ) (t sheet work : List ℕ) where
       (made-fewest (editionOf w) d n K t sheet work form (is-edition w) m c h)
 
 -- told 1 it is make for a desk, in the first edition
-pub make-told-one : (d n K : ℕ) (t sheet work : List ℕ) → makeTold 1 d n K t sheet work ≡ makeOutcome firstEdition d n K t sheet work
-make-told-one d n K t sheet work = make-told-is 1 d n K t sheet work refl ∙ ap (λ (e : Edition). makeOutcome e d n K t sheet work) edition-one
+pub make-told-one : (d n K : ℕ) (t sheet work : List ℕ) → makeTold 1 d n K t sheet work
+    ≡ makeOutcome firstEdition d n K t sheet work
+make-told-one d n K t sheet work = make-told-is 1 d n K t sheet work refl
+    ∙ ap (λ (e : Edition). makeOutcome e d n K t sheet work) edition-one

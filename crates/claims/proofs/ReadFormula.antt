@@ -45,7 +45,8 @@ read-one n s F G f g = one-formula n s F G (f .stands) (g .stands)
 module _ (n : ℕ) (s table : List ℕ) where
   pub read-says : readOutcome n s table .verdict ≡ verdict (readLines n s table)
   unfolding readOutcome
-  read-says = says-verdict (λ (o : ReadOutcome). o .verdict) (readDone n s) (readNot table) refl (λ r. refl) (verdict (readLines n s table))
+  read-says = says-verdict (λ (o : ReadOutcome). o .verdict) (readDone n s) (readNot table) refl (λ r. refl)
+      (verdict (readLines n s table))
 
   -- the verdict is that of lines 1, 3 and 16
   pub read-lines : ByLines (readOutcome n s table .verdict) (readLines n s table)
@@ -55,16 +56,20 @@ module _ (n : ℕ) (s table : List ℕ) where
   pub read-refused : (r : Refusal) → readOutcome n s table .verdict ≡ Refused r → readOutcome n s table .table ≡ table
   unfolding readOutcome
   read-refused r h =
-      ap (λ o. o .table) (is-refused (λ (o : ReadOutcome). o .verdict) (readDone n s) (readNot table) refl (λ q. refl) (verdict (readLines n s table)) r h)
+      ap (λ o. o .table) (is-refused (λ (o : ReadOutcome). o .verdict) (readDone n s) (readNot table) refl (λ q. refl)
+      (verdict (readLines n s table)) r h)
 
   -- nothing is named but for number 16
-  pub read-no-place : eqb (numberOf (readOutcome n s table .verdict)) 16 ≡ false → placeOf (readOutcome n s table .verdict) ≡ 0
+  pub read-no-place : eqb (numberOf (readOutcome n s table .verdict)) 16 ≡ false
+      → placeOf (readOutcome n s table .verdict) ≡ 0
   read-no-place h =
       ap placeOf read-says
-      ∙ names-nothing (λ k. eqb k 16) (readLines n s table) refl (ap (λ (v : Verdict). eqb (numberOf v) 16) (sym read-says) ∙ h)
+      ∙ names-nothing (λ k. eqb k 16) (readLines n s table) refl
+      (ap (λ (v : Verdict). eqb (numberOf v) 16) (sym read-says) ∙ h)
 
   -- two outcomes that keep the promise are equal: the verdict, and the table afterwards
-  pub read-once : (v v′ : Verdict) (l l′ : List ℕ) → record { verdict = v; table = l } ≡ readOutcome n s table → record { verdict = v′; table = l′ } ≡ readOutcome n s table
+  pub read-once : (v v′ : Verdict) (l l′ : List ℕ) → record { verdict = v; table = l } ≡ readOutcome n s table
+      → record { verdict = v′; table = l′ } ≡ readOutcome n s table
       → (v ≡ v′) × (l ≡ l′)
   read-once v v′ l l′ p q = (ap (λ o. o .verdict) (p ∙ sym q), ap (λ o. o .table) (p ∙ sym q))
 
@@ -83,7 +88,8 @@ module _ (n : ℕ) (s table : List ℕ) where
       λ r. by-text ∙ ap line16 (read-as n s (r .0) .1 (r .1)),
     )
 
-    -- and refused as 16 at p exactly when p is the length of a text that is too long, else the first place at which it can't be continued
+    -- and refused as 16 at p exactly when p is the length of a text that is too long, else the first place at which it
+    -- can't be continued
     pub read-place : (p : ℕ) → (readOutcome n s table .verdict ≡ Refused (refusal 16 p)) ↔ RefusedAt n s p
     unfolding line16
     read-place p = (
@@ -97,12 +103,15 @@ module _ (n : ℕ) (s table : List ℕ) where
     -- it is the table of the formula's values
     pub read-whole : readOutcome n s table .table ≡ tableOf n (valueIn (textOf n s))
     unfolding readOutcome
-    read-whole = ap (λ o. o .table) (is-done (λ (o : ReadOutcome). o .verdict) (readDone n s) (readNot table) refl (λ q. refl) (verdict (readLines n s table)) done)
+    read-whole = ap (λ o. o .table) (is-done (λ (o : ReadOutcome). o .verdict) (readDone n s) (readNot table) refl
+        (λ q. refl) (verdict (readLines n s table)) done)
 
     -- the table has the formula's value at every assignment
-    pub read-table : (F : Formula) → ReadAs n s F → (x : ℕ) → x < 2 ^ n → tableBit (readOutcome n s table .table) x ≡ value F x
+    pub read-table : (F : Formula) → ReadAs n s F → (x : ℕ) → x < 2 ^ n → tableBit (readOutcome n s table .table) x
+        ≡ value F x
     read-table F r x h =
-        ap (λ (l : List ℕ). tableBit l x) read-whole ∙ table-of n (valueIn (textOf n s)) x h ∙ ap (λ (a : Answer). valueIn a x) (read-as n s F .1 r)
+        ap (λ (l : List ℕ). tableBit l x) read-whole ∙ table-of n (valueIn (textOf n s)) x h
+        ∙ ap (λ (a : Answer). valueIn a x) (read-as n s F .1 r)
 
     -- it is written whole
     pub read-length : length (readOutcome n s table .table) ≡ tableLength n

@@ -30,7 +30,8 @@ use Rattle.claims.proofs.Sheets.{index-first, unread-exactly}
 module _ (e : Edition) (d n : ℕ) (s : List ℕ) (x : ℕ) where
   pub run-says : runOutcome e d n s x .verdict ≡ verdict (runLines e d n s x)
   unfolding runOutcome
-  run-says = says-verdict (λ (a : RunAnswer). a .verdict) (runDone e n s x) runNot refl (λ r. refl) (verdict (runLines e d n s x))
+  run-says = says-verdict (λ (a : RunAnswer). a .verdict) (runDone e n s x) runNot refl (λ r. refl)
+      (verdict (runLines e d n s x))
 
   -- the verdict is that of lines 1, 9, 10, 11 and 15
   pub run-lines : ByLines (runOutcome e d n s x .verdict) (runLines e d n s x)
@@ -39,29 +40,38 @@ module _ (e : Edition) (d n : ℕ) (s : List ℕ) (x : ℕ) where
   -- refused: the bit is 0
   pub run-refused : (r : Refusal) → runOutcome e d n s x .verdict ≡ Refused r → runOutcome e d n s x .bit ≡ false
   unfolding runOutcome
-  run-refused r h = ap (λ a. a .bit) (is-refused (λ (a : RunAnswer). a .verdict) (runDone e n s x) runNot refl (λ q. refl) (verdict (runLines e d n s x)) r h)
+  run-refused r h = ap (λ a. a .bit) (is-refused (λ (a : RunAnswer). a .verdict) (runDone e n s x) runNot refl
+      (λ q. refl) (verdict (runLines e d n s x)) r h)
 
   -- nothing is named but for numbers 10 and 15
-  pub run-no-index : (eqb (numberOf (runOutcome e d n s x .verdict)) 10 || eqb (numberOf (runOutcome e d n s x .verdict)) 15) ≡ false
+  pub run-no-index : (eqb (numberOf (runOutcome e d n s x .verdict)) 10
+      || eqb (numberOf (runOutcome e d n s x .verdict)) 15) ≡ false
       → placeOf (runOutcome e d n s x .verdict) ≡ 0
   run-no-index h =
       ap placeOf run-says
-      ∙ names-nothing (λ k. eqb k 10 || eqb k 15) (runLines e d n s x) refl (ap (λ (v : Verdict). eqb (numberOf v) 10 || eqb (numberOf v) 15) (sym run-says) ∙ h)
+      ∙ names-nothing (λ k. eqb k 10 || eqb k 15) (runLines e d n s x) refl
+      (ap (λ (v : Verdict). eqb (numberOf v) 10 || eqb (numberOf v) 15) (sym run-says) ∙ h)
 
   -- 10 names the first bad record
-  pub run-index : IsEdition e → numberOf (runOutcome e d n s x .verdict) ≡ 10 → FirstBad e d n s (placeOf (runOutcome e d n s x .verdict))
-  run-index ok h = index-first e ok d n s (badInputs n ∷ badSheet e s ∷ []) (badAssignment n x ∷ unreadRecord e n s ∷ []) refl refl (runOutcome e d n s x .verdict) run-says h
+  pub run-index : IsEdition e → numberOf (runOutcome e d n s x .verdict) ≡ 10
+      → FirstBad e d n s (placeOf (runOutcome e d n s x .verdict))
+  run-index ok h = index-first e ok d n s (badInputs n ∷ badSheet e s ∷ [])
+      (badAssignment n x ∷ unreadRecord e n s ∷ []) refl refl (runOutcome e d n s x .verdict) run-says h
 
-  -- 15 is given exactly where the other lines are in order and some record but the last isn't read, and names the first such
-  pub run-unread : (i : ℕ) → (runOutcome e d n s x .verdict ≡ Refused (refusal 15 i)) ↔ (InOrder (runForm e d n s x) × IsFirstUnread e n s (records e s) i)
+  -- 15 is given exactly where the other lines are in order and some record but the last isn't read, and names the first
+  -- such
+  pub run-unread : (i : ℕ) → (runOutcome e d n s x .verdict ≡ Refused (refusal 15 i))
+      ↔ (InOrder (runForm e d n s x) × IsFirstUnread e n s (records e s) i)
   run-unread = unread-exactly e n s (runForm e d n s x) refl (runOutcome e d n s x .verdict) run-says
 
   -- where each record but the last is read, every answer is as before
   pub run-as-before : EachRead e n s (records e s) → runOutcome e d n s x ≡ runBefore e d n s x
   unfolding runOutcome
-  run-as-before r = ap (λ (v : Verdict). reply v (runDone e n s x) runNot) (lapses (runForm e d n s x) (unreadRecord e n s ∷ []) (read-fine e n s r, tt))
+  run-as-before r = ap (λ (v : Verdict). reply v (runDone e n s x) runNot)
+      (lapses (runForm e d n s x) (unreadRecord e n s ∷ []) (read-fine e n s r, tt))
 
-  -- 15 never hides another gate: without that record the others, renumbered, give what the sheet gives (`sheet-without`, sheets)
+  -- 15 never hides another gate: without that record the others, renumbered, give what the sheet gives
+  -- (`sheet-without`, sheets)
   pub run-without : IsEdition e → (i : ℕ) → runOutcome e d n s x .verdict ≡ Refused (refusal 15 i)
       → Gives n (e .most) (sheetBit e n s (records e s)) (without n i (sheetCells e s (records e s)))
   run-without ok i h =
@@ -69,7 +79,8 @@ module _ (e : Edition) (d n : ℕ) (s : List ℕ) (x : ℕ) where
       let f = w .0 .1 in
       let u = w .1 in
       let g = good-sheet e d n s ok (f .0, (f .1 .0, tt)) in
-      sheet-without e ok d n s (records e s) i (g .rules) (u .within) (not-read e s n (records e s) i (omega (arith, u .within)) (u .alone))
+      sheet-without e ok d n s (records e s) i (g .rules) (u .within)
+      (not-read e s n (records e s) i (omega (arith, u .within)) (u .alone))
 
   -- two answers that keep the promise are equal
   pub run-once : (a a′ : RunAnswer) → a ≡ runOutcome e d n s x → a′ ≡ runOutcome e d n s x → a ≡ a′

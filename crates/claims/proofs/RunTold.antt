@@ -1,4 +1,5 @@
--- Run a sheet of a told edition: what is claimed of it. Told an edition that there is, it is run in that edition: every claim on run (RunSheet, Desks) holds of
+-- Run a sheet of a told edition: what is claimed of it. Told an edition that there is, it is run in that edition: every
+-- claim on run (RunSheet, Desks) holds of
 -- it. Assumes nothing.
 use mathlib.Core.Path.{_≡_, refl, sym, ap, _∙_}
 use mathlib.Core.Bool.{false}
@@ -23,7 +24,8 @@ use Rattle.claims.proofs.Verdicts.{says-verdict, is-refused, by-lines}
 
 module _ (w n : ℕ) (s : List ℕ) (x : ℕ) where
   says : runTold w n s x .verdict ≡ verdict (runToldLines w n s x)
-  says = says-verdict (λ (a : RunAnswer). a .verdict) (runDone (editionOf w) n s x) runNot refl (λ r. refl) (verdict (runToldLines w n s x))
+  says = says-verdict (λ (a : RunAnswer). a .verdict) (runDone (editionOf w) n s x) runNot refl (λ r. refl)
+      (verdict (runToldLines w n s x))
 
   -- the verdict is that of 1, of 2 for the edition, and of lines 1, 9, 10, 11 and 15 in that edition
   pub run-told-lines : ByLines (runTold w n s x .verdict) (runToldLines w n s x)
@@ -32,7 +34,8 @@ module _ (w n : ℕ) (s : List ℕ) (x : ℕ) where
   -- refused: the bit is 0
   pub run-told-refused : (r : Refusal) → runTold w n s x .verdict ≡ Refused r → runTold w n s x .bit ≡ false
   run-told-refused r h =
-      ap (λ a. a .bit) (is-refused (λ (a : RunAnswer). a .verdict) (runDone (editionOf w) n s x) runNot refl (λ q. refl) (verdict (runToldLines w n s x)) r h)
+      ap (λ a. a .bit) (is-refused (λ (a : RunAnswer). a .verdict) (runDone (editionOf w) n s x) runNot refl (λ q. refl)
+      (verdict (runToldLines w n s x)) r h)
 
   -- two answers that keep the promise are equal
   pub run-told-once : (a a′ : RunAnswer) → a ≡ runTold w n s x → a′ ≡ runTold w n s x → a ≡ a′
@@ -41,7 +44,8 @@ module _ (w n : ℕ) (s : List ℕ) (x : ℕ) where
   -- told an edition that there is, it is run in that edition
   pub run-told-is : badEdition w .holds ≡ false → runTold w n s x ≡ runOwn (editionOf w) n s x
   unfolding runOutcome
-  run-told-is known = ap (λ (v : Verdict). reply v (runDone (editionOf w) n s x) runNot) (told-known w n (drop 1 (runLines (editionOf w) (deskOf (editionOf w) s) n s x)) known)
+  run-told-is known = ap (λ (v : Verdict). reply v (runDone (editionOf w) n s x) runNot)
+      (told-known w n (drop 1 (runLines (editionOf w) (deskOf (editionOf w) s) n s x)) known)
 
 -- told 1 it is run
 pub run-told-one : (n : ℕ) (s : List ℕ) (x : ℕ) → runTold 1 n s x ≡ runOwn firstEdition n s x

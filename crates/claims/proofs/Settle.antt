@@ -39,7 +39,8 @@ use Rattle.claims.proofs.Sheets.{index-first}
 module _ (e : Edition) (d n : ℕ) (s : List ℕ) (delay : Float) (ts : List InputTime) where
   pub settle-says : settleOutcome e d n s delay ts .verdict ≡ verdict (settleLines e d n s delay ts)
   unfolding settleOutcome
-  settle-says = says-verdict (λ (a : SettleAnswer). a .verdict) (settleDone e n s delay ts) settleNot refl (λ r. refl) (verdict (settleLines e d n s delay ts))
+  settle-says = says-verdict (λ (a : SettleAnswer). a .verdict) (settleDone e n s delay ts) settleNot refl (λ r. refl)
+      (verdict (settleLines e d n s delay ts))
 
   -- the verdict is that of lines 1, 9, 10 and 13
   pub settle-lines : ByLines (settleOutcome e d n s delay ts .verdict) (settleLines e d n s delay ts)
@@ -50,31 +51,39 @@ module _ (e : Edition) (d n : ℕ) (s : List ℕ) (delay : Float) (ts : List Inp
       → (settleOutcome e d n s delay ts .earliest ≡ zeroTime) × (settleOutcome e d n s delay ts .latest ≡ zeroTime)
   unfolding settleOutcome
   settle-refused r h =
-      let q = is-refused (λ (a : SettleAnswer). a .verdict) (settleDone e n s delay ts) settleNot refl (λ q. refl) (verdict (settleLines e d n s delay ts)) r h in
+      let q = is-refused (λ (a : SettleAnswer). a .verdict) (settleDone e n s delay ts) settleNot refl (λ q. refl)
+      (verdict (settleLines e d n s delay ts)) r h in
       (ap (λ a. a .earliest) q, ap (λ a. a .latest) q)
 
   -- nothing is named but for number 10
-  pub settle-no-index : (numberOf (settleOutcome e d n s delay ts .verdict) ≡ 10 → ⊥) → placeOf (settleOutcome e d n s delay ts .verdict) ≡ 0
+  pub settle-no-index : (numberOf (settleOutcome e d n s delay ts .verdict) ≡ 10 → ⊥)
+      → placeOf (settleOutcome e d n s delay ts .verdict) ≡ 0
   settle-no-index h =
       ap placeOf settle-says
-      ∙ names-nothing (λ k. eqb k 10) (settleLines e d n s delay ts) refl (ne-eqb (numberOf (verdict (settleLines e d n s delay ts))) 10 (λ q. h (ap numberOf settle-says ∙ q)))
+      ∙ names-nothing (λ k. eqb k 10) (settleLines e d n s delay ts) refl
+      (ne-eqb (numberOf (verdict (settleLines e d n s delay ts))) 10 (λ q. h (ap numberOf settle-says ∙ q)))
 
   -- and then it is the first bad record
-  pub settle-index : IsEdition e → numberOf (settleOutcome e d n s delay ts .verdict) ≡ 10 → FirstBad e d n s (placeOf (settleOutcome e d n s delay ts .verdict))
+  pub settle-index : IsEdition e → numberOf (settleOutcome e d n s delay ts .verdict) ≡ 10
+      → FirstBad e d n s (placeOf (settleOutcome e d n s delay ts .verdict))
   settle-index ok h =
-      index-first e ok d n s (badInputs n ∷ badSheet e s ∷ []) (badTimes e n s delay ts ∷ []) refl refl (settleOutcome e d n s delay ts .verdict) settle-says h
+      index-first e ok d n s (badInputs n ∷ badSheet e s ∷ []) (badTimes e n s delay ts ∷ []) refl refl
+      (settleOutcome e d n s delay ts .verdict) settle-says h
 
   -- two answers that keep the promise are equal
-  pub settle-once : (a a′ : SettleAnswer) → a ≡ settleOutcome e d n s delay ts → a′ ≡ settleOutcome e d n s delay ts → a ≡ a′
+  pub settle-once : (a a′ : SettleAnswer) → a ≡ settleOutcome e d n s delay ts → a′ ≡ settleOutcome e d n s delay ts → a
+      ≡ a′
   settle-once a a′ p q = p ∙ sym q
 
   -- ---- 13, in words
 
   sound-input : (j : ℕ) → inputSound e s (records e s) ts j ≡ true → given (timeAt ts j) ≡ false → Reads e s j → ⊥
   sound-input j h g r =
-      let u = or-first (given (timeAt ts j)) (unread e s (records e s) j) (and-right (soundTime (timeAt ts j)) (given (timeAt ts j) || unread e s (records e s) j) h) g in
+      let u = or-first (given (timeAt ts j)) (unread e s (records e s) j)
+      (and-right (soundTime (timeAt ts j)) (given (timeAt ts j) || unread e s (records e s) j) h) g in
       let o = every-at (records e s) (λ i. passesOver (recordAt e s i) j) u (r .cell) (r .within) in
-      let p = every-at (recordAt e s (r .cell) 0) (λ k. not (eqb (recordAt e s (r .cell) (k + 1)) j)) o (r .place) (r .among) in
+      let p = every-at (recordAt e s (r .cell) 0) (λ k. not (eqb (recordAt e s (r .cell) (k + 1)) j)) o (r .place)
+      (r .among) in
       clash (eq-eqb (recordAt e s (r .cell) (r .place + 1)) j (r .reads)) (not-true _ p)
     where
       or-first : (a b : Bool) → (a || b) ≡ true → a ≡ false → b ≡ true
@@ -88,25 +97,31 @@ module _ (e : Edition) (d n : ℕ) (s : List ℕ) (delay : Float) (ts : List Inp
       let q = every n (inputSound e s (records e s) ts) in
       let t = not-false (inRange delay && q) (w .1 .1 .1 .0) in record {
         delayed = and-left (inRange delay) q t;
-        sound = λ j l. and-left (soundTime (timeAt ts j)) _ (every-at n (inputSound e s (records e s) ts) (and-right (inRange delay) q t) j l);
+        sound = λ j l. and-left (soundTime (timeAt ts j)) _
+            (every-at n (inputSound e s (records e s) ts) (and-right (inRange delay) q t) j l);
         there = λ j l. sound-input j (every-at n (inputSound e s (records e s) ts) (and-right (inRange delay) q t) j l);
       }
 
   module _ (form : InOrder (badInputs n ∷ sheetLines e d n s)) where
     pub sound-settles : SoundTimes e n s delay ts → settleOutcome e d n s delay ts .verdict ≡ Fine
-    sound-settles w = settle-says ∙ passes (badInputs n ∷ sheetLines e d n s) (badTimes e n s delay ts ∷ []) form ∙ rw (w .delayed, all) refl
+    sound-settles w = settle-says ∙ passes (badInputs n ∷ sheetLines e d n s) (badTimes e n s delay ts ∷ []) form
+        ∙ rw (w .delayed, all) refl
       where
         at : (j : ℕ) → j < n → inputSound e s (records e s) ts j ≡ true
         at j l = go (given (timeAt ts j)) refl
           where
-            none : (i : ℕ) → i < records e s → (k : ℕ) → k < recordAt e s i 0 → given (timeAt ts j) ≡ false → not (eqb (recordAt e s i (k + 1)) j) ≡ true
-            none i h k m g = ap not (ne-eqb (recordAt e s i (k + 1)) j (λ q. w .there j l g (record { cell = i; within = h; place = k; among = m; reads = q })))
+            none : (i : ℕ) → i < records e s → (k : ℕ) → k < recordAt e s i 0 → given (timeAt ts j) ≡ false
+                → not (eqb (recordAt e s i (k + 1)) j) ≡ true
+            none i h k m g = ap not (ne-eqb (recordAt e s i (k + 1)) j
+                (λ q. w .there j l g (record { cell = i; within = h; place = k; among = m; reads = q })))
 
             go : (b : Bool) → given (timeAt ts j) ≡ b → inputSound e s (records e s) ts j ≡ true
             go true q = rw (w .sound j l, q) refl
             go false q =
                 let u : unread e s (records e s) j ≡ true =
-                every-all (records e s) (λ i. passesOver (recordAt e s i) j) (λ i h. every-all (recordAt e s i 0) (λ k. not (eqb (recordAt e s i (k + 1)) j)) (λ k m. none i h k m q)) in
+                every-all (records e s) (λ i. passesOver (recordAt e s i) j)
+                (λ i h. every-all (recordAt e s i 0) (λ k. not (eqb (recordAt e s i (k + 1)) j))
+                (λ k m. none i h k m q)) in
                 rw (w .sound j l, q, u) refl
 
         all : every n (inputSound e s (records e s) ts) ≡ true
@@ -120,51 +135,66 @@ module _ (e : Edition) (d n : ℕ) (s : List ℕ) (delay : Float) (ts : List Inp
 
     is : settleOutcome e d n s delay ts ≡ settleDone e n s delay ts
     unfolding settleOutcome
-    is = is-done (λ (a : SettleAnswer). a .verdict) (settleDone e n s delay ts) settleNot refl (λ q. refl) (verdict (settleLines e d n s delay ts)) done
+    is = is-done (λ (a : SettleAnswer). a .verdict) (settleDone e n s delay ts) settleNot refl (λ q. refl)
+        (verdict (settleLines e d n s delay ts)) done
 
     -- nothing is rounded: the times are exactly so many sixteenths as whole numbers give
     pub settle-exact : WholeTimes n delay ts
         → HasValue (settleOutcome e d n s delay ts .earliest) false (settledWhole false e n s delay ts) 16
         × HasValue (settleOutcome e d n s delay ts .latest) false (settledWhole true e n s delay ts) 16
     settle-exact w =
-        let x = settled-exact e d n s delay ts left (w .delayed) (every-all n (λ j. timeInSixteenths (timeAt ts j)) (w .times)) in (
-          subst (λ (a : SettleAnswer). HasValue (a .earliest) false (settledWhole false e n s delay ts) 16) (sym is) (x false .0),
-          subst (λ (a : SettleAnswer). HasValue (a .latest) false (settledWhole true e n s delay ts) 16) (sym is) (x true .0),
+        let x = settled-exact e d n s delay ts left (w .delayed)
+        (every-all n (λ j. timeInSixteenths (timeAt ts j)) (w .times)) in (
+          subst (λ (a : SettleAnswer). HasValue (a .earliest) false (settledWhole false e n s delay ts) 16) (sym is)
+              (x false .0),
+          subst (λ (a : SettleAnswer). HasValue (a .latest) false (settledWhole true e n s delay ts) 16) (sym is)
+              (x true .0),
         )
 
     -- and these are the least and the greatest over all paths from an input to the output
     pub whole-paths : (late : Bool)
-        → BestPath (Beyond late) (λ i. i + sixteenthsOf delay) n (sheetCells e s (records e s)) (λ j. sixteenthsOf (inputTimes late n ts j)) (settledWhole late e n s delay ts)
+        → BestPath (Beyond late) (λ i. i + sixteenthsOf delay) n (sheetCells e s (records e s))
+        (λ j. sixteenthsOf (inputTimes late n ts j)) (settledWhole late e n s delay ts)
     whole-paths late = whole-path late e ok d n s delay ts (left .good)
 
-    -- ---- any times: the least earliest and the greatest latest over all paths, the delay added and rounded cell by cell
+    -- ---- any times: the least earliest and the greatest latest over all paths, the delay added and rounded cell by
+    -- cell
 
-    pub settle-earliest : BestPath (BeyondTime false) (delayed (plainZero delay)) n (sheetCells e s (records e s)) (inputTimes false n ts) (settleOutcome e d n s delay ts .earliest)
+    pub settle-earliest : BestPath (BeyondTime false) (delayed (plainZero delay)) n (sheetCells e s (records e s))
+        (inputTimes false n ts) (settleOutcome e d n s delay ts .earliest)
     settle-earliest =
-        subst (λ (a : SettleAnswer). BestPath (BeyondTime false) (delayed (plainZero delay)) n (sheetCells e s (records e s)) (inputTimes false n ts) (a .earliest)) (sym is)
+        subst (λ (a : SettleAnswer). BestPath (BeyondTime false) (delayed (plainZero delay)) n
+        (sheetCells e s (records e s)) (inputTimes false n ts) (a .earliest)) (sym is)
         (rounded-path false e ok d n s delay ts left)
 
-    pub settle-latest : BestPath (BeyondTime true) (delayed (plainZero delay)) n (sheetCells e s (records e s)) (inputTimes true n ts) (settleOutcome e d n s delay ts .latest)
+    pub settle-latest : BestPath (BeyondTime true) (delayed (plainZero delay)) n (sheetCells e s (records e s))
+        (inputTimes true n ts) (settleOutcome e d n s delay ts .latest)
     settle-latest =
-        subst (λ (a : SettleAnswer). BestPath (BeyondTime true) (delayed (plainZero delay)) n (sheetCells e s (records e s)) (inputTimes true n ts) (a .latest)) (sym is)
+        subst (λ (a : SettleAnswer). BestPath (BeyondTime true) (delayed (plainZero delay)) n
+        (sheetCells e s (records e s)) (inputTimes true n ts) (a .latest)) (sym is)
         (rounded-path true e ok d n s delay ts left)
 
 -- what is said past the n inputs isn't looked at
-pub settle-looks : (e : Edition) (d n : ℕ) (s : List ℕ) (delay : Float) (ts us : List InputTime) → ((j : ℕ) → j < n → timeAt ts j ≡ timeAt us j)
+pub settle-looks : (e : Edition) (d n : ℕ) (s : List ℕ) (delay : Float) (ts us : List InputTime)
+    → ((j : ℕ) → j < n → timeAt ts j ≡ timeAt us j)
     → settleOutcome e d n s delay ts ≡ settleOutcome e d n s delay us
 unfolding settleOutcome settled
 settle-looks e d n s delay ts us h =
-    ap (λ (t : Bool). answer t (inputTimes false n ts) (inputTimes true n ts)) (every-ext n (inputSound e s (records e s) ts) (inputSound e s (records e s) us) (λ j l. rw (h j l) refl))
+    ap (λ (t : Bool). answer t (inputTimes false n ts) (inputTimes true n ts))
+    (every-ext n (inputSound e s (records e s) ts) (inputSound e s (records e s) us) (λ j l. rw (h j l) refl))
     ∙ ap₂ (answer (every n (inputSound e s (records e s) us))) (fun-ext (times-ext false)) (fun-ext (times-ext true))
   where
     answer : Bool → (ℕ → Float) → (ℕ → Float) → SettleAnswer
     answer sound v w =
-        let settling : Bool → (ℕ → Float) → Float = λ late x. outputTime (keeping late) (delayed (plainZero delay)) zeroTime n (sheetCells e s (records e s)) x in
-        reply (verdict (badInputs n ∷ (sheetLines e d n s ++ (line 13 (not (inRange delay && sound)) ∷ [])))) (record { verdict = Fine; earliest = settling false v; latest = settling true w }) settleNot
+        let settling : Bool → (ℕ → Float) → Float = λ late x. outputTime (keeping late) (delayed (plainZero delay))
+        zeroTime n (sheetCells e s (records e s)) x in
+        reply (verdict (badInputs n ∷ (sheetLines e d n s ++ (line 13 (not (inRange delay && sound)) ∷ []))))
+        (record { verdict = Fine; earliest = settling false v; latest = settling true w }) settleNot
 
     times-ext : (late : Bool) (j : ℕ) → inputTimes late n ts j ≡ inputTimes late n us j
     times-ext late j = go (ltb j n) refl
       where
-        go : (b : Bool) → ltb j n ≡ b → cond b (timeOf late (timeAt ts j)) zeroTime ≡ cond b (timeOf late (timeAt us j)) zeroTime
+        go : (b : Bool) → ltb j n ≡ b → cond b (timeOf late (timeAt ts j)) zeroTime
+            ≡ cond b (timeOf late (timeAt us j)) zeroTime
         go true q = ap (timeOf late) (h j (ltb-true j n q))
         go false q = refl

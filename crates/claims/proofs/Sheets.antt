@@ -41,7 +41,8 @@ module _ (e : Edition) (ok : IsEdition e) (d n : ℕ) (s : List ℕ) where
       record {
         within = l;
         breaks = λ r. clash (w .here l) (ap not (kept e ok d (n + i) (recordAt e s i) r));
-        before = λ j g. rules e ok d (n + j) (recordAt e s j) (not-false (keeps e d (n + j) (recordAt e s j)) (w .before j g));
+        before = λ j g. rules e ok d (n + j) (recordAt e s j)
+            (not-false (keeps e d (n + j) (recordAt e s j)) (w .before j g));
       }
 
   module _ (m : ℕ) (some : 1 ≤ n) (most : n ≤ mostInputs) (g : Good e d n s m) (r : EachRead e n s m) where
@@ -56,26 +57,34 @@ module _ (e : Edition) (ok : IsEdition e) (d n : ℕ) (s : List ℕ) where
     unfolding runOutcome
     good-run x h =
         let f = sheet-fine e d n s ok m g in
-        ap (λ (v : Verdict). reply v (runDone e n s x) runNot) (passes (runLines e d n s x) [] (inputs-fine, (f .0, (f .1 .0, (lt-leb (2 ^ n) x h, (line-fine, tt))))))
+        ap (λ (v : Verdict). reply v (runDone e n s x) runNot)
+        (passes (runLines e d n s x) [] (inputs-fine, (f .0, (f .1 .0, (lt-leb (2 ^ n) x h, (line-fine, tt))))))
         ∙ ap (λ (k : ℕ). record { verdict = Fine; bit = sheetBit e n s k x }) (counted e d n s ok m g)
 
-    pub good-rebuild : (table : List ℕ) → length table ≡ tableLength n → rebuildOutcome e d n s table ≡ record { verdict = Fine; table = rebuilt e n s m }
+    pub good-rebuild : (table : List ℕ) → length table ≡ tableLength n → rebuildOutcome e d n s table
+        ≡ record { verdict = Fine; table = rebuilt e n s m }
     unfolding rebuildOutcome
     good-rebuild table h =
         let f = sheet-fine e d n s ok m g in
         ap (λ (v : Verdict). reply v (rebuildDone e n s) (rebuildNot table))
-        (passes (rebuildLines e d n s table) [] (inputs-fine, (ap not (eq-eqb (length table) (tableLength n) h), (f .0, (f .1 .0, (line-fine, tt))))))
+        (passes (rebuildLines e d n s table) [] (
+          inputs-fine,
+          (ap not (eq-eqb (length table) (tableLength n) h), (f .0, (f .1 .0, (line-fine, tt)))),
+        ))
         ∙ ap (λ (k : ℕ). record { verdict = Fine; table = rebuilt e n s k }) (counted e d n s ok m g)
 
 -- a call whose lines have line 10 among them: 10 names the first bad record
-pub index-first : (e : Edition) → IsEdition e → (d n : ℕ) (s : List ℕ) (ls ms : List Line) → others 10 ls ≡ true → others 10 ms ≡ true
+pub index-first : (e : Edition) → IsEdition e → (d n : ℕ) (s : List ℕ) (ls ms : List Line) → others 10 ls ≡ true
+    → others 10 ms ≡ true
     → (v : Verdict) → v ≡ verdict (ls ++ (badRecord e d n s ∷ ms)) → numberOf v ≡ 10 → FirstBad e d n s (placeOf v)
 index-first e ok d n s ls ms o p v q h =
     let w = held ls (badRecord e d n s) ms 10 o p (λ z. omega arith) (ap numberOf (sym q) ∙ h) in
     rw (q, w .1) (names-first e ok d n s (w .0))
 
--- and of a sheet's own desk: it is refused as 10 at i exactly where the lines before are in order and record i is the first that doesn't belong
-pub amiss-exactly : (e : Edition) → IsEdition e → (n : ℕ) (s : List ℕ) (ls ms : List Line) → others 10 ls ≡ true → others 10 ms ≡ true
+-- and of a sheet's own desk: it is refused as 10 at i exactly where the lines before are in order and record i is the
+-- first that doesn't belong
+pub amiss-exactly : (e : Edition) → IsEdition e → (n : ℕ) (s : List ℕ) (ls ms : List Line) → others 10 ls ≡ true
+    → others 10 ms ≡ true
     → (v : Verdict) → v ≡ verdict (ls ++ (badRecord e (deskOf e s) n s ∷ ms)) → (i : ℕ)
     → (v ≡ Refused (refusal 10 i)) ↔ (InOrder ls × FirstAmiss e n s (records e s) i)
 amiss-exactly e ok n s ls ms o p v is i =
@@ -83,31 +92,41 @@ amiss-exactly e ok n s ls ms o p v is i =
     let m = records e s in (
       λ q.
           let w = held ls l ms 10 o p (λ z. omega arith) (ap numberOf (sym is ∙ q)) in
-          let at : firstBad e (deskOf e s) n s m ≡ i = ap placeOf (sym (w .1) ∙ sym is ∙ q) in
-          (passed ls (l ∷ ms) 10 o (ap numberOf (sym is ∙ q)) .0, subst (FirstAmiss e n s m) at (bad-amiss e n s ok m (ltb-true (firstBad e (deskOf e s) n s m) m (w .0)))),
+          let at : firstBad e (deskOf e s) n s m ≡ i = ap placeOf (sym (w .1) ∙ sym is ∙ q) in (
+            passed ls (l ∷ ms) 10 o (ap numberOf (sym is ∙ q)) .0,
+            subst (FirstAmiss e n s m) at
+                (bad-amiss e n s ok m (ltb-true (firstBad e (deskOf e s) n s m) m (w .0))),
+          ),
       λ w.
           let at = amiss-bad e n s ok m i (w .1) in
           is ∙ passes ls (l ∷ ms) (w .0)
-          ∙ rw (lt-ltb (firstBad e (deskOf e s) n s m) m (omega (arith, at, w .1 .within))) (ap (λ (j : ℕ). Refused (refusal 10 j)) at),
+          ∙ rw (lt-ltb (firstBad e (deskOf e s) n s m) m (omega (arith, at, w .1 .within)))
+          (ap (λ (j : ℕ). Refused (refusal 10 j)) at),
     )
 
 -- a call whose last line is 15, and whose other lines are ls
-module _ (e : Edition) (n : ℕ) (s : List ℕ) (ls : List Line) (o : others 15 ls ≡ true) (v : Verdict) (is : v ≡ verdict (ls ++ (unreadRecord e n s ∷ []))) where
+module _ (e : Edition) (n : ℕ) (s : List ℕ) (ls : List Line) (o : others 15 ls ≡ true) (v : Verdict)
+    (is : v ≡ verdict (ls ++ (unreadRecord e n s ∷ []))) where
   line-holds : numberOf v ≡ 15 → (unreadRecord e n s .holds ≡ true) × (v ≡ Refused (unreadRecord e n s .gives))
   line-holds h =
       let w = held ls (unreadRecord e n s) [] 15 o refl (λ z. omega arith) (ap numberOf (sym is) ∙ h) in
       (w .0, is ∙ w .1)
 
-  -- it is refused as 15 at i exactly where the other lines are in order and record i is the first unread one, the last aside
+  -- it is refused as 15 at i exactly where the other lines are in order and record i is the first unread one, the last
+  -- aside
   pub unread-exactly : (i : ℕ) → (v ≡ Refused (refusal 15 i)) ↔ (InOrder ls × IsFirstUnread e n s (records e s) i)
   unread-exactly i = (
     λ q.
         let w = line-holds (ap numberOf q) in
-        let at : firstUnread e n s (records e s) ≡ i = ap placeOf (sym (w .1) ∙ q) in
-        (passed ls (unreadRecord e n s ∷ []) 15 o (ap numberOf (sym is ∙ q)) .0, subst (IsFirstUnread e n s (records e s)) at (unread-named e n s (w .0))),
+        let at : firstUnread e n s (records e s) ≡ i = ap placeOf (sym (w .1) ∙ q) in (
+          passed ls (unreadRecord e n s ∷ []) 15 o (ap numberOf (sym is ∙ q)) .0,
+          subst
+              (IsFirstUnread e n s (records e s)) at (unread-named e n s (w .0)),
+        ),
     λ w.
         let at = unread-first e s n (records e s) i (w .1) in
-        is ∙ passes ls (unreadRecord e n s ∷ []) (w .0) ∙ rw (named-unread e n s i (w .1)) (ap (λ (j : ℕ). Refused (refusal 15 j)) at),
+        is ∙ passes ls (unreadRecord e n s ∷ []) (w .0)
+        ∙ rw (named-unread e n s i (w .1)) (ap (λ (j : ℕ). Refused (refusal 15 j)) at),
   )
 
   -- and never, where each record but the last is read

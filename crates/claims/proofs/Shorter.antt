@@ -1,4 +1,5 @@
--- Keep the shorter of two sheets: what is claimed of it, over any edition, each sheet being for its own desk. Assumes nothing.
+-- Keep the shorter of two sheets: what is claimed of it, over any edition, each sheet being for its own desk. Assumes
+-- nothing.
 use mathlib.Core.Path.{_≡_, refl, sym, ap, _∙_, subst}
 use mathlib.Core.Logic.{_↔_, _⊎_, inl, inr}
 use mathlib.Core.Bool.{Bool, true, false, cond}
@@ -19,7 +20,8 @@ use Rattle.comparing.specs.declared.shorter.Kept.{Kept}
 use Rattle.inspection.specs.CheckSheet.{checkLines, checkOutcome, checkOwn}
 use Rattle.comparing.specs.Shorter.{kept, keptOutcome, partOf, shorterOutcome, Shortest}
 
--- the three ways it can go, by the verdicts a and b and the numbers of records i and j: which is kept, and what the call beside says
+-- the three ways it can go, by the verdicts a and b and the numbers of records i and j: which is kept, and what the
+-- call beside says
 data Goes (a b : Verdict) (i j : ℕ) : ℕ → Verdict → Type 0 where
   first : a ≡ Fine → (b ≡ Fine → i ≤ j) → Goes a b i j 1 Fine
   second : b ≡ Fine → (a ≡ Fine → j < i) → Goes a b i j 2 Fine
@@ -50,42 +52,56 @@ is-second (first p q) = (λ h. absurd (omega (arith, h)), λ h. absurd (omega (a
 is-second (second p q) = (λ h. (p, q), λ h. refl)
 is-second (neither r s p q) = (λ h. absurd (omega (arith, h)), λ h. absurd (not-fine s (sym (h .0) ∙ q)))
 
-is-neither : {a b : Verdict} {i j k : ℕ} {v : Verdict} → Goes a b i j k v → (a ≡ Fine → ⊥) → (b ≡ Fine → ⊥) → (k ≡ 0) × (v ≡ a)
+is-neither : {a b : Verdict} {i j k : ℕ} {v : Verdict} → Goes a b i j k v → (a ≡ Fine → ⊥) → (b ≡ Fine → ⊥) → (k ≡ 0)
+    × (v ≡ a)
 is-neither (first p q) f g = absurd (f p)
 is-neither (second p q) f g = absurd (g p)
 is-neither (neither r s p q) f g = (refl, sym p)
 
-is-done : {a b : Verdict} {i j k : ℕ} {v : Verdict} → Goes a b i j k v → ((r : Refusal) → a ≡ Refused r → r .number ≡ 0 → ⊥) → (numberOf v ≡ 0) ↔ ((a ≡ Fine) ⊎ (b ≡ Fine))
+is-done : {a b : Verdict} {i j k : ℕ} {v : Verdict} → Goes a b i j k v
+    → ((r : Refusal) → a ≡ Refused r → r .number ≡ 0 → ⊥) → (numberOf v ≡ 0) ↔ ((a ≡ Fine) ⊎ (b ≡ Fine))
 is-done (first p q) f = (λ h. inl p, λ h. refl)
 is-done (second p q) f = (λ h. inr p, λ h. refl)
 is-done (neither r s p q) f = (λ h. absurd (f r p h), λ h. absurd (not-one r s p q h))
 
 module _ (e : Edition) (n : ℕ) (t x y : List ℕ) where
-  went : Goes (checkOwn e n t x) (checkOwn e n t y) (records e x) (records e y) (keptOutcome e n t x y .which) (keptOutcome e n t x y .verdict)
+  went : Goes (checkOwn e n t x) (checkOwn e n t y) (records e x) (records e y) (keptOutcome e n t x y .which)
+      (keptOutcome e n t x y .verdict)
   unfolding keptOutcome
   went = goes (checkOwn e n t x) (checkOwn e n t y) (records e x) (records e y)
 
   -- what holds of the first and of the second holds of either
-  of-both : (k : ℕ) → (checkOwn e n t x ≡ Fine → k ≤ records e x) → (checkOwn e n t y ≡ Fine → k ≤ records e y) → (z : List ℕ) → (z ≡ x) ⊎ (z ≡ y)
+  of-both : (k : ℕ) → (checkOwn e n t x ≡ Fine → k ≤ records e x) → (checkOwn e n t y ≡ Fine → k ≤ records e y)
+      → (z : List ℕ) → (z ≡ x) ⊎ (z ≡ y)
       → checkOwn e n t z ≡ Fine → k ≤ records e z
-  of-both k f g z (inl p) h = subst (λ (s : List ℕ). k ≤ records e s) (sym p) (f (subst (λ (s : List ℕ). checkOwn e n t s ≡ Fine) p h))
-  of-both k f g z (inr p) h = subst (λ (s : List ℕ). k ≤ records e s) (sym p) (g (subst (λ (s : List ℕ). checkOwn e n t s ≡ Fine) p h))
+  of-both k f g z (inl p) h = subst (λ (s : List ℕ). k ≤ records e s) (sym p)
+      (f (subst (λ (s : List ℕ). checkOwn e n t s ≡ Fine) p h))
+  of-both k f g z (inr p) h = subst (λ (s : List ℕ). k ≤ records e s) (sym p)
+      (g (subst (λ (s : List ℕ). checkOwn e n t s ≡ Fine) p h))
 
   -- if either is accepted, what is handed back is accepted, and no accepted one of the two has fewer records
-  pub shorter-shortest : (checkOwn e n t x ≡ Fine) ⊎ (checkOwn e n t y ≡ Fine) → Shortest e n t x y (shorterOutcome e n t x y)
+  pub shorter-shortest : (checkOwn e n t x ≡ Fine) ⊎ (checkOwn e n t y ≡ Fine)
+      → Shortest e n t x y (shorterOutcome e n t x y)
   shorter-shortest one = go (keptOutcome e n t x y .which) (keptOutcome e n t x y .verdict) went
     where
-      go : (k : ℕ) (v : Verdict) → Goes (checkOwn e n t x) (checkOwn e n t y) (records e x) (records e y) k v → Shortest e n t x y (partOf k x y)
+      go : (k : ℕ) (v : Verdict) → Goes (checkOwn e n t x) (checkOwn e n t y) (records e x) (records e y) k v
+          → Shortest e n t x y (partOf k x y)
       go _ _ (first p q) = record { one = inl refl; accepted = p; fewest = of-both (records e x) (λ h. omega arith) q }
-      go _ _ (second p q) = record { one = inr refl; accepted = p; fewest = of-both (records e y) (λ h. omega (arith, q h)) (λ h. omega arith) }
+      go _ _ (second p q) = record {
+        one = inr refl;
+        accepted = p;
+        fewest = of-both (records e y) (λ h. omega (arith, q h)) (λ h. omega arith);
+      }
       go _ _ (neither r s p q) = absurd (not-one r s p q one)
 
   -- it is the first exactly if that is accepted, and the second isn't accepted with fewer records
-  pub which-first : (keptOutcome e n t x y .which ≡ 1) ↔ ((checkOwn e n t x ≡ Fine) × (checkOwn e n t y ≡ Fine → records e x ≤ records e y))
+  pub which-first : (keptOutcome e n t x y .which ≡ 1)
+      ↔ ((checkOwn e n t x ≡ Fine) × (checkOwn e n t y ≡ Fine → records e x ≤ records e y))
   which-first = is-first went
 
   -- the second exactly if that is accepted, and the first isn't accepted with as few
-  pub which-second : (keptOutcome e n t x y .which ≡ 2) ↔ ((checkOwn e n t y ≡ Fine) × (checkOwn e n t x ≡ Fine → records e y < records e x))
+  pub which-second : (keptOutcome e n t x y .which ≡ 2)
+      ↔ ((checkOwn e n t y ≡ Fine) × (checkOwn e n t x ≡ Fine → records e y < records e x))
   which-second = is-second went
 
   -- on a tie the first is handed back
@@ -94,7 +110,8 @@ module _ (e : Edition) (n : ℕ) (t x y : List ℕ) where
 
   -- where neither is accepted nothing is, and the call beside says what the check says of the first
   pub shorter-neither : (checkOwn e n t x ≡ Fine → ⊥) → (checkOwn e n t y ≡ Fine → ⊥)
-      → (keptOutcome e n t x y .which ≡ 0) × ((shorterOutcome e n t x y ≡ []) × (keptOutcome e n t x y .verdict ≡ checkOwn e n t x))
+      → (keptOutcome e n t x y .which ≡ 0) × ((shorterOutcome e n t x y ≡ [])
+      × (keptOutcome e n t x y .verdict ≡ checkOwn e n t x))
   shorter-neither f g = let w = is-neither went f g in (w .0, (ap (λ (k : ℕ). partOf k x y) (w .0), w .1))
 
   -- no refusal of the check has the number 0
@@ -103,7 +120,8 @@ module _ (e : Edition) (n : ℕ) (t x y : List ℕ) where
   numbered r p = another (checkLines e (deskOf e x) n t x) 0 r refl p
 
   -- the call beside returns 0 exactly when one of them is accepted
-  pub beside-done : (numberOf (keptOutcome e n t x y .verdict) ≡ 0) ↔ ((checkOwn e n t x ≡ Fine) ⊎ (checkOwn e n t y ≡ Fine))
+  pub beside-done : (numberOf (keptOutcome e n t x y .verdict) ≡ 0)
+      ↔ ((checkOwn e n t x ≡ Fine) ⊎ (checkOwn e n t y ≡ Fine))
   beside-done = is-done went numbered
 
   -- two answers that keep the promise are equal

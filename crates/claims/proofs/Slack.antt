@@ -33,32 +33,41 @@ use Rattle.claims.proofs.Sheets.{index-first}
 module _ (e : Edition) (d n : ℕ) (s : List ℕ) (delay : Float) (ts : List InputTime) (deadline : ℤ) where
   pub slack-says : slackOutcome e d n s delay ts deadline .verdict ≡ verdict (slackLines e d n s delay ts deadline)
   unfolding slackOutcome
-  slack-says = says-verdict (λ (a : SlackAnswer). a .verdict) (slackDone e n s delay ts deadline) slackNot refl (λ r. refl) (verdict (slackLines e d n s delay ts deadline))
+  slack-says = says-verdict (λ (a : SlackAnswer). a .verdict) (slackDone e n s delay ts deadline) slackNot refl
+      (λ r. refl) (verdict (slackLines e d n s delay ts deadline))
 
   -- the verdict is that of lines 1, 9, 10, 13 and 14
   pub slack-lines : ByLines (slackOutcome e d n s delay ts deadline .verdict) (slackLines e d n s delay ts deadline)
-  slack-lines = by-lines (slackLines e d n s delay ts deadline) refl (slackOutcome e d n s delay ts deadline .verdict) slack-says
+  slack-lines = by-lines (slackLines e d n s delay ts deadline) refl (slackOutcome e d n s delay ts deadline .verdict)
+      slack-says
 
   -- refused: the slack is 0
-  pub slack-refused : (r : Refusal) → slackOutcome e d n s delay ts deadline .verdict ≡ Refused r → slackOutcome e d n s delay ts deadline .slack ≡ pos 0
+  pub slack-refused : (r : Refusal) → slackOutcome e d n s delay ts deadline .verdict ≡ Refused r
+      → slackOutcome e d n s delay ts deadline .slack ≡ pos 0
   unfolding slackOutcome
   slack-refused r h =
-      ap (λ a. a .slack) (is-refused (λ (a : SlackAnswer). a .verdict) (slackDone e n s delay ts deadline) slackNot refl (λ q. refl) (verdict (slackLines e d n s delay ts deadline)) r h)
+      ap (λ a. a .slack) (is-refused (λ (a : SlackAnswer). a .verdict) (slackDone e n s delay ts deadline) slackNot refl
+      (λ q. refl) (verdict (slackLines e d n s delay ts deadline)) r h)
 
   -- nothing is named but for number 10
-  pub slack-no-index : (numberOf (slackOutcome e d n s delay ts deadline .verdict) ≡ 10 → ⊥) → placeOf (slackOutcome e d n s delay ts deadline .verdict) ≡ 0
+  pub slack-no-index : (numberOf (slackOutcome e d n s delay ts deadline .verdict) ≡ 10 → ⊥)
+      → placeOf (slackOutcome e d n s delay ts deadline .verdict) ≡ 0
   slack-no-index h =
       ap placeOf slack-says
-      ∙ names-nothing (λ k. eqb k 10) (slackLines e d n s delay ts deadline) refl (ne-eqb (numberOf (verdict (slackLines e d n s delay ts deadline))) 10 (λ q. h (ap numberOf slack-says ∙ q)))
+      ∙ names-nothing (λ k. eqb k 10) (slackLines e d n s delay ts deadline) refl
+      (ne-eqb (numberOf (verdict (slackLines e d n s delay ts deadline))) 10 (λ q. h (ap numberOf slack-says ∙ q)))
 
   -- and then it is the first bad record
-  pub slack-index : IsEdition e → numberOf (slackOutcome e d n s delay ts deadline .verdict) ≡ 10 → FirstBad e d n s (placeOf (slackOutcome e d n s delay ts deadline .verdict))
+  pub slack-index : IsEdition e → numberOf (slackOutcome e d n s delay ts deadline .verdict) ≡ 10
+      → FirstBad e d n s (placeOf (slackOutcome e d n s delay ts deadline .verdict))
   slack-index ok h =
-      index-first e ok d n s (badInputs n ∷ badSheet e s ∷ []) (badTimes e n s delay ts ∷ badSlack n delay ts deadline ∷ []) refl refl
+      index-first e ok d n s (badInputs n ∷ badSheet e s ∷ [])
+      (badTimes e n s delay ts ∷ badSlack n delay ts deadline ∷ []) refl refl
       (slackOutcome e d n s delay ts deadline .verdict) slack-says h
 
   -- two answers that keep the promise are equal
-  pub slack-once : (a a′ : SlackAnswer) → a ≡ slackOutcome e d n s delay ts deadline → a′ ≡ slackOutcome e d n s delay ts deadline → a ≡ a′
+  pub slack-once : (a a′ : SlackAnswer) → a ≡ slackOutcome e d n s delay ts deadline → a′
+      ≡ slackOutcome e d n s delay ts deadline → a ≡ a′
   slack-once a a′ p q = p ∙ sym q
 
   -- ---- a whole number
@@ -77,9 +86,11 @@ module _ (e : Edition) (d n : ℕ) (s : List ℕ) (delay : Float) (ts : List Inp
     pub slack-whole : slackOutcome e d n s delay ts deadline .slack ≡ deadline -ℤ pos (settledWhole true e n s delay ts)
     unfolding slackOutcome
     slack-whole =
-        ap (λ a. a .slack) (is-done (λ (a : SlackAnswer). a .verdict) (slackDone e n s delay ts deadline) slackNot refl (λ q. refl) (verdict (slackLines e d n s delay ts deadline)) done)
+        ap (λ a. a .slack) (is-done (λ (a : SlackAnswer). a .verdict) (slackDone e n s delay ts deadline) slackNot refl
+        (λ q. refl) (verdict (slackLines e d n s delay ts deadline)) done)
         ∙ ap (λ (i : ℕ). deadline -ℤ pos i) (counted e d n s delay ts left (whole .whole) (whole .wholes) true)
 
     -- which is the greatest over all paths from an input to the output
-    pub slack-path : BestPath (Beyond true) (λ i. i + sixteenthsOf delay) n (sheetCells e s (records e s)) (λ j. sixteenthsOf (inputTimes true n ts j)) (settledWhole true e n s delay ts)
+    pub slack-path : BestPath (Beyond true) (λ i. i + sixteenthsOf delay) n (sheetCells e s (records e s))
+        (λ j. sixteenthsOf (inputTimes true n ts j)) (settledWhole true e n s delay ts)
     slack-path = whole-path true e ok d n s delay ts (left .good)

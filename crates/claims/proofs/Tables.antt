@@ -1,4 +1,5 @@
--- Laws on tables that the claims need: bytes are the table of their bits, a table's spare bits are zero, and the tables of a split as they are handed
+-- Laws on tables that the claims need: bytes are the table of their bits, a table's spare bits are zero, and the tables
+-- of a split as they are handed
 -- back give the table. Assumes nothing.
 use mathlib.Core.Path.{_≡_, refl, sym, ap, ap₂, _∙_, subst}
 use mathlib.Core.Bool.{Bool, true, false, not, cond, _&&_, _||_}
@@ -39,7 +40,8 @@ pub table-back : (n : ℕ) (F : ℕ → Bool) (t : List ℕ) → AllBytes t → 
     → ((x : ℕ) → x < 2 ^ n → F x ≡ tableBit t x) → tableOf n F ≡ t
 unfolding tableOf spareClear
 table-back n F t bytes long spare is =
-    ext-getD 0 (tableOf n F) t (length-bytes (tableLength n) f ∙ sym long) (λ i h. at i (subst (λ (k : ℕ). i < k) (length-bytes (tableLength n) f) h))
+    ext-getD 0 (tableOf n F) t (length-bytes (tableLength n) f ∙ sym long)
+    (λ i h. at i (subst (λ (k : ℕ). i < k) (length-bytes (tableLength n) f) h))
   where
     f : ℕ → Bool
     f x = ltb x (2 ^ n) && F x
@@ -47,7 +49,8 @@ table-back n F t bytes long spare is =
     small : (x : ℕ) → x < 8 * tableLength n → 2 ^ n ≤ x → x < 8
     small x h l = elim (decLt n 3) [
       | yes g ↦ let e : n - 3 ≡ 0 = omega arith in omega (arith, ap (λ (m : ℕ). 2 ^ m) e)
-      | no g ↦ let e : n ≡ 3 + (n - 3) = omega arith in absurd (omega (arith, ap (λ (m : ℕ). 2 ^ m) e ∙ pow-add 2 3 (n - 3)))
+      | no g ↦ let e : n ≡ 3 + (n - 3) = omega arith
+          in absurd (omega (arith, ap (λ (m : ℕ). 2 ^ m) e ∙ pow-add 2 3 (n - 3)))
     ]
 
     clear : (x : ℕ) → x < 8 → 2 ^ n ≤ x → tableBit t x ≡ false
@@ -58,7 +61,8 @@ table-back n F t bytes long spare is =
     same : (x : ℕ) → x < 8 * tableLength n → f x ≡ tableBit t x
     same x h = elim (decLt x (2 ^ n)) [
       | yes l ↦ ap (λ (s : Bool). s && F x) (lt-ltb x (2 ^ n) l) ∙ is x l
-      | no l ↦ let g : 2 ^ n ≤ x = omega arith in ap (λ (s : Bool). s && F x) (le-ltb x (2 ^ n) g) ∙ sym (clear x (small x h g) g)
+      | no l ↦ let g : 2 ^ n ≤ x = omega arith in ap (λ (s : Bool). s && F x) (le-ltb x (2 ^ n) g)
+          ∙ sym (clear x (small x h g) g)
     ]
 
     at : (i : ℕ) → i < tableLength n → getD (bytesOf (tableLength n) f) i 0 ≡ getD t i 0
@@ -74,7 +78,8 @@ table-back n F t bytes long spare is =
 pub spare-zero : (n : ℕ) (f : ℕ → Bool) (x : ℕ) → 2 ^ n ≤ x → x < 8 * tableLength n → tableBit (tableOf n f) x ≡ false
 unfolding tableOf
 spare-zero n f x h l =
-    table-bytes (tableLength n) (λ y. ltb y (2 ^ n) && f y) x (omega arith) ∙ ap (λ (b : Bool). b && f x) (le-ltb x (2 ^ n) h)
+    table-bytes (tableLength n) (λ y. ltb y (2 ^ n) && f y) x (omega arith)
+    ∙ ap (λ (b : Bool). b && f x) (le-ltb x (2 ^ n) h)
 
 -- ---- the tables of a possible split, as try returns them: H in the first bytes of a room, the first cells' as numbers
 
@@ -101,7 +106,8 @@ module _ (n : ℕ) (F : ℕ → Bool) (A B : ℕ → Bool) (r : ℕ) (small : si
   table-in most zero = first-number zero
   table-in most (suc zero) = first-number (suc zero)
   table-in most (suc (suc zero)) = first-number (suc (suc zero))
-  table-in most (suc (suc (suc t))) = sym (ap (λ (b : Bool). cond b (tableD n F A B (suc (suc (suc t)))) 0) (le-ltb (suc (suc (suc t))) r (omega arith)))
+  table-in most (suc (suc (suc t))) = sym (ap (λ (b : Bool). cond b (tableD n F A B (suc (suc (suc t)))) 0)
+      (le-ltb (suc (suc (suc t))) r (omega arith)))
 
 -- in a cell of up to 6 inputs the first word is all of it, and the others are 0
 module _ (n : ℕ) (F : ℕ → Bool) (A B : ℕ → Bool) (r t : ℕ) (small : size n (readsD A B) ≤ firstMost) where
@@ -113,7 +119,8 @@ module _ (n : ℕ) (F : ℕ → Bool) (A B : ℕ → Bool) (r t : ℕ) (small : 
   table-word = go (ltb t r)
     where
       go : (b : Bool) → getD (cond b (heldD n F A B t) noTable .words) 0 0 ≡ cond b (number (2 ^ k) (bitD n F A B t)) 0
-      go true = list-at cellWords (gateWord k (bitD n F A B t)) 0 0 (lit< tt) ∙ sym (short-word k (bitD n F A B t) small)
+      go true = list-at cellWords (gateWord k (bitD n F A B t)) 0 0 (lit< tt)
+          ∙ sym (short-word k (bitD n F A B t) small)
       go false = refl
 
   pub table-rest : (i : ℕ) → 1 ≤ i → i < cellWords → getD (firstTable n F A B r t .words) i 0 ≡ 0
@@ -125,7 +132,8 @@ module _ (n : ℕ) (F : ℕ → Bool) (A B : ℕ → Bool) (r t : ℕ) (small : 
           ∙ past-words k i (bitD n F A B t) (omega (arith, pow-mono {i = k - 6} {j = 0} (omega arith)))
       go false = getD-replicate cellWords i 0 0 l
 
-module _ (n : ℕ) (F : ℕ → Bool) (A B : ℕ → Bool) (r : ℕ) (small : size n (readsD A B) ≤ largestCell) (most : r ≤ mostFirst) (few : fewColumns n F A B (2 ^ r) ≡ true) (rest : List ℕ) (x : ℕ) (below : x < 2 ^ n) where
+module _ (n : ℕ) (F : ℕ → Bool) (A B : ℕ → Bool) (r : ℕ) (small : size n (readsD A B) ≤ largestCell)
+    (most : r ≤ mostFirst) (few : fewColumns n F A B (2 ^ r) ≡ true) (rest : List ℕ) (x : ℕ) (below : x < 2 ^ n) where
   -- what the first cells give
   outputs : ℕ
   outputs = number r (λ t. bit (tableIn (firstCells n F A B r) t) (gather n (readsD A B) x))
@@ -143,9 +151,12 @@ module _ (n : ℕ) (F : ℕ → Bool) (A B : ℕ → Bool) (r : ℕ) (small : si
   is-code : outputs ≡ codeAt n F A B (gather n (readsD A B) x)
   unfolding outputs tableD
   is-code =
-      number-ext r (λ t. bit (tableIn (firstCells n F A B r) t) (gather n (readsD A B) x)) (bit (codeAt n F A B (gather n (readsD A B) x))) (λ t l.
-      ap (λ (d : ℕ). bit d (gather n (readsD A B) x)) (table-in n F A B r small most t ∙ ap (λ (b : Bool). cond b (tableD n F A B t) 0) (lt-ltb t r l))
-      ∙ bit-number (2 ^ size n (readsD A B)) (λ u. bit (codeAt n F A B u) t) (gather n (readsD A B) x) (gather-lt n (readsD A B) x))
+      number-ext r (λ t. bit (tableIn (firstCells n F A B r) t) (gather n (readsD A B) x))
+      (bit (codeAt n F A B (gather n (readsD A B) x))) (λ t l.
+      ap (λ (d : ℕ). bit d (gather n (readsD A B) x))
+      (table-in n F A B r small most t ∙ ap (λ (b : Bool). cond b (tableD n F A B t) 0) (lt-ltb t r l))
+      ∙ bit-number (2 ^ size n (readsD A B)) (λ u. bit (codeAt n F A B u) t) (gather n (readsD A B) x)
+      (gather-lt n (readsD A B) x))
       ∙ number-bit r (codeAt n F A B (gather n (readsD A B) x)) code-lt
 
   at : ℕ
@@ -156,9 +167,17 @@ module _ (n : ℕ) (F : ℕ → Bool) (A B : ℕ → Bool) (r : ℕ) (small : si
   at-lt =
       let k = size n (readsH A B) in
       let l : outputs < 2 ^ r = omega (arith, is-code, code-lt) in
-      omega (arith, gather-lt n (readsH A B) x, mul-le-mul-right (2 ^ k) l, suc-mul outputs (2 ^ k), pow-add 2 k r, mul-comm (2 ^ k) (2 ^ r))
+      omega (
+        arith,
+        gather-lt n (readsH A B) x,
+        mul-le-mul-right (2 ^ k) l,
+        suc-mul outputs (2 ^ k),
+        pow-add 2 k r,
+        mul-comm (2 ^ k) (2 ^ r),
+      )
 
-  pub pair-works : F x ≡ tableBit (bytesH n F A B r ++ rest) (inputH n A B x (number r (λ t. bit (tableIn (firstCells n F A B r) t) (gather n (readsD A B) x))))
+  pub pair-works : F x ≡ tableBit (bytesH n F A B r ++ rest)
+      (inputH n A B x (number r (λ t. bit (tableIn (firstCells n F A B r) t) (gather n (readsD A B) x))))
   unfolding bytesH at outputs
   pair-works =
       pair-gives n F A B x below

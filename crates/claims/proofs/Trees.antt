@@ -1,4 +1,5 @@
--- Make with K = 2 finds every tree of two-input nodes, over any edition and desk. That each sheet it then writes has the
+-- Make with K = 2 finds every tree of two-input nodes, over any edition and desk. That each sheet it then writes has
+-- the
 -- fewest cells is `made-pairs` (Fewest). Assumes nothing.
 use mathlib.Core.Path.{_≡_, ap}
 use mathlib.Core.Logic.{_↔_}
@@ -29,7 +30,8 @@ module _ (e : Edition) (d n : ℕ) (t sheet work : List ℕ) (form : InOrder (ma
 
   -- form and room in order, make with K = 2 is refused as 8 exactly when no tree of two-input nodes reads each of the
   -- inputs that count once and computes the table (`stuck-treeless`, trees)
-  pub refused-treeless : (numberOf (makeOutcome e d n 2 t sheet work .answer .verdict) ≡ 8) ↔ ((u : Tree) → TreeOf n (tableBit t) u → ⊥)
+  pub refused-treeless : (numberOf (makeOutcome e d n 2 t sheet work .answer .verdict) ≡ 8)
+      ↔ ((u : Tree) → TreeOf n (tableBit t) u → ⊥)
   refused-treeless =
       let stuck-blocked = sheet-stuck n 2 (tableBit t) some (omega arith) in
       let treeless = stuck-treeless n (tableBit t) some in (
@@ -49,7 +51,8 @@ module _ (e : Edition) (d n : ℕ) (t sheet work : List ℕ) (form : InOrder (ma
 
   -- refused: there is none either that also reads inputs that do not count, as often as it likes (`pruned`, trees)
   pub treeless-whatever-read : numberOf (makeOutcome e d n 2 t sheet work .answer .verdict) ≡ 8 → (u : Tree)
-      → ((j : ℕ) → j < n → DependsOn n (tableBit t) j → uses j u ≡ 1) → ((x : ℕ) → x < 2 ^ n → value u (bit x) ≡ tableBit t x) → ⊥
+      → ((j : ℕ) → j < n → DependsOn n (tableBit t) j → uses j u ≡ 1)
+      → ((x : ℕ) → x < 2 ^ n → value u (bit x) ≡ tableBit t x) → ⊥
   treeless-whatever-read h u once computes =
       let w = pruned n (tableBit t) u once computes in refused-treeless .0 h (w .0) (w .1)
 
@@ -57,6 +60,7 @@ module _ (e : Edition) (d n : ℕ) (t sheet work : List ℕ) (form : InOrder (ma
 pub constants-are-trees : (n : ℕ) (F : ℕ → Bool) (b : Bool) → ((x : ℕ) → x < 2 ^ n → F x ≡ b) → TreeOf n F (constant b)
 constants-are-trees = constant-tree
 
-pub inputs-are-trees : (n : ℕ) (F : ℕ → Bool) (j : ℕ) → j < n → (f : Bool) → ((x : ℕ) → x < 2 ^ n → F x ≡ flipped f (bit x j))
+pub inputs-are-trees : (n : ℕ) (F : ℕ → Bool) (j : ℕ) → j < n → (f : Bool)
+    → ((x : ℕ) → x < 2 ^ n → F x ≡ flipped f (bit x j))
     → TreeOf n F (input f j)
 inputs-are-trees = input-tree

@@ -38,7 +38,8 @@ module _ (f g : ℕ) where
   unfolding turnOutcome
   turn-refused r h =
       ap (λ (a : TurnAnswer). a .way)
-      (is-refused (λ (a : TurnAnswer). a .verdict) (turnDone f g) turnNot refl (λ q. refl) (verdict (turnLines f g)) r h)
+      (is-refused (λ (a : TurnAnswer). a .verdict) (turnDone f g) turnNot refl (λ q. refl) (verdict (turnLines f g)) r
+      h)
 
   -- nothing is named
   pub turn-names-nothing : placeOf (turnOutcome f g .verdict) ≡ 0

@@ -1,4 +1,5 @@
--- What every call's verdict says, once for all calls: it is the verdict of the call's lines, and it settles what is returned and left.
+-- What every call's verdict says, once for all calls: it is the verdict of the call's lines, and it settles what is
+-- returned and left.
 -- Assumes nothing.
 use mathlib.Core.Path.{_≡_, refl, sym, ap, _∙_}
 use mathlib.Core.Logic.{_⊎_, inl, inr}
@@ -15,7 +16,8 @@ use Rattle.refusals.proofs.Lines.{others, given, done, another}
 use Rattle.claims.specs.Words.{ByLines}
 
 -- a call's verdict is that of its lines
-module _ {A : Type 0} (says : A → Verdict) (done : A) (refused : Refusal → A) (f : says done ≡ Fine) (g : (r : Refusal) → says (refused r) ≡ Refused r) where
+module _ {A : Type 0} (says : A → Verdict) (done : A) (refused : Refusal → A) (f : says done ≡ Fine)
+    (g : (r : Refusal) → says (refused r) ≡ Refused r) where
   pub says-verdict : (v : Verdict) → says (reply v done refused) ≡ v
   says-verdict Fine = f
   says-verdict (Refused r) = g r
@@ -23,11 +25,13 @@ module _ {A : Type 0} (says : A → Verdict) (done : A) (refused : Refusal → A
   pub is-done : (v : Verdict) → says (reply v done refused) ≡ Fine → reply v done refused ≡ done
   is-done v e = ap (λ (u : Verdict). reply u done refused) (sym (says-verdict v) ∙ e)
 
-  pub is-refused : (v : Verdict) (r : Refusal) → says (reply v done refused) ≡ Refused r → reply v done refused ≡ refused r
+  pub is-refused : (v : Verdict) (r : Refusal) → says (reply v done refused) ≡ Refused r → reply v done refused
+      ≡ refused r
   is-refused v r e = ap (λ (u : Verdict). reply u done refused) (sym (says-verdict v) ∙ e)
 
   -- and a work area is left as that verdict says, if it is so where the call is done and where it is refused
-  module _ (area : A → List ℕ) (work : List ℕ) (p : area done ≡ workAfter Fine work) (q : (r : Refusal) → area (refused r) ≡ workAfter (Refused r) work) where
+  module _ (area : A → List ℕ) (work : List ℕ) (p : area done ≡ workAfter Fine work)
+      (q : (r : Refusal) → area (refused r) ≡ workAfter (Refused r) work) where
     pub area-left : (v : Verdict) → area (reply v done refused) ≡ workAfter (says (reply v done refused)) work
     area-left Fine = p ∙ sym (ap (λ (u : Verdict). workAfter u work) f)
     area-left (Refused r) = q r ∙ sym (ap (λ (u : Verdict). workAfter u work) (g r))
@@ -44,6 +48,7 @@ by-lines ls o v e = record {
     cases (Refused r) q = inr (given ls (r .number) (another ls 0 r o (sym q)) .0 (ap numberOf (sym q)))
 
 -- a work area after 0 or 8 is zeros
-pub work-cleared : (v : Verdict) (work : List ℕ) → (numberOf v ≡ 0) ⊎ (numberOf v ≡ 8) → workAfter v work ≡ replicate (length work) 0
+pub work-cleared : (v : Verdict) (work : List ℕ) → (numberOf v ≡ 0) ⊎ (numberOf v ≡ 8) → workAfter v work
+    ≡ replicate (length work) 0
 work-cleared v work (inl e) = rw e
 work-cleared v work (inr e) = rw e

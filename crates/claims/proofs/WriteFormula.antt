@@ -26,7 +26,8 @@ use Rattle.claims.proofs.Verdicts.{says-verdict, is-done, is-refused, b
 module _ (e : Edition) (d n : ℕ) (s room : List ℕ) where
   pub write-says : writeOutcome e d n s room .answer .verdict ≡ verdict (writeLines e d n s room)
   unfolding writeOutcome
-  write-says = says-verdict (λ (o : WriteOutcome). o .answer .verdict) (writeDone e n s room) (writeNot room) refl (λ r. refl) (verdict (writeLines e d n s room))
+  write-says = says-verdict (λ (o : WriteOutcome). o .answer .verdict) (writeDone e n s room) (writeNot room) refl
+      (λ r. refl) (verdict (writeLines e d n s room))
 
   -- the verdict is that of lines 1, 6, 9, 10 and 16
   pub write-lines : ByLines (writeOutcome e d n s room .answer .verdict) (writeLines e d n s room)
@@ -37,14 +38,17 @@ module _ (e : Edition) (d n : ℕ) (s room : List ℕ) where
       → (writeOutcome e d n s room .answer .length ≡ 0) × (writeOutcome e d n s room .room ≡ room)
   unfolding writeOutcome
   write-refused r h =
-      let q = is-refused (λ (o : WriteOutcome). o .answer .verdict) (writeDone e n s room) (writeNot room) refl (λ q. refl) (verdict (writeLines e d n s room)) r h in
+      let q = is-refused (λ (o : WriteOutcome). o .answer .verdict) (writeDone e n s room) (writeNot room) refl
+      (λ q. refl) (verdict (writeLines e d n s room)) r h in
       (ap (λ o. o .answer .length) q, ap (λ o. o .room) q)
 
   -- nothing is named but for number 10: so 16 is given at place 0
-  pub write-no-place : eqb (numberOf (writeOutcome e d n s room .answer .verdict)) 10 ≡ false → placeOf (writeOutcome e d n s room .answer .verdict) ≡ 0
+  pub write-no-place : eqb (numberOf (writeOutcome e d n s room .answer .verdict)) 10 ≡ false
+      → placeOf (writeOutcome e d n s room .answer .verdict) ≡ 0
   write-no-place h =
       ap placeOf write-says
-      ∙ names-nothing (λ k. eqb k 10) (writeLines e d n s room) refl (ap (λ (v : Verdict). eqb (numberOf v) 10) (sym write-says) ∙ h)
+      ∙ names-nothing (λ k. eqb k 10) (writeLines e d n s room) refl
+      (ap (λ (v : Verdict). eqb (numberOf v) 10) (sym write-says) ∙ h)
 
   -- two outcomes that keep the promise are equal: the answer, and the room afterwards
   pub write-once : (o o′ : WriteOutcome) → o ≡ writeOutcome e d n s room → o′ ≡ writeOutcome e d n s room → o ≡ o′
@@ -56,7 +60,8 @@ module _ (e : Edition) (d n : ℕ) (s room : List ℕ) where
     by-print : writeOutcome e d n s room .answer .verdict ≡ verdict (notPrinted e n s ∷ [])
     by-print = write-says ∙ passes (writeForm e d n s room) (notPrinted e n s ∷ []) form
 
-    -- the sheet is printed exactly when its records read one or two signals, depend on both of two, and but for the last are each read once
+    -- the sheet is printed exactly when its records read one or two signals, depend on both of two, and but for the
+    -- last are each read once
     pub write-exactly : (writeOutcome e d n s room .answer .verdict ≡ Fine) ↔ Printable n (sheetCells e s (records e s))
     write-exactly = (
       λ h. printing.printed-exactly e n s .0 (in-order (notPrinted e n s ∷ []) (sym by-print ∙ h) .0),
@@ -64,13 +69,16 @@ module _ (e : Edition) (d n : ℕ) (s room : List ℕ) where
     )
 
     -- and any other is refused as 16 at place 0
-    pub write-other : (writeOutcome e d n s room .answer .verdict ≡ Refused (refusal 16 0)) ↔ (Printable n (sheetCells e s (records e s)) → ⊥)
+    pub write-other : (writeOutcome e d n s room .answer .verdict ≡ Refused (refusal 16 0))
+        ↔ (Printable n (sheetCells e s (records e s)) → ⊥)
     write-other = (
       λ h p. not-fine (refusal 16 0) (sym (write-exactly .1 p) ∙ h),
-      λ f. by-print ∙ ap (λ (b : Bool). verdict (record { holds = b; gives = refusal 16 0 } ∷ [])) (holds (notPrinted e n s .holds) refl f),
+      λ f. by-print ∙ ap (λ (b : Bool). verdict (record { holds = b; gives = refusal 16 0 } ∷ []))
+          (holds (notPrinted e n s .holds) refl f),
     )
       where
-        holds : (b : Bool) → notPrinted e n s .holds ≡ b → (Printable n (sheetCells e s (records e s)) → ⊥) → notPrinted e n s .holds ≡ true
+        holds : (b : Bool) → notPrinted e n s .holds ≡ b → (Printable n (sheetCells e s (records e s)) → ⊥)
+            → notPrinted e n s .holds ≡ true
         holds true q f = q
         holds false q f = absurd (f (printing.printed-exactly e n s .0 q))
 
@@ -79,7 +87,8 @@ module _ (e : Edition) (d n : ℕ) (s room : List ℕ) where
   module _ (ok : IsEdition e) (done : writeOutcome e d n s room .answer .verdict ≡ Fine) where
     is : writeOutcome e d n s room ≡ writeDone e n s room
     unfolding writeOutcome
-    is = is-done (λ (o : WriteOutcome). o .answer .verdict) (writeDone e n s room) (writeNot room) refl (λ q. refl) (verdict (writeLines e d n s room)) done
+    is = is-done (λ (o : WriteOutcome). o .answer .verdict) (writeDone e n s room) (writeNot room) refl (λ q. refl)
+        (verdict (writeLines e d n s room)) done
 
     sound : printing.Sound e n s room
     sound = printing.sound e d n s room ok (in-order (writeLines e d n s room) (sym write-says ∙ done))
@@ -98,5 +107,11 @@ module _ (e : Edition) (d n : ℕ) (s room : List ℕ) where
     write-stands = printing.reads-back sound
 
     -- which has the sheet's bit at every assignment
-    pub write-back : (F : Formula) × ReadAs n (sheetText e n s) F × ((x : ℕ) → value F x ≡ sheetBit e n s (records e s) x)
-    write-back = (formulaOf n (sheetCells e s (records e s)) (n + (records e s - 1)), write-stands, printing.worth sound)
+    pub write-back : (F : Formula) × ReadAs n (sheetText e n s) F
+        × ((x : ℕ) → value F x ≡ sheetBit e n s (records e s) x)
+    write-back = (
+      formulaOf n (sheetCells e s (records e s)) (n + (records e s - 1)),
+      write-stands,
+      printing.worth
+          sound,
+    )

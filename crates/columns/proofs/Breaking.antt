@@ -40,7 +40,8 @@ module _ (n : ℕ) (F : ℕ → Bool) (A B : ℕ → Bool) (m : ℕ) where
   pub broken-few : fewColumns n F A B m ≡ eqb (firstBroken n F A B m) (2 ^ size n B)
   unfolding fewColumns
   broken-few = elim (decLt (firstBroken n F A B m) (2 ^ size n B)) [
-    | yes l ↦ every-stop (2 ^ size n B) (λ b. leb (many b) m) (firstBroken n F A B m) l (lt-leb (many (firstBroken n F A B m)) m (broken-there l))
+    | yes l ↦ every-stop (2 ^ size n B) (λ b. leb (many b) m) (firstBroken n F A B m) l
+        (lt-leb (many (firstBroken n F A B m)) m (broken-there l))
         ∙ sym (ne-eqb (firstBroken n F A B m) (2 ^ size n B) (omega arith))
     | no l ↦ let e : firstBroken n F A B m ≡ 2 ^ size n B = omega (arith, broken-most) in
         every-all (2 ^ size n B) (λ b. leb (many b) m) (λ b h. le-leb (many b) m (broken-before b (omega (arith, e))))
@@ -50,7 +51,8 @@ module _ (n : ℕ) (F : ℕ → Bool) (A B : ℕ → Bool) (m : ℕ) where
   pub broken-within : fewColumns n F A B m ≡ false → firstBroken n F A B m < 2 ^ size n B
   broken-within e = elim (decLt (firstBroken n F A B m) (2 ^ size n B)) [
     | yes l ↦ l
-    | no l ↦ absurd (clash (eq-eqb (firstBroken n F A B m) (2 ^ size n B) (omega (arith, broken-most))) (sym broken-few ∙ e))
+    | no l ↦ absurd (clash (eq-eqb (firstBroken n F A B m) (2 ^ size n B) (omega (arith, broken-most)))
+        (sym broken-few ∙ e))
   ]
 
   -- some columns are counted exactly where it fails
@@ -61,7 +63,8 @@ module _ (n : ℕ) (F : ℕ → Bool) (A B : ℕ → Bool) (m : ℕ) where
       b = firstBroken n F A B m
 
       go : (t : Bool) → fewColumns n F A B m ≡ t
-          → ltb 0 (cond {A = Broken} t (record { b = 0; columns = 0 }) (record { b = firstBroken n F A B m; columns = many (firstBroken n F A B m) }) .columns) ≡ not t
+          → ltb 0 (cond {A = Broken} t (record { b = 0; columns = 0 })
+          (record { b = firstBroken n F A B m; columns = many (firstBroken n F A B m) }) .columns) ≡ not t
       go true e = refl
       go false e = lt-ltb 0 (many b) (omega (arith, broken-there (broken-within e)))
 
@@ -99,15 +102,22 @@ firsts-several f (suc n) m h = go (member (f n) (firsts f n)) refl (firsts-sever
         top i q = ap (λ (t : Bool). cond t (w .at i) n) (le-ltb i m (omega arith))
 
         below : (i : ℕ) → i ≤ m → at i < suc n
-        below i l = elim (decLt i m) [ yes g ↦ omega (arith, low i g, w .below i (omega arith)) | no g ↦ omega (arith, top i (omega arith)) ]
+        below i l = elim (decLt i m) [
+          | yes g ↦ omega (arith, low i g, w .below i (omega arith))
+          | no g ↦ omega
+              (arith, top i (omega arith))
+        ]
 
         apart : (i j : ℕ) → i < j → j ≤ m → f (at i) ≡ f (at j) → ⊥
         apart i j l g q = elim (decLt j m) [
           | yes h ↦ w .apart i j l (omega arith) (sym (ap f (low i (omega arith))) ∙ q ∙ ap f (low j h))
-          | no h ↦ clash (firsts-has f n (w .at i) (w .below i (omega arith))) (ap (λ (x : ℕ). member x (firsts f n)) (sym (ap f (low i (omega arith))) ∙ q ∙ ap f (top j (omega arith))) ∙ e)
+          | no h ↦ clash (firsts-has f n (w .at i) (w .below i (omega arith)))
+              (ap (λ (x : ℕ). member x (firsts f n)) (sym (ap f (low i (omega arith))) ∙ q ∙ ap f (top j (omega arith)))
+              ∙ e)
         ]
 
-    go : (t : Bool) → member (f n) (firsts f n) ≡ t → ((m : ℕ) → m < length (firsts f n) → Several f n m) → m < length (cond t (firsts f n) (firsts f n ++ (f n ∷ []))) → Several f (suc n) m
+    go : (t : Bool) → member (f n) (firsts f n) ≡ t → ((m : ℕ) → m < length (firsts f n) → Several f n m) → m
+        < length (cond t (firsts f n) (firsts f n ++ (f n ∷ []))) → Several f (suc n) m
     go true e ih h = wider (ih m h)
     go false e ih h = elim (decLt m (length (firsts f n))) [
       | yes l ↦ wider (ih m l)
@@ -118,6 +128,7 @@ firsts-several f (suc n) m h = go (member (f n) (firsts f n)) refl (firsts-sever
     ]
 
 -- so a b with more than m columns has m + 1 own assignments with pairwise different columns
-pub columns-several : (n : ℕ) (F : ℕ → Bool) (A B : ℕ → Bool) (b m : ℕ) → m < length (columns n F A B b) → Several (column n F A B b) (2 ^ size n A) m
+pub columns-several : (n : ℕ) (F : ℕ → Bool) (A B : ℕ → Bool) (b m : ℕ) → m < length (columns n F A B b)
+    → Several (column n F A B b) (2 ^ size n A) m
 unfolding columns
 columns-several n F A B b m h = firsts-several (column n F A B b) (2 ^ size n A) m h

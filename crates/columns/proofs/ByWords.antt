@@ -1,4 +1,5 @@
--- Columns compared word by word: a part of the free inputs is a part of those from position 6 on, which names a word, and a part of those
+-- Columns compared word by word: a part of the free inputs is a part of those from position 6 on, which names a word,
+-- and a part of those
 -- below, which names a place within it. Assumes nothing.
 use mathlib.Core.Path.{_≡_, sym, ap, _∙_}
 use mathlib.Core.Bool.{Bool, true, false, _||_}
@@ -14,7 +15,8 @@ use Rattle.bits.specs.Sets.{wordPositions, partOf, size, gather, spread}
 use Rattle.bits.proofs.Below.{every-at, every-all}
 use Rattle.bits.proofs.Bools.{clash, false-of, beq-same, same-beq}
 use Rattle.bits.proofs.Machine.{part-spread, masked-bits, bits-masked}
-use Rattle.bits.proofs.Numbers.{number-lt, number-mod, number-bit, bit-number, bit-below, bit-shr, bit-mod, bit-high, top-low, top-high}
+use Rattle.bits.proofs.Numbers.{number-lt, number-mod, number-bit, bit-number, bit-below, bit-shr, bit-mod, bit-high}
+use Rattle.bits.proofs.Numbers.{top-low, top-high}
 use Rattle.bits.proofs.Spreading.{spread-lt, gather-lt}
 use Rattle.bits.proofs.Subsets.{part-at, part-all}
 use Rattle.bits.proofs.Sums.{number-join}
@@ -39,16 +41,19 @@ module _ (n L : ℕ) (below : L < 2 ^ n) where
     z-part j e = elim (decLt j wordPositions) [
       | yes h ↦
           let q : step n L v + k ≡ k + step n L v / 64 * 2 ^ 6 = omega (arith, above-whole n L v) in
-          part-at wordPositions (bit L) k part j h (sym (ap (λ (m : ℕ). bit m j) q ∙ bit-below k (step n L v / 64) 6 j h) ∙ e)
+          part-at wordPositions (bit L) k part j h (sym
+          (ap (λ (m : ℕ). bit m j) q ∙ bit-below k (step n L v / 64) 6 j h) ∙ e)
       | no h ↦
           let q : (step n L v + k) / 64 ≡ step n L v / 64 = omega (arith, above-whole n L v) in
           let i : j ≡ 6 + (j - 6) = omega arith in
           above-part L j (spread-part n (highPart L) v j
-          (ap (bit (step n L v)) i ∙ sym (bit-shr (step n L v) 6 (j - 6)) ∙ ap (λ (m : ℕ). bit m (j - 6)) (sym q) ∙ bit-shr (step n L v + k) 6 (j - 6) ∙ ap (bit (step n L v + k)) (sym i) ∙ e))
+          (ap (bit (step n L v)) i ∙ sym (bit-shr (step n L v) 6 (j - 6)) ∙ ap (λ (m : ℕ). bit m (j - 6)) (sym q)
+          ∙ bit-shr (step n L v + k) 6 (j - 6) ∙ ap (bit (step n L v + k)) (sym i) ∙ e))
     ]
 
     whole : step n L v + k ≡ spread n (bit L) (gather n (bit L) (step n L v + k))
-    whole = part-spread n (n + 6) (step n L v + k) L below (omega (arith, spread-lt n (bit (highPart L)) v, pow-add 2 n 6, pow-pos n)) (λ j h. z-part j)
+    whole = part-spread n (n + 6) (step n L v + k) L below
+        (omega (arith, spread-lt n (bit (highPart L)) v, pow-add 2 n 6, pow-pos n)) (λ j h. z-part j)
 
   -- and every part of all is made so
   module _ (c : ℕ) where
@@ -59,11 +64,13 @@ module _ (n L : ℕ) (below : L < 2 ^ n) where
     word = gather n (bit (highPart L)) (highPart z)
 
     place-part : partOf wordPositions (bit L) (z % 64) ≡ true
-    place-part = part-all wordPositions (bit L) (z % 64) (λ j l e. spread-part n L c j (sym (bit-mod z wordPositions j l) ∙ e))
+    place-part = part-all wordPositions (bit L) (z % 64)
+        (λ j l e. spread-part n L c j (sym (bit-mod z wordPositions j l) ∙ e))
 
     word-is : highPart z ≡ step n L word
     word-is =
-        part-spread n n (highPart z) (highPart L) (omega (arith, below)) (omega (arith, spread-lt n (bit L) c)) (λ j l e. elim (decLt j wordPositions) [
+        part-spread n n (highPart z) (highPart L) (omega (arith, below)) (omega (arith, spread-lt n (bit L) c))
+        (λ j l e. elim (decLt j wordPositions) [
           | yes h ↦ absurd (clash e (top-low z wordPositions j h))
           | no h ↦
               let g : wordPositions ≤ j = omega arith in
@@ -78,14 +85,17 @@ module _ (n L : ℕ) (below : L < 2 ^ n) where
     pub alike-even : alike n F L x y ≡ true → (v : ℕ) → Even n L F x y v
     unfolding alike
     alike-even e v k l part =
-        moved x ∙ beq-same _ _ (every-at (2 ^ size n (bit L)) _ e (gather n (bit L) (step n L v + k)) (gather-lt n (bit L) (step n L v + k))) ∙ sym (moved y)
+        moved x ∙ beq-same _ _ (every-at (2 ^ size n (bit L)) _ e (gather n (bit L) (step n L v + k))
+        (gather-lt n (bit L) (step n L v + k))) ∙ sym (moved y)
       where
         moved : (a : ℕ) → F (a + step n L v + k) ≡ F (a + spread n (bit L) (gather n (bit L) (step n L v + k)))
         moved a = ap F (omega (arith, whole v k l part))
 
     pub even-alike : ((v : ℕ) → v < 2 ^ size n (bit (highPart L)) → Even n L F x y v) → alike n F L x y ≡ true
     unfolding alike
-    even-alike h = every-all (2 ^ size n (bit L)) _ (λ c l. same-beq _ _ (moved c x ∙ h (word c) (gather-lt n (bit (highPart L)) _) (z c % 64) (mod-lt (z c) (lit< tt)) (place-part c) ∙ sym (moved c y)))
+    even-alike h = every-all (2 ^ size n (bit L)) _
+        (λ c l. same-beq _ _ (moved c x ∙ h (word c) (gather-lt n (bit (highPart L)) _) (z c % 64)
+        (mod-lt (z c) (lit< tt)) (place-part c) ∙ sym (moved c y)))
       where
         moved : (c a : ℕ) → F (a + z c) ≡ F (a + step n L (word c) + z c % 64)
         moved c a = ap F (omega (arith, split c))
@@ -98,13 +108,22 @@ module _ (n L : ℕ) (below : L < 2 ^ n) where
     module _ {x : ℕ} (w : Without n L x) where
       pub word-lt : x + f < 2 ^ n
       word-lt =
-          let clear : Without n (highPart L) x = record { below = w .below; clear = λ j l e. w .clear j l (above-part L j e) } in
+          let clear : Without n (highPart L) x = record
+          { below = w .below; clear = λ j l e. w .clear j l (above-part L j e) } in
           omega (arith, at, read-lt n (highPart L) x clear v)
 
       -- a place is within the word
       place-fits : (k : ℕ) → k < 64 → partOf wordPositions (bit L) k ≡ true → (x + f) % 64 + k < 64
       place-fits k l part =
-          omega (arith, at, above-whole n L v, number-mod 6 x, number-bit 6 k l, number-join 6 (bit x) (bit k) apart, number-lt 6 (λ j. bit x j || bit k j))
+          omega (
+            arith,
+            at,
+            above-whole n L v,
+            number-mod 6 x,
+            number-bit 6 k l,
+            number-join 6 (bit x) (bit k) apart,
+            number-lt 6 (λ j. bit x j || bit k j),
+          )
         where
           apart : (j : ℕ) → j < 6 → bit x j ≡ true → bit k j ≡ false
           apart j h e = false-of (bit k j) (λ q. elim (decLt j n) [
@@ -114,7 +133,8 @@ module _ (n L : ℕ) (below : L < 2 ^ n) where
 
     -- a and b are the bits from x + f and from y + f on, as far as their words go
     module _ (F : ℕ → Bool) {x y low : ℕ} (a b : ℕ) (wx : Without n L x) (wy : Without n L y) (is : low ≡ lowPlaces L)
-        (at-x : (k : ℕ) → (x + f) % 64 + k < 64 → bit a k ≡ F (x + f + k)) (at-y : (k : ℕ) → (y + f) % 64 + k < 64 → bit b k ≡ F (y + f + k)) where
+        (at-x : (k : ℕ) → (x + f) % 64 + k < 64 → bit a k ≡ F (x + f + k))
+        (at-y : (k : ℕ) → (y + f) % 64 + k < 64 → bit b k ≡ F (y + f + k)) where
       low-lt : low < 2 ^ 64
       unfolding lowPlaces
       low-lt = omega (arith, is, number-lt 64 (partOf wordPositions (bit L)))
@@ -126,10 +146,12 @@ module _ (n L : ℕ) (below : L < 2 ^ n) where
       pub equal-even : bitAnd a low ≡ bitAnd b low → Even n L F x y v
       equal-even e k l part =
           let same : bit a k ≡ bit b k = masked-bits 64 low a b low-lt e k (low-bit k l ∙ part) in
-          ap (λ (g : ℕ). F (x + g + k)) (sym at) ∙ sym (at-x k (place-fits wx k l part)) ∙ same ∙ at-y k (place-fits wy k l part) ∙ ap (λ (g : ℕ). F (y + g + k)) at
+          ap (λ (g : ℕ). F (x + g + k)) (sym at) ∙ sym (at-x k (place-fits wx k l part)) ∙ same
+          ∙ at-y k (place-fits wy k l part) ∙ ap (λ (g : ℕ). F (y + g + k)) at
 
       pub even-equal : Even n L F x y v → bitAnd a low ≡ bitAnd b low
       even-equal h =
           bits-masked 64 low a b low-lt (λ k l e.
           let part : partOf wordPositions (bit L) k ≡ true = sym (low-bit k l) ∙ e in
-          at-x k (place-fits wx k l part) ∙ ap (λ (g : ℕ). F (x + g + k)) at ∙ h k l part ∙ ap (λ (g : ℕ). F (y + g + k)) (sym at) ∙ sym (at-y k (place-fits wy k l part)))
+          at-x k (place-fits wx k l part) ∙ ap (λ (g : ℕ). F (x + g + k)) at ∙ h k l part
+          ∙ ap (λ (g : ℕ). F (y + g + k)) (sym at) ∙ sym (at-y k (place-fits wy k l part)))

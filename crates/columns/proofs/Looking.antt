@@ -1,4 +1,5 @@
--- Looking through the columns of b: the numbers seen so far stand for the different columns of the first a. Assumes nothing.
+-- Looking through the columns of b: the numbers seen so far stand for the different columns of the first a. Assumes
+-- nothing.
 use mathlib.Core.Path.{_≡_, refl, sym, ap, _∙_, subst}
 use mathlib.Core.Logic.{⊎-elim}
 use mathlib.Core.Bool.{Bool, true, false}
@@ -32,7 +33,8 @@ unfolding firsts
 looking-starts =
     record { stands = refl; few = omega arith; long = refl; own = λ i l. absurd (omega arith); stay = λ i l. refl }
 
-module _ {s : Split} {F : ℕ → Bool} {b limit : ℕ} {before seen : List ℕ} {k a : ℕ} (w : SoFar s F b limit before seen k a)
+module _ {s : Split} {F : ℕ → Bool} {b limit : ℕ} {before seen : List ℕ} {k a : ℕ}
+    (w : SoFar s F b limit before seen k a)
     (room : limit ≤ length before) where
   within : k ≤ length seen
   within = omega (arith, w .few, w .long)
@@ -59,7 +61,8 @@ module _ {s : Split} {F : ℕ → Bool} {b limit : ℕ} {before seen : List ℕ}
       long = length-set seen k z ∙ w .long;
       own = λ j g. ⊎-elim
           (λ g. subst (Within (s .n) (s .own)) (sym (getD-set-other seen k j z 0 (λ r. omega (arith, r)))) (w .own j g))
-          (λ r. subst (Within (s .n) (s .own)) (sym (here j r)) (walked-within walk l)) (below-suc {j = j} {n = k} (omega arith));
+          (λ r. subst (Within (s .n) (s .own)) (sym (here j r)) (walked-within walk l))
+          (below-suc {j = j} {n = k} (omega arith));
       stay = λ j g. getD-set-other seen k j z 0 (λ r. omega (arith, r)) ∙ w .stay j (omega arith);
     }
       where
@@ -94,7 +97,8 @@ module _ {s : Split} {F : ℕ → Bool} {b limit : ℕ} {before seen : List ℕ}
       }
 
 -- what was seen settles the test at b, whose shared assignment is the number at hand of a walk
-module _ {s : Split} {F : ℕ → Bool} {limit : ℕ} {before seen : List ℕ} {k many base b : ℕ} (walk : Walked (s .n) (s .shared) many base b)
+module _ {s : Split} {F : ℕ → Bool} {limit : ℕ} {before seen : List ℕ} {k many base b : ℕ}
+    (walk : Walked (s .n) (s .shared) many base b)
     (l : b < many) (w : Seen s F (gather (s .n) (bit (s .shared)) base) limit before seen k) where
   pub seen-at : Seen s F b limit before seen k
   seen-at = subst (λ (i : ℕ). Seen s F i limit before seen k) (walked-gather walk l) w
@@ -107,4 +111,8 @@ module _ {s : Split} {F : ℕ → Bool} {limit : ℕ} {before seen : List ℕ} {
 
   -- where the test holds, the limit was not passed
   pub seen-within : length (columnsOf s F b) ≤ limit → k ≤ limit
-  seen-within h = elim (decLt limit k) [ yes g ↦ absurd (omega (arith, seen-at .many (λ m. omega arith))) | no g ↦ omega arith ]
+  seen-within h = elim (decLt limit k) [
+    | yes g ↦ absurd (omega (arith, seen-at .many (λ m. omega arith)))
+    | no g ↦ omega
+        arith
+  ]

@@ -71,7 +71,9 @@ module _ (s : Split) (h : Held s) (F : ℕ → Bool) (base : ℕ) (shared : With
       there : alike n F L (base + z) (base + z′) ≡ true → eqb (columnAt s F b z) (columnAt s F b z′) ≡ true
       there e =
           column-same n F A B b (gather n A z) (gather n A z′)
-          (λ c l. sym (ap F (reads z c own)) ∙ beq-same _ _ (every-at (2 ^ size n (bit L)) _ e c (subst (λ (m : ℕ). c < 2 ^ m) (sym same-size) l)) ∙ ap F (reads z′ c own′))
+          (λ c l. sym (ap F (reads z c own)) ∙ beq-same _ _
+          (every-at (2 ^ size n (bit L)) _ e c (subst (λ (m : ℕ). c < 2 ^ m) (sym same-size) l))
+          ∙ ap F (reads z′ c own′))
 
       back : eqb (columnAt s F b z) (columnAt s F b z′) ≡ true → (c : ℕ) → c < 2 ^ size n (bit L)
           → F (base + z + spread n (bit L) c) ≡ F (base + z′ + spread n (bit L) c)
@@ -99,7 +101,8 @@ module _ (s : Split) (h : Held s) (F : ℕ → Bool) (base : ℕ) (shared : With
       meet false q u v k e = cc
 
       sum : base + z ≡ number n (λ j. f j || g j)
-      sum = ap₂ _+_ shared own ∙ number-join n f g (λ j l q. meet (B j) (A j) (bit b (size j B)) (bit (gather n A z) (size j A)) (h .apart j l) q)
+      sum = ap₂ _+_ shared own ∙ number-join n f g (λ j l q. meet (B j) (A j) (bit b (size j B))
+          (bit (gather n A z) (size j A)) (h .apart j l) q)
 
       none : (p q u v : Bool) → not (p || q) ≡ true → ((q && u) || (p && v)) ≡ false
       none true q u v k = cc
@@ -109,7 +112,8 @@ module _ (s : Split) (h : Held s) (F : ℕ → Bool) (base : ℕ) (shared : With
       clear : (j : ℕ) → j < n → bit L j ≡ true → bit (base + z) j ≡ false
       clear j l q =
           ap (λ (m : ℕ). bit m j) sum ∙ bit-number n (λ j. f j || g j) j l
-          ∙ none (A j) (B j) (bit b (size j B)) (bit (gather n A z) (size j A)) (sym (mask-bit n (rest A B) L (h .free) j l) ∙ q)
+          ∙ none (A j) (B j) (bit b (size j B)) (bit (gather n A z) (size j A))
+          (sym (mask-bit n (rest A B) L (h .free) j l) ∙ q)
 
 -- ---- the masks that the code makes
 
@@ -121,7 +125,8 @@ below-mask s h = sum-mask (s .n) (s .own) (s .shared) (h .belowA) (h .belowB) (h
 
 pub beside-mask : (s : Split) → Held s → s .shared + s .free ≡ number (s .n) (readsH (bit (s .own)) (bit (s .shared)))
 beside-mask s h =
-    sum-mask (s .n) (s .shared) (s .free) (h .belowB) (free-lt s h) (λ j l e. rest-apart (s .n) A B j l (sym (free-bit j l) ∙ e))
+    sum-mask (s .n) (s .shared) (s .free) (h .belowB) (free-lt s h)
+    (λ j l e. rest-apart (s .n) A B j l (sym (free-bit j l) ∙ e))
     ∙ number-ext (s .n) (union B (bit (s .free))) (readsH A B) (λ j l. ap (λ (t : Bool). B j || t) (free-bit j l))
   where
     A : ℕ → Bool

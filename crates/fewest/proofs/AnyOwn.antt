@@ -40,7 +40,8 @@ use Rattle.fewest.proofs.Reach.{member-at}
 
 high-bit : (i k : ℕ) → i < 2 ^ (k + 1) → i / 2 ^ k ≡ val (bit i k)
 high-bit i k h =
-    let q : i / 2 ^ k < 2 = div-lt-iff-lt-mul {k = 2 ^ k} {x = i} {y = 2} (pow-pos k) .1 (omega (arith, pow-suc 2 k, ap (λ (m : ℕ). 2 ^ m) (add-one k))) in
+    let q : i / 2 ^ k < 2 = div-lt-iff-lt-mul {k = 2 ^ k} {x = i} {y = 2} (pow-pos k) .1
+    (omega (arith, pow-suc 2 k, ap (λ (m : ℕ). 2 ^ m) (add-one k))) in
     sym (val-bit i k ∙ mod-eq-of-lt q)
 
 -- ---- H is such a table again
@@ -62,7 +63,8 @@ module _ (n : ℕ) (F : ℕ → Bool) (A B : ℕ → Bool) (alone : (j : ℕ) �
   own-of : (d : ℕ) → (a : ℕ) × (column n F A B 0 a ≡ getD (columns n F A B 0) d (column n F A B 0 0))
   unfolding columns
   own-of d = elim (decLt d (length l)) [
-    | yes h ↦ let w = firsts-from (column n F A B 0) (2 ^ size n A) (getD l d 0) (member-at l d h) in (w .0, w .2 ∙ default l d 0 (column n F A B 0 0) h)
+    | yes h ↦ let w = firsts-from (column n F A B 0) (2 ^ size n A) (getD l d 0) (member-at l d h)
+        in (w .0, w .2 ∙ default l d 0 (column n F A B 0 0) h)
     | no h ↦ (0, sym (List·getD-eq-default l (column n F A B 0 0) {n = d} (omega arith)))
   ]
     where
@@ -101,9 +103,11 @@ module _ (n : ℕ) (F : ℕ → Bool) (A B : ℕ → Bool) (alone : (j : ℕ) �
       ∙ sym (bit-assign n A B (own-of (val (bit i′ k)) .0) 0 (gather n (rest A B) (spread n s (i′ % 2 ^ k))) j l)
     where
       -- a free input's bit
-      free : (i : ℕ) → rest A B j ≡ true → s j ≡ true → bit (gather n (rest A B) (spread n s (i % 2 ^ k))) (size j (rest A B)) ≡ bit i (size j s)
+      free : (i : ℕ) → rest A B j ≡ true → s j ≡ true
+          → bit (gather n (rest A B) (spread n s (i % 2 ^ k))) (size j (rest A B)) ≡ bit i (size j s)
       free i p q =
-          gather-bit n (rest A B) (spread n s (i % 2 ^ k)) j l p ∙ bit-spread-in n s (i % 2 ^ k) j l q ∙ bit-mod i k (size j s) (size-lt n s j l q)
+          gather-bit n (rest A B) (spread n s (i % 2 ^ k)) j l p ∙ bit-spread-in n s (i % 2 ^ k) j l q
+          ∙ bit-mod i k (size j s) (size-lt n s j l q)
 
       go : (u : Bool) → A j ≡ u → (w : Bool) → w ≡ false → B j ≡ w → cond u (X k) (X (size j s)) ≡ true
           → cond u (bit (own-of (val (bit i k)) .0) (size j A))
@@ -131,7 +135,8 @@ module _ (n : ℕ) (F : ℕ → Bool) (A B : ℕ → Bool) (alone : (j : ℕ) �
       A″ : ℕ → Bool
       A″ = back A′
 
-      seesD : (j : ℕ) (u : Bool) → (cond u (A′ k) (A′ (size j s)) || false) ≡ true → cond u (A′ k || false) (A′ (size j s) || false) ≡ true
+      seesD : (j : ℕ) (u : Bool) → (cond u (A′ k) (A′ (size j s)) || false) ≡ true
+          → cond u (A′ k || false) (A′ (size j s) || false) ≡ true
       seesD j true m = m
       seesD j false m = m
 
@@ -166,7 +171,8 @@ takes n K F two more any = go (best-some n 1 F K first 0 candidate possible)
     first = number n (λ j. ltb j K)
 
     size-is : size n (bit first) ≡ K
-    size-is = size-ext n (bit first) (λ j. ltb j K) (λ j h. bit-number n (λ j. ltb j K) j h) ∙ size-first n K (omega arith)
+    size-is = size-ext n (bit first) (λ j. ltb j K) (λ j h. bit-number n (λ j. ltb j K) j h)
+        ∙ size-first n K (omega arith)
 
     candidate : Candidate n K 1 first 0
     candidate = record {
@@ -178,7 +184,8 @@ takes n K F two more any = go (best-some n 1 F K first 0 candidate possible)
     }
 
     possible : Possible n F (bit first) (bit 0) 1
-    possible = subst (λ (B : ℕ → Bool). Possible n F (bit first) B 1) (fun-ext (λ j. sym (bit-zero j))) (any (bit first))
+    possible = subst (λ (B : ℕ → Bool). Possible n F (bit first) B 1) (fun-ext (λ j. sym (bit-zero j)))
+        (any (bit first))
 
     go : (A : ℕ) × (B : ℕ) × (best n 1 F K ≡ split A B) → Takes n K F
     go w = from (best-split n 1 F K (w .0) (w .1) (w .2))
@@ -191,7 +198,8 @@ takes n K F two more any = go (best-some n 1 F K first 0 candidate possible)
               B = w .1;
               isBest = b;
               full = omega (arith, large, size-is, b .candidate .most);
-              alone = λ j l. false-of (bit (w .1) j) (λ e. omega (arith, large, size-is, b .candidate .most, size-lt n (bit (w .1)) j l e));
+              alone = λ j l. false-of (bit (w .1) j) (λ e. omega
+                  (arith, large, size-is, b .candidate .most, size-lt n (bit (w .1)) j l e));
             }
 
 any-table : (l : List ℕ) (T A B i : ℕ) → ((j : ℕ) → j < length l → bit B j ≡ false) → AnyOwn (length l) (bit T)
@@ -202,7 +210,8 @@ any-table l T A B i alone any A′ =
     let m = size n (readsH (bit A) (bit B)) + 1 in
     let H = bitH n (bit T) (bit A) (bit B) in
     subst (λ (m : ℕ). Possible m (bit (nextTable l T A B)) A′ (λ j. false) 1) (sym (next-inputs l A B i))
-    (possible-ext m H (bit (nextTable l T A B)) (λ x h. sym (bit-number (2 ^ m) H x h)) A′ (λ j. false) 1 (any-next n (bit T) (bit A) (bit B) alone any A′))
+    (possible-ext m H (bit (nextTable l T A B)) (λ x h. sym (bit-number (2 ^ m) H x h)) A′ (λ j. false) 1
+    (any-next n (bit T) (bit A) (bit B) alone any A′))
 
 -- ---- so a sheet is made, of p + 1 cells: each but the last drops K - 1 signals
 pub record MadeFull (K i : ℕ) (l : List ℕ) (T : ℕ) : Type 0 where
@@ -215,7 +224,8 @@ pub record MadeFull (K i : ℕ) (l : List ℕ) (T : ℕ) : Type 0 where
 last-full : (K i : ℕ) (l : List ℕ) (T : ℕ) → length l ≤ K → 2 ≤ length l → MadeFull K i l T
 last-full K i l T h some = record { cells = lastCell l T ∷ []; makes = ends h; p = 0; count = refl; full = omega arith }
 
-pub any-made : (f K i : ℕ) (l : List ℕ) (T : ℕ) → 2 ≤ K → length l ≤ f + K → 2 ≤ length l → AnyOwn (length l) (bit T) → MadeFull K i l T
+pub any-made : (f K i : ℕ) (l : List ℕ) (T : ℕ) → 2 ≤ K → length l ≤ f + K → 2 ≤ length l → AnyOwn (length l) (bit T)
+    → MadeFull K i l T
 any-made zero K i l T two h some any = last-full K i l T (omega arith) some
 any-made (suc f) K i l T two h some any = elim (decLt K (length l)) [
   | no g ↦ last-full K i l T (omega arith) some
@@ -223,10 +233,12 @@ any-made (suc f) K i l T two h some any = elim (decLt K (length l)) [
 ]
   where
     go : K < length l → Takes (length l) K (bit T)
-        → ((l : List ℕ) (T : ℕ) → 2 ≤ K → length l ≤ f + K → 2 ≤ length l → AnyOwn (length l) (bit T) → MadeFull K (suc i) l T) → MadeFull K i l T
+        → ((l : List ℕ) (T : ℕ) → 2 ≤ K → length l ≤ f + K → 2 ≤ length l → AnyOwn (length l) (bit T)
+        → MadeFull K (suc i) l T) → MadeFull K i l T
     go g t ih =
         let next = next-length l i (t .isBest) in
-        let w = ih (nextSignals l (t .A) (t .B) i) (nextTable l T (t .A) (t .B)) two (omega (arith, next, t .full)) (omega (arith, next, t .full))
+        let w = ih (nextSignals l (t .A) (t .B) i) (nextTable l T (t .A) (t .B)) two (omega (arith, next, t .full))
+        (omega (arith, next, t .full))
         (any-table l T (t .A) (t .B) i (t .alone) any) in
         record {
           cells = firstCell l T (t .A) (t .B) ∷ w .cells;

@@ -28,12 +28,14 @@ enough-inputs n K F cs S counts N h = record { network = N; least = least }
   where
     least : (m : ℕ) → Carries n K m F → length cs ≤ m
     least m C = elim (decLt m (length cs)) [
-      | yes l ↦ let g : m ≤ length cs - 1 = omega arith in absurd (omega (arith, reach n K m F S counts C, mul-le-mul-right (K - 1) g))
+      | yes l ↦ let g : m ≤ length cs - 1 = omega arith
+          in absurd (omega (arith, reach n K m F S counts C, mul-le-mul-right (K - 1) g))
       | no l ↦ omega arith
     ]
 
 -- where every input counts, n of them do
-pub enough-all : (n K : ℕ) (F : ℕ → Bool) (cs : List Cell) → AllCount n F → Gives n K F cs → (length cs - 1) * (K - 1) + 1 < n → Fewest n K F cs
+pub enough-all : (n K : ℕ) (F : ℕ → Bool) (cs : List Cell) → AllCount n F → Gives n K F cs → (length cs - 1) * (K - 1)
+    + 1 < n → Fewest n K F cs
 enough-all n K F cs all N h = enough-inputs n K F cs (λ j. true) (λ j l _. all j l) N (omega (arith, size-all n))
 
 -- ---- full cells that read no signal twice: there are as many reads as cells times K, and no more than signals
@@ -96,13 +98,15 @@ filled-two K i c [] f w = omega (arith, w .0)
 filled-two K i c (d ∷ cs) f w = filled-two K (suc i) d cs (f .1) (w .2)
 
 -- cells that are full but for the last, no signal read twice, every input counting: fewer cells do not do
-pub filled-fewest : (n K : ℕ) (F : ℕ → Bool) (cs : List Cell) → AllCount n F → Gives n K F cs → Filled K cs → ((s : ℕ) → reads s cs ≤ 1) → Fewest n K F cs
+pub filled-fewest : (n K : ℕ) (F : ℕ → Bool) (cs : List Cell) → AllCount n F → Gives n K F cs → Filled K cs
+    → ((s : ℕ) → reads s cs ≤ 1) → Fewest n K F cs
 filled-fewest n K F [] all N f once = absurd (not-suc-le-zero (N .some))
 filled-fewest n K F (c ∷ cs) all N f once =
     let m = length cs in
     let two = filled-two K n c cs f (N .wired) in
     let read = reads-all (n + m) K n (c ∷ cs) (N .wired) (omega arith) in
-    let q : m * K ≡ m * (K - 1) + m = let k : K ≡ suc (K - 1) = omega arith in ap (λ (z : ℕ). m * z) k ∙ mul-suc m (K - 1) in
+    let q : m * K ≡ m * (K - 1) + m = let k : K ≡ suc (K - 1) = omega arith in ap (λ (z : ℕ). m * z) k
+    ∙ mul-suc m (K - 1) in
     let e : suc m - 1 ≡ m = omega arith in
     enough-all n K F (c ∷ cs) all N (subst (λ (z : ℕ). z * (K - 1) + 1 < n) (sym e)
     (omega (arith, filled-places K c cs f, sum-most (n + m) (λ s. reads s (c ∷ cs)) once)))

@@ -56,7 +56,12 @@ module _ (n K : ℕ) (F : ℕ → Bool) where
     -- one cell does not carry the table
     never-one : (m : ℕ) → Carries n K m F → 2 ≤ m
     never-one m C = elim (decLt m 2) [
-      | yes g ↦ absurd (omega (arith, reach n K m F S counting C, mul-le-mul-right (K - 1) (let z : m ≤ 1 = omega arith in z)))
+      | yes g ↦ absurd (omega (
+        arith,
+        reach n K m F S counting C,
+        mul-le-mul-right (K - 1)
+            (let z : m ≤ 1 = omega arith in z),
+      ))
       | no g ↦ omega arith
     ]
 
@@ -80,11 +85,13 @@ module _ (n K : ℕ) (F : ℕ → Bool) where
         inside = two.two-inside n K F c d N S (kept-sees n F)
 
         candidate : Candidate (length l) K 1 (gather n S A) (gather n S B)
-        candidate = subst (λ (m : ℕ). Candidate m K 1 (gather n S A) (gather n S B)) size-is (gather-candidate n F S (kept-sees n F) K 1 A B whole inside)
+        candidate = subst (λ (m : ℕ). Candidate m K 1 (gather n S A) (gather n S B)) size-is
+            (gather-candidate n F S (kept-sees n F) K 1 A B whole inside)
 
         possible : Possible (length l) (bit U) (bit (gather n S A)) (bit (gather n S B)) 1
         possible = subst (λ (m : ℕ). Possible m (bit U) (bit (gather n S A)) (bit (gather n S B)) 1) size-is
-            (gather-possible n F S (kept-sees n F) K 1 A B whole inside (two.two-possible n K F c d N S (kept-sees n F)))
+            (gather-possible n F S (kept-sees n F) K 1 A B whole inside
+            (two.two-possible n K F c d N S (kept-sees n F)))
 
         go : (A′ : ℕ) × (B′ : ℕ) × (best (length l) 1 (bit U) K ≡ split A′ B′) → Smallest
         go w = from (w .0) (w .1) (best-split (length l) 1 (bit U) K (w .0) (w .1) (w .2))
@@ -95,9 +102,22 @@ module _ (n K : ℕ) (F : ℕ → Bool) where
                 let same = gather-size n F S (kept-sees n F) K 1 A B whole inside in
                 let here = ap (λ (m : ℕ). size m (bit (gather n S A))) size-is in
                 let short : length (nextSignals l A′ B′ n) ≤ K =
-                omega (arith, next-length l n b, large, same, here, size-is, two.two-large n K F c d N S (kept-sees n F) counting more) in
-                let longer : K < length l = omega (arith, size-is) in
-                (firstCell l U A′ B′ ∷ lastCell (nextSignals l A′ B′ n) (nextTable l U A′ B′) ∷ [], goes longer b (ends short), never-one)
+                omega (
+                  arith,
+                  next-length l n b,
+                  large,
+                  same,
+                  here,
+                  size-is,
+                  two.two-large n K F c d N S (kept-sees n F)
+                      counting more,
+                ) in
+                let longer : K < length l = omega (arith, size-is) in (
+                  firstCell l U A′ B′ ∷ lastCell (nextSignals l A′ B′ n) (nextTable l U A′ B′) ∷ [],
+                  goes longer b
+                      (ends short),
+                  never-one,
+                )
 
   smallest : (m : ℕ) → 1 ≤ K → Carries n K m F → m ≤ 2 → Smallest
   smallest m q C h = elim (decLt K (size n S)) [
@@ -108,18 +128,24 @@ module _ (n K : ℕ) (F : ℕ → Bool) where
     where
       long : K < size n S → (ds : List Cell) → Gives n K F ds → length ds ≤ 2 → Smallest
       long g [] N h = absurd (omega (arith, N .some))
-      long g (a ∷ []) N h = absurd (omega (arith, never-one q g 1 (record { cells = a ∷ []; count = refl; network = N })))
+      long g (a ∷ []) N h = absurd (omega (
+        arith,
+        never-one q g 1
+            (record { cells = a ∷ []; count = refl; network = N }),
+      ))
       long g (a ∷ b ∷ []) N h = two-made q g a b N
       long g (a ∷ b ∷ d ∷ ds) N h = absurd (omega arith)
 
 -- ---- the sheet of the gate's table F
 module _ (n K : ℕ) (F : ℕ → Bool) (p : 1 ≤ n) (q : 1 ≤ K) where
   -- demand 3: where one or two cells can carry the table, the sheet has the smallest number of cells that can
-  pub table-fewest : (m : ℕ) → Carries n K m F → m ≤ 2 → (cs : List Cell) × (sheetAside n K (number (2 ^ n) F) ≡ made cs) × Fewest n K F cs
+  pub table-fewest : (m : ℕ) → Carries n K m F → m ≤ 2 → (cs : List Cell)
+      × (sheetAside n K (number (2 ^ n) F) ≡ made cs) × Fewest n K F cs
   table-fewest m C h = go (smallest n K F m q C h)
     where
       go : Smallest n K F → (cs : List Cell) × (sheetAside n K (number (2 ^ n) F) ≡ made cs) × Fewest n K F cs
-      go w = let e = sheet-made n K F p q (w .0) .1 (w .1) in (w .0, e, record { network = table-gives n K F p q (w .0) e; least = w .2 })
+      go w = let e = sheet-made n K F p q (w .0) .1 (w .1)
+          in (w .0, e, record { network = table-gives n K F p q (w .0) e; least = w .2 })
 
   -- every answer of at most three cells has the fewest, be it make's or that of the chain with several first cells
   pub any-three : (cs : List Cell) → anyAside n K (number (2 ^ n) F) ≡ sheet cs → length cs ≤ 3 → Fewest n K F cs
@@ -145,7 +171,8 @@ module _ (n K : ℕ) (F : ℕ → Bool) (p : 1 ≤ n) (q : 1 ≤ K) where
 
 -- with cells of two inputs every sheet is the fewest: each split drops one signal, and each cell brings one input. It
 -- is a law of K = 2 alone: a larger cell may drop fewer signals than it brings inputs
-pub pairs-fewest : (n : ℕ) (F : ℕ → Bool) (cs : List Cell) → 1 ≤ n → sheetAside n 2 (number (2 ^ n) F) ≡ made cs → Fewest n 2 F cs
+pub pairs-fewest : (n : ℕ) (F : ℕ → Bool) (cs : List Cell) → 1 ≤ n → sheetAside n 2 (number (2 ^ n) F) ≡ made cs
+    → Fewest n 2 F cs
 pairs-fewest n F cs p e = elim (decLt 3 (length cs)) [
   | yes h ↦ table-enough n 2 F p (omega arith) cs e (omega (arith, table-most n 2 F p (omega arith) cs e))
   | no h ↦ table-three n 2 F p (omega arith) cs e (omega arith)

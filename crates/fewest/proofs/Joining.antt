@@ -42,7 +42,8 @@ module _ (op : Bool → Bool → Bool) (e : Bool) (J : Joining op e) where
   only : (ℕ → Bool) → (ℕ → Bool) → ℕ → Bool
   only s v j = cond (s j) (v j) e
 
-  only-ext : (n : ℕ) (s : ℕ → Bool) (x y : ℕ) → Agree n s x y → joined op e n (only s (bit x)) ≡ joined op e n (only s (bit y))
+  only-ext : (n : ℕ) (s : ℕ → Bool) (x y : ℕ) → Agree n s x y → joined op e n (only s (bit x))
+      ≡ joined op e n (only s (bit y))
   unfolding only
   only-ext n s x y h = joined-ext n (only s (bit x)) (only s (bit y)) (λ j l. go j l (s j) refl)
     where
@@ -50,10 +51,12 @@ module _ (op : Bool → Bool → Bool) (e : Bool) (J : Joining op e) where
       go j l true q = h j l q
       go j l false q = refl
 
-  two-parts : (n : ℕ) (s : ℕ → Bool) (v : ℕ → Bool) → joined op e n v ≡ op (joined op e n (only s v)) (joined op e n (only (λ j. not (s j)) v))
+  two-parts : (n : ℕ) (s : ℕ → Bool) (v : ℕ → Bool) → joined op e n v
+      ≡ op (joined op e n (only s v)) (joined op e n (only (λ j. not (s j)) v))
   unfolding only
   two-parts zero s v = sym (J .neutral e)
-  two-parts (suc n) s v = ap (λ (t : Bool). op t (v n)) (two-parts n s v) ∙ go (s n) (joined op e n (only s v)) (joined op e n (only (λ j. not (s j)) v)) (v n)
+  two-parts (suc n) s v = ap (λ (t : Bool). op t (v n)) (two-parts n s v)
+      ∙ go (s n) (joined op e n (only s v)) (joined op e n (only (λ j. not (s j)) v)) (v n)
     where
       go : (t a b c : Bool) → op (op a b) c ≡ op (op a (cond t c e)) (op b (cond (not t) c e))
       go true a b c =
@@ -67,7 +70,8 @@ module _ (op : Bool → Bool → Bool) (e : Bool) (J : Joining op e) where
       (λ t x y h. only-ext n A x y (λ j l m. h j l (or-false (A j) ∙ m)))
       (λ d x y h. ap (op (bit d 0)) (only-ext n (λ j. not (A j)) x y (λ j l m. h j l (ap not (or-false (A j)) ∙ m))))
       (λ x h. two-parts n A (bit x)
-      ∙ ap (λ (t : Bool). op t (joined op e n (only (λ j. not (A j)) (bit x)))) (sym (bit-number 1 (λ t. joined op e n (only A (bit x))) 0 (omega arith))))
+      ∙ ap (λ (t : Bool). op t (joined op e n (only (λ j. not (A j)) (bit x))))
+      (sym (bit-number 1 (λ t. joined op e n (only A (bit x))) 0 (omega arith))))
 
   -- ---- every input counts
 
@@ -79,8 +83,10 @@ module _ (op : Bool → Bool → Bool) (e : Bool) (J : Joining op e) where
   joined-one zero j v l h = absurd (not-suc-le-zero l)
   joined-one (suc n) j v l h =
       ⊎-elim
-      (λ g. ap₂ op (joined-one n j v g (λ i q r. h i (omega arith) r)) (h n (omega arith) (λ r. omega arith)) ∙ J .neutral (v j))
-      (λ q. ap (λ (t : Bool). op t (v n)) (joined-neutral n v (λ i r. h i (omega arith) (λ z. omega arith))) ∙ J .order e (v n) ∙ J .neutral (v n)
+      (λ g. ap₂ op (joined-one n j v g (λ i q r. h i (omega arith) r)) (h n (omega arith) (λ r. omega arith))
+      ∙ J .neutral (v j))
+      (λ q. ap (λ (t : Bool). op t (v n)) (joined-neutral n v (λ i r. h i (omega arith) (λ z. omega arith)))
+      ∙ J .order e (v n) ∙ J .neutral (v n)
       ∙ ap v (sym q))
       (below-suc l)
 
@@ -92,7 +98,8 @@ module _ (op : Bool → Bool → Bool) (e : Bool) (J : Joining op e) where
     belowY = number-lt n turned;
     alike = λ i h q. bit-number n flat i h ∙ sym (bit-number n turned i h ∙ at-other i q);
     differ = λ q. differs e (sym (joined-neutral n (bit (number n flat)) (λ i h. bit-number n flat i h)) ∙ q
-        ∙ joined-one n j (bit (number n turned)) l (λ i h r. bit-number n turned i h ∙ at-other i r) ∙ bit-number n turned j l ∙ at-j);
+        ∙ joined-one n j (bit (number n turned)) l (λ i h r. bit-number n turned i h ∙ at-other i r)
+        ∙ bit-number n turned j l ∙ at-j);
   }
     where
       flat : ℕ → Bool
@@ -113,7 +120,8 @@ module _ (op : Bool → Bool → Bool) (e : Bool) (J : Joining op e) where
 
   -- ---- the sheet
 
-  pub joining-fewest : (n K : ℕ) → 1 ≤ n → 2 ≤ K → (cs : List Cell) × (sheetAside n K (joinTable op e n) ≡ made cs) × Fewest n K (λ x. joined op e n (bit x)) cs
+  pub joining-fewest : (n K : ℕ) → 1 ≤ n → 2 ≤ K → (cs : List Cell) × (sheetAside n K (joinTable op e n) ≡ made cs)
+      × Fewest n K (λ x. joined op e n (bit x)) cs
   joining-fewest n K some two = elim (decLt 1 n) [
     | no h ↦
         let few : length (inputs n) ≤ K = omega (arith, inputs-length n) in

@@ -90,7 +90,8 @@ module _ (n K : ℕ) (F : ℕ → Bool) (c d : Cell) (N : Gives n K F (c ∷ d �
   unfolding see
   second-sees o x y h = output-ext d (see x o) (see y o) (λ s m. go s m (eqb s n) refl)
     where
-      read : (t p q : Bool) → t ≡ true → q ≡ true → ((t && (p && q)) || not ((t && (p && not q)) || (t && (p && q)))) ≡ true
+      read : (t p q : Bool) → t ≡ true → q ≡ true → ((t && (p && q)) || not ((t && (p && not q)) || (t && (p && q))))
+          ≡ true
       read true true true e f = refl
       read true false q e f = refl
       read true true false e f = cc
@@ -101,12 +102,14 @@ module _ (n K : ℕ) (F : ℕ → Bool) (c d : Cell) (N : Gives n K F (c ∷ d �
       go s m false q =
           let ne : s ≡ n → ⊥ = eqb-false s n q in
           let l : s < n = omega (arith, member-below (suc n) (d .signals) (N .wired .2 .1) s m) in
-          only-agree x y s l (λ e. h s l (ap₂ (λ (a b : Bool). b || not (a || b)) (bitA s l) (bitB s l) ∙ read (S s) (R₁ s) (R₂ s) e m))
+          only-agree x y s l (λ e. h s l (ap₂ (λ (a b : Bool). b || not (a || b)) (bitA s l) (bitB s l)
+          ∙ read (S s) (R₁ s) (R₂ s) e m))
 
   pub two-possible : Possible n F (bit A) (bit B) 1
   two-possible = possible-of n F (bit A) (bit B) 1 (λ t x. output c (bit (only x))) (λ k x. output d (see x (bit k 0)))
       (λ t x y h. first-sees x y h) (λ k x y h. second-sees (bit k 0) x y h)
-      (λ x h. gives-two x h ∙ ap (λ (o : Bool). output d (see x o)) (sym (bit-number 1 (λ t. output c (bit (only x))) 0 (omega arith))))
+      (λ x h. gives-two x h ∙ ap (λ (o : Bool). output d (see x o))
+      (sym (bit-number 1 (λ t. output c (bit (only x))) 0 (omega arith))))
 
   -- all its members are members of S
   pub two-inside : (j : ℕ) → j < n → readsD (bit A) (bit B) j ≡ true → S j ≡ true
@@ -120,7 +123,8 @@ module _ (n K : ℕ) (F : ℕ → Bool) (c d : Cell) (N : Gives n K F (c ∷ d �
   module _ (counting : Counting n F S) (more : K < size n S) where
     needed-one : (s : ℕ) → s < suc n → needed (suc n) (d ∷ []) s ≡ R₂ s
     unfolding needed
-    needed-one s h = ap₂ (λ (t u : Bool). t || (u && R₂ s)) (ne-eqb (suc s) (suc (suc n)) (omega arith)) (eq-eqb (suc (suc n)) (suc (suc n)) refl)
+    needed-one s h = ap₂ (λ (t u : Bool). t || (u && R₂ s)) (ne-eqb (suc s) (suc (suc n)) (omega arith))
+        (eq-eqb (suc (suc n)) (suc (suc n)) refl)
 
     all-read : (s : ℕ) → s < n → S s ≡ true → (R₂ s || (R₂ n && R₁ s)) ≡ true
     unfolding needed
@@ -137,7 +141,8 @@ module _ (n K : ℕ) (F : ℕ → Bool) (c d : Cell) (N : Gives n K F (c ∷ d �
         go false e =
             absurd (omega (
               arith,
-              size-part n S R₂ (λ j l m. sym (or-false (R₂ j)) ∙ ap (λ (t : Bool). R₂ j || (t && R₁ j)) (sym e) ∙ all-read j l m),
+              size-part n S R₂ (λ j l m. sym (or-false (R₂ j)) ∙ ap (λ (t : Bool). R₂ j || (t && R₁ j)) (sym e)
+                  ∙ all-read j l m),
               size-member n (d .signals),
               N .wired .2 .0,
             ))
@@ -161,7 +166,8 @@ module _ (n K : ℕ) (F : ℕ → Bool) (c d : Cell) (N : Gives n K F (c ∷ d �
     sizeAB : size n (bit A) + size n (bit B) ≤ size n R₁
     sizeAB = omega (
       arith,
-      size-sum n (bit A) (bit B) (λ j. S j && R₁ j) (λ j h. ap₂ (λ (s t : Bool). val s + val t) (bitA j h) (bitB j h) ∙ go (S j) (R₁ j) (R₂ j)),
+      size-sum n (bit A) (bit B) (λ j. S j && R₁ j)
+          (λ j h. ap₂ (λ (s t : Bool). val s + val t) (bitA j h) (bitB j h) ∙ go (S j) (R₁ j) (R₂ j)),
       size-part n (λ j. S j && R₁ j) R₁ (λ j h. and-right (S j) (R₁ j)),
     )
       where

@@ -19,28 +19,34 @@ view : (n b : ℕ) → View n b (kind n b)
 view n b = go1 (eqb b 33) refl
   where
     go6 : ltb b 97 ≡ false → (t : Bool) → ltb b (97 + n) ≡ t → View n b (cond t (input (b - 97)) other)
-    go6 h true e = let l = ltb-true b (97 + n) e in let m = ltb-false b 97 h in v-input (b - 97) (omega arith) (omega arith)
+    go6 h true e = let l = ltb-true b (97 + n) e in let m = ltb-false b 97 h
+        in v-input (b - 97) (omega arith) (omega arith)
     go6 h false e = v-other
 
     go5 : (t : Bool) → ltb b 97 ≡ t → View n b (cond t other (cond (ltb b (97 + n)) (input (b - 97)) other))
     go5 true e = v-other
     go5 false e = go6 e (ltb b (97 + n)) refl
 
-    go4 : (t : Bool) → eqb b 49 ≡ t → View n b (cond t (digit true) (cond (ltb b 97) other (cond (ltb b (97 + n)) (input (b - 97)) other)))
+    go4 : (t : Bool) → eqb b 49 ≡ t → View n b (cond t (digit true)
+        (cond (ltb b 97) other (cond (ltb b (97 + n)) (input (b - 97)) other)))
     go4 true e = v-one (eqb-true b 49 e)
     go4 false e = go5 (ltb b 97) refl
 
-    go3 : (t : Bool) → eqb b 48 ≡ t → View n b (cond t (digit false) (cond (eqb b 49) (digit true) (cond (ltb b 97) other (cond (ltb b (97 + n)) (input (b - 97)) other))))
+    go3 : (t : Bool) → eqb b 48 ≡ t → View n b (cond t (digit false)
+        (cond (eqb b 49) (digit true) (cond (ltb b 97) other (cond (ltb b (97 + n)) (input (b - 97)) other))))
     go3 true e = v-zero (eqb-true b 48 e)
     go3 false e = go4 (eqb b 49) refl
 
     go2 : (t : Bool) → eqb b 40 ≡ t
-        → View n b (cond t opening (cond (eqb b 48) (digit false) (cond (eqb b 49) (digit true) (cond (ltb b 97) other (cond (ltb b (97 + n)) (input (b - 97)) other)))))
+        → View n b (cond t opening (cond (eqb b 48) (digit false)
+        (cond (eqb b 49) (digit true) (cond (ltb b 97) other (cond (ltb b (97 + n)) (input (b - 97)) other)))))
     go2 true e = v-open (eqb-true b 40 e)
     go2 false e = go3 (eqb b 48) refl
 
     go1 : (t : Bool) → eqb b 33 ≡ t
-        → View n b (cond t bang (cond (eqb b 40) opening (cond (eqb b 48) (digit false) (cond (eqb b 49) (digit true) (cond (ltb b 97) other (cond (ltb b (97 + n)) (input (b - 97)) other))))))
+        → View n b (cond t bang (cond (eqb b 40) opening
+        (cond (eqb b 48) (digit false) (cond (eqb b 49) (digit true)
+        (cond (ltb b 97) other (cond (ltb b (97 + n)) (input (b - 97)) other))))))
     go1 true e = v-bang (eqb-true b 33 e)
     go1 false e = go2 (eqb b 40) refl
 
@@ -67,9 +73,18 @@ kind-one n b e = rw e
 
 pub kind-input : (n b : ℕ) → 97 ≤ b → b < 97 + n → kind n b ≡ input (b - 97)
 kind-input n b h l =
-    rw (ne-eqb b 33 (λ e. omega arith), ne-eqb b 40 (λ e. omega arith), ne-eqb b 48 (λ e. omega arith), ne-eqb b 49 (λ e. omega arith), le-ltb b 97 h, lt-ltb b (97 + n) l)
+    rw (
+      ne-eqb b 33 (λ e. omega arith),
+      ne-eqb b 40 (λ e. omega arith),
+      ne-eqb b 48 (λ e. omega arith),
+      ne-eqb b 49
+          (λ e. omega arith),
+      le-ltb b 97 h,
+      lt-ltb b (97 + n) l,
+    )
 
-pub kind-other : (n b : ℕ) → (b ≡ 33 → ⊥) → (b ≡ 40 → ⊥) → (b ≡ 48 → ⊥) → (b ≡ 49 → ⊥) → (97 ≤ b → b < 97 + n → ⊥) → kind n b ≡ other
+pub kind-other : (n b : ℕ) → (b ≡ 33 → ⊥) → (b ≡ 40 → ⊥) → (b ≡ 48 → ⊥) → (b ≡ 49 → ⊥) → (97 ≤ b → b < 97 + n → ⊥)
+    → kind n b ≡ other
 kind-other n b h1 h2 h3 h4 h5 = go (view n b)
   where
     go : {t : Kind} → View n b t → t ≡ other

@@ -8,7 +8,8 @@ use Rattle.values.specs.Formula.{Formula, letter, constant}
 use Rattle.formulas.specs.Text.{mark, Spells, a-letter, a-zero, a-one, a-not, a-nest, only, more}
 use Rattle.formulas.specs.Reading.{bang, opening, digit, input, kind, upTo}
 use Rattle.formulas.proofs.Steps.{Run, r-digit, r-input, r-not, r-open, r-last, r-next}
-use Rattle.formulas.proofs.ByteKinds.{View, v-zero, v-one, v-input, viewed, is-bang, is-open, kind-bang, kind-open, kind-zero, kind-one, kind-input}
+use Rattle.formulas.proofs.ByteKinds.{View, v-zero, v-one, v-input, viewed, is-bang, is-open, kind-bang}
+use Rattle.formulas.proofs.ByteKinds.{kind-open, kind-zero, kind-one, kind-input}
 
 -- no mark is 0
 pub mark-pos : (k : ℕ) → 0 < mark k
@@ -36,18 +37,25 @@ module _ (c : ℕ → ℕ) (n : ℕ) where
   spells-bytes {p = p} (a-letter j l e) i a b z = let x : i ≡ p = omega arith in let y = ap c x in omega arith
   spells-bytes {p = p} (a-zero e) i a b z = let x : i ≡ p = omega arith in let y = ap c x in omega arith
   spells-bytes {p = p} (a-one e) i a b z = let x : i ≡ p = omega arith in let y = ap c x in omega arith
-  spells-bytes {p = p} (a-not e h) i a b z = split p i a (λ x. let y = ap c x in omega arith) (λ l. spells-bytes h i l b z)
+  spells-bytes {p = p} (a-not e h) i a b z = split p i a (λ x. let y = ap c x in omega arith)
+      (λ l. spells-bytes h i l b z)
   spells-bytes {p = p} (a-nest {q = q} e h f) i a b z =
       split p i a (λ x. let y = ap c x in omega arith)
-      (λ l. elim (decLt i q) [ yes m ↦ spells-bytes h i l m z | no m ↦ (let x : i ≡ q = omega arith in let y = ap c x in omega arith) ])
+      (λ l. elim (decLt i q) [
+        | yes m ↦ spells-bytes h i l m z
+        | no m ↦
+            (let x : i ≡ q = omega arith in let y = ap c x in omega arith)
+      ])
   spells-bytes (only h) i a b z = spells-bytes h i a b z
   spells-bytes (more {k = k} {q = q} h e j) i a b z =
       elim (decLt i q) [
         | yes m ↦ spells-bytes h i a m z
-        | no m ↦ split q i (omega arith) (λ x. let y = ap c x in omega (arith, mark-pos k)) (λ l. spells-bytes j i l b z)
+        | no m ↦ split q i (omega arith) (λ x. let y = ap c x in omega (arith, mark-pos k))
+            (λ l. spells-bytes j i l b z)
       ]
 
-pub spells-same : (c c′ : ℕ → ℕ) (n : ℕ) {k d : ℕ} {F : Formula} {p q : ℕ} → Spells c n k d F p q → ((i : ℕ) → p ≤ i → i < q → c′ i ≡ c i) → Spells c′ n k d F p q
+pub spells-same : (c c′ : ℕ → ℕ) (n : ℕ) {k d : ℕ} {F : Formula} {p q : ℕ} → Spells c n k d F p q
+    → ((i : ℕ) → p ≤ i → i < q → c′ i ≡ c i) → Spells c′ n k d F p q
 spells-same c c′ n {p = p} (a-letter j l e) s = a-letter j l (s p (omega arith) (omega arith) ∙ e)
 spells-same c c′ n {p = p} (a-zero e) s = a-zero (s p (omega arith) (omega arith) ∙ e)
 spells-same c c′ n {p = p} (a-one e) s = a-one (s p (omega arith) (omega arith) ∙ e)
@@ -56,12 +64,14 @@ spells-same c c′ n {p = p} (a-not e h) s =
     a-not (s p (omega arith) (omega arith) ∙ e) (spells-same c c′ n h (λ i a b. s i (omega arith) b))
 spells-same c c′ n {p = p} (a-nest {q = q} e h f) s =
     let l = spells-lt c n h in
-    a-nest (s p (omega arith) (omega arith) ∙ e) (spells-same c c′ n h (λ i a b. s i (omega arith) (omega arith))) (s q (omega arith) (omega arith) ∙ f)
+    a-nest (s p (omega arith) (omega arith) ∙ e) (spells-same c c′ n h (λ i a b. s i (omega arith) (omega arith)))
+    (s q (omega arith) (omega arith) ∙ f)
 spells-same c c′ n (only h) s = only (spells-same c c′ n h s)
 spells-same c c′ n (more {q = q} h e j) s =
     let l = spells-lt c n h in
     let m = spells-lt c n j in
-    more (spells-same c c′ n h (λ i a b. s i a (omega arith))) (s q (omega arith) (omega arith) ∙ e) (spells-same c c′ n j (λ i a b. s i (omega arith) b))
+    more (spells-same c c′ n h (λ i a b. s i a (omega arith))) (s q (omega arith) (omega arith) ∙ e)
+    (spells-same c c′ n j (λ i a b. s i (omega arith) b))
 
 -- ---- what is read is spelled
 
@@ -108,7 +118,8 @@ module _ (c : ℕ → ℕ) (n : ℕ) where
   input-of : (b j : ℕ) → j < n → b ≡ 97 + j → kind n b ≡ input j
   input-of b j l e = kind-input n b (omega arith) (omega arith) ∙ ap input (omega arith)
 
-  pub complete : {k d : ℕ} {F : Formula} {p q : ℕ} → Spells c n k d F p q → k ≤ 3 → Stops k (c q) → (m : ℕ) → 4 * (q - p) + k < m → Run c n m k d p (upTo F q)
+  pub complete : {k d : ℕ} {F : Formula} {p q : ℕ} → Spells c n k d F p q → k ≤ 3 → Stops k (c q) → (m : ℕ)
+      → 4 * (q - p) + k < m → Run c n m k d p (upTo F q)
   complete h a s zero l = absurd (omega arith)
   complete {p = p} (a-letter j i e) a s (suc m) l = r-input j (input-of (c p) j i e)
   complete {p = p} (a-zero e) a s (suc m) l = r-digit false (kind-zero n (c p) e)
@@ -124,4 +135,5 @@ module _ (c : ℕ → ℕ) (n : ℕ) where
   complete (more {k = k} h e i) a s (suc m) l =
       let y = spells-lt c n h in
       let z = spells-lt c n i in
-      r-next (complete h (omega arith) (λ j b f. mark-apart k j (omega arith) b (sym e ∙ f)) m (omega arith)) e (complete i a s m (omega arith))
+      r-next (complete h (omega arith) (λ j b f. mark-apart k j (omega arith) b (sym e ∙ f)) m (omega arith)) e
+      (complete i a s m (omega arith))

@@ -1,4 +1,5 @@
--- What is said of a text is so: it is the formula, or the place is the first at which it can't be continued. Assumes nothing.
+-- What is said of a text is so: it is the formula, or the place is the first at which it can't be continued. Assumes
+-- nothing.
 use mathlib.Core.Path.{_≡_, refl, sym, ap, _∙_, subst}
 use mathlib.Core.Logic.{_↔_, inl, inr, ⊎-elim}
 use mathlib.Core.Bool.{Bool, true, false, cond}
@@ -12,7 +13,8 @@ use lib.Seq.{length-take-le, getD-take, getD-append-add, take-add}
 use borrow.Author.Tests.{eq-eqb, eqb-true, eqb-false, lt-ltb, le-ltb}
 use Rattle.values.specs.Formula.{Formula}
 use Rattle.formulas.specs.Text.{Spells, byteAt, IsFormula, IsPlace, ReadAs, RefusedAt, mostLevels, mostText}
-use Rattle.formulas.specs.Reading.{Reading, upTo, stuck, reads, Answer, formula, refused, ended, textOf, Told, enough}
+use Rattle.formulas.specs.Reading.{Reading, upTo, stuck, reads, Answer, formula, refused, ended, textOf, Told}
+use Rattle.formulas.specs.Reading.{enough}
 use Rattle.formulas.proofs.Steps.{Run, run, runs}
 use Rattle.formulas.proofs.Grammar.{spells-bytes, spells-same, sound, complete, zero-stops}
 use Rattle.formulas.proofs.Reaching.{fuel, local, reach}
@@ -40,21 +42,29 @@ front-at s u p i h l =
 back-at : (s u : List ℕ) (p i : ℕ) → p ≤ length s → p ≤ i → byteAt (take p s ++ u) i ≡ getD u (i - p) 0
 back-at s u p i h l =
     let e : i ≡ p + (i - p) = omega arith in
-    ap (byteAt (take p s ++ u)) (e ∙ ap (λ (k : ℕ). k + (i - p)) (sym (length-take-le p s h))) ∙ getD-append-add (take p s) u (i - p) 0
+    ap (byteAt (take p s ++ u)) (e ∙ ap (λ (k : ℕ). k + (i - p)) (sym (length-take-le p s h)))
+    ∙ getD-append-add (take p s) u (i - p) 0
 
 -- what can be continued, as a text
-as-text : (n : ℕ) (s : List ℕ) (p : ℕ) → p ≤ length s → Goes (byteAt s) n 3 mostLevels 0 p → (u : List ℕ) × (F : Formula) × IsFormula n (take p s ++ u) F
+as-text : (n : ℕ) (s : List ℕ) (p : ℕ) → p ≤ length s → Goes (byteAt s) n 3 mostLevels 0 p → (u : List ℕ)
+    × (F : Formula) × IsFormula n (take p s ++ u) F
 as-text n s p h g =
     let f : ℕ → ℕ = λ i. g .bytes (p + i) in
     let u = tab (g .end - p) f in
     let t = take p s ++ u in
-    let l : length t ≡ g .end = length-append (take p s) u ∙ omega (arith, length-take-le p s h, tab-length (g .end - p) f, g .past) in
+    let l : length t ≡ g .end = length-append (take p s) u
+    ∙ omega (arith, length-take-le p s h, tab-length (g .end - p) f, g .past) in
     let at : (i : ℕ) → 0 ≤ i → i < g .end → byteAt t i ≡ g .bytes i =
     (λ i a b. elim (decLt i p) [
       | yes y ↦ front-at s u p i h y ∙ sym (g .same i y)
-      | no y ↦ (let z : p + (i - p) ≡ i = omega arith in back-at s u p i h (omega arith) ∙ tab-at (g .end - p) f (i - p) (omega arith) ∙ ap (g .bytes) z)
-    ]) in
-    (u, g .tree, subst (λ (k : ℕ). Spells (byteAt t) n 3 mostLevels (g .tree) 0 k) (sym l) (spells-same (g .bytes) (byteAt t) n (g .spells) at))
+      | no y ↦ (let z : p + (i - p) ≡ i = omega arith in back-at s u p i h (omega arith)
+          ∙ tab-at (g .end - p) f (i - p) (omega arith) ∙ ap (g .bytes) z)
+    ]) in (
+      u,
+      g .tree,
+      subst (λ (k : ℕ). Spells (byteAt t) n 3 mostLevels (g .tree) 0 k) (sym l)
+          (spells-same (g .bytes) (byteAt t) n (g .spells) at),
+    )
 
 past-end : (s : List ℕ) (i : ℕ) → length s ≤ i → byteAt s i ≡ 0
 past-end s i h = List·getD-eq-default s 0 h
@@ -64,7 +74,8 @@ within-text : (n : ℕ) (s : List ℕ) {b : ℕ} → Goes (byteAt s) n 3 mostLev
 within-text n s {b} g =
     elim (decLt (length s) b) [
       | no y ↦ omega arith
-      | yes y ↦ absurd (spells-bytes (g .bytes) n (g .spells) (length s) (omega arith) (omega (arith, g .past)) (g .same (length s) y ∙ past-end s (length s) (omega arith)))
+      | yes y ↦ absurd (spells-bytes (g .bytes) n (g .spells) (length s) (omega arith) (omega (arith, g .past))
+          (g .same (length s) y ∙ past-end s (length s) (omega arith)))
     ]
 
 good-within : (n : ℕ) (s : List ℕ) {F : Formula} {q : ℕ} → Spells (byteAt s) n 3 mostLevels F 0 q → q ≤ length s
@@ -75,24 +86,30 @@ good-within n s {F} {q} h =
     ]
 
 -- a formula is read as itself
-pub whole-run : (n : ℕ) (s : List ℕ) (F : Formula) → IsFormula n s F → (m : ℕ) → 4 * length s + 3 < m → Run (byteAt s) n m 3 mostLevels 0 (upTo F (length s))
+pub whole-run : (n : ℕ) (s : List ℕ) (F : Formula) → IsFormula n s F → (m : ℕ) → 4 * length s + 3 < m
+    → Run (byteAt s) n m 3 mostLevels 0 (upTo F (length s))
 whole-run n s F h m l =
-    complete (byteAt s) n h (omega arith) (zero-stops (byteAt s) n 3 (byteAt s (length s)) (past-end s (length s) (omega arith))) m (omega arith)
+    complete (byteAt s) n h (omega arith) (zero-stops (byteAt s) n 3 (byteAt s (length s))
+    (past-end s (length s) (omega arith))) m (omega arith)
 
 differs : {F : Formula} {p q : ℕ} → stuck p ≡ upTo F q → ⊥
 differs e = let z : _≡_ {A = ℕ} 0 1 = cc in omega arith
 
 -- where the reading gives g, no text that has the same bytes up to there is a formula, unless g says so
-other-texts : (n : ℕ) (s : List ℕ) (g : Reading) → length s ≤ mostText → reach g < length s → Run (byteAt s) n enough 3 mostLevels 0 g
-    → (u : List ℕ) (F : Formula) → IsFormula n (take (suc (reach g)) s ++ u) F → g ≡ upTo F (length (take (suc (reach g)) s ++ u))
+other-texts : (n : ℕ) (s : List ℕ) (g : Reading) → length s ≤ mostText → reach g < length s
+    → Run (byteAt s) n enough 3 mostLevels 0 g
+    → (u : List ℕ) (F : Formula) → IsFormula n (take (suc (reach g)) s ++ u) F → g
+    ≡ upTo F (length (take (suc (reach g)) s ++ u))
 other-texts n s g h l r u F f =
     let t = take (suc (reach g)) s ++ u in
     let m = 4 * length t + 4100 in
     let a = fuel (byteAt s) n r (omega arith) m (omega arith) in
-    let b = local (byteAt s) (byteAt t) n (reach g) (λ i y. front-at s u (suc (reach g)) i l (omega arith)) a (omega arith) in
+    let b = local (byteAt s) (byteAt t) n (reach g) (λ i y. front-at s u (suc (reach g)) i l (omega arith)) a
+    (omega arith) in
     sym (runs (byteAt t) n b) ∙ runs (byteAt t) n (whole-run n t F f m (omega arith))
 
-bad-place : (n : ℕ) (s : List ℕ) (p : ℕ) → length s ≤ mostText → Run (byteAt s) n enough 3 mostLevels 0 (stuck p) → IsPlace n s p
+bad-place : (n : ℕ) (s : List ℕ) (p : ℕ) → length s ≤ mostText → Run (byteAt s) n enough 3 mostLevels 0 (stuck p)
+    → IsPlace n s p
 bad-place n s p h r =
     let g = goes (byteAt s) n r in
     let w = within-text n s g in
@@ -103,13 +120,21 @@ bad-place n s p h r =
       whole = λ e F f. differs (sym (runs (byteAt s) n r) ∙ runs (byteAt s) n (whole-run n s F f enough (omega arith)));
     }
 
-left-place : (n : ℕ) (s : List ℕ) (F : Formula) (q : ℕ) → length s ≤ mostText → (q ≡ length s → ⊥) → Run (byteAt s) n enough 3 mostLevels 0 (upTo F q) → IsPlace n s q
+left-place : (n : ℕ) (s : List ℕ) (F : Formula) (q : ℕ) → length s ≤ mostText → (q ≡ length s → ⊥)
+    → Run (byteAt s) n enough 3 mostLevels 0 (upTo F q) → IsPlace n s q
 left-place n s F q h x r =
     let k = sound (byteAt s) n r in
     let w = good-within n s k in
     record {
       within = w;
-      before = as-text n s q w (record { bytes = byteAt s; tree = F; end = q; same = λ i l. refl; past = omega arith; spells = k });
+      before = as-text n s q w (record {
+        bytes = byteAt s;
+        tree = F;
+        end = q;
+        same = λ i l. refl;
+        past = omega arith;
+        spells = k;
+      });
       there = λ l u G f.
           (let e : q ≡ length (take (suc q) s ++ u) = ap reach (other-texts n s (upTo F q) h l r u G f) in
           omega (arith, e, length-append (take (suc q) s) u, length-take-le (suc q) s l));
@@ -122,7 +147,8 @@ pub too-long : (n : ℕ) (s : List ℕ) → mostText < length s → textOf n s �
 unfolding textOf
 too-long n s h = rw (lt-ltb mostText (length s) h)
 
-pub text-of : (n : ℕ) (s : List ℕ) → length s ≤ mostText → textOf n s ≡ ended (length s) (reads (byteAt s) n enough 3 mostLevels 0)
+pub text-of : (n : ℕ) (s : List ℕ) → length s ≤ mostText → textOf n s
+    ≡ ended (length s) (reads (byteAt s) n enough 3 mostLevels 0)
 unfolding textOf
 text-of n s h = rw (le-ltb mostText (length s) h)
 
@@ -131,10 +157,13 @@ is-formula n s F h f =
     text-of n s h ∙ rw (runs (byteAt s) n (whole-run n s F f enough (omega arith)), eq-eqb (length s) (length s) refl)
 
 pub told : (n : ℕ) (s : List ℕ) → length s ≤ mostText → Told n s (textOf n s)
-told n s h = subst (Told n s) (sym (text-of n s h)) (go (reads (byteAt s) n enough 3 mostLevels 0) (run (byteAt s) n enough 3 mostLevels 0))
+told n s h = subst (Told n s) (sym (text-of n s h))
+    (go (reads (byteAt s) n enough 3 mostLevels 0) (run (byteAt s) n enough 3 mostLevels 0))
   where
-    end : (F : Formula) (q : ℕ) → Run (byteAt s) n enough 3 mostLevels 0 (upTo F q) → (t : Bool) → eqb q (length s) ≡ t → Told n s (cond t (formula F) (refused q))
-    end F q r true e = subst (λ (k : ℕ). Spells (byteAt s) n 3 mostLevels F 0 k) (eqb-true q (length s) e) (sound (byteAt s) n r)
+    end : (F : Formula) (q : ℕ) → Run (byteAt s) n enough 3 mostLevels 0 (upTo F q) → (t : Bool) → eqb q (length s) ≡ t
+        → Told n s (cond t (formula F) (refused q))
+    end F q r true e = subst (λ (k : ℕ). Spells (byteAt s) n 3 mostLevels F 0 k) (eqb-true q (length s) e)
+        (sound (byteAt s) n r)
     end F q r false e = left-place n s F q h (eqb-false q (length s) e) r
 
     go : (g : Reading) → Run (byteAt s) n enough 3 mostLevels 0 g → Told n s (ended (length s) g)
@@ -147,8 +176,10 @@ earlier n s p q a b l =
     let e : q ≡ suc p + (q - suc p) = omega arith in
     let v = take (q - suc p) (drop (suc p) s) ++ b .before .0 in
     let f : take q s ++ b .before .0 ≡ take (suc p) s ++ v =
-    ap (λ (k : ℕ). take k s ++ b .before .0) e ∙ ap (λ (x : List ℕ). x ++ b .before .0) (take-add (suc p) (q - suc p) s) ∙ append-assoc (take (suc p) s) (take (q - suc p) (drop (suc p) s)) (b .before .0) in
-    a .there (omega (arith, b .within)) v (b .before .1) (subst (λ (x : List ℕ). IsFormula n x (b .before .1)) f (b .before .2))
+    ap (λ (k : ℕ). take k s ++ b .before .0) e ∙ ap (λ (x : List ℕ). x ++ b .before .0) (take-add (suc p) (q - suc p) s)
+    ∙ append-assoc (take (suc p) s) (take (q - suc p) (drop (suc p) s)) (b .before .0) in
+    a .there (omega (arith, b .within)) v (b .before .1)
+    (subst (λ (x : List ℕ). IsFormula n x (b .before .1)) f (b .before .2))
 
 pub one-place : (n : ℕ) (s : List ℕ) (p q : ℕ) → IsPlace n s p → IsPlace n s q → p ≡ q
 one-place n s p q a b =
@@ -160,7 +191,8 @@ one-place n s p q a b =
 -- a text is one formula at most
 pub one-formula : (n : ℕ) (s : List ℕ) (F G : Formula) → IsFormula n s F → IsFormula n s G → F ≡ G
 one-formula n s F G f g =
-    let e = sym (runs (byteAt s) n (whole-run n s F f (4 * length s + 4) (omega arith))) ∙ runs (byteAt s) n (whole-run n s G g (4 * length s + 4) (omega arith)) in
+    let e = sym (runs (byteAt s) n (whole-run n s F f (4 * length s + 4) (omega arith)))
+    ∙ runs (byteAt s) n (whole-run n s G g (4 * length s + 4) (omega arith)) in
     cc
 
 -- a formula has no place
@@ -186,7 +218,8 @@ not-both : {F : Formula} {p : ℕ} → formula F ≡ refused p → ⊥
 not-both e = let z : _≡_ {A = ℕ} 0 1 = cc in omega arith
 
 pub short-text : (n : ℕ) (s : List ℕ) (F : Formula) → textOf n s ≡ formula F → length s ≤ mostText
-short-text n s F e = elim (decLt mostText (length s)) [ yes l ↦ absurd (not-both (sym e ∙ too-long n s l)) | no l ↦ omega arith ]
+short-text n s F e = elim (decLt mostText (length s))
+    [ yes l ↦ absurd (not-both (sym e ∙ too-long n s l)) | no l ↦ omega arith ]
 
 -- text is read exactly when the grammar has it, and is not too long
 pub read-as : (n : ℕ) (s : List ℕ) (F : Formula) → (textOf n s ≡ formula F) ↔ ReadAs n s F

@@ -3,7 +3,9 @@ use mathlib.Core.Path.{_≡_, sym, ap, _∙_}
 use Prim.Native.Nat.{ℕ, zero, suc, _+_, _-_, _*_, _<_, _≤_}
 use native.Mathlib.Omega.{arith}
 use Rattle.formulas.specs.Reading.{kind, Reading, upTo, stuck}
-use Rattle.formulas.proofs.Steps.{Run, r-tired, r-other, r-digit, r-input, r-deep-not, r-deep-open, r-not-bad, r-not, r-open-bad, r-open-left, r-open, r-first-bad, r-last, r-next-bad, r-next}
+use Rattle.formulas.proofs.Steps.{Run, r-tired, r-other, r-digit, r-input, r-deep-not, r-deep-open, r-not-bad}
+use Rattle.formulas.proofs.Steps.{r-not, r-open-bad, r-open-left, r-open, r-first-bad, r-last, r-next-bad}
+use Rattle.formulas.proofs.Steps.{r-next}
 use Rattle.formulas.proofs.Grammar.{spells-lt, sound}
 
 abbrev pub reach : Reading → ℕ
@@ -28,8 +30,10 @@ module _ (c : ℕ → ℕ) (n : ℕ) where
   from (r-next-bad F i l j) = let a = from i in let b = from j in omega arith
   from (r-next i l j) = let a = from i in let b = from j in omega arith
 
-  -- a reading that has calls enough for the bytes that it passes is the same with any other number of calls that is enough
-  pub fuel : {m k d p : ℕ} {g : Reading} → Run c n m k d p g → 4 * (reach g - p) + k < m → (m′ : ℕ) → 4 * (reach g - p) + k < m′ → Run c n m′ k d p g
+  -- a reading that has calls enough for the bytes that it passes is the same with any other number of calls that is
+  -- enough
+  pub fuel : {m k d p : ℕ} {g : Reading} → Run c n m k d p g → 4 * (reach g - p) + k < m → (m′ : ℕ) → 4 * (reach g - p)
+      + k < m′ → Run c n m′ k d p g
   fuel i a zero b = absurd (omega arith)
   fuel r-tired a (suc m′) b = absurd (omega arith)
   fuel (r-other h) a (suc m′) b = r-other h
@@ -54,16 +58,20 @@ module _ (c : ℕ → ℕ) (n : ℕ) where
       r-next (fuel i (omega arith) m′ (omega arith)) l (fuel j (omega arith) m′ (omega arith))
 
 -- a reading depends on the bytes up to where it reaches alone
-pub local : (c c′ : ℕ → ℕ) (n b : ℕ) → ((i : ℕ) → i ≤ b → c′ i ≡ c i) → {m k d p : ℕ} {g : Reading} → Run c n m k d p g → reach g ≤ b → Run c′ n m k d p g
+pub local : (c c′ : ℕ → ℕ) (n b : ℕ) → ((i : ℕ) → i ≤ b → c′ i ≡ c i) → {m k d p : ℕ} {g : Reading} → Run c n m k d p g
+    → reach g ≤ b → Run c′ n m k d p g
 local c c′ n b s r-tired h = r-tired
 local c c′ n b s {p = p} (r-other e) h = r-other (ap (kind n) (s p h) ∙ e)
 local c c′ n b s {p = p} (r-digit t e) h = r-digit t (ap (kind n) (s p (omega arith)) ∙ e)
 local c c′ n b s {p = p} (r-input j e) h = r-input j (ap (kind n) (s p (omega arith)) ∙ e)
 local c c′ n b s {p = p} (r-deep-not e) h = r-deep-not (ap (kind n) (s p h) ∙ e)
 local c c′ n b s {p = p} (r-deep-open e) h = r-deep-open (ap (kind n) (s p h) ∙ e)
-local c c′ n b s {p = p} (r-not-bad e i) h = let a = from c n i in r-not-bad (ap (kind n) (s p (omega arith)) ∙ e) (local c c′ n b s i h)
-local c c′ n b s {p = p} (r-not e i) h = let a = from c n i in r-not (ap (kind n) (s p (omega arith)) ∙ e) (local c c′ n b s i h)
-local c c′ n b s {p = p} (r-open-bad e i) h = let a = from c n i in r-open-bad (ap (kind n) (s p (omega arith)) ∙ e) (local c c′ n b s i h)
+local c c′ n b s {p = p} (r-not-bad e i) h = let a = from c n i
+    in r-not-bad (ap (kind n) (s p (omega arith)) ∙ e) (local c c′ n b s i h)
+local c c′ n b s {p = p} (r-not e i) h = let a = from c n i
+    in r-not (ap (kind n) (s p (omega arith)) ∙ e) (local c c′ n b s i h)
+local c c′ n b s {p = p} (r-open-bad e i) h = let a = from c n i
+    in r-open-bad (ap (kind n) (s p (omega arith)) ∙ e) (local c c′ n b s i h)
 local c c′ n b s {p = p} (r-open-left {q = q} F e i l) h =
     let a = from c n i in
     r-open-left F (ap (kind n) (s p (omega arith)) ∙ e) (local c c′ n b s i h) (λ z. l (sym (s q h) ∙ z))

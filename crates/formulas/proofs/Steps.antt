@@ -6,7 +6,8 @@ use lib.Dec.{eqb}
 use borrow.Author.Tests.{eq-eqb, ne-eqb, eqb-true, eqb-false}
 use Rattle.values.specs.Formula.{Formula, letter, constant, negated, joined}
 use Rattle.formulas.specs.Text.{mark}
-use Rattle.formulas.specs.Reading.{Kind, bang, opening, digit, input, other, kind, Reading, upTo, stuck, after, deeper, closed, begun, continued, reads}
+use Rattle.formulas.specs.Reading.{Kind, bang, opening, digit, input, other, kind, Reading, upTo, stuck, after}
+use Rattle.formulas.specs.Reading.{deeper, closed, begun, continued, reads}
 
 -- `Run c n m k d p g`: the reading from p gives g, step by step
 pub data Run (c : ℕ → ℕ) (n : ℕ) : ℕ → ℕ → ℕ → ℕ → Reading → Type 0 where
@@ -16,29 +17,41 @@ pub data Run (c : ℕ → ℕ) (n : ℕ) : ℕ → ℕ → ℕ → ℕ → Readi
   r-input : {m d p : ℕ} (j : ℕ) → kind n (c p) ≡ input j → Run c n (suc m) 0 d p (upTo (letter j) (suc p))
   r-deep-not : {m p : ℕ} → kind n (c p) ≡ bang → Run c n (suc m) 0 zero p (stuck p)
   r-deep-open : {m p : ℕ} → kind n (c p) ≡ opening → Run c n (suc m) 0 zero p (stuck p)
-  r-not-bad : {m d p q : ℕ} → kind n (c p) ≡ bang → Run c n m 0 d (suc p) (stuck q) → Run c n (suc m) 0 (suc d) p (stuck q)
-  r-not : {m d p q : ℕ} {F : Formula} → kind n (c p) ≡ bang → Run c n m 0 d (suc p) (upTo F q) → Run c n (suc m) 0 (suc d) p (upTo (negated F) q)
-  r-open-bad : {m d p q : ℕ} → kind n (c p) ≡ opening → Run c n m 3 d (suc p) (stuck q) → Run c n (suc m) 0 (suc d) p (stuck q)
-  r-open-left : {m d p q : ℕ} (F : Formula) → kind n (c p) ≡ opening → Run c n m 3 d (suc p) (upTo F q) → (c q ≡ 41 → ⊥) → Run c n (suc m) 0 (suc d) p (stuck q)
-  r-open : {m d p q : ℕ} {F : Formula} → kind n (c p) ≡ opening → Run c n m 3 d (suc p) (upTo F q) → c q ≡ 41 → Run c n (suc m) 0 (suc d) p (upTo F (suc q))
+  r-not-bad : {m d p q : ℕ} → kind n (c p) ≡ bang → Run c n m 0 d (suc p) (stuck q)
+      → Run c n (suc m) 0 (suc d) p (stuck q)
+  r-not : {m d p q : ℕ} {F : Formula} → kind n (c p) ≡ bang → Run c n m 0 d (suc p) (upTo F q)
+      → Run c n (suc m) 0 (suc d) p (upTo (negated F) q)
+  r-open-bad : {m d p q : ℕ} → kind n (c p) ≡ opening → Run c n m 3 d (suc p) (stuck q)
+      → Run c n (suc m) 0 (suc d) p (stuck q)
+  r-open-left : {m d p q : ℕ} (F : Formula) → kind n (c p) ≡ opening → Run c n m 3 d (suc p) (upTo F q) → (c q ≡ 41 → ⊥)
+      → Run c n (suc m) 0 (suc d) p (stuck q)
+  r-open : {m d p q : ℕ} {F : Formula} → kind n (c p) ≡ opening → Run c n m 3 d (suc p) (upTo F q) → c q ≡ 41
+      → Run c n (suc m) 0 (suc d) p (upTo F (suc q))
   r-first-bad : {m k d p q : ℕ} → Run c n m k d p (stuck q) → Run c n (suc m) (suc k) d p (stuck q)
-  r-last : {m k d p q : ℕ} {F : Formula} → Run c n m k d p (upTo F q) → (c q ≡ mark k → ⊥) → Run c n (suc m) (suc k) d p (upTo F q)
-  r-next-bad : {m k d p q r : ℕ} (F : Formula) → Run c n m k d p (upTo F q) → c q ≡ mark k → Run c n m (suc k) d (suc q) (stuck r) → Run c n (suc m) (suc k) d p (stuck r)
-  r-next : {m k d p q r : ℕ} {F G : Formula} → Run c n m k d p (upTo F q) → c q ≡ mark k → Run c n m (suc k) d (suc q) (upTo G r)
+  r-last : {m k d p q : ℕ} {F : Formula} → Run c n m k d p (upTo F q) → (c q ≡ mark k → ⊥)
+      → Run c n (suc m) (suc k) d p (upTo F q)
+  r-next-bad : {m k d p q r : ℕ} (F : Formula) → Run c n m k d p (upTo F q) → c q ≡ mark k
+      → Run c n m (suc k) d (suc q) (stuck r) → Run c n (suc m) (suc k) d p (stuck r)
+  r-next : {m k d p q r : ℕ} {F G : Formula} → Run c n m k d p (upTo F q) → c q ≡ mark k
+      → Run c n m (suc k) d (suc q) (upTo G r)
       → Run c n (suc m) (suc k) d p (upTo (joined k F G) r)
 
 module _ (c : ℕ → ℕ) (n : ℕ) where
   -- each step of the reader is one of them
-  join-run : (m k d p : ℕ) (g : Reading) → Run c n m k d p g → ((r : ℕ) → Run c n m (suc k) d r (reads c n m (suc k) d r))
-      → Run c n (suc m) (suc k) d p (after g (λ F q. continued k (eqb (c q) (mark k)) F q (λ r. reads c n m (suc k) d r)))
+  join-run : (m k d p : ℕ) (g : Reading) → Run c n m k d p g
+      → ((r : ℕ) → Run c n m (suc k) d r (reads c n m (suc k) d r))
+      → Run c n (suc m) (suc k) d p (after g (λ F q. continued k (eqb (c q) (mark k)) F q
+      (λ r. reads c n m (suc k) d r)))
   join-run m k d p (stuck q) h f = r-first-bad h
   join-run m k d p (upTo F q) h f = go (eqb (c q) (mark k)) refl
     where
-      then : c q ≡ mark k → (g : Reading) → Run c n m (suc k) d (suc q) g → Run c n (suc m) (suc k) d p (after g (λ G r. upTo (joined k F G) r))
+      then : c q ≡ mark k → (g : Reading) → Run c n m (suc k) d (suc q) g
+          → Run c n (suc m) (suc k) d p (after g (λ G r. upTo (joined k F G) r))
       then e (upTo G r) i = r-next h e i
       then e (stuck r) i = r-next-bad F h e i
 
-      go : (t : Bool) → eqb (c q) (mark k) ≡ t → Run c n (suc m) (suc k) d p (continued k t F q (λ r. reads c n m (suc k) d r))
+      go : (t : Bool) → eqb (c q) (mark k) ≡ t → Run c n (suc m) (suc k) d p
+          (continued k t F q (λ r. reads c n m (suc k) d r))
       go true e = then (eqb-true (c q) (mark k) e) (reads c n m (suc k) d (suc q)) (f (suc q))
       go false e = r-last h (eqb-false (c q) (mark k) e)
 
@@ -56,7 +69,8 @@ module _ (c : ℕ → ℕ) (n : ℕ) where
   open-run m zero p h f = r-deep-open h
   open-run m (suc d) p h f = go (reads c n m 3 d (suc p)) (f d)
     where
-      end : (F : Formula) (q : ℕ) → Run c n m 3 d (suc p) (upTo F q) → (t : Bool) → eqb (c q) 41 ≡ t → Run c n (suc m) 0 (suc d) p (cond t (upTo F (suc q)) (stuck q))
+      end : (F : Formula) (q : ℕ) → Run c n m 3 d (suc p) (upTo F q) → (t : Bool) → eqb (c q) 41 ≡ t
+          → Run c n (suc m) 0 (suc d) p (cond t (upTo F (suc q)) (stuck q))
       end F q i true e = r-open h i (eqb-true (c q) 41 e)
       end F q i false e = r-open-left F h i (eqb-false (c q) 41 e)
 

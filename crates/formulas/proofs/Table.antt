@@ -13,7 +13,8 @@ use Rattle.formulas.specs.declared.reading.Found.{Found}
 use Rattle.formulas.specs.declared.reading.Found.the-variants.{Read, Stuck}
 use Rattle.values.specs.Formula.{Formula, value}
 use Rattle.formulas.specs.Text.{byteAt, mostText, mostLevels}
-use Rattle.formulas.specs.Reading.{Reading, upTo, reads, Answer, formula, refused, ended, textOf, valueIn, Told, enough}
+use Rattle.formulas.specs.Reading.{Reading, upTo, reads, Answer, formula, refused, ended, textOf, valueIn, Told}
+use Rattle.formulas.specs.Reading.{enough}
 use Rattle.formulas.specs.Words.{Gives}
 use Rattle.values.specs.Stretches.{stretchOf}
 use Rattle.formulas.specs.Refusals.{isRefused, placeIn, badText}
@@ -52,19 +53,25 @@ module _ (n : ℕ) (s : List ℕ) (h : length s ≤ mostText) where
   pub text-bad : {r : Found} {p w : ℕ} → r ≡ Stuck p → Gives s n 3 mostLevels 0 w r → textOf n s ≡ refused p
   text-bad e g = text-to (runs (byteAt s) n (read-no e g enough (omega arith)))
 
-  pub text-left : {r : Found} {v : Stretch} {q w : ℕ} → r ≡ Read v q → Gives s n 3 mostLevels 0 w r → q < length s → textOf n s ≡ refused q
+  pub text-left : {r : Found} {v : Stretch} {q w : ℕ} → r ≡ Read v q → Gives s n 3 mostLevels 0 w r → q < length s
+      → textOf n s ≡ refused q
   text-left {r} {v} {q} {w} e g l = go (read-value e g enough (omega arith))
     where
-      go : (F : Formula) × Run (byteAt s) n enough 3 mostLevels 0 (upTo F q) × (v ≡ stretchOf (value F) w) → textOf n s ≡ refused q
-      go x = text-to (runs (byteAt s) n (x .1)) ∙ ap (λ (t : Bool). cond t (formula (x .0)) (refused q)) (ne-eqb q (length s) (λ z. omega arith))
+      go : (F : Formula) × Run (byteAt s) n enough 3 mostLevels 0 (upTo F q) × (v ≡ stretchOf (value F) w) → textOf n s
+          ≡ refused q
+      go x = text-to (runs (byteAt s) n (x .1)) ∙ ap (λ (t : Bool). cond t (formula (x .0)) (refused q))
+          (ne-eqb q (length s) (λ z. omega arith))
 
-  pub text-good : {r : Found} {v : Stretch} {q w : ℕ} → r ≡ Read v q → Gives s n 3 mostLevels 0 w r → length s ≤ q → Good n s
+  pub text-good : {r : Found} {v : Stretch} {q w : ℕ} → r ≡ Read v q → Gives s n 3 mostLevels 0 w r → length s ≤ q
+      → Good n s
   text-good {r} {v} {q} {w} e g l = go (read-value e g enough (omega arith)) (ahead e g (omega arith))
     where
-      go : (F : Formula) × Run (byteAt s) n enough 3 mostLevels 0 (upTo F q) × (v ≡ stretchOf (value F) w) → (0 < q) × (q ≤ length s) → Good n s
+      go : (F : Formula) × Run (byteAt s) n enough 3 mostLevels 0 (upTo F q) × (v ≡ stretchOf (value F) w) → (0 < q)
+          × (q ≤ length s) → Good n s
       go x y = record {
         tree = x .0;
-        is = text-to (runs (byteAt s) n (x .1)) ∙ ap (λ (t : Bool). cond t (formula (x .0)) (refused q)) (eq-eqb q (length s) (omega arith));
+        is = text-to (runs (byteAt s) n (x .1)) ∙ ap (λ (t : Bool). cond t (formula (x .0)) (refused q))
+            (eq-eqb q (length s) (omega arith));
         short = h;
       }
 
@@ -73,18 +80,22 @@ module _ (n : ℕ) (s : List ℕ) (h : length s ≤ mostText) where
 module _ (n : ℕ) (s : List ℕ) (g : Good n s) where
   good-reading : reads (byteAt s) n enough 3 mostLevels 0 ≡ upTo (g .tree) (length s)
   good-reading =
-      runs (byteAt s) n (whole-run n s (g .tree) (subst (Told n s) (g .is) (told n s (g .short))) enough (omega (arith, g .short)))
+      runs (byteAt s) n (whole-run n s (g .tree) (subst (Told n s) (g .is) (told n s (g .short))) enough
+      (omega (arith, g .short)))
 
   pub stretch-stuck : {r : Found} {p w : ℕ} → r ≡ Stuck p → Gives s n 3 mostLevels 0 w r → ⊥
   stretch-stuck e k =
       let a = sym good-reading ∙ runs (byteAt s) n (read-no e k enough (omega (arith, g .short))) in
       let z : _≡_ {A = ℕ} 0 1 = cc in omega arith
 
-  pub stretch-found : {r : Found} {v : Stretch} {q w : ℕ} → r ≡ Read v q → Gives s n 3 mostLevels 0 w r → v ≡ stretchOf (valueIn (textOf n s)) w
+  pub stretch-found : {r : Found} {v : Stretch} {q w : ℕ} → r ≡ Read v q → Gives s n 3 mostLevels 0 w r → v
+      ≡ stretchOf (valueIn (textOf n s)) w
   stretch-found {r} {v} {q} {w} e k = go (read-value e k enough (omega (arith, g .short)))
     where
-      go : (F : Formula) × Run (byteAt s) n enough 3 mostLevels 0 (upTo F q) × (v ≡ stretchOf (value F) w) → v ≡ stretchOf (valueIn (textOf n s)) w
+      go : (F : Formula) × Run (byteAt s) n enough 3 mostLevels 0 (upTo F q) × (v ≡ stretchOf (value F) w) → v
+          ≡ stretchOf (valueIn (textOf n s)) w
       go y =
           let a = sym good-reading ∙ runs (byteAt s) n (y .1) in
           let b : g .tree ≡ y .0 = cc in
-          y .2 ∙ ap (λ (F : Formula). stretchOf (value F) w) (sym b) ∙ ap (λ (a : Answer). stretchOf (valueIn a) w) (sym (g .is))
+          y .2 ∙ ap (λ (F : Formula). stretchOf (value F) w) (sym b)
+          ∙ ap (λ (a : Answer). stretchOf (valueIn a) w) (sym (g .is))

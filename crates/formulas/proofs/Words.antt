@@ -1,4 +1,5 @@
--- The readers' steps, on stretches of 256 values: each way in which a reading goes is a way of the code. Assumes nothing.
+-- The readers' steps, on stretches of 256 values: each way in which a reading goes is a way of the code. Assumes
+-- nothing.
 use mathlib.Core.Path.{_≡_, refl, sym, ap, ap₂, _∙_, subst}
 use mathlib.Core.Bool.{Bool, true, false, cond}
 use mathlib.Core.List.{List}
@@ -17,7 +18,9 @@ use Rattle.formulas.specs.Text.{byteAt, mark}
 use Rattle.formulas.specs.Reading.{bang, opening, digit, input, other, kind, Reading, upTo, stuck, reads}
 use Rattle.formulas.specs.Words.{foundOf, Gives, closedAt}
 use Rattle.values.specs.Stretches.{stretchOf, inEach}
-use Rattle.formulas.proofs.Steps.{Run, run, runs, r-other, r-digit, r-input, r-deep-not, r-deep-open, r-not-bad, r-not, r-open-bad, r-open-left, r-open, r-first-bad, r-last, r-next-bad, r-next}
+use Rattle.formulas.proofs.Steps.{Run, run, runs, r-other, r-digit, r-input, r-deep-not, r-deep-open}
+use Rattle.formulas.proofs.Steps.{r-not-bad, r-not, r-open-bad, r-open-left, r-open, r-first-bad, r-last}
+use Rattle.formulas.proofs.Steps.{r-next-bad, r-next}
 use Rattle.formulas.proofs.Grammar.{mark-pos, sound, spells-lt, spells-bytes}
 use Rattle.values.proofs.Bitwise.{not-stretch}
 
@@ -38,26 +41,34 @@ got-no : (i : ℕ) (g : Reading) (q : ℕ) → foundOf i g ≡ Stuck q → g ≡
 got-no i (stuck p) q e = cc
 got-no i (upTo F p) q e = cc
 
-got-value : (i : ℕ) (g : Reading) (v : Stretch) (q : ℕ) → foundOf i g ≡ Read v q → (F : Formula) × (g ≡ upTo F q) × (v ≡ stretchOf (value F) i)
+got-value : (i : ℕ) (g : Reading) (v : Stretch) (q : ℕ) → foundOf i g ≡ Read v q → (F : Formula) × (g ≡ upTo F q)
+    × (v ≡ stretchOf (value F) i)
 got-value i (upTo F p) v q e = let a : p ≡ q = cc in let b : v ≡ stretchOf (value F) i = cc in (F, ap (upTo F) a, b)
 got-value i (stuck p) v q e = absurd (let z : _≡_ {A = ℕ} 0 1 = cc in omega arith)
 
-pub read-no : {s : List ℕ} {n k d p i : ℕ} {r : Found} {q : ℕ} → r ≡ Stuck q → Gives s n k d p i r → (m : ℕ) → 4 * (length s - p) + k < m → Run (byteAt s) n m k d p (stuck q)
+pub read-no : {s : List ℕ} {n k d p i : ℕ} {r : Found} {q : ℕ} → r ≡ Stuck q → Gives s n k d p i r → (m : ℕ)
+    → 4 * (length s - p) + k < m → Run (byteAt s) n m k d p (stuck q)
 read-no {s} {n} {k} {d} {p} {i} {r} {q} e h m l =
-    subst (Run (byteAt s) n m k d p) (got-no i (reads (byteAt s) n m k d p) q (sym (h .gives m l) ∙ e)) (run (byteAt s) n m k d p)
+    subst (Run (byteAt s) n m k d p) (got-no i (reads (byteAt s) n m k d p) q (sym (h .gives m l) ∙ e))
+    (run (byteAt s) n m k d p)
 
-pub read-value : {s : List ℕ} {n k d p i : ℕ} {r : Found} {v : Stretch} {q : ℕ} → r ≡ Read v q → Gives s n k d p i r → (m : ℕ) → 4 * (length s - p) + k < m
+pub read-value : {s : List ℕ} {n k d p i : ℕ} {r : Found} {v : Stretch} {q : ℕ} → r ≡ Read v q → Gives s n k d p i r
+    → (m : ℕ) → 4 * (length s - p) + k < m
     → (F : Formula) × Run (byteAt s) n m k d p (upTo F q) × (v ≡ stretchOf (value F) i)
-read-value {s} {n} {k} {d} {p} {i} {r} {v} {q} e h m l = go (got-value i (reads (byteAt s) n m k d p) v q (sym (h .gives m l) ∙ e))
+read-value {s} {n} {k} {d} {p} {i} {r} {v} {q} e h m l = go
+    (got-value i (reads (byteAt s) n m k d p) v q (sym (h .gives m l) ∙ e))
   where
-    go : (F : Formula) × (reads (byteAt s) n m k d p ≡ upTo F q) × (v ≡ stretchOf (value F) i) → (F : Formula) × Run (byteAt s) n m k d p (upTo F q) × (v ≡ stretchOf (value F) i)
+    go : (F : Formula) × (reads (byteAt s) n m k d p ≡ upTo F q) × (v ≡ stretchOf (value F) i) → (F : Formula)
+        × Run (byteAt s) n m k d p (upTo F q) × (v ≡ stretchOf (value F) i)
     go x = (x .0, subst (Run (byteAt s) n m k d p) (x .1) (run (byteAt s) n m k d p), x .2)
 
 -- it goes forward, and stays within the text
-pub ahead : {s : List ℕ} {n k d p i : ℕ} {r : Found} {v : Stretch} {q : ℕ} → r ≡ Read v q → Gives s n k d p i r → p ≤ length s → (p < q) × (q ≤ length s)
+pub ahead : {s : List ℕ} {n k d p i : ℕ} {r : Found} {v : Stretch} {q : ℕ} → r ≡ Read v q → Gives s n k d p i r → p
+    ≤ length s → (p < q) × (q ≤ length s)
 ahead {s} {n} {k} {d} {p} {i} {r} {v} {q} e h l = go (read-value e h (4 * (length s - p) + k + 1) (omega arith))
   where
-    go : {m : ℕ} → (F : Formula) × Run (byteAt s) n m k d p (upTo F q) × (v ≡ stretchOf (value F) i) → (p < q) × (q ≤ length s)
+    go : {m : ℕ} → (F : Formula) × Run (byteAt s) n m k d p (upTo F q) × (v ≡ stretchOf (value F) i) → (p < q)
+        × (q ≤ length s)
     go x =
         let y = sound (byteAt s) n (x .1) in (
           spells-lt (byteAt s) n y,
@@ -74,35 +85,45 @@ one-less d = omega arith
 
 module _ (s : List ℕ) (n i : ℕ) where
   -- an answer, from the way the reading goes
-  by-run : (k d p : ℕ) (r : Found) → ((m : ℕ) → 4 * (length s - p) + k < suc m → (g : Reading) × Run (byteAt s) n (suc m) k d p g × (r ≡ foundOf i g)) → Gives s n k d p i r
+  by-run : (k d p : ℕ) (r : Found) → ((m : ℕ) → 4 * (length s - p) + k < suc m → (g : Reading)
+      × Run (byteAt s) n (suc m) k d p g × (r ≡ foundOf i g)) → Gives s n k d p i r
   by-run k d p r f = record { gives = go }
     where
-      on : (m : ℕ) → (g : Reading) × Run (byteAt s) n m k d p g × (r ≡ foundOf i g) → r ≡ foundOf i (reads (byteAt s) n m k d p)
+      on : (m : ℕ) → (g : Reading) × Run (byteAt s) n m k d p g × (r ≡ foundOf i g) → r
+          ≡ foundOf i (reads (byteAt s) n m k d p)
       on m x = x .2 ∙ ap (foundOf i) (sym (runs (byteAt s) n (x .1)))
 
       go : (m : ℕ) → 4 * (length s - p) + k < m → r ≡ foundOf i (reads (byteAt s) n m k d p)
       go zero l = absurd (omega arith)
       go (suc m) l = on (suc m) (f m l)
 
-  pub first-bad : {k d p : ℕ} {r : Found} {q : ℕ} → r ≡ Stuck q → Gives s n k d p i r → Gives s n (suc k) d p i (Stuck q)
-  first-bad {k} {d} {p} {r} {q} e h = by-run (suc k) d p (Stuck q) (λ m l. (stuck q, r-first-bad (read-no e h m (omega arith)), refl))
+  pub first-bad : {k d p : ℕ} {r : Found} {q : ℕ} → r ≡ Stuck q → Gives s n k d p i r
+      → Gives s n (suc k) d p i (Stuck q)
+  first-bad {k} {d} {p} {r} {q} e h = by-run (suc k) d p (Stuck q)
+      (λ m l. (stuck q, r-first-bad (read-no e h m (omega arith)), refl))
 
-  pub last : {k d p : ℕ} {r : Found} {v : Stretch} {q : ℕ} → r ≡ Read v q → Gives s n k d p i r → (byteAt s q ≡ mark k → ⊥) → Gives s n (suc k) d p i (Read v q)
+  pub last : {k d p : ℕ} {r : Found} {v : Stretch} {q : ℕ} → r ≡ Read v q → Gives s n k d p i r
+      → (byteAt s q ≡ mark k → ⊥) → Gives s n (suc k) d p i (Read v q)
   last {k} {d} {p} {r} {v} {q} e h x = by-run (suc k) d p (Read v q) (λ m l. go m (read-value e h m (omega arith)))
     where
       go : (m : ℕ) → (F : Formula) × Run (byteAt s) n m k d p (upTo F q) × (v ≡ stretchOf (value F) i)
           → (g : Reading) × Run (byteAt s) n (suc m) (suc k) d p g × (Read v q ≡ foundOf i g)
       go m y = (upTo (y .0) q, r-last (y .1) x, ap (λ (w : Stretch). Read w q) (y .2))
 
-  pub last-end : {k d p : ℕ} {r : Found} {v : Stretch} {q : ℕ} → r ≡ Read v q → Gives s n k d p i r → length s ≤ q → Gives s n (suc k) d p i (Read v q)
+  pub last-end : {k d p : ℕ} {r : Found} {v : Stretch} {q : ℕ} → r ≡ Read v q → Gives s n k d p i r → length s ≤ q
+      → Gives s n (suc k) d p i (Read v q)
   last-end {k} e h l = last e h (λ f. omega (arith, mark-pos k, f, List·getD-eq-default s 0 l))
 
-  pub next-bad : {k d p : ℕ} {r r′ : Found} {v : Stretch} {q x : ℕ} → r ≡ Read v q → Gives s n k d p i r → p ≤ length s → byteAt s q ≡ mark k
+  pub next-bad : {k d p : ℕ} {r r′ : Found} {v : Stretch} {q x : ℕ} → r ≡ Read v q → Gives s n k d p i r → p ≤ length s
+      → byteAt s q ≡ mark k
       → r′ ≡ Stuck x → Gives s n (suc k) d (q + 1) i r′ → Gives s n (suc k) d p i (Stuck x)
   next-bad {k} {d} {p} {r} {r′} {v} {q} {x} e h b a f j =
-      by-run (suc k) d p (Stuck x) (λ m l. (let y = ahead e h b in go m (read-value e h m (omega arith)) (read-no f (subst (λ (z : ℕ). Gives s n (suc k) d z i r′) (add-one q) j) m (omega arith))))
+      by-run (suc k) d p (Stuck x) (λ m l. (let y = ahead e h b
+      in go m (read-value e h m (omega arith)) (read-no f
+      (subst (λ (z : ℕ). Gives s n (suc k) d z i r′) (add-one q) j) m (omega arith))))
     where
-      go : (m : ℕ) → (F : Formula) × Run (byteAt s) n m k d p (upTo F q) × (v ≡ stretchOf (value F) i) → Run (byteAt s) n m (suc k) d (suc q) (stuck x)
+      go : (m : ℕ) → (F : Formula) × Run (byteAt s) n m k d p (upTo F q) × (v ≡ stretchOf (value F) i)
+          → Run (byteAt s) n m (suc k) d (suc q) (stuck x)
           → (g : Reading) × Run (byteAt s) n (suc m) (suc k) d p g × (Stuck x ≡ foundOf i g)
       go m y z = (stuck x, r-next-bad (y .0) (y .1) a z, refl)
 
@@ -112,7 +133,8 @@ module _ (s : List ℕ) (n i : ℕ) where
       → r′ ≡ Read w x → Gives s n (suc k) d (q + 1) i r′ → z ≡ op v w → Gives s n (suc k) d p i (Read z x)
   next {k} {d} {p} {r} {r′} {v} {w} {z} {q} {x} op u e h b a f j c =
       by-run (suc k) d p (Read z x)
-      (λ m l. (let y = ahead e h b in go m (read-value e h m (omega arith)) (read-value f (subst (λ (z : ℕ). Gives s n (suc k) d z i r′) (add-one q) j) m (omega arith))))
+      (λ m l. (let y = ahead e h b in go m (read-value e h m (omega arith))
+      (read-value f (subst (λ (z : ℕ). Gives s n (suc k) d z i r′) (add-one q) j) m (omega arith))))
     where
       go : (m : ℕ) → (F : Formula) × Run (byteAt s) n m k d p (upTo F q) × (v ≡ stretchOf (value F) i)
           → (G : Formula) × Run (byteAt s) n m (suc k) d (suc q) (upTo G x) × (w ≡ stretchOf (value G) i)
@@ -131,11 +153,13 @@ module _ (s : List ℕ) (n i : ℕ) where
   pub f-end : {d p : ℕ} → length s ≤ p → Gives s n 0 d p i (Stuck p)
   f-end {d} {p} h = f-other (ap (kind n) (List·getD-eq-default s 0 h))
 
-  pub f-digit : {d p : ℕ} {v : Stretch} (t : Bool) → kind n (byteAt s p) ≡ digit t → v ≡ stretchOf (value (constant t)) i → Gives s n 0 d p i (Read v (p + 1))
+  pub f-digit : {d p : ℕ} {v : Stretch} (t : Bool) → kind n (byteAt s p) ≡ digit t → v
+      ≡ stretchOf (value (constant t)) i → Gives s n 0 d p i (Read v (p + 1))
   f-digit {d} {p} {v} t e f =
       by-run 0 d p (Read v (p + 1)) (λ m l. (upTo (constant t) (suc p), r-digit t e, ap₂ Read f (add-one p)))
 
-  pub f-input : {d p : ℕ} {v : Stretch} (j : ℕ) → kind n (byteAt s p) ≡ input j → v ≡ stretchOf (value (letter j)) i → Gives s n 0 d p i (Read v (p + 1))
+  pub f-input : {d p : ℕ} {v : Stretch} (j : ℕ) → kind n (byteAt s p) ≡ input j → v ≡ stretchOf (value (letter j)) i
+      → Gives s n 0 d p i (Read v (p + 1))
   f-input {d} {p} {v} j e f =
       by-run 0 d p (Read v (p + 1)) (λ m l. (upTo (letter j) (suc p), r-input j e, ap₂ Read f (add-one p)))
 
@@ -149,7 +173,8 @@ module _ (s : List ℕ) (n i : ℕ) where
   f-deep-open {d} {p} e h = f-deep d h (by-run 0 0 p (Stuck p) (λ m l. (stuck p, r-deep-open e, refl)))
 
   -- one level down, and one byte on
-  pub f-not-bad : {d p q : ℕ} {r : Found} → kind n (byteAt s p) ≡ bang → (d ≡ 0 → ⊥) → p < length s → r ≡ Stuck q → Gives s n 0 (d - 1) (p + 1) i r → Gives s n 0 d p i (Stuck q)
+  pub f-not-bad : {d p q : ℕ} {r : Found} → kind n (byteAt s p) ≡ bang → (d ≡ 0 → ⊥) → p < length s → r ≡ Stuck q
+      → Gives s n 0 (d - 1) (p + 1) i r → Gives s n 0 d p i (Stuck q)
   f-not-bad {d} {p} {q} {r} a b l e h = go d b (subst (λ (z : ℕ). Gives s n 0 (d - 1) z i r) (add-one p) h)
     where
       down : (k d : ℕ) → Gives s n k (suc d - 1) (suc p) i r → Gives s n k d (suc p) i r
@@ -157,9 +182,11 @@ module _ (s : List ℕ) (n i : ℕ) where
 
       go : (d : ℕ) → (d ≡ 0 → ⊥) → Gives s n 0 (d - 1) (suc p) i r → Gives s n 0 d p i (Stuck q)
       go zero b h = absurd (b refl)
-      go (suc d) b h = by-run 0 (suc d) p (Stuck q) (λ m y. (stuck q, r-not-bad a (read-no e (down 0 d h) m (omega arith)), refl))
+      go (suc d) b h = by-run 0 (suc d) p (Stuck q)
+          (λ m y. (stuck q, r-not-bad a (read-no e (down 0 d h) m (omega arith)), refl))
 
-  pub f-not : {d p q : ℕ} {v z : Stretch} {r : Found} → kind n (byteAt s p) ≡ bang → (d ≡ 0 → ⊥) → p < length s → r ≡ Read v q → Gives s n 0 (d - 1) (p + 1) i r
+  pub f-not : {d p q : ℕ} {v z : Stretch} {r : Found} → kind n (byteAt s p) ≡ bang → (d ≡ 0 → ⊥) → p < length s → r
+      ≡ Read v q → Gives s n 0 (d - 1) (p + 1) i r
       → z ≡ inEach (λ x. 2 ^ 64 - 1 - x) v → Gives s n 0 d p i (Read z q)
   f-not {d} {p} {q} {v} {z} {r} a b l e h c = go d b (subst (λ (x : ℕ). Gives s n 0 (d - 1) x i r) (add-one p) h)
     where
@@ -178,7 +205,8 @@ module _ (s : List ℕ) (n i : ℕ) where
       go zero b h = absurd (b refl)
       go (suc d) b h = by-run 0 (suc d) p (Read z q) (λ m y. on m d (read-value e (down 0 d h) m (omega arith)))
 
-  pub f-open-bad : {d p q : ℕ} {r : Found} → kind n (byteAt s p) ≡ opening → (d ≡ 0 → ⊥) → p < length s → r ≡ Stuck q → Gives s n 3 (d - 1) (p + 1) i r → Gives s n 0 d p i (Stuck q)
+  pub f-open-bad : {d p q : ℕ} {r : Found} → kind n (byteAt s p) ≡ opening → (d ≡ 0 → ⊥) → p < length s → r ≡ Stuck q
+      → Gives s n 3 (d - 1) (p + 1) i r → Gives s n 0 d p i (Stuck q)
   f-open-bad {d} {p} {q} {r} a b l e h = go d b (subst (λ (z : ℕ). Gives s n 3 (d - 1) z i r) (add-one p) h)
     where
       down : (k d : ℕ) → Gives s n k (suc d - 1) (suc p) i r → Gives s n k d (suc p) i r
@@ -186,9 +214,11 @@ module _ (s : List ℕ) (n i : ℕ) where
 
       go : (d : ℕ) → (d ≡ 0 → ⊥) → Gives s n 3 (d - 1) (suc p) i r → Gives s n 0 d p i (Stuck q)
       go zero b h = absurd (b refl)
-      go (suc d) b h = by-run 0 (suc d) p (Stuck q) (λ m y. (stuck q, r-open-bad a (read-no e (down 3 d h) m (omega arith)), refl))
+      go (suc d) b h = by-run 0 (suc d) p (Stuck q)
+          (λ m y. (stuck q, r-open-bad a (read-no e (down 3 d h) m (omega arith)), refl))
 
-  pub f-open-left : {d p q : ℕ} {v : Stretch} {r : Found} → kind n (byteAt s p) ≡ opening → (d ≡ 0 → ⊥) → p < length s → r ≡ Read v q → Gives s n 3 (d - 1) (p + 1) i r
+  pub f-open-left : {d p q : ℕ} {v : Stretch} {r : Found} → kind n (byteAt s p) ≡ opening → (d ≡ 0 → ⊥) → p < length s
+      → r ≡ Read v q → Gives s n 3 (d - 1) (p + 1) i r
       → (byteAt s q ≡ 41 → ⊥) → Gives s n 0 d p i (Stuck q)
   f-open-left {d} {p} {q} {v} {r} a b l e h x = go d b (subst (λ (z : ℕ). Gives s n 3 (d - 1) z i r) (add-one p) h)
     where
@@ -203,7 +233,8 @@ module _ (s : List ℕ) (n i : ℕ) where
       go zero b h = absurd (b refl)
       go (suc d) b h = by-run 0 (suc d) p (Stuck q) (λ m y. on m d (read-value e (down 3 d h) m (omega arith)))
 
-  pub f-open : {d p q : ℕ} {v : Stretch} {r : Found} → kind n (byteAt s p) ≡ opening → (d ≡ 0 → ⊥) → p < length s → r ≡ Read v q → Gives s n 3 (d - 1) (p + 1) i r
+  pub f-open : {d p q : ℕ} {v : Stretch} {r : Found} → kind n (byteAt s p) ≡ opening → (d ≡ 0 → ⊥) → p < length s → r
+      ≡ Read v q → Gives s n 3 (d - 1) (p + 1) i r
       → byteAt s q ≡ 41 → Gives s n 0 d p i (Read v (q + 1))
   f-open {d} {p} {q} {v} {r} a b l e h x = go d b (subst (λ (z : ℕ). Gives s n 3 (d - 1) z i r) (add-one p) h)
     where
@@ -219,7 +250,8 @@ module _ (s : List ℕ) (n i : ℕ) where
       go (suc d) b h = by-run 0 (suc d) p (Read v (q + 1)) (λ m y. on m d (read-value e (down 3 d h) m (omega arith)))
 
   -- closed, or not
-  pub f-closed : {d p q : ℕ} {v : Stretch} {r r′ : Found} → kind n (byteAt s p) ≡ opening → (d ≡ 0 → ⊥) → p < length s → r ≡ Read v q → Gives s n 3 (d - 1) (p + 1) i r
+  pub f-closed : {d p q : ℕ} {v : Stretch} {r r′ : Found} → kind n (byteAt s p) ≡ opening → (d ≡ 0 → ⊥) → p < length s
+      → r ≡ Read v q → Gives s n 3 (d - 1) (p + 1) i r
       → r′ ≡ closedAt s v q → Gives s n 0 d p i r′
   f-closed {d} {p} {q} {v} {r} {r′} a b l e h c = subst (Gives s n 0 d p i) (sym c) (go (eqb (byteAt s q) 41) refl)
     where

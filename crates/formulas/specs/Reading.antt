@@ -40,7 +40,8 @@ deeper (suc d) p f = f d
 abbrev pub closed : (ℕ → ℕ) → Formula → ℕ → Reading
 closed c F q = cond (eqb (c q) 41) (upTo F (suc q)) (stuck q)
 
--- a factor, by its first byte: the factor after `!` and the sum after `(` are given by the levels that are left for them
+-- a factor, by its first byte: the factor after `!` and the sum after `(` are given by the levels that are left for
+-- them
 abbrev pub begun : Kind → ℕ → ℕ → (ℕ → Reading) → (ℕ → Reading) → (ℕ → ℕ) → Reading
 begun bang d p factor sum c = deeper d p (λ e. after (factor e) (λ F q. upTo (negated F) q))
 begun opening d p factor sum c = deeper d p (λ e. after (sum e) (closed c))

@@ -13,7 +13,8 @@ mark zero = 38
 mark (suc zero) = 94
 mark (suc (suc k)) = 124
 
--- `Spells c n k d F p q`: the bytes c p, .., c (q - 1) stand for F, with the letters of n inputs and at most d levels of
+-- `Spells c n k d F p q`: the bytes c p, .., c (q - 1) stand for F, with the letters of n inputs and at most d levels
+-- of
 -- nesting, as a factor (k = 0), a part (1), a term (2) or a sum (3). A factor is a letter, `0`, `1`, `!` before a
 -- factor, or a sum between `(` and `)`; a part is factors joined by `&`, a term parts by `^`, a sum terms by `|`.
 pub data Spells (c : ℕ → ℕ) (n : ℕ) : ℕ → ℕ → Formula → ℕ → ℕ → Type 0 where
@@ -57,6 +58,7 @@ pub record ReadAs (n : ℕ) (s : List ℕ) (F : Formula) : Type 0 where
   pub short : length s ≤ mostText
   pub stands : IsFormula n s F
 
--- what a refusal of the text names: its length where it is too long, else the first place at which it can't be continued
+-- what a refusal of the text names: its length where it is too long, else the first place at which it can't be
+-- continued
 abbrev pub RefusedAt : ℕ → List ℕ → ℕ → Type 0
 RefusedAt n s p = ((mostText < length s) × (p ≡ length s)) ⊎ ((length s ≤ mostText) × IsPlace n s p)

@@ -62,8 +62,10 @@ module _ (n m K : ℕ) (whole : Made) where
     left : g .turns ≡ suc k
     left = omega (arith, g .enough, g .some)
 
-    rest-more : whole ≡ behind (g .written) (chain m (suc k) K (n + pile .count) l (number (2 ^ length l) (atHand work)))
-    rest-more = g .rest ∙ ap (λ (f : ℕ). behind (g .written) (chain m f K (n + pile .count) l (number (2 ^ length l) (atHand work)))) left
+    rest-more : whole ≡ behind (g .written) (chain m (suc k) K (n + pile .count) l
+        (number (2 ^ length l) (atHand work)))
+    rest-more = g .rest ∙ ap (λ (f : ℕ). behind (g .written)
+        (chain m f K (n + pile .count) l (number (2 ^ length l) (atHand work)))) left
 
     pub following-stops : K < signals .count → bestUpTo (signals .count) (atHand work) K m ≡ nothing → whole ≡ stuck
     following-stops h e =
@@ -72,15 +74,18 @@ module _ (n m K : ℕ) (whole : Made) where
         (ap (λ (c : ℕ). bestUpTo c (atHand work) K m) (signals-length signals) ∙ e))
 
     -- the final cell
-    pub following-ends : signals .count ≤ K → whole ≡ made (g .written ++ (lastCell l (number (2 ^ signals .count) (atHand work)) ∷ []))
+    pub following-ends : signals .count ≤ K → whole
+        ≡ made (g .written ++ (lastCell l (number (2 ^ signals .count) (atHand work)) ∷ []))
     following-ends h =
-        rest-more ∙ ap (behind (g .written)) (table-ends m k K (n + pile .count) l (atHand work) (omega (arith, signals-length signals)))
+        rest-more ∙ ap (behind (g .written)) (table-ends m k K (n + pile .count) l (atHand work)
+        (omega (arith, signals-length signals)))
         ∙ ap (λ (c : ℕ). made (g .written ++ (lastCell l (number (2 ^ c) (atHand work)) ∷ []))) (signals-length signals)
 
     -- one split
     module _ (s : Split) (r : ℕ) (inputs-are : s .n ≡ signals .count) (more : K < signals .count) (few : m ≤ mostFirst)
         (found : bestUpTo (signals .count) (atHand work) K m ≡ choice r (s .own) (s .shared))
-        (q : Stage) (after : List ℕ) (w : Stepped (record { pile = pile; signals = signals }) (n + pile .count) r s work q after) where
+        (q : Stage) (after : List ℕ) (w : Stepped (record { pile = pile; signals = signals }) (n + pile .count) r s work
+        q after) where
       abbrev next : ℕ
       next = n + pile .count
 
@@ -94,7 +99,8 @@ module _ (n m K : ℕ) (whole : Made) where
       is-best = upto-best (length l) K (atHand work) m r (s .own) (s .shared) .0 found-here
 
       signals-are : signalsOf (q .signals) ≡ signalsAfter l r (s .own) (s .shared) next
-      signals-are = w .signals ∙ ap (λ (c : ℕ). pick c (readsH (bit (s .own)) (bit (s .shared))) l ++ listOf r (λ t. next + t)) n-is
+      signals-are = w .signals ∙ ap (λ (c : ℕ). pick c (readsH (bit (s .own)) (bit (s .shared))) l
+          ++ listOf r (λ t. next + t)) n-is
 
       count-are : q .signals .count ≡ length (signalsAfter l r (s .own) (s .shared) next)
       count-are = sym (signals-length (q .signals)) ∙ ap length signals-are
@@ -109,9 +115,11 @@ module _ (n m K : ℕ) (whole : Made) where
       })) n-is
 
       -- H's number is that of the table at hand
-      number-is : tableH (length l) (atHand work) (bit (s .own)) (bit (s .shared)) r ≡ number (2 ^ length (signalsOf (q .signals))) (atHand after)
+      number-is : tableH (length l) (atHand work) (bit (s .own)) (bit (s .shared)) r
+          ≡ number (2 ^ length (signalsOf (q .signals))) (atHand after)
       number-is = next-number m k K next l (atHand work) r (s .own) (s .shared)
-          ∙ number-ext (2 ^ length (signalsAfter l r (s .own) (s .shared) next)) (bitH (length l) (atHand work) (bit (s .own)) (bit (s .shared))) (atHand after)
+          ∙ number-ext (2 ^ length (signalsAfter l r (s .own) (s .shared) next))
+          (bitH (length l) (atHand work) (bit (s .own)) (bit (s .shared))) (atHand after)
           same
           ∙ ap (λ (c : ℕ). number (2 ^ c) (atHand after)) (ap length (sym signals-are))
         where
@@ -124,7 +132,8 @@ module _ (n m K : ℕ) (whole : Made) where
 
       -- what comes after the cells
       abbrev later : Made
-      later = chain m k K (next + r) (signalsAfter l r (s .own) (s .shared) next) (tableH (length l) (atHand work) (bit (s .own)) (bit (s .shared)) r)
+      later = chain m k K (next + r) (signalsAfter l r (s .own) (s .shared) next)
+          (tableH (length l) (atHand work) (bit (s .own)) (bit (s .shared)) r)
 
       shorter : length (signalsAfter l r (s .own) (s .shared) next) + size (length l) (bit (s .own)) ≡ length l + r
       shorter = after-length l next is-best
@@ -138,7 +147,15 @@ module _ (n m K : ℕ) (whole : Made) where
       pub following-goes : Underway (q .pile) (q .signals) after
       following-goes = record {
         listed = w .listed;
-        some = omega (arith, shorter, is-best .works .candidate .most, is-best .works .some, count-are, more, signals-length signals);
+        some = omega (
+          arith,
+          shorter,
+          is-best .works .candidate .most,
+          is-best .works .some,
+          count-are,
+          more,
+          signals-length signals,
+        );
         room = omega (arith, pile-count, following-shrinks, is-best .works .most, few, g .room);
         long = omega (arith, w .table .long, g .long);
         written = g .written ++ listOf r (dCell s (atHand work) l);
@@ -146,21 +163,25 @@ module _ (n m K : ℕ) (whole : Made) where
         turns = k;
         enough = omega (arith, left, g .enough, following-shrinks);
         rest = rest-more
-            ∙ ap (behind (g .written)) (table-goes m k K next l (atHand work) (omega (arith, signals-length signals)) r (s .own) (s .shared) found-here)
+            ∙ ap (behind (g .written)) (table-goes m k K next l (atHand work) (omega (arith, signals-length signals)) r
+            (s .own) (s .shared) found-here)
             ∙ behind-behind (g .written) (listOf r (λ t. record {
               signals = pick (length l) (readsD (bit (s .own)) (bit (s .shared))) l;
               table = tableD (length l) (atHand work) (bit (s .own)) (bit (s .shared)) t;
             })) later
             ∙ ap (λ (cs : List Cell). behind (g .written ++ cs) later) (sym cells-are)
-            ∙ ap₂ (λ (c : List ℕ) (T : ℕ). behind (g .written ++ listOf r (dCell s (atHand work) l)) (chain m k K (next + r) c T)) (sym signals-are) number-is
+            ∙ ap₂ (λ (c : List ℕ) (T : ℕ). behind (g .written ++ listOf r (dCell s (atHand work) l))
+            (chain m k K (next + r) c T)) (sym signals-are) number-is
             ∙ ap (λ (i : ℕ). behind (g .written ++ listOf r (dCell s (atHand work) l))
-            (chain m k K i (signalsOf (q .signals)) (number (2 ^ length (signalsOf (q .signals))) (atHand after)))) from;
+            (chain m k K i (signalsOf (q .signals)) (number (2 ^ length (signalsOf (q .signals))) (atHand after))))
+            from;
       }
         where
           from : n + pile .count + r ≡ n + q .pile .count
           from = omega (arith, pile-count)
 
-pub following-starts : (n m K : ℕ) (pile : Pile) (signals : Signals) (work : List ℕ) → workLength ≤ length work → Piled pile []
+pub following-starts : (n m K : ℕ) (pile : Pile) (signals : Signals) (work : List ℕ) → workLength ≤ length work
+    → Piled pile []
     → Listed signals → 1 ≤ signals .count → signals .count ≤ n
     → Underway n m K (chain m n K n (signalsOf signals) (number (2 ^ signals .count) (atHand work))) pile signals work
 following-starts n m K pile signals work long empty listed some room = record {
@@ -174,7 +195,8 @@ following-starts n m K pile signals work long empty listed some room = record {
   enough = room;
   rest = sym (behind-none _)
       ∙ ap (λ (i : ℕ). behind [] (chain m n K i (signalsOf signals) (number (2 ^ signals .count) (atHand work)))) from
-      ∙ ap (λ (c : ℕ). behind [] (chain m n K (n + pile .count) (signalsOf signals) (number (2 ^ c) (atHand work)))) (sym (signals-length signals));
+      ∙ ap (λ (c : ℕ). behind [] (chain m n K (n + pile .count) (signalsOf signals) (number (2 ^ c) (atHand work))))
+      (sym (signals-length signals));
 }
   where
     from : n ≡ n + pile .count
@@ -187,7 +209,8 @@ pub record Sound (m : ℕ) (F : ℕ → Bool) (s : Split) (r : ℕ) : Type 0 whe
   pub candidate : Candidate (s .n) largestCell r (s .own) (s .shared)
   pub few : fewColumns (s .n) F (bit (s .own)) (bit (s .shared)) (2 ^ r) ≡ true
 
-pub split-sound : (s : Split) (c m K r : ℕ) (F : ℕ → Bool) → s .n ≡ c → K ≤ largestCell → m ≤ mostFirst → bestUpTo c F K m ≡ choice r (s .own) (s .shared)
+pub split-sound : (s : Split) (c m K r : ℕ) (F : ℕ → Bool) → s .n ≡ c → K ≤ largestCell → m ≤ mostFirst
+    → bestUpTo c F K m ≡ choice r (s .own) (s .shared)
     → Sound m F s r
 split-sound s c m K r F inputs h few e =
     let b = upto-best (s .n) K F m r (s .own) (s .shared) .0 (ap (λ (k : ℕ). bestUpTo k F K m) inputs ∙ e) in
@@ -195,6 +218,12 @@ split-sound s c m K r F inputs h few e =
     record {
       some = b .works .some;
       most = omega (arith, b .works .most);
-      candidate = record { belowA = k .belowA; belowB = k .belowB; apart = k .apart; more = k .more; most = omega (arith, k .most) };
+      candidate = record {
+        belowA = k .belowA;
+        belowB = k .belowB;
+        apart = k .apart;
+        more = k .more;
+        most = omega (arith, k .most);
+      };
       few = possible-iff (s .n) F (bit (s .own)) (bit (s .shared)) (k .apart) r .1 (b .works .possible);
     }

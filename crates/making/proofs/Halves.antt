@@ -38,8 +38,10 @@ byte-bit m f x h =
     bit-number 8 (λ j. ltb (x / 8 * 8 + j) (2 ^ m) && f (x / 8 * 8 + j)) (x % 8) (mod-lt x (lit< tt))
     ∙ ap (λ (y : ℕ). ltb y (2 ^ m) && f y) e ∙ ap (λ (t : Bool). t && f x) (lt-ltb x (2 ^ m) h)
 
-pub taken-back : (s : Split) (r len : ℕ) (before stored after : List ℕ) → len ≡ tableLength (nextInputs s r before) → len ≤ half → NextStored s r len before stored
-    → ((i : ℕ) → i < len → getD after i 0 ≡ getD stored (half + i) 0) → length after ≡ length stored → NextTable s r before after
+pub taken-back : (s : Split) (r len : ℕ) (before stored after : List ℕ) → len ≡ tableLength (nextInputs s r before)
+    → len ≤ half → NextStored s r len before stored
+    → ((i : ℕ) → i < len → getD after i 0 ≡ getD stored (half + i) 0) → length after ≡ length stored
+    → NextTable s r before after
 taken-back s r len before stored after e small w back long = record { long = long ∙ w .long; bits = at }
   where
     m : ℕ
@@ -48,5 +50,6 @@ taken-back s r len before stored after e small w back long = record { long = lon
     at : (x : ℕ) → x < 2 ^ nextInputs s r before → atHand after x ≡ nextBit s before x
     at x h =
         let l : x / 8 < len = omega (arith, e, length-holds (nextInputs s r before)) in
-        ap (λ (y : ℕ). bit y (x % 8)) (getD-take half after (x / 8) 0 (omega arith) ∙ back (x / 8) l ∙ w .bytes (x / 8) l)
+        ap (λ (y : ℕ). bit y (x % 8)) (getD-take half after (x / 8) 0 (omega arith) ∙ back (x / 8) l
+        ∙ w .bytes (x / 8) l)
         ∙ byte-bit (nextInputs s r before) (nextBit s before) x h

@@ -28,7 +28,8 @@ use Rattle.making.specs.Chaining.{Tells, ChainedUpTo, Chained}
 use Rattle.making.proofs.Halves.{at-hand}
 use Rattle.making.proofs.Piling.{cells-count}
 
-module _ (n : ℕ) (F : ℕ → Bool) (m : ℕ) (is : m ≡ kept n F) (s : Signals) (picked : signalsOf s ≡ pick n (bit m) (inputs n)) where
+module _ (n : ℕ) (F : ℕ → Bool) (m : ℕ) (is : m ≡ kept n F) (s : Signals)
+    (picked : signalsOf s ≡ pick n (bit m) (inputs n)) where
   count : s .count ≡ size n (bit m)
   count = sym (length-list (s .count) (λ j. getD (s .at) j 0)) ∙ ap length picked ∙ pick-length n (bit m) (inputs n)
 
@@ -38,14 +39,18 @@ module _ (n : ℕ) (F : ℕ → Bool) (m : ℕ) (is : m ≡ kept n F) (s : Signa
   pub kept-more : 1 ≤ n → 1 ≤ s .count
   kept-more h = omega (arith, count, ap (λ (k : ℕ). size n (bit k)) is, kept-some n F h)
 
-  pub kept-chain : (most K : ℕ) (work : List ℕ) → 1 ≤ n → 1 ≤ K → n ≤ mostInputs → number (2 ^ size n (bit m)) (tableBit work) ≡ tableOver n (bit m) F
+  pub kept-chain : (most K : ℕ) (work : List ℕ) → 1 ≤ n → 1 ≤ K → n ≤ mostInputs
+      → number (2 ^ size n (bit m)) (tableBit work) ≡ tableOver n (bit m) F
       → chain most n K n (signalsOf s) (number (2 ^ s .count) (atHand work)) ≡ cellsAside most n K (number (2 ^ n) F)
   kept-chain most K work p q large over =
-      ap₂ (chain most n K n) picked (at-hand work (s .count) (omega (arith, kept-few)) ∙ ap (λ (c : ℕ). number (2 ^ c) (tableBit work)) count ∙ over)
-      ∙ ap (λ (k : ℕ). chain most n K n (pick n (bit k) (inputs n)) (tableOver n (bit k) F)) is ∙ sym (cells-once most n K F p q)
+      ap₂ (chain most n K n) picked (at-hand work (s .count) (omega (arith, kept-few))
+      ∙ ap (λ (c : ℕ). number (2 ^ c) (tableBit work)) count ∙ over)
+      ∙ ap (λ (k : ℕ). chain most n K n (pick n (bit k) (inputs n)) (tableOver n (bit k) F)) is
+      ∙ sym (cells-once most n K F p q)
 
 -- ---- one first cell at each step
-pub one-chained : (n K : ℕ) (t work work′ : List ℕ) (r : ChainEnd) → 1 ≤ n → 2 ≤ K → n ≤ mostInputs → ChainedUpTo 1 n K t work r work′ → Chained n K t work r work′
+pub one-chained : (n K : ℕ) (t work work′ : List ℕ) (r : ChainEnd) → 1 ≤ n → 2 ≤ K → n ≤ mostInputs
+    → ChainedUpTo 1 n K t work r work′ → Chained n K t work r work′
 one-chained n K t work work′ r p q large w = go (sheetAside n K (number (2 ^ n) (tableBit t))) refl (w .told)
   where
     go : (x : Made) → sheetAside n K (number (2 ^ n) (tableBit t)) ≡ x → Tells r x → Chained n K t work r work′

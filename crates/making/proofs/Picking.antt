@@ -17,9 +17,11 @@ use Rattle.chains.proofs.Lists.{pick-length}
 pick-ext : (n : ℕ) (s t : ℕ → Bool) (l : List ℕ) → ((j : ℕ) → j < n → s j ≡ t j) → pick n s l ≡ pick n t l
 unfolding pick
 pick-ext zero s t l h = refl
-pick-ext (suc n) s t l h = ap₂ (λ (b : Bool) (r : List ℕ). cond b (r ++ (getD l n 0 ∷ [])) r) (h n (omega arith)) (pick-ext n s t l (λ j g. h j (omega arith)))
+pick-ext (suc n) s t l h = ap₂ (λ (b : Bool) (r : List ℕ). cond b (r ++ (getD l n 0 ∷ [])) r) (h n (omega arith))
+    (pick-ext n s t l (λ j g. h j (omega arith)))
 
-module _ (n m : ℕ) (s : ℕ → Bool) (is : m ≡ number n s) (count : ℕ) (inputs : n ≡ count) (l : List ℕ) (r : Signals) (picked : signalsOf r ≡ pick count (bit m) l) where
+module _ (n m : ℕ) (s : ℕ → Bool) (is : m ≡ number n s) (count : ℕ) (inputs : n ≡ count) (l : List ℕ) (r : Signals)
+    (picked : signalsOf r ≡ pick count (bit m) l) where
   pub picked-set : signalsOf r ≡ pick n s l
   picked-set = picked ∙ ap (λ (k : ℕ). pick k (bit m) l) (sym inputs) ∙ pick-ext n (bit m) s l (mask-bit n s m is)
 

@@ -69,4 +69,5 @@ module _ {A : Type 0} (f : ℕ → A) (r : ℕ) (x : A) (e : x ≡ f 0) where
     pub firsts-three : (z : A) → z ≡ f 2 → r ≡ 3 → ((x ∷ []) ++ (y ∷ [])) ++ (z ∷ []) ≡ listOf r f
     unfolding listOf
     firsts-three z e″ h =
-        ap₂ (λ (a b : A). a ∷ b ∷ z ∷ []) e e′ ∙ ap (λ (c : A). f 0 ∷ f 1 ∷ c ∷ []) e″ ∙ ap (λ (k : ℕ). listOf k f) (sym h)
+        ap₂ (λ (a b : A). a ∷ b ∷ z ∷ []) e e′ ∙ ap (λ (c : A). f 0 ∷ f 1 ∷ c ∷ []) e″
+        ∙ ap (λ (k : ℕ). listOf k f) (sym h)

@@ -1,5 +1,7 @@
--- The output's time is the best along all paths, for any kind of time whose order `pick` and `after` respect. The times of the signals, once all cells
--- are passed, satisfy each cell's equation; along a path they get no better, and from each signal a path leads back to an input. Assumes nothing.
+-- The output's time is the best along all paths, for any kind of time whose order `pick` and `after` respect. The times
+-- of the signals, once all cells
+-- are passed, satisfy each cell's equation; along a path they get no better, and from each signal a path leads back to
+-- an input. Assumes nothing.
 use mathlib.Core.Path.{_≡_, refl, sym, ap, subst, _∙_}
 use mathlib.Core.Logic.{_⊎_, inl, inr}
 use mathlib.Core.Bool.{Bool, true, false, cond}
@@ -18,7 +20,8 @@ use Rattle.paths.specs.Paths.{readBy, Leads, begins, goes, along, BestPa
 
 -- every cell reads some signals, each given before it
 abbrev pub Fed : ℕ → List Cell → Type 0
-Fed n cs = (i : ℕ) → i < length cs → (1 ≤ length (readBy cs i)) × ((p : ℕ) → p < length (readBy cs i) → getD (readBy cs i) p 0 < n + i)
+Fed n cs = (i : ℕ) → i < length cs → (1 ≤ length (readBy cs i))
+    × ((p : ℕ) → p < length (readBy cs i) → getD (readBy cs i) p 0 < n + i)
 
 module _ {A : Type 0} (pick : A → A → A) (after : A → A) where
   -- the times of all signals once the cells are passed
@@ -30,9 +33,11 @@ module _ {A : Type 0} (pick : A → A → A) (after : A → A) where
   unfolding allTimes
   earlier i [] v t h = refl
   earlier i (c ∷ cs) v t h =
-      earlier (suc i) cs (λ t. cond (eqb t i) (cellTime pick after c v) (v t)) t (omega arith) ∙ ap (λ (b : Bool). cond b (cellTime pick after c v) (v t)) (ne-eqb t i (λ q. omega arith))
+      earlier (suc i) cs (λ t. cond (eqb t i) (cellTime pick after c v) (v t)) t (omega arith)
+      ∙ ap (λ (b : Bool). cond b (cellTime pick after c v) (v t)) (ne-eqb t i (λ q. omega arith))
 
-  last : (t i : ℕ) (cs : List Cell) (o : A) (v : ℕ → A) → i ≡ suc t → o ≡ v t → outputTime pick after o i cs v ≡ allTimes i cs v (t + length cs)
+  last : (t i : ℕ) (cs : List Cell) (o : A) (v : ℕ → A) → i ≡ suc t → o ≡ v t → outputTime pick after o i cs v
+      ≡ allTimes i cs v (t + length cs)
   unfolding allTimes outputTime
   last t i [] o v q h = let z : t ≡ t + 0 = omega arith in h ∙ ap v z
   last t i (c ∷ cs) o v q h =
@@ -41,7 +46,8 @@ module _ {A : Type 0} (pick : A → A → A) (after : A → A) where
       (sym (ap (λ (b : Bool). cond b (cellTime pick after c v) (v i)) (eq-eqb i i refl)))
       ∙ ap (allTimes (suc i) cs (λ s. cond (eqb s i) (cellTime pick after c v) (v s))) z
 
-  output-last : (n : ℕ) (cs : List Cell) (o : A) (v : ℕ → A) → 1 ≤ length cs → outputTime pick after o n cs v ≡ allTimes n cs v (n + (length cs - 1))
+  output-last : (n : ℕ) (cs : List Cell) (o : A) (v : ℕ → A) → 1 ≤ length cs → outputTime pick after o n cs v
+      ≡ allTimes n cs v (n + (length cs - 1))
   unfolding allTimes outputTime
   output-last n [] o v h = absurd (not-suc-le-zero h)
   output-last n (c ∷ cs) o v h =
@@ -54,25 +60,33 @@ module _ {A : Type 0} (pick : A → A → A) (after : A → A) where
   by-reads : List ℕ → (ℕ → A) → A
   by-reads l v = after (kept pick (λ p. v (getD l p 0)) (length l - 1))
 
-  reads-ext : (l : List ℕ) (v w : ℕ → A) → 1 ≤ length l → ((p : ℕ) → p < length l → v (getD l p 0) ≡ w (getD l p 0)) → by-reads l v ≡ by-reads l w
+  reads-ext : (l : List ℕ) (v w : ℕ → A) → 1 ≤ length l → ((p : ℕ) → p < length l → v (getD l p 0) ≡ w (getD l p 0))
+      → by-reads l v ≡ by-reads l w
   unfolding by-reads
-  reads-ext l v w s h = ap after (kept-ext pick (length l - 1) (λ p. v (getD l p 0)) (λ p. w (getD l p 0)) (λ p k. h p (omega arith)))
+  reads-ext l v w s h = ap after (kept-ext pick (length l - 1) (λ p. v (getD l p 0)) (λ p. w (getD l p 0))
+      (λ p k. h p (omega arith)))
 
   -- each cell's equation
-  equation : (n : ℕ) (cs : List Cell) (v : ℕ → A) → Fed n cs → (i : ℕ) → i < length cs → allTimes n cs v (n + i) ≡ by-reads (readBy cs i) (allTimes n cs v)
+  equation : (n : ℕ) (cs : List Cell) (v : ℕ → A) → Fed n cs → (i : ℕ) → i < length cs → allTimes n cs v (n + i)
+      ≡ by-reads (readBy cs i) (allTimes n cs v)
   unfolding allTimes cellTime by-reads
   equation n [] v f i h = absurd (not-suc-le-zero h)
   equation n (c ∷ cs) v f zero h =
       let w : ℕ → A = λ t. cond (eqb t n) (cellTime pick after c v) (v t) in
       let z : n + 0 ≡ n = omega arith in
-      ap (allTimes n (c ∷ cs) v) z ∙ earlier (suc n) cs w n (omega arith) ∙ ap (λ (b : Bool). cond b (cellTime pick after c v) (v n)) (eq-eqb n n refl)
+      ap (allTimes n (c ∷ cs) v) z ∙ earlier (suc n) cs w n (omega arith)
+      ∙ ap (λ (b : Bool). cond b (cellTime pick after c v) (v n)) (eq-eqb n n refl)
       ∙ reads-ext (c .signals) v (allTimes n (c ∷ cs) v) (f 0 h .0)
       (λ p k. sym (earlier n (c ∷ cs) v (getD (c .signals) p 0) (omega (arith, f 0 h .1 p k))))
   equation n (c ∷ cs) v f (suc i) h =
       let w : ℕ → A = λ t. cond (eqb t n) (cellTime pick after c v) (v t) in
       let z : n + suc i ≡ suc n + i = omega arith in
       ap (allTimes n (c ∷ cs) v) z
-      ∙ equation (suc n) cs w (λ k l. (f (suc k) (omega arith) .0, λ p q. omega (arith, f (suc k) (omega arith) .1 p q))) i (omega arith)
+      ∙ equation (suc n) cs w (λ k l. (
+        f (suc k) (omega arith) .0,
+        λ p q. omega
+            (arith, f (suc k) (omega arith) .1 p q),
+      )) i (omega arith)
 
   -- ---- an order that both respect, on times that satisfy P
 
@@ -107,19 +121,23 @@ module _ {A : Type 0} (pick : A → A → A) (after : A → A) where
     unfolding kept
     kept-best v zero p h g = let z : p ≡ 0 = omega arith in subst (λ (q : ℕ). v 0 ⊑ v q) (sym z) (same (v 0) (g 0))
     kept-best v (suc k) p h g = elim (decLt p (suc k)) [
-      | yes l ↦ through (pick (kept pick v k) (v (suc k))) (kept pick v k) (v p) (kept-good v (suc k) g) (kept-good v k g) (g p)
+      | yes l ↦ through (pick (kept pick v k) (v (suc k))) (kept pick v k) (v p) (kept-good v (suc k) g)
+          (kept-good v k g) (g p)
           (left (kept pick v k) (v (suc k)) (kept-good v k g) (g (suc k))) (kept-best v k p (omega arith) g)
       | no l ↦ let z : p ≡ suc k = omega arith in
-          subst (λ (q : ℕ). pick (kept pick v k) (v (suc k)) ⊑ v q) (sym z) (right (kept pick v k) (v (suc k)) (kept-good v k g) (g (suc k)))
+          subst (λ (q : ℕ). pick (kept pick v k) (v (suc k)) ⊑ v q) (sym z)
+          (right (kept pick v k) (v (suc k)) (kept-good v k g) (g (suc k)))
     ]
 
     all-good : (i : ℕ) (cs : List Cell) (v : ℕ → A) → ((t : ℕ) → P (v t)) → (t : ℕ) → P (allTimes i cs v t)
     unfolding allTimes cellTime
     all-good i [] v g t = g t
-    all-good i (c ∷ cs) v g t = all-good (suc i) cs (λ t. cond (eqb t i) (cellTime pick after c v) (v t)) (λ u. one (eqb u i) u) t
+    all-good i (c ∷ cs) v g t = all-good (suc i) cs (λ t. cond (eqb t i) (cellTime pick after c v) (v t))
+        (λ u. one (eqb u i) u) t
       where
         one : (b : Bool) (u : ℕ) → P (cond b (cellTime pick after c v) (v u))
-        one true u = good _ (kept-good (λ p. v (getD (c .signals) p 0)) (length (c .signals) - 1) (λ p. g (getD (c .signals) p 0)))
+        one true u = good _ (kept-good (λ p. v (getD (c .signals) p 0)) (length (c .signals) - 1)
+            (λ p. g (getD (c .signals) p 0)))
         one false u = g u
 
     along-good : (k : ℕ) (x : A) → P x → P (along after k x)
@@ -138,11 +156,13 @@ module _ {A : Type 0} (pick : A → A → A) (after : A → A) where
           let f = fed i h in
           let u : ℕ → A = λ r. W (getD (readBy cs i) r 0) in
           let b : (r : ℕ) → P (u r) = λ r. all-good n cs v g (getD (readBy cs i) r 0) in
-          let a : W (getD (readBy cs i) p 0) ⊑ along after m (v j) = subst (λ (r : ℕ). W r ⊑ along after m (v j)) (sym e) (along-path j s m l) in
+          let a : W (getD (readBy cs i) p 0) ⊑ along after m (v j) = subst (λ (r : ℕ). W r ⊑ along after m (v j))
+          (sym e) (along-path j s m l) in
           let x = kept pick u (length (readBy cs i) - 1) in
           subst (λ (y : A). y ⊑ after (along after m (v j))) (sym (equation n cs v fed i h))
           (mono x (along after m (v j)) (kept-good u (length (readBy cs i) - 1) b) (along-good m (v j) (g j))
-          (through x (u p) (along after m (v j)) (kept-good u (length (readBy cs i) - 1) b) (b p) (along-good m (v j) (g j)) (kept-best u (length (readBy cs i) - 1) p (omega (arith, f .0)) b) a))
+          (through x (u p) (along after m (v j)) (kept-good u (length (readBy cs i) - 1) b) (b p)
+          (along-good m (v j) (g j)) (kept-best u (length (readBy cs i) - 1) p (omega (arith, f .0)) b) a))
 
       -- a path back to an input
       record Back (t : ℕ) : Type 0 where
@@ -178,7 +198,8 @@ module _ {A : Type 0} (pick : A → A → A) (after : A → A) where
       best-path o some =
           let e = output-last n cs o v some in
           let w = back (n + length cs) (n + (length cs - 1)) (omega arith) (omega arith) in record {
-            bound = λ j k l. subst (λ (x : A). x ⊑ along after k (v j)) (sym e) (along-path j (n + (length cs - 1)) k l);
+            bound = λ j k l. subst (λ (x : A). x ⊑ along after k (v j)) (sym e)
+                (along-path j (n + (length cs - 1)) k l);
             input = w .input;
             cells = w .cells;
             path = w .path;

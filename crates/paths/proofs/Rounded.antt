@@ -1,4 +1,5 @@
--- As f64, rounded at each sum, the output's times are the least and the greatest along all paths too: rounding keeps the order. Assumes nothing.
+-- As f64, rounded at each sum, the output's times are the least and the greatest along all paths too: rounding keeps
+-- the order. Assumes nothing.
 use mathlib.Core.Path.{_≡_, refl, sym, ap, ap₂, subst, _∙_}
 use mathlib.Core.Logic.{_⊎_, inl, inr}
 use mathlib.Core.Bool.{Bool, true, false, cond, _||_, _&&_}
@@ -37,7 +38,8 @@ data NonNeg : Float → Type 0 where
   finite : (m : ℕ) (e : ℤ) → NonNeg (fin false m e)
 
 of-cross : (m n : ℕ) (e d : ℤ) → m * up e * down d ≤ n * up d * down e → T (le (fin false m e) (fin false n d))
-of-cross m n e d h = le-of-values (fin false m e) (fin false n d) (m * up e) (down e) (n * up d) (down d) (down-pos e) (down-pos d) (refl, refl) (refl, refl) h
+of-cross m n e d h = le-of-values (fin false m e) (fin false n d) (m * up e) (down e) (n * up d) (down d) (down-pos e)
+    (down-pos d) (refl, refl) (refl, refl) h
 
 cross-of : (m n : ℕ) (e d : ℤ) → T (le (fin false m e) (fin false n d)) → m * up e * down d ≤ n * up d * down e
 unfolding le lt eq
@@ -60,10 +62,12 @@ trans : (x y z : Float) → NonNeg x → NonNeg y → NonNeg z → T (le x y) �
 trans x y z p q infinite h k = below-inf x p
 trans x y z p q (finite l f) h k = second q h k
   where
-    first : (n : ℕ) (d : ℤ) {x : Float} → NonNeg x → T (le x (fin false n d)) → T (le (fin false n d) (fin false l f)) → T (le x (fin false l f))
+    first : (n : ℕ) (d : ℤ) {x : Float} → NonNeg x → T (le x (fin false n d)) → T (le (fin false n d) (fin false l f))
+        → T (le x (fin false l f))
     first n d infinite h k = absurd (not-above n d h)
     first n d (finite m e) h k =
-        of-cross m l e f (through (m * up e) (n * up d) (l * up f) (down e) (down d) (down f) (down-pos d) (cross-of m n e d h) (cross-of n l d f k))
+        of-cross m l e f (through (m * up e) (n * up d) (l * up f) (down e) (down d) (down f) (down-pos d)
+        (cross-of m n e d h) (cross-of n l d f k))
 
     second : {y : Float} → NonNeg y → T (le x y) → T (le y (fin false l f)) → T (le x (fin false l f))
     second infinite h k = absurd (not-above l f k)
@@ -100,7 +104,8 @@ units-good q k = go (ltb (q * 2 ^ k) (2 ^ (low binary64 + suc (emax binary64))))
 round-good : (a b : ℕ) → NonNeg (round binary64 false a b)
 round-good a b =
     let n = a * 2 ^ low binary64 in
-    subst NonNeg (sym (round-is binary64 false a b)) (units-good (digits (prec binary64) n b) (drop (prec binary64) n b))
+    subst NonNeg (sym (round-is binary64 false a b))
+    (units-good (digits (prec binary64) n b) (drop (prec binary64) n b))
 
 inf-add : (d : Float) → NonNeg d → add binary64 (inf false) d ≡ inf false
 unfolding add sum
@@ -118,8 +123,10 @@ add-good d x q (finite m e) = go q
 -- (A r + N p) / (p r) is at most (B r + N q) / (q r) where A / p is at most B / q
 cross-sum : (A B N p q r : ℕ) → A * q ≤ B * p → (A * r + N * p) * (q * r) ≤ (B * r + N * q) * (p * r)
 cross-sum A B N p q r h =
-    let a : (A * r + N * p) * (q * r) ≡ A * q * (r * r) + N * p * (q * r) = add-mul (A * r) (N * p) (q * r) ∙ ap (λ (k : ℕ). k + N * p * (q * r)) (swap A r q) in
-    let b : (B * r + N * q) * (p * r) ≡ B * p * (r * r) + N * p * (q * r) = add-mul (B * r) (N * q) (p * r) ∙ ap₂ (λ (k l : ℕ). k + l) (swap B r p) (turn N q p r) in
+    let a : (A * r + N * p) * (q * r) ≡ A * q * (r * r) + N * p * (q * r) = add-mul (A * r) (N * p) (q * r)
+    ∙ ap (λ (k : ℕ). k + N * p * (q * r)) (swap A r q) in
+    let b : (B * r + N * q) * (p * r) ≡ B * p * (r * r) + N * p * (q * r) = add-mul (B * r) (N * q) (p * r)
+    ∙ ap₂ (λ (k l : ℕ). k + l) (swap B r p) (turn N q p r) in
     omega (arith, a, b, mul-le-mul-right (r * r) h)
   where
     swap : (a r q : ℕ) → a * r * (q * r) ≡ a * q * (r * r)
@@ -129,17 +136,21 @@ cross-sum A B N p q r h =
     turn n q p r = simp (mul-assoc, mul-comm, mul-left-comm)
 
 mono : (d x y : Float) → NonNeg d → NonNeg x → NonNeg y → T (le x y) → T (le (add binary64 x d) (add binary64 y d))
-mono d x y r p infinite h = subst (λ (z : Float). T (le (add binary64 x d) z)) (sym (inf-add d r)) (below-inf (add binary64 x d) (add-good d x r p))
+mono d x y r p infinite h = subst (λ (z : Float). T (le (add binary64 x d) z)) (sym (inf-add d r))
+    (below-inf (add binary64 x d) (add-good d x r p))
 mono d x y r p (finite n g) h = first p h
   where
-    last : (m : ℕ) (e : ℤ) {d : Float} → NonNeg d → T (le (fin false m e) (fin false n g)) → T (le (add binary64 (fin false m e) d) (add binary64 (fin false n g) d))
+    last : (m : ℕ) (e : ℤ) {d : Float} → NonNeg d → T (le (fin false m e) (fin false n g))
+        → T (le (add binary64 (fin false m e) d) (add binary64 (fin false n g) d))
     last m e infinite h = unfold add in below-inf (inf false) infinite
     last m e (finite k f) h =
-        unfold add sum in round-mono binary64 (m * up e * down f + k * up f * down e) (down e * down f) (n * up g * down f + k * up f * down g) (down g * down f)
+        unfold add sum in round-mono binary64 (m * up e * down f + k * up f * down e) (down e * down f)
+        (n * up g * down f + k * up f * down g) (down g * down f)
         (mul-pos (down-pos e) (down-pos f)) (mul-pos (down-pos g) (down-pos f))
         (cross-sum (m * up e) (n * up g) (k * up f) (down e) (down g) (down f) (cross-of m n e g h))
 
-    first : {x : Float} → NonNeg x → T (le x (fin false n g)) → T (le (add binary64 x d) (add binary64 (fin false n g) d))
+    first : {x : Float} → NonNeg x → T (le x (fin false n g))
+        → T (le (add binary64 x d) (add binary64 (fin false n g) d))
     first infinite h = absurd (not-above n g h)
     first (finite m e) h = last m e r h
 
@@ -158,7 +169,8 @@ either false x y = go (lt y x)
     go true = inr refl
     go false = inl refl
 
-both : (late : Bool) (x y : Float) → NonNeg x → NonNeg y → BeyondTime late (keeping late x y) x × BeyondTime late (keeping late x y) y
+both : (late : Bool) (x y : Float) → NonNeg x → NonNeg y → BeyondTime late (keeping late x y) x
+    × BeyondTime late (keeping late x y) y
 unfolding keeping
 both true x y p q = go (lt x y) refl
   where
@@ -175,11 +187,13 @@ same-time : (late : Bool) (x : Float) → NonNeg x → BeyondTime late x x
 same-time true x p = same x p
 same-time false x p = same x p
 
-through-time : (late : Bool) (x y z : Float) → NonNeg x → NonNeg y → NonNeg z → BeyondTime late x y → BeyondTime late y z → BeyondTime late x z
+through-time : (late : Bool) (x y z : Float) → NonNeg x → NonNeg y → NonNeg z → BeyondTime late x y
+    → BeyondTime late y z → BeyondTime late x z
 through-time true x y z p q r h k = trans z y x r q p k h
 through-time false x y z p q r h k = trans x y z p q r h k
 
-mono-time : (late : Bool) (d x y : Float) → NonNeg d → NonNeg x → NonNeg y → BeyondTime late x y → BeyondTime late (delayed d x) (delayed d y)
+mono-time : (late : Bool) (d x y : Float) → NonNeg d → NonNeg x → NonNeg y → BeyondTime late x y
+    → BeyondTime late (delayed d x) (delayed d y)
 mono-time true d x y r p q h = mono d y x r q p h
 mono-time false d x y r p q h = mono d x y r p q h
 
@@ -191,10 +205,12 @@ plain-good x r = subst NonNeg (sym (ranged x r .is)) (finite _ _)
 time-good : (late : Bool) (t : InputTime) → soundTime t ≡ true → NonNeg (timeOf late t)
 time-good late NotRead s = finite 0 (pos 0)
 time-good late (Arrival x) s = plain-good x s
-time-good true (Between x y) s = plain-good y (and-left (inRange y) (le x y) (and-right (inRange x) (inRange y && le x y) s))
+time-good true (Between x y) s = plain-good y
+    (and-left (inRange y) (le x y) (and-right (inRange x) (inRange y && le x y) s))
 time-good false (Between x y) s = plain-good x (and-left (inRange x) (inRange y && le x y) s)
 
-inputs-good : (late : Bool) (n : ℕ) (ts : List InputTime) → every n (λ j. soundTime (timeAt ts j)) ≡ true → (j : ℕ) → NonNeg (inputTimes late n ts j)
+inputs-good : (late : Bool) (n : ℕ) (ts : List InputTime) → every n (λ j. soundTime (timeAt ts j)) ≡ true → (j : ℕ)
+    → NonNeg (inputTimes late n ts j)
 inputs-good late n ts s j = go (ltb j n) refl
   where
     go : (b : Bool) → ltb j n ≡ b → NonNeg (cond b (timeOf late (timeAt ts j)) zeroTime)
@@ -202,12 +218,17 @@ inputs-good late n ts s j = go (ltb j n) refl
     go false q = finite 0 (pos 0)
 
 -- the greatest (late), or the least, over all paths
-pub rounded-path : (late : Bool) (e : Edition) → IsEdition e → (d n : ℕ) (s : List ℕ) (delay : Float) (ts : List InputTime) → Leaves e d n s delay ts
-    → BestPath (BeyondTime late) (delayed (plainZero delay)) n (sheetCells e s (records e s)) (inputTimes late n ts) (settled late e n s delay ts)
+pub rounded-path : (late : Bool) (e : Edition) → IsEdition e
+    → (d n : ℕ) (s : List ℕ) (delay : Float) (ts : List InputTime) → Leaves e d n s delay ts
+    → BestPath (BeyondTime late) (delayed (plainZero delay)) n (sheetCells e s (records e s)) (inputTimes late n ts)
+    (settled late e n s delay ts)
 unfolding settled
 rounded-path late e ok d n s delay ts l =
     let p = plain-good delay (l .within) in
-    best-path (keeping late) (delayed (plainZero delay)) (BeyondTime late) NonNeg (same-time late) (through-time late) (either late)
-    (λ x y a b. both late x y a b .0) (λ x y a b. both late x y a b .1) (λ x a. add-good (plainZero delay) x p a) (λ x y a b. mono-time late (plainZero delay) x y p a b)
-    n (sheetCells e s (records e s)) (inputTimes late n ts) (good-fed e ok d n s (records e s) (l .good)) (inputs-good late n ts (all-sound e n s (records e s) ts (l .times))) zeroTime
+    best-path (keeping late) (delayed (plainZero delay)) (BeyondTime late) NonNeg (same-time late) (through-time late)
+    (either late)
+    (λ x y a b. both late x y a b .0) (λ x y a b. both late x y a b .1) (λ x a. add-good (plainZero delay) x p a)
+    (λ x y a b. mono-time late (plainZero delay) x y p a b)
+    n (sheetCells e s (records e s)) (inputTimes late n ts) (good-fed e ok d n s (records e s) (l .good))
+    (inputs-good late n ts (all-sound e n s (records e s) ts (l .times))) zeroTime
     (some-cells e d n s (records e s) (l .good))

@@ -1,4 +1,5 @@
--- Over whole numbers of sixteenths the output's times are the least and the greatest along all paths, and a good sheet's cells are fed. Assumes nothing.
+-- Over whole numbers of sixteenths the output's times are the least and the greatest along all paths, and a good
+-- sheet's cells are fed. Assumes nothing.
 use mathlib.Core.Path.{_≡_, refl, sym, ap, subst, _∙_}
 use mathlib.Core.Logic.{_⊎_, inl, inr}
 use mathlib.Core.Bool.{Bool, true, false, cond}
@@ -26,21 +27,26 @@ use Rattle.paths.proofs.Along.{Fed, best-path}
 
 -- ---- a good sheet's cells
 
-cell-reads : (e : Edition) (s : List ℕ) (m i k : ℕ) → k < m → readBy (cellsFrom e s i m) k ≡ cellOf e (recordAt e s (i + k)) .signals
+cell-reads : (e : Edition) (s : List ℕ) (m i k : ℕ) → k < m → readBy (cellsFrom e s i m) k
+    ≡ cellOf e (recordAt e s (i + k)) .signals
 unfolding cellsFrom
 cell-reads e s zero i k h = absurd (not-suc-le-zero h)
-cell-reads e s (suc m) i zero h = let z : i ≡ i + 0 = omega arith in ap (λ (j : ℕ). cellOf e (recordAt e s j) .signals) z
+cell-reads e s (suc m) i zero h = let z : i ≡ i + 0 = omega arith
+    in ap (λ (j : ℕ). cellOf e (recordAt e s j) .signals) z
 cell-reads e s (suc m) i (suc k) h =
-    let z : suc i + k ≡ i + suc k = omega arith in cell-reads e s m (suc i) k (omega arith) ∙ ap (λ (j : ℕ). cellOf e (recordAt e s j) .signals) z
+    let z : suc i + k ≡ i + suc k = omega arith in cell-reads e s m (suc i) k (omega arith)
+    ∙ ap (λ (j : ℕ). cellOf e (recordAt e s j) .signals) z
 
-fed-by : (e : Edition) (d top : ℕ) (b : ℕ → ℕ) (l : List ℕ) → Keeps e d top b → l ≡ cellOf e b .signals → (1 ≤ length l) × ((p : ℕ) → p < length l → getD l p 0 < top)
+fed-by : (e : Edition) (d top : ℕ) (b : ℕ → ℕ) (l : List ℕ) → Keeps e d top b → l ≡ cellOf e b .signals → (1 ≤ length l)
+    × ((p : ℕ) → p < length l → getD l p 0 < top)
 unfolding cellOf
 fed-by e d top b l k q =
     let z : length l ≡ b 0 = ap length q ∙ length-list (b 0) (λ j. b (j + 1)) in (
       subst (λ (m : ℕ). 1 ≤ m) (sym z) (k .some),
       λ p h.
           let g : p < b 0 = subst (λ (m : ℕ). p < m) z h in
-          subst (λ (x : ℕ). x < top) (sym (ap (λ (m : List ℕ). getD m p 0) q ∙ list-at (b 0) (λ j. b (j + 1)) p 0 g)) (k .known p g),
+          subst (λ (x : ℕ). x < top) (sym (ap (λ (m : List ℕ). getD m p 0) q ∙ list-at (b 0) (λ j. b (j + 1)) p 0 g))
+          (k .known p g),
     )
 
 pub good-fed : (e : Edition) → IsEdition e → (d n : ℕ) (s : List ℕ) (m : ℕ) → Good e d n s m → Fed n (sheetCells e s m)
@@ -92,13 +98,18 @@ mono true d i j h = omega arith
 mono false d i j h = omega arith
 
 -- the greatest (late), or the least, over all paths
-pub whole-path : (late : Bool) (e : Edition) → IsEdition e → (d n : ℕ) (s : List ℕ) (delay : Float) (ts : List InputTime) → Good e d n s (records e s)
-    → BestPath (Beyond late) (λ i. i + sixteenthsOf delay) n (sheetCells e s (records e s)) (λ j. sixteenthsOf (inputTimes late n ts j)) (settledWhole late e n s delay ts)
+pub whole-path : (late : Bool) (e : Edition) → IsEdition e
+    → (d n : ℕ) (s : List ℕ) (delay : Float) (ts : List InputTime) → Good e d n s (records e s)
+    → BestPath (Beyond late) (λ i. i + sixteenthsOf delay) n (sheetCells e s (records e s))
+    (λ j. sixteenthsOf (inputTimes late n ts j)) (settledWhole late e n s delay ts)
 unfolding settledWhole
 whole-path late e ok d n s delay ts g =
-    best-path (keepingWhole late) (λ i. i + sixteenthsOf delay) (Beyond late) (λ i. Unit {0}) (λ i p. same late i) (λ i j k p q r. through late i j k) (either late)
-    (λ i j p q. both late i j .0) (λ i j p q. both late i j .1) (λ i p. tt) (λ i j p q. mono late (sixteenthsOf delay) i j)
-    n (sheetCells e s (records e s)) (λ j. sixteenthsOf (inputTimes late n ts j)) (good-fed e ok d n s (records e s) g) (λ j. tt) 0 (some-cells e d n s (records e s) g)
+    best-path (keepingWhole late) (λ i. i + sixteenthsOf delay) (Beyond late) (λ i. Unit {0}) (λ i p. same late i)
+    (λ i j k p q r. through late i j k) (either late)
+    (λ i j p q. both late i j .0) (λ i j p q. both late i j .1) (λ i p. tt)
+    (λ i j p q. mono late (sixteenthsOf delay) i j)
+    n (sheetCells e s (records e s)) (λ j. sixteenthsOf (inputTimes late n ts j)) (good-fed e ok d n s (records e s) g)
+    (λ j. tt) 0 (some-cells e d n s (records e s) g)
 
 -- a path of k cells adds the delay k times
 pub along-whole : (d k i : ℕ) → along (λ j. j + d) k i ≡ i + k * d

@@ -28,7 +28,8 @@ module _ (e : Edition) (b : ℕ → ℕ) where
 
   pub table-lt : cellOf e b .table < 2 ^ (2 ^ length (cellOf e b .signals))
   unfolding cellOf
-  table-lt = subst (λ (k : ℕ). number (2 ^ b 0) (cellBit e b) < 2 ^ (2 ^ k)) (sym signals-length) (number-lt (2 ^ b 0) (cellBit e b))
+  table-lt = subst (λ (k : ℕ). number (2 ^ b 0) (cellBit e b) < 2 ^ (2 ^ k)) (sym signals-length)
+      (number-lt (2 ^ b 0) (cellBit e b))
 
   -- a table of one or two signals lies in its first byte
   table-in : (k : ℕ) → b 0 ≡ k → k ≤ 2 → cellOf e b .table ≡ b (e .start) % 2 ^ (2 ^ k)
@@ -62,7 +63,8 @@ module _ (e : Edition) (b : ℕ → ℕ) where
   unfolding listOf
   first-two = refl
 
-  made-of : {l : List ℕ} {t : ℕ} → cellOf e b .signals ≡ l → cellOf e b .table ≡ t → cellOf e b ≡ record { signals = l; table = t }
+  made-of : {l : List ℕ} {t : ℕ} → cellOf e b .signals ≡ l → cellOf e b .table ≡ t → cellOf e b
+      ≡ record { signals = l; table = t }
   made-of p q = ap₂ (λ (l : List ℕ) (t : ℕ). record { signals = l; table = t }) p q
 
   pub one-cell : b 0 ≡ 1 → cellOf e b ≡ record { signals = b 1 ∷ []; table = b (e .start) % 4 }
@@ -90,7 +92,8 @@ module _ (e : Edition) (b : ℕ → ℕ) where
 -- ---- the records of a sheet in turn
 
 module _ (e : Edition) (s : List ℕ) where
-  pub cells-next : (i m : ℕ) → i < m → cellsFrom e s i (m - i) ≡ cellOf e (recordAt e s i) ∷ cellsFrom e s (i + 1) (m - (i + 1))
+  pub cells-next : (i m : ℕ) → i < m → cellsFrom e s i (m - i)
+      ≡ cellOf e (recordAt e s i) ∷ cellsFrom e s (i + 1) (m - (i + 1))
   unfolding cellsFrom
   cells-next i m h =
       let p : m - i ≡ suc (m - (i + 1)) = omega arith in
@@ -107,7 +110,8 @@ module _ (e : Edition) (s : List ℕ) where
   pub plain-at : (m i : ℕ) → AllPlain (cellsFrom e s i m) → (j : ℕ) → j < m → Plain (cellOf e (recordAt e s (i + j)))
   unfolding cellsFrom
   plain-at zero i p j h = absurd (omega arith)
-  plain-at (suc m) i p zero h = let q : i ≡ i + 0 = omega arith in subst (λ (k : ℕ). Plain (cellOf e (recordAt e s k))) q (p .0)
+  plain-at (suc m) i p zero h = let q : i ≡ i + 0 = omega arith
+      in subst (λ (k : ℕ). Plain (cellOf e (recordAt e s k))) q (p .0)
   plain-at (suc m) i p (suc j) h =
       let q : suc i + j ≡ i + suc j = omega arith in
       subst (λ (k : ℕ). Plain (cellOf e (recordAt e s k))) q (plain-at m (suc i) (p .1) j (omega arith))
@@ -121,16 +125,20 @@ module _ (e : Edition) (s : List ℕ) where
       cell-at m (suc i) j d (omega arith) ∙ ap (λ (k : ℕ). cellOf e (recordAt e s k)) q
 
   pub plain-record : (m : ℕ) → AllPlain (sheetCells e s m) → (i : ℕ) → i < m → Plain (cellOf e (recordAt e s i))
-  plain-record m p i h = let q : 0 + i ≡ i = omega arith in subst (λ (k : ℕ). Plain (cellOf e (recordAt e s k))) q (plain-at m 0 p i h)
+  plain-record m p i h = let q : 0 + i ≡ i = omega arith
+      in subst (λ (k : ℕ). Plain (cellOf e (recordAt e s k))) q (plain-at m 0 p i h)
 
   -- ---- whether all are plain, from record i on
 
   module _ (i m : ℕ) (X : Bool) (so : allPlain (cellsFrom e s i (m - i)) ≡ X) where
     pub plain-stops : i < m → plainCell (cellOf e (recordAt e s i)) ≡ false → false ≡ X
-    plain-stops h q = sym (ap (λ (t : Bool). t && allPlain (cellsFrom e s (i + 1) (m - (i + 1)))) q) ∙ sym (ap allPlain (cells-next i m h)) ∙ so
+    plain-stops h q = sym (ap (λ (t : Bool). t && allPlain (cellsFrom e s (i + 1) (m - (i + 1)))) q)
+        ∙ sym (ap allPlain (cells-next i m h)) ∙ so
 
-    pub plain-goes : i < m → plainCell (cellOf e (recordAt e s i)) ≡ true → allPlain (cellsFrom e s (i + 1) (m - (i + 1))) ≡ X
-    plain-goes h q = sym (ap (λ (t : Bool). t && allPlain (cellsFrom e s (i + 1) (m - (i + 1)))) q) ∙ sym (ap allPlain (cells-next i m h)) ∙ so
+    pub plain-goes : i < m → plainCell (cellOf e (recordAt e s i)) ≡ true
+        → allPlain (cellsFrom e s (i + 1) (m - (i + 1))) ≡ X
+    plain-goes h q = sym (ap (λ (t : Bool). t && allPlain (cellsFrom e s (i + 1) (m - (i + 1)))) q)
+        ∙ sym (ap allPlain (cells-next i m h)) ∙ so
 
     pub plain-ends : m ≤ i → true ≡ X
     plain-ends h = sym (ap allPlain (cells-end i m h)) ∙ so
@@ -146,7 +154,8 @@ times-two x low high {two} {a} {b} q f g =
     let t : a + b ≡ val (eqb x low) + (val (eqb x high) + 0) = omega (arith, f, g) in
     t ∙ ap (λ (s : Bool). times x (cond s (low ∷ high ∷ []) (low ∷ []))) (sym q)
 
-pub times-one : (x low high : ℕ) {two : Bool} {a : ℕ} → two ≡ false → a ≡ val (eqb x low) → a ≡ times x (cond two (low ∷ high ∷ []) (low ∷ []))
+pub times-one : (x low high : ℕ) {two : Bool} {a : ℕ} → two ≡ false → a ≡ val (eqb x low) → a
+    ≡ times x (cond two (low ∷ high ∷ []) (low ∷ []))
 times-one x low high {two} {a} q f =
     let t : a ≡ val (eqb x low) + 0 = omega (arith, f) in
     t ∙ ap (λ (s : Bool). times x (cond s (low ∷ high ∷ []) (low ∷ []))) (sym q)

@@ -49,7 +49,9 @@ mark-depends t h g j l = support-counting 2 (bit t) j l (go j l)
 
 pub depends-mark : (t : ℕ) → t < 16 → ((j : ℕ) → j < 2 → DependsOn 2 (bit t) j) → 0 < markOf t
 depends-mark t h d =
-    ltb-true 0 (markOf t) (marks t h ∙ ap₂ (λ (a b : Bool). a && b) (support-all 2 (bit t) 0 (omega arith) (d 0 (omega arith))) (support-all 2 (bit t) 1 (omega arith) (d 1 (omega arith))))
+    ltb-true 0 (markOf t) (marks t h ∙ ap₂ (λ (a b : Bool). a && b)
+    (support-all 2 (bit t) 0 (omega arith) (d 0 (omega arith)))
+    (support-all 2 (bit t) 1 (omega arith) (d 1 (omega arith))))
 
 -- ---- its mark is that of its level
 
@@ -72,7 +74,8 @@ pub mark-of : (t : ℕ) → t < 16 → 0 < markOf t → markOf t ≡ mark (level
 unfolding right-mark
 mark-of t h l =
     eqb-true (markOf t) (mark (levelOf t))
-    (ap (λ (u : Bool). cond u true (eqb (markOf t) (mark (levelOf t)))) (sym (ne-eqb (markOf t) 0 (λ e. omega arith))) ∙ every-at 16 right-mark all-marks t h)
+    (ap (λ (u : Bool). cond u true (eqb (markOf t) (mark (levelOf t)))) (sym (ne-eqb (markOf t) 0 (λ e. omega arith)))
+    ∙ every-at 16 right-mark all-marks t h)
 
 -- ---- it gives the table's bits
 
@@ -95,7 +98,8 @@ all-bits : every 16 right-bits ≡ true
 unfolding right-bits right-bit flip
 all-bits = refl
 
-pub two-value : (t : ℕ) → t < 16 → 0 < markOf t → (F G : Formula) (x : ℕ) (f : ℕ → Bool) → value F x ≡ f 0 → value G x ≡ f 1
+pub two-value : (t : ℕ) → t < 16 → 0 < markOf t → (F G : Formula) (x : ℕ) (f : ℕ → Bool) → value F x ≡ f 0 → value G x
+    ≡ f 1
     → value (twoFormula t F G) x ≡ bit t (number 2 f)
 unfolding value right-bits right-bit
 two-value t h l F G x f p q =
@@ -105,10 +109,12 @@ two-value t h l F G x f p q =
     (value-flip (flipsHigh t) G x ∙ ap (flip (flipsHigh t)) (q ∙ sym (bit-number 2 f 1 (omega arith))))
     ∙ beq-same (join (levelOf t) (flip (flipsLow t) (bit z 0)) (flip (flipsHigh t) (bit z 1))) (bit t z)
     (every-at 4 (right-bit t)
-    (ap (λ (u : Bool). cond u true (every 4 (right-bit t))) (sym (ne-eqb (markOf t) 0 (λ e. omega arith))) ∙ every-at 16 right-bits all-bits t h)
+    (ap (λ (u : Bool). cond u true (every 4 (right-bit t))) (sym (ne-eqb (markOf t) 0 (λ e. omega arith)))
+    ∙ every-at 16 right-bits all-bits t h)
     z (number-lt 2 f))
 
-pub one-value : (t : ℕ) → t < 4 → (F : Formula) (x : ℕ) (f : ℕ → Bool) → value F x ≡ f 0 → value (oneFormula t F) x ≡ bit t (number 1 f)
+pub one-value : (t : ℕ) → t < 4 → (F : Formula) (x : ℕ) (f : ℕ → Bool) → value F x ≡ f 0 → value (oneFormula t F) x
+    ≡ bit t (number 1 f)
 unfolding value number
 one-value t h F x f p = go t h (f 0) p
   where

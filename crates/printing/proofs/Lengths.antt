@@ -1,4 +1,5 @@
--- What is measured of cells that are each read once: what each cell adds, and what the inputs that are read weigh. So the
+-- What is measured of cells that are each read once: what each cell adds, and what the inputs that are read weigh. So
+-- the
 -- text is short: five bytes a cell, and a letter for each input that is read. Assumes nothing.
 use mathlib.Core.Path.{_≡_, refl, sym, ap, _∙_}
 use mathlib.Core.Bool.{Bool, true, false, cond}
@@ -36,7 +37,13 @@ module _ (m m′ : ℕ → ℕ) (i w : ℕ) (same : (s : ℕ) → m′ s ≡ m s
 
   cells-more : (cs : List Cell) → weighedIn m′ cs ≡ weighedIn m cs + reads i cs * w
   cells-more [] = omega arith
-  cells-more (c ∷ cs) = omega (arith, list-more (c .signals), cells-more cs, mul-sum (times i (c .signals)) (reads i cs) w)
+  cells-more (c ∷ cs) = omega (
+    arith,
+    list-more (c .signals),
+    cells-more cs,
+    mul-sum (times i (c .signals)) (reads i cs)
+        w,
+  )
 
 -- ---- the cells in turn
 
@@ -54,28 +61,46 @@ module _ (K : ℕ) where
   later-once : (c : Cell) (cs : List Cell) (i : ℕ) → Wired K i (c ∷ cs) → Once i (c ∷ cs) → Once (suc i) cs
   later-once c cs i w o j h =
       let q : suc i + j ≡ i + suc j = omega arith in
-      omega (arith, ap (λ (x : ℕ). reads x cs) q, times-none (c .signals) i (i + suc j) (w .1) (omega arith), o (suc j) (omega arith))
+      omega (
+        arith,
+        ap (λ (x : ℕ). reads x cs) q,
+        times-none (c .signals) i (i + suc j) (w .1) (omega arith),
+        o (suc j)
+            (omega arith),
+      )
 
-  first-once : (c d : Cell) (cs : List Cell) (i : ℕ) → Wired K i (c ∷ d ∷ cs) → Once i (c ∷ d ∷ cs) → reads i (d ∷ cs) ≡ 1
+  first-once : (c d : Cell) (cs : List Cell) (i : ℕ) → Wired K i (c ∷ d ∷ cs) → Once i (c ∷ d ∷ cs) → reads i (d ∷ cs)
+      ≡ 1
   first-once c d cs i w o =
       let q : i ≡ i + 0 = omega arith in
-      omega (arith, ap (λ (x : ℕ). reads x (c ∷ d ∷ cs)) q, times-none (c .signals) i i (w .1) (omega arith), o 0 (omega arith))
+      omega (
+        arith,
+        ap (λ (x : ℕ). reads x (c ∷ d ∷ cs)) q,
+        times-none (c .signals) i i (w .1) (omega arith),
+        o 0
+            (omega arith),
+      )
 
   -- a measure to which a cell adds at most k
   module _ {A : Type 0} (makes : Cell → (ℕ → A) → A) (measure : A → ℕ) (k : ℕ)
       (adds : (c : Cell) (v : ℕ → A) → measure (makes c v) ≤ k + weighed (λ s. measure (v s)) (c .signals)) where
-    pub measured : (cs : List Cell) (c : Cell) (i : ℕ) (v : ℕ → A) → Wired K i (c ∷ cs) → Once i (c ∷ cs) → ((s : ℕ) → i ≤ s → measure (v s) ≡ 0)
-        → measure (inTurn makes i (c ∷ cs) v (i + length cs)) ≤ k * (1 + length cs) + weighedIn (λ s. measure (v s)) (c ∷ cs)
+    pub measured : (cs : List Cell) (c : Cell) (i : ℕ) (v : ℕ → A) → Wired K i (c ∷ cs) → Once i (c ∷ cs)
+        → ((s : ℕ) → i ≤ s → measure (v s) ≡ 0)
+        → measure (inTurn makes i (c ∷ cs) v (i + length cs)) ≤ k * (1 + length cs)
+        + weighedIn (λ s. measure (v s)) (c ∷ cs)
     unfolding inTurn
     measured [] c i v w o none =
         let q : i + 0 ≡ i = omega arith in
-        let e = ap (λ (x : ℕ). cond (eqb x i) (makes c v) (v x)) q ∙ ap (λ (b : Bool). cond b (makes c v) (v i)) (eq-eqb i i refl) in
+        let e = ap (λ (x : ℕ). cond (eqb x i) (makes c v) (v x)) q
+        ∙ ap (λ (b : Bool). cond b (makes c v) (v i)) (eq-eqb i i refl) in
         omega (arith, ap measure e, adds c v)
     measured (d ∷ cs) c i v w o none =
         let t = makes c v in
         let u : ℕ → A = λ x. cond (eqb x i) (makes c v) (v x) in
         let q : suc i + length cs ≡ i + suc (length cs) = omega arith in
-        let rest = measured cs d (suc i) u (w .2) (later-once c (d ∷ cs) i w o) (λ s h. ap (λ (b : Bool). measure (cond b t (v s))) (ne-eqb s i (λ e. omega arith)) ∙ none s (omega arith)) in
+        let rest = measured cs d (suc i) u (w .2) (later-once c (d ∷ cs) i w o)
+        (λ s h. ap (λ (b : Bool). measure (cond b t (v s))) (ne-eqb s i (λ e. omega arith)) ∙ none s (omega arith))
+        in
         omega (
           arith,
           rest,
@@ -86,11 +111,16 @@ module _ (K : ℕ) where
           mul-suc k (1 + length cs),
         )
       where
-        one : (s : ℕ) (b : Bool) → eqb s i ≡ b → measure (cond b (makes c v) (v s)) ≡ measure (v s) + val (eqb i s) * measure (makes c v)
+        one : (s : ℕ) (b : Bool) → eqb s i ≡ b → measure (cond b (makes c v) (v s)) ≡ measure (v s)
+            + val (eqb i s) * measure (makes c v)
         one s true q =
             let e = eqb-true s i q in
             omega (arith, none s (omega arith), ap (λ (b : Bool). val b * measure (makes c v)) (eq-eqb i s (sym e)))
-        one s false q = omega (arith, ap (λ (b : Bool). val b * measure (makes c v)) (ne-eqb i s (λ e. eqb-false s i q (sym e))))
+        one s false q = omega (
+          arith,
+          ap (λ (b : Bool). val b * measure (makes c v))
+              (ne-eqb i s (λ e. eqb-false s i q (sym e))),
+        )
 
 -- ---- the text of one cell
 
@@ -107,9 +137,16 @@ two-short : (t : ℕ) (l r : List ℕ) → length (twoText t l r) ≤ 5 + (lengt
 two-short t l r =
     let a = flippedText (flipsLow t) l in
     let b = flippedText (flipsHigh t) r in
-    omega (arith, length-append a (markOf t ∷ (b ++ (41 ∷ []))), length-append b (41 ∷ []), flip-short (flipsLow t) l, flip-short (flipsHigh t) r)
+    omega (
+      arith,
+      length-append a (markOf t ∷ (b ++ (41 ∷ []))),
+      length-append b (41 ∷ []),
+      flip-short (flipsLow t) l,
+      flip-short (flipsHigh t) r,
+    )
 
-sides-short : (l : List ℕ) (t : ℕ) (v : ℕ → List ℕ) → length (bySides [] oneText twoText l t v) ≤ 5 + weighed (λ s. length (v s)) l
+sides-short : (l : List ℕ) (t : ℕ) (v : ℕ → List ℕ) → length (bySides [] oneText twoText l t v) ≤ 5
+    + weighed (λ s. length (v s)) l
 sides-short [] t v = omega arith
 sides-short (a ∷ []) t v = omega (arith, one-short (eqb t 0) (eqb t 3) (eqb t 1) (v a))
 sides-short (a ∷ b ∷ l) t v = omega (arith, two-short t (v a) (v b))
@@ -129,7 +166,8 @@ read-short n [] p = omega arith
 read-short n (c ∷ cs) p = omega (arith, letters-short n (c .signals), p .0 .few, read-short n cs (p .1))
 
 -- seven bytes a cell
-pub text-short : (n K : ℕ) (cs : List Cell) → 1 ≤ length cs → Wired K n cs → Printable n cs → length (printed n cs (n + (length cs - 1))) ≤ 7 * length cs
+pub text-short : (n K : ℕ) (cs : List Cell) → 1 ≤ length cs → Wired K n cs → Printable n cs
+    → length (printed n cs (n + (length cs - 1))) ≤ 7 * length cs
 unfolding printed
 text-short n K [] some w p = absurd (omega arith)
 text-short n K (c ∷ cs) some w p =

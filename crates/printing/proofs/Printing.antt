@@ -48,8 +48,10 @@ module _ (c : Cell) (fits : c .table < 2 ^ (2 ^ length (c .signals))) where
       two : (length (c .signals) ≡ 2) → 0 < markOf (c .table) → Plain c
       two q m = record { some = omega arith; few = omega arith; both = λ r. mark-depends (c .table) (small q) m }
 
-      go : (b : Bool) → eqb (length (c .signals)) 1 ≡ b → (b || (eqb (length (c .signals)) 2 && ltb 0 (markOf (c .table)))) ≡ true → Plain c
-      go true q h = let e = eqb-true (length (c .signals)) 1 q in record { some = omega arith; few = omega arith; both = λ r. absurd (omega arith) }
+      go : (b : Bool) → eqb (length (c .signals)) 1 ≡ b
+          → (b || (eqb (length (c .signals)) 2 && ltb 0 (markOf (c .table)))) ≡ true → Plain c
+      go true q h = let e = eqb-true (length (c .signals)) 1 q
+          in record { some = omega arith; few = omega arith; both = λ r. absurd (omega arith) }
       go false q h =
           two (eqb-true (length (c .signals)) 2 (and-left (eqb (length (c .signals)) 2) (ltb 0 (markOf (c .table))) h))
           (ltb-true 0 (markOf (c .table)) (and-right (eqb (length (c .signals)) 2) (ltb 0 (markOf (c .table))) h))
@@ -57,25 +59,30 @@ module _ (c : Cell) (fits : c .table < 2 ^ (2 ^ length (c .signals))) where
   is-plain : Plain c → plainCell c ≡ true
   is-plain p = go (eqb (length (c .signals)) 1) refl
     where
-      go : (b : Bool) → eqb (length (c .signals)) 1 ≡ b → (b || (eqb (length (c .signals)) 2 && ltb 0 (markOf (c .table)))) ≡ true
+      go : (b : Bool) → eqb (length (c .signals)) 1 ≡ b
+          → (b || (eqb (length (c .signals)) 2 && ltb 0 (markOf (c .table)))) ≡ true
       go true q = refl
       go false q =
           let n = eqb-false (length (c .signals)) 1 q in
           let e : length (c .signals) ≡ 2 = omega (arith, p .some, p .few) in
-          ap₂ (λ (a b : Bool). a && b) (eq-eqb (length (c .signals)) 2 e) (lt-ltb 0 (markOf (c .table)) (depends-mark (c .table) (small e) (p .both e)))
+          ap₂ (λ (a b : Bool). a && b) (eq-eqb (length (c .signals)) 2 e)
+          (lt-ltb 0 (markOf (c .table)) (depends-mark (c .table) (small e) (p .both e)))
 
 module _ (e : Edition) (s : List ℕ) where
   pub plain-all : (m i : ℕ) → allPlain (cellsFrom e s i m) ≡ true → AllPlain (cellsFrom e s i m)
   unfolding cellsFrom
   plain-all zero i h = tt
   plain-all (suc m) i h =
-      let c = cellOf e (recordAt e s i) in
-      (plain-is c (table-lt e (recordAt e s i)) (and-left (plainCell c) (allPlain (cellsFrom e s (suc i) m)) h), plain-all m (suc i) (and-right (plainCell c) (allPlain (cellsFrom e s (suc i) m)) h))
+      let c = cellOf e (recordAt e s i) in (
+        plain-is c (table-lt e (recordAt e s i)) (and-left (plainCell c) (allPlain (cellsFrom e s (suc i) m)) h),
+        plain-all m (suc i) (and-right (plainCell c) (allPlain (cellsFrom e s (suc i) m)) h),
+      )
 
   all-plain : (m i : ℕ) → AllPlain (cellsFrom e s i m) → allPlain (cellsFrom e s i m) ≡ true
   unfolding cellsFrom
   all-plain zero i p = refl
-  all-plain (suc m) i p = ap₂ (λ (a b : Bool). a && b) (is-plain (cellOf e (recordAt e s i)) (table-lt e (recordAt e s i)) (p .0)) (all-plain m (suc i) (p .1))
+  all-plain (suc m) i p = ap₂ (λ (a b : Bool). a && b)
+      (is-plain (cellOf e (recordAt e s i)) (table-lt e (recordAt e s i)) (p .0)) (all-plain m (suc i) (p .1))
 
   formed : (m i : ℕ) → AllPlain (cellsFrom e s i m) → Each Formed (cellsFrom e s i m)
   unfolding cellsFrom
@@ -83,10 +90,12 @@ module _ (e : Edition) (s : List ℕ) where
   formed (suc m) i p = (record { plain = p .0; table = table-lt e (recordAt e s i) }, formed m (suc i) (p .1))
 
 once-is : (n : ℕ) (cs : List Cell) → onceRead n cs ≡ true → (i : ℕ) → i + 1 < length cs → reads (n + i) cs ≡ 1
-once-is n cs h i l = eqb-true (reads (n + i) cs) 1 (every-at (length cs - 1) (λ i. eqb (reads (n + i) cs) 1) h i (omega arith))
+once-is n cs h i l = eqb-true (reads (n + i) cs) 1
+    (every-at (length cs - 1) (λ i. eqb (reads (n + i) cs) 1) h i (omega arith))
 
 is-once : (n : ℕ) (cs : List Cell) → ((i : ℕ) → i + 1 < length cs → reads (n + i) cs ≡ 1) → onceRead n cs ≡ true
-is-once n cs h = every-all (length cs - 1) (λ i. eqb (reads (n + i) cs) 1) (λ i l. eq-eqb (reads (n + i) cs) 1 (h i (omega arith)))
+is-once n cs h = every-all (length cs - 1) (λ i. eqb (reads (n + i) cs) 1)
+    (λ i l. eq-eqb (reads (n + i) cs) 1 (h i (omega arith)))
 
 module _ (e : Edition) (n : ℕ) (s : List ℕ) where
   abbrev cells : List Cell
@@ -96,7 +105,10 @@ module _ (e : Edition) (n : ℕ) (s : List ℕ) where
   pub printed-exactly : (notPrinted e n s .holds ≡ false) ↔ Printable n cells
   printed-exactly = (
     λ h. let b = not-false (allPlain cells && onceRead n cells) h in
-        record { plain = plain-all e s (records e s) 0 (and-left (allPlain cells) (onceRead n cells) b); once = once-is n cells (and-right (allPlain cells) (onceRead n cells) b) },
+        record {
+          plain = plain-all e s (records e s) 0 (and-left (allPlain cells) (onceRead n cells) b);
+          once = once-is n cells (and-right (allPlain cells) (onceRead n cells) b);
+        },
     λ p. ap₂ (λ (a b : Bool). not (a && b)) (all-plain e s (records e s) 0 (p .plain)) (is-once n cells (p .once)),
   )
 
@@ -111,7 +123,8 @@ pub record Sound (e : Edition) (n : ℕ) (s room : List ℕ) : Type 0 where
   pub good : Good e desk n s (records e s)
   pub printable : Printable n (sheetCells e s (records e s))
 
-pub sound : (e : Edition) (d n : ℕ) (s room : List ℕ) → IsEdition e → InOrder (writeLines e d n s room) → Sound e n s room
+pub sound : (e : Edition) (d n : ℕ) (s room : List ℕ) → IsEdition e → InOrder (writeLines e d n s room)
+    → Sound e n s room
 sound e d n s room o w =
     let i = inside 1 n mostInputs (w .0) in
     record {
@@ -139,12 +152,25 @@ module _ {e : Edition} {n : ℕ} {s room : List ℕ} (k : Sound e n s room) wher
 
   pub short : length (sheetText e n s) ≤ 105
   short =
-      omega (arith, text-short n (e .most) (sheetCells e s m) (omega (arith, many, k .good .some)) wired (k .printable), ap (λ (x : ℕ). length (printed n (sheetCells e s m) x)) last, many, k .good .most)
+      omega (
+        arith,
+        text-short n (e .most) (sheetCells e s m) (omega (arith, many, k .good .some)) wired (k .printable),
+        ap (λ (x : ℕ). length (printed n (sheetCells e s m) x)) last,
+        many,
+        k .good .most,
+      )
 
   -- the last record's signal has room
   pub ready : Room e n s (n + (m - 1)) false room 0
   ready = record {
-    sheet = record { sound = k .sound; inputs = k .inputs; most = k .good .most; long = omega (arith, k .good .whole); wired = wired; plain = k .printable .plain };
+    sheet = record {
+      sound = k .sound;
+      inputs = k .inputs;
+      most = k .good .most;
+      long = omega (arith, k .good .whole);
+      wired = wired;
+      plain = k .printable .plain;
+    };
     signal = omega (arith, k .good .some);
     fits = omega (arith, short, k .long);
   }
@@ -163,11 +189,13 @@ module _ {e : Edition} {n : ℕ} {s room : List ℕ} (k : Sound e n s room) wher
   pub reads-back : ReadAs n (sheetText e n s) (formulaOf n (sheetCells e s m) (n + (m - 1)))
   reads-back = record {
     short = omega (arith, short);
-    stands = rw (sym last) (text-formula n (e .most) (sheetCells e s m) wired (formed e s m 0 (k .printable .plain)) (omega (arith, many, k .good .some)) (omega (arith, many, k .good .most)));
+    stands = rw (sym last) (text-formula n (e .most) (sheetCells e s m) wired (formed e s m 0 (k .printable .plain))
+        (omega (arith, many, k .good .some)) (omega (arith, many, k .good .most)));
   }
 
   pub worth : (x : ℕ) → value (formulaOf n (sheetCells e s m) (n + (m - 1))) x ≡ sheetBit e n s m x
   unfolding sheetBit
   worth x =
       ap (λ (j : ℕ). value (formulaOf n (sheetCells e s m) j) x) (sym last)
-      ∙ formula-runs n (e .most) (sheetCells e s m) wired (formed e s m 0 (k .printable .plain)) (omega (arith, many, k .good .some)) x
+      ∙ formula-runs n (e .most) (sheetCells e s m) wired (formed e s m 0 (k .printable .plain))
+      (omega (arith, many, k .good .some)) x

@@ -1,4 +1,5 @@
--- The inspecting program writes the answer number, a space and the place over the beginning of its room. Assumes nothing.
+-- The inspecting program writes the answer number, a space and the place over the beginning of its room. Assumes
+-- nothing.
 use mathlib.Core.Path.{_≡_, refl, sym, ap, ap₂, _∙_, subst}
 use mathlib.Core.Bool.{Bool, false, cond}
 use mathlib.Core.List.{List, [], _∷_, _++_, append-nil, append-assoc}
@@ -21,7 +22,8 @@ use Rattle.refusals.proofs.Lines.{here, decides}
 use Rattle.refusals.proofs.Tests.{over as outside}
 use Rattle.programs.proofs.BenchProgram.{rest}
 use Rattle.inspection.specs.CheckSheet.{checkLines, checkOutcome, checkOwn}
-use Rattle.programs.specs.InspectProgram.{digits, decimal, inspected, shown, written, mostWritten, ProgramOutcome, programOutcome}
+use Rattle.programs.specs.InspectProgram.{digits, decimal, inspected, shown, written, mostWritten}
+use Rattle.programs.specs.InspectProgram.{ProgramOutcome, programOutcome}
 
 -- ---- a number's digits
 
@@ -34,7 +36,8 @@ unfolding step
 same-digits zero j x h g = absurd (not-suc-le-zero h)
 same-digits (suc k) zero x h g = absurd (not-suc-le-zero g)
 same-digits (suc k) (suc j) x h g = elim (decLt x 10) [
-  | yes l ↦ ap (λ (t : Bool). step t x (digits k (x / 10))) (lt-ltb x 10 l) ∙ sym (ap (λ (t : Bool). step t x (digits j (x / 10))) (lt-ltb x 10 l))
+  | yes l ↦ ap (λ (t : Bool). step t x (digits k (x / 10))) (lt-ltb x 10 l)
+      ∙ sym (ap (λ (t : Bool). step t x (digits j (x / 10))) (lt-ltb x 10 l))
   | no l ↦ ap (step (ltb x 10) x) (same-digits k j (x / 10) (omega arith) (omega arith))
 ]
 
@@ -47,7 +50,8 @@ one-digit x h =
 pub more-digits : (x : ℕ) → 10 ≤ x → decimal x ≡ decimal (x / 10) ++ ((48 + x % 10) ∷ [])
 unfolding decimal step
 more-digits x h =
-    ap (λ (t : Bool). step t x (digits x (x / 10))) (le-ltb x 10 h) ∙ ap (step false x) (same-digits x (suc (x / 10)) (x / 10) (omega arith) (omega arith))
+    ap (λ (t : Bool). step t x (digits x (x / 10))) (le-ltb x 10 h)
+    ∙ ap (step false x) (same-digits x (suc (x / 10)) (x / 10) (omega arith) (omega arith))
 
 -- a number below 10 ^ (b + 1) has at most b + 1 digits
 few-digits : (b k x : ℕ) → x < 10 ^ suc b → length (digits k x) ≤ suc b
@@ -59,7 +63,8 @@ few-digits b (suc k) x h = elim (decLt x 10) [
       (more b h (λ a. few-digits a k (x / 10)) l)
 ]
   where
-    more : (b : ℕ) → x < 10 ^ suc b → ((a : ℕ) → x / 10 < 10 ^ suc a → length (digits k (x / 10)) ≤ suc a) → (x < 10 → ⊥)
+    more : (b : ℕ) → x < 10 ^ suc b → ((a : ℕ) → x / 10 < 10 ^ suc a → length (digits k (x / 10)) ≤ suc a)
+        → (x < 10 → ⊥)
         → length (digits k (x / 10) ++ ((48 + x % 10) ∷ [])) ≤ suc b
     more zero h ih l = absurd (l h)
     more (suc b) h ih l =
@@ -90,10 +95,12 @@ same-room d o h = omega (arith, length-append d (drop (length d) o), length-drop
 abbrev pub Written : ℕ → List ℕ → List ℕ → ℕ → Type 0
 Written x o left r = (r ≡ length (decimal x)) × (left ≡ over (decimal x) o)
 
-pub last-digit : (x : ℕ) (o : List ℕ) → x < 10 → length (decimal x) ≤ length o → (0 < length o) × Written x o (set o 0 (48 + x)) 1
+pub last-digit : (x : ℕ) (o : List ℕ) → x < 10 → length (decimal x) ≤ length o → (0 < length o)
+    × Written x o (set o 0 (48 + x)) 1
 last-digit x o h f = go (decimal x) (one-digit x h) f
   where
-    go : (d : List ℕ) → d ≡ (48 + x) ∷ [] → length d ≤ length o → (0 < length o) × ((1 ≡ length d) × (set o 0 (48 + x) ≡ over d o))
+    go : (d : List ℕ) → d ≡ (48 + x) ∷ [] → length d ≤ length o → (0 < length o)
+        × ((1 ≡ length d) × (set o 0 (48 + x) ≡ over d o))
     go d q f =
         let l : length d ≡ 1 = ap length q in
         (omega arith, (sym l, one-more [] o (48 + x) (omega arith) ∙ ap (λ (d : List ℕ). over d o) (sym q)))
@@ -102,7 +109,8 @@ last-digit x o h f = go (decimal x) (one-digit x h) f
 pub one-longer : (x : ℕ) → 10 ≤ x → length (decimal x) ≡ length (decimal (x / 10)) + 1
 one-longer x h = ap length (more-digits x h) ∙ length-append (decimal (x / 10)) ((48 + x % 10) ∷ [])
 
-module _ (x : ℕ) (o left : List ℕ) (r : ℕ) (many : 10 ≤ x) (fit : length (decimal x) ≤ length o) (w : Written (x / 10) o left r) where
+module _ (x : ℕ) (o left : List ℕ) (r : ℕ) (many : 10 ≤ x) (fit : length (decimal x) ≤ length o)
+    (w : Written (x / 10) o left r) where
   kept : length left ≡ length o
   kept = ap length (w .1) ∙ same-room (decimal (x / 10)) o (omega (arith, one-longer x many))
 
@@ -125,7 +133,8 @@ module _ (x : ℕ) (o left : List ℕ) (r : ℕ) (many : 10 ≤ x) (fit : length
 -- where n is too large, that alone decides
 too-many : (n : ℕ) (t s : List ℕ) → mostInputs < n → Refused (refusal 1 0) ≡ checkOwn firstEdition n t s
 unfolding checkOutcome
-too-many n t s h = decides (checkLines firstEdition (deskOf firstEdition s) n t s) (here (outside 1 n mostInputs (omega arith) ∙ lt-ltb mostInputs n h))
+too-many n t s h = decides (checkLines firstEdition (deskOf firstEdition s) n t s)
+    (here (outside 1 n mostInputs (omega arith) ∙ lt-ltb mostInputs n h))
 
 module _ (input : List ℕ) (n start bytes end : ℕ) where
   abbrev behind : List ℕ
@@ -137,7 +146,8 @@ module _ (input : List ℕ) (n start bytes end : ℕ) where
   unfolding inspected
   parted p q b t s = elim (decLt mostInputs n) [
     | yes l ↦ sym (too-many n _ _ l) ∙ too-many n _ _ l ∙ ap whole p
-    | no l ↦ ap₂ (checkOwn firstEdition n) (t ∙ ap₂ take (b (omega arith)) from) (rest end behind ∙ s ∙ ap₂ drop (b (omega arith)) from) ∙ ap whole p
+    | no l ↦ ap₂ (checkOwn firstEdition n) (t ∙ ap₂ take (b (omega arith)) from)
+        (rest end behind ∙ s ∙ ap₂ drop (b (omega arith)) from) ∙ ap whole p
   ]
     where
       whole : ℕ → Verdict
@@ -159,7 +169,8 @@ lent : (a : ℕ) (left d p o ys : List ℕ) → a ≡ length d → left ≡ over
 lent a left d p o ys q r h w =
     let tail : drop a left ≡ drop (length d) o = ap₂ drop q r ∙ drop-append-seam d (drop (length d) o) in
     ap₂ (λ (f b : List ℕ). f ++ b) (ap₂ take q r ∙ take-append-seam d (drop (length d) o))
-    (ap (λ (b : List ℕ). ys ++ b) (drop-of-length-le (drop a left) {i = length left - a} (omega (arith, length-drop a left)))
+    (ap (λ (b : List ℕ). ys ++ b) (drop-of-length-le (drop a left) {i = length left - a}
+    (omega (arith, length-drop a left)))
     ∙ append-nil ys ∙ w ∙ ap (over p) (rest a left ∙ tail))
     ∙ over-twice d p o h
 
@@ -179,12 +190,21 @@ module _ (room : List ℕ) (x : ℕ) (long : length room ≡ mostWritten) (small
 
     pub place-fits : (y : ℕ) → y < 2 ^ 64 → length (decimal y) ≤ length (midOf (r + 1) (length spaced - (r + 1)) spaced)
     place-fits y wide =
-        omega (arith, at-most 19 y (omega arith), ap length (rest (r + 1) spaced), length-drop (r + 1) spaced, length-set left r 32, behind-number .0, behind-number .1)
+        omega (
+          arith,
+          at-most 19 y (omega arith),
+          ap length (rest (r + 1) spaced),
+          length-drop (r + 1) spaced,
+          length-set left r 32,
+          behind-number .0,
+          behind-number .1,
+        )
 
     pub answered : (input : List ℕ) (v : Verdict) (y place : ℕ) (ys : List ℕ) → room ≡ replicate mostWritten 0
         → v ≡ inspected input → x ≡ numberOf v → y ≡ placeOf v
         → Written y (midOf (r + 1) (length spaced - (r + 1)) spaced) ys place
-        → record { count = r + 1 + place; out = putMid (r + 1) (length spaced - (r + 1)) spaced ys } ≡ programOutcome input
+        → record { count = r + 1 + place; out = putMid (r + 1) (length spaced - (r + 1)) spaced ys }
+        ≡ programOutcome input
     answered input v y place ys zeros asked number named second =
         let d = decimal x ++ (32 ∷ []) in
         let l : length d ≡ length (decimal x) + 1 = length-append (decimal x) (32 ∷ []) in
@@ -197,11 +217,14 @@ module _ (room : List ℕ) (x : ℕ) (long : length room ≡ mostWritten) (small
         ap₂ (λ (k : ℕ) (o : List ℕ). record { count = k; out = o }) count out
         ∙ ap (λ (o : List ℕ). record { count = length (d ++ decimal y); out = over (d ++ decimal y) o }) zeros
         ∙ ap (λ (t : List ℕ). record { count = length t; out = over t (replicate mostWritten 0) })
-        (append-assoc (decimal x) (32 ∷ []) (decimal y) ∙ ap₂ (λ (i j : ℕ). decimal i ++ (32 ∷ decimal j)) number named ∙ ap shown asked)
+        (append-assoc (decimal x) (32 ∷ []) (decimal y) ∙ ap₂ (λ (i j : ℕ). decimal i ++ (32 ∷ decimal j)) number named
+        ∙ ap shown asked)
 
 -- what is to be written stands in the room handed over
-pub within : {count : ℕ} {out : List ℕ} (input : List ℕ) → record { count = count; out = out } ≡ programOutcome input → count ≤ length out
-within input q = subst (λ (o : ProgramOutcome). o .count ≤ length (o .out)) (sym q) (front (written input) (replicate mostWritten 0))
+pub within : {count : ℕ} {out : List ℕ} (input : List ℕ) → record { count = count; out = out } ≡ programOutcome input
+    → count ≤ length out
+within input q = subst (λ (o : ProgramOutcome). o .count ≤ length (o .out)) (sym q)
+    (front (written input) (replicate mostWritten 0))
   where
     front : (d o : List ℕ) → length d ≤ length (over d o)
     front d o = omega (arith, length-append d (drop (length d) o))

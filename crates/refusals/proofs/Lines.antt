@@ -1,4 +1,5 @@
--- A number is given exactly when its line holds and no earlier line does; 0 is given exactly when no line holds. Assumes nothing.
+-- A number is given exactly when its line holds and no earlier line does; 0 is given exactly when no line holds.
+-- Assumes nothing.
 use mathlib.Core.Path.{_≡_, refl, sym, ap, _∙_}
 use mathlib.Core.Logic.{_↔_}
 use mathlib.Core.Bool.{Bool, true, false, cond, not, _&&_, _||_}
@@ -40,7 +41,8 @@ unfolding pick
 stops [] ms r e = absurd (not-fine r e)
 stops (l ∷ ls) ms r e = go (l .holds) e (stops ls ms r)
   where
-    go : (t : Bool) → pick l (verdict ls) t ≡ Refused r → (verdict ls ≡ Refused r → verdict (ls ++ ms) ≡ Refused r) → pick l (verdict (ls ++ ms)) t ≡ Refused r
+    go : (t : Bool) → pick l (verdict ls) t ≡ Refused r → (verdict ls ≡ Refused r → verdict (ls ++ ms) ≡ Refused r)
+        → pick l (verdict (ls ++ ms)) t ≡ Refused r
     go true q ih = q
     go false q ih = ih q
 
@@ -63,11 +65,13 @@ in-order (l ∷ ls) e = go (l .holds) refl e (in-order ls)
 -- a call whose first lines are looked at before the others: what it returns and leaves
 module _ {A : Type 0} (ls ms : List Line) (done : A) (refused : Refusal → A) where
   -- those refuse
-  pub refused-by : (v : Verdict) (r : Refusal) → v ≡ verdict ls → v ≡ Refused r → refused r ≡ reply (verdict (ls ++ ms)) done refused
+  pub refused-by : (v : Verdict) (r : Refusal) → v ≡ verdict ls → v ≡ Refused r → refused r
+      ≡ reply (verdict (ls ++ ms)) done refused
   refused-by v r q e = ap (λ (u : Verdict). reply u done refused) (sym (stops ls ms r (sym q ∙ e)))
 
   -- those are in order
-  pub left-to : (v : Verdict) → v ≡ verdict ls → v ≡ Fine → reply (verdict ms) done refused ≡ reply (verdict (ls ++ ms)) done refused
+  pub left-to : (v : Verdict) → v ≡ verdict ls → v ≡ Fine → reply (verdict ms) done refused
+      ≡ reply (verdict (ls ++ ms)) done refused
   left-to v q e = ap (λ (u : Verdict). reply u done refused) (sym (passes ls ms (in-order ls (sym q ∙ e))))
 
 -- ---- the same step by step, as the code goes: each line before the first that holds is passed over
@@ -104,8 +108,15 @@ given-there (l ∷ ls) k some e = go (l .holds) refl e (given-there ls k some)
     before g h zero m = h
     before g h (suc j) m = g .earlier j (omega arith)
 
-    go : (t : Bool) → l .holds ≡ t → numberOf (pick l (verdict ls) t) ≡ k → (numberOf (verdict ls) ≡ k → Given k ls) → Given k (l ∷ ls)
-    go true h q ih = record { at = 0; within = omega arith; number = q; holds = h; earlier = λ j m. absurd (not-suc-le-zero m) }
+    go : (t : Bool) → l .holds ≡ t → numberOf (pick l (verdict ls) t) ≡ k → (numberOf (verdict ls) ≡ k → Given k ls)
+        → Given k (l ∷ ls)
+    go true h q ih = record {
+      at = 0;
+      within = omega arith;
+      number = q;
+      holds = h;
+      earlier = λ j m. absurd (not-suc-le-zero m);
+    }
     go false h q ih = let g = ih q in record {
       at = suc (g .at);
       within = omega (arith, g .within);
@@ -120,7 +131,8 @@ there-given [] k g = absurd (not-suc-le-zero (g .within))
 there-given (l ∷ ls) k g = go (g .at) (g .within) (g .number) (g .holds) (g .earlier) (there-given ls k)
   where
     go : (i : ℕ) → i < suc (length ls) → lineAt (l ∷ ls) i .gives .number ≡ k → lineAt (l ∷ ls) i .holds ≡ true
-        → ((j : ℕ) → j < i → lineAt (l ∷ ls) j .holds ≡ false) → (Given k ls → numberOf (verdict ls) ≡ k) → numberOf (pick l (verdict ls) (l .holds)) ≡ k
+        → ((j : ℕ) → j < i → lineAt (l ∷ ls) j .holds ≡ false) → (Given k ls → numberOf (verdict ls) ≡ k)
+        → numberOf (pick l (verdict ls) (l .holds)) ≡ k
     go zero w n h e ih = ap (λ (t : Bool). numberOf (pick l (verdict ls) t)) h ∙ n
     go (suc i) w n h e ih =
         ap (λ (t : Bool). numberOf (pick l (verdict ls) t)) (e 0 (omega arith))
@@ -137,14 +149,18 @@ others k [] = true
 others k (l ∷ ls) = not (eqb (l .gives .number) k) && others k ls
 
 -- lines of other numbers don't give k: then they are in order, and those that follow give it
-pub passed : (ls ms : List Line) (k : ℕ) → others k ls ≡ true → numberOf (verdict (ls ++ ms)) ≡ k → InOrder ls × (numberOf (verdict ms) ≡ k)
+pub passed : (ls ms : List Line) (k : ℕ) → others k ls ≡ true → numberOf (verdict (ls ++ ms)) ≡ k → InOrder ls
+    × (numberOf (verdict ms) ≡ k)
 unfolding pick
 passed [] ms k o e = (tt, e)
-passed (l ∷ ls) ms k o e = go (l .holds) refl e (passed ls ms k (and-right (not (eqb (l .gives .number) k)) (others k ls) o))
+passed (l ∷ ls) ms k o e = go (l .holds) refl e
+    (passed ls ms k (and-right (not (eqb (l .gives .number) k)) (others k ls) o))
   where
-    go : (t : Bool) → l .holds ≡ t → numberOf (pick l (verdict (ls ++ ms)) t) ≡ k → (numberOf (verdict (ls ++ ms)) ≡ k → InOrder ls × (numberOf (verdict ms) ≡ k))
+    go : (t : Bool) → l .holds ≡ t → numberOf (pick l (verdict (ls ++ ms)) t) ≡ k
+        → (numberOf (verdict (ls ++ ms)) ≡ k → InOrder ls × (numberOf (verdict ms) ≡ k))
         → InOrder (l ∷ ls) × (numberOf (verdict ms) ≡ k)
-    go true h q ih = absurd (eqb-false (l .gives .number) k (not-true (eqb (l .gives .number) k) (and-left (not (eqb (l .gives .number) k)) (others k ls) o)) q)
+    go true h q ih = absurd (eqb-false (l .gives .number) k
+        (not-true (eqb (l .gives .number) k) (and-left (not (eqb (l .gives .number) k)) (others k ls) o)) q)
     go false h q ih = let r = ih q in ((h, r .0), r .1)
 
 -- lines of other numbers don't refuse by k
@@ -158,17 +174,20 @@ abbrev pub all-numbers : (ℕ → Bool) → List Line → Bool
 all-numbers p [] = true
 all-numbers p (l ∷ ls) = p (l .gives .number) && all-numbers p ls
 
-pub a-number : (p : ℕ → Bool) (ls : List Line) (r : Refusal) → all-numbers p ls ≡ true → verdict ls ≡ Refused r → p (r .number) ≡ true
+pub a-number : (p : ℕ → Bool) (ls : List Line) (r : Refusal) → all-numbers p ls ≡ true → verdict ls ≡ Refused r
+    → p (r .number) ≡ true
 unfolding pick
 a-number p [] r o e = absurd (not-fine r e)
 a-number p (l ∷ ls) r o e = go (l .holds) e (a-number p ls r (and-right (p (l .gives .number)) (all-numbers p ls) o))
   where
-    go : (t : Bool) → pick l (verdict ls) t ≡ Refused r → (verdict ls ≡ Refused r → p (r .number) ≡ true) → p (r .number) ≡ true
+    go : (t : Bool) → pick l (verdict ls) t ≡ Refused r → (verdict ls ≡ Refused r → p (r .number) ≡ true)
+        → p (r .number) ≡ true
     go true q ih = ap (λ (v : Verdict). p (numberOf v)) (sym q) ∙ and-left (p (l .gives .number)) (all-numbers p ls) o
     go false q ih = ih q
 
 -- a number that one line alone has is given by that line, which holds
-pub held : (ls : List Line) (l : Line) (ms : List Line) (k : ℕ) → others k ls ≡ true → others k ms ≡ true → (k ≡ 0 → ⊥) → numberOf (verdict (ls ++ (l ∷ ms))) ≡ k
+pub held : (ls : List Line) (l : Line) (ms : List Line) (k : ℕ) → others k ls ≡ true → others k ms ≡ true → (k ≡ 0 → ⊥)
+    → numberOf (verdict (ls ++ (l ∷ ms))) ≡ k
     → (l .holds ≡ true) × (verdict (ls ++ (l ∷ ms)) ≡ Refused (l .gives))
 unfolding pick
 held ls l ms k o p some e = go (l .holds) refl (w .1)
@@ -176,24 +195,30 @@ held ls l ms k o p some e = go (l .holds) refl (w .1)
     w : InOrder ls × (numberOf (verdict (l ∷ ms)) ≡ k)
     w = passed ls (l ∷ ms) k o e
 
-    go : (t : Bool) → l .holds ≡ t → numberOf (pick l (verdict ms) t) ≡ k → (l .holds ≡ true) × (verdict (ls ++ (l ∷ ms)) ≡ Refused (l .gives))
+    go : (t : Bool) → l .holds ≡ t → numberOf (pick l (verdict ms) t) ≡ k → (l .holds ≡ true)
+        × (verdict (ls ++ (l ∷ ms)) ≡ Refused (l .gives))
     go true h q = (h, passes ls (l ∷ ms) (w .0) ∙ ap (pick l (verdict ms)) h)
-    go false h q = absurd (some (sym (passed ms [] k p (ap (λ (m : List Line). numberOf (verdict m)) (append-nil ms) ∙ q) .1)))
+    go false h q = absurd (some (sym (passed ms [] k p
+        (ap (λ (m : List Line). numberOf (verdict m)) (append-nil ms) ∙ q) .1)))
 
 -- the lines whose number passes the test name something; the others name nothing
 abbrev pub naming-only : (ℕ → Bool) → List Line → Bool
 naming-only p [] = true
 naming-only p (l ∷ ls) = (p (l .gives .number) || eqb (l .gives .place) 0) && naming-only p ls
 
-pub names-nothing : (p : ℕ → Bool) (ls : List Line) → naming-only p ls ≡ true → p (numberOf (verdict ls)) ≡ false → placeOf (verdict ls) ≡ 0
+pub names-nothing : (p : ℕ → Bool) (ls : List Line) → naming-only p ls ≡ true → p (numberOf (verdict ls)) ≡ false
+    → placeOf (verdict ls) ≡ 0
 unfolding pick
 names-nothing p [] o h = refl
-names-nothing p (l ∷ ls) o h = go (l .holds) h (names-nothing p ls (and-right (p (l .gives .number) || eqb (l .gives .place) 0) (naming-only p ls) o))
+names-nothing p (l ∷ ls) o h = go (l .holds) h
+    (names-nothing p ls (and-right (p (l .gives .number) || eqb (l .gives .place) 0) (naming-only p ls) o))
   where
-    go : (t : Bool) → p (numberOf (pick l (verdict ls) t)) ≡ false → (p (numberOf (verdict ls)) ≡ false → placeOf (verdict ls) ≡ 0) → placeOf (pick l (verdict ls) t) ≡ 0
+    go : (t : Bool) → p (numberOf (pick l (verdict ls) t)) ≡ false
+        → (p (numberOf (verdict ls)) ≡ false → placeOf (verdict ls) ≡ 0) → placeOf (pick l (verdict ls) t) ≡ 0
     go true q ih =
         eqb-true (l .gives .place) 0
-        (sym (ap (λ (t : Bool). t || eqb (l .gives .place) 0) q) ∙ and-left (p (l .gives .number) || eqb (l .gives .place) 0) (naming-only p ls) o)
+        (sym (ap (λ (t : Bool). t || eqb (l .gives .place) 0) q)
+        ∙ and-left (p (l .gives .number) || eqb (l .gives .place) 0) (naming-only p ls) o)
     go false q ih = ih q
 
 -- no line has the number 0, so 0 is given exactly when no line holds

@@ -45,7 +45,8 @@ right-table n t h = eqb-true (length t) (tableLength n) (not-false (eqb (length 
 pub spare-line : (n : ℕ) (t : List ℕ) → (ltb n 3 && not (spareClear n t)) ≡ not (spareClear n t)
 spare-line n t = elim (decLt n 3) [
   | yes l ↦ ap (λ (b : Bool). b && not (spareClear n t)) (lt-ltb n 3 l)
-  | no l ↦ ap₂ (λ (b c : Bool). b && not c) (le-ltb n 3 (omega arith)) (spare-none n t (omega arith)) ∙ ap not (sym (spare-none n t (omega arith)))
+  | no l ↦ ap₂ (λ (b c : Bool). b && not c) (le-ltb n 3 (omega arith)) (spare-none n t (omega arith))
+      ∙ ap not (sym (spare-none n t (omega arith)))
 ]
 
 -- ---- what lines 1 to 4 let through
@@ -69,6 +70,8 @@ sound e n K t s = let p = inside 1 n mostInputs (s .0) in let q = inside 2 K (e 
 }
 
 -- with the lines that follow them, as a look at both comes to v
-pub sound-before : (e : Edition) (n K : ℕ) (t : List ℕ) (ms : List Line) (v : Verdict) → v ≡ verdict (gateLines e n K t ++ ms) → v ≡ Fine → Sound e n K t
+pub sound-before : (e : Edition) (n K : ℕ) (t : List ℕ) (ms : List Line) (v : Verdict) → v
+    ≡ verdict (gateLines e n K t ++ ms) → v ≡ Fine → Sound e n K t
 sound-before e n K t ms v p q =
-    let w = in-order (gateLines e n K t ++ ms) (sym p ∙ q) in sound e n K t (w .0, (w .1 .0, (w .1 .1 .0, (w .1 .1 .1 .0, tt))))
+    let w = in-order (gateLines e n K t ++ ms) (sym p ∙ q)
+    in sound e n K t (w .0, (w .1 .0, (w .1 .1 .0, (w .1 .1 .1 .0, tt))))

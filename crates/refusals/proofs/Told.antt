@@ -13,7 +13,9 @@ twice true u v = refl
 twice false u v = refl
 
 -- told an edition that there is, a call whose own lines look at n first is decided by these
-pub told-known : (w n : ℕ) (ls : List Line) → badEdition w .holds ≡ false → verdict (toldLines w n (badInputs n ∷ ls)) ≡ verdict (badInputs n ∷ ls)
+pub told-known : (w n : ℕ) (ls : List Line) → badEdition w .holds ≡ false → verdict (toldLines w n (badInputs n ∷ ls))
+    ≡ verdict (badInputs n ∷ ls)
 told-known w n ls h =
-    ap (λ (t : Bool). cond (badInputs n .holds) (Refused (badInputs n .gives)) (cond t (Refused (badEdition w .gives)) (verdict (badInputs n ∷ ls)))) h
+    ap (λ (t : Bool). cond (badInputs n .holds) (Refused (badInputs n .gives))
+    (cond t (Refused (badEdition w .gives)) (verdict (badInputs n ∷ ls)))) h
     ∙ twice (badInputs n .holds) (Refused (badInputs n .gives)) (verdict ls)

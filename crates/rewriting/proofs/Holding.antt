@@ -30,13 +30,18 @@ abbrev pub behind : Edition → List ℕ → List ℕ
 behind e b = take (length b - e .start) (drop (e .start) b)
 
 pub held-cell : (e : Edition) (b : List ℕ) → Runnable e b → (signals : List ℕ) (table : CellTable)
-    → ((j : ℕ) → j < byteAt b 0 → getD signals j 0 ≡ byteAt b (j + 1)) → table ≡ heldTable (byteAt b 0) (tableBit (behind e b))
+    → ((j : ℕ) → j < byteAt b 0 → getD signals j 0 ≡ byteAt b (j + 1)) → table
+    ≡ heldTable (byteAt b 0) (tableBit (behind e b))
     → networkCell (record { k = byteAt b 0; signals = signals; table = table }) ≡ cellOf e (byteAt b)
 unfolding cellOf make
 held-cell e b w signals table s q =
     let k = byteAt b 0 in
     let few = w .readable .few in
-    let room : 2 ^ k ≤ 64 * cellWords = omega (arith, pow-mono {i = k} {j = largestCell} (omega (arith, few, w .sound .eight))) in
+    let room : 2 ^ k ≤ 64 * cellWords = omega (
+      arith,
+      pow-mono {i = k} {j = largestCell}
+          (omega (arith, few, w .sound .eight)),
+    ) in
     let at : (x : ℕ) → x < 2 ^ k → tableBit (behind e b) x ≡ cellBit e (byteAt b) x =
     λ x h. table-part e b x (omega (arith, table-room e (w .sound) k x few h, w .long)) in
     ap₂ make (list-ext k (λ j. getD signals j 0) (λ j. byteAt b (j + 1)) s)

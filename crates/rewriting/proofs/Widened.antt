@@ -33,24 +33,35 @@ module _ (e f : Edition) (larger : e .most ≤ f .most) (d : ℕ) where
   unfolding cellOf
   keeps-fits top b k =
       let l = length-list (b 0) (λ j. b (j + 1)) in
-      let at : (j : ℕ) → j < b 0 → getD (listOf (b 0) (λ j. b (j + 1))) j 0 ≡ b (j + 1) = λ j h. list-at (b 0) (λ j. b (j + 1)) j 0 h in
+      let at : (j : ℕ) → j < b 0 → getD (listOf (b 0) (λ j. b (j + 1))) j 0
+      ≡ b (j + 1) = λ j h. list-at (b 0) (λ j. b (j + 1)) j 0 h in
       record {
         some = omega (arith, k .some, l);
         most = omega (arith, k .most, larger, l);
         known = λ j h. subst (λ (v : ℕ). v < top) (sym (at j (omega arith))) (k .known j (omega arith));
-        rising = λ j h. omega (arith, at j (omega arith), at (j + 1) (omega arith), k .rising (j + 1) (omega arith) (omega arith));
-        table = subst (λ (h : ℕ). number (2 ^ b 0) (cellBit e b) < 2 ^ (2 ^ h)) (sym l) (number-lt (2 ^ b 0) (cellBit e b));
+        rising = λ j h. omega (
+          arith,
+          at j (omega arith),
+          at (j + 1) (omega arith),
+          k .rising (j + 1) (omega arith)
+              (omega arith),
+        );
+        table = subst (λ (h : ℕ). number (2 ^ b 0) (cellBit e b) < 2 ^ (2 ^ h)) (sym l)
+            (number-lt (2 ^ b 0) (cellBit e b));
       }
 
-  fits-from : (n : ℕ) (s : List ℕ) (m i : ℕ) → ((j : ℕ) → i ≤ j → j < i + m → Keeps e d (n + j) (recordAt e s j)) → FitsFrom f (n + i) (cellsFrom e s i m)
+  fits-from : (n : ℕ) (s : List ℕ) (m i : ℕ) → ((j : ℕ) → i ≤ j → j < i + m → Keeps e d (n + j) (recordAt e s j))
+      → FitsFrom f (n + i) (cellsFrom e s i m)
   unfolding cellsFrom
   fits-from n s zero i k = tt
   fits-from n s (suc m) i k = (
     keeps-fits (n + i) (recordAt e s i) (k i (omega arith) (omega arith)),
-    subst (λ (t : ℕ). FitsFrom f t (cellsFrom e s (suc i) m)) (add-suc n i) (fits-from n s m (suc i) (λ j p q. k j (omega arith) (omega arith))),
+    subst (λ (t : ℕ). FitsFrom f t (cellsFrom e s (suc i) m)) (add-suc n i)
+        (fits-from n s m (suc i) (λ j p q. k j (omega arith) (omega arith))),
   )
 
-module _ (e f : Edition) (o : IsEdition e) (p : IsEdition f) (larger : e .most ≤ f .most) (d n : ℕ) (s : List ℕ) (m : ℕ) (g : Good e d n s m) where
+module _ (e f : Edition) (o : IsEdition e) (p : IsEdition f) (larger : e .most ≤ f .most) (d n : ℕ) (s : List ℕ) (m : ℕ)
+    (g : Good e d n s m) where
   pub cells-fit : FitsFrom f n (sheetCells e s m)
   cells-fit =
       subst (λ (k : ℕ). FitsFrom f k (sheetCells e s m)) (add-zero n)
@@ -58,7 +69,8 @@ module _ (e f : Edition) (o : IsEdition e) (p : IsEdition f) (larger : e .most �
 
   same-cells : sheetCells f (rewritten e f d s m) m ≡ sheetCells e s m
   same-cells =
-      ap (sheetCells f (rewritten e f d s m)) (sym (cells-length e s 0 m)) ∙ cells-back f d p n (sheetCells e s m) cells-fit
+      ap (sheetCells f (rewritten e f d s m)) (sym (cells-length e s 0 m))
+      ∙ cells-back f d p n (sheetCells e s m) cells-fit
 
   same-table : rebuilt f n (rewritten e f d s m) m ≡ rebuilt e n s m
   unfolding rebuilt sheetBit
@@ -68,7 +80,8 @@ module _ (e f : Edition) (o : IsEdition e) (p : IsEdition f) (larger : e .most �
   good-there =
       let q = cells-length e s 0 m in
       subst (Good f d n (rewritten e f d s m)) q
-      (sheet-good f d p n (sheetCells e s m) cells-fit (subst (λ (k : ℕ). 1 ≤ k) (sym q) (g .some)) (omega (arith, g .most, q)))
+      (sheet-good f d p n (sheetCells e s m) cells-fit (subst (λ (k : ℕ). 1 ≤ k) (sym q) (g .some))
+      (omega (arith, g .most, q)))
 
   read-there : EachRead e n s m → EachRead f n (rewritten e f d s m) m
   read-there r =

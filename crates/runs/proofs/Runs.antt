@@ -1,4 +1,5 @@
--- Running a sheet: what a record's cell gives, and, with the signals as the bits of a word, one record more. Assumes nothing.
+-- Running a sheet: what a record's cell gives, and, with the signals as the bits of a word, one record more. Assumes
+-- nothing.
 use mathlib.Core.Path.{_≡_, refl, sym, ap, ap₂, subst, _∙_, fun-ext}
 use mathlib.Core.Bool.{Bool, true, false, cond, _&&_}
 use mathlib.Core.List.{List}
@@ -35,17 +36,20 @@ number-short k n f h =
     let q : n ≡ k + (n - k) = omega arith in
     ap (λ (m : ℕ). number m g) q ∙ number-append k (n - k) g
     ∙ ap₂ (λ (x y : ℕ). x + y * 2 ^ k) (number-ext k g f (λ j l. ap (λ (t : Bool). t && f j) (lt-ltb j k l)))
-    (number-ext (n - k) (λ j. g (k + j)) (λ j. false) (λ j l. ap (λ (t : Bool). t && f (k + j)) (le-ltb (k + j) k (omega arith))) ∙ none-zero (n - k))
+    (number-ext (n - k) (λ j. g (k + j)) (λ j. false)
+    (λ j l. ap (λ (t : Bool). t && f (k + j)) (le-ltb (k + j) k (omega arith))) ∙ none-zero (n - k))
     ∙ omega arith
 
 -- the cell reads its table at the number that its inputs make, those that it hasn't being 0
-pub output-at : (e : Edition) (b : ℕ → ℕ) (v : ℕ → Bool) (n : ℕ) → b 0 ≤ n → output (cellOf e b) v ≡ cellBit e b (number n (inputAt b v))
+pub output-at : (e : Edition) (b : ℕ → ℕ) (v : ℕ → Bool) (n : ℕ) → b 0 ≤ n → output (cellOf e b) v
+    ≡ cellBit e b (number n (inputAt b v))
 unfolding output cellOf
 output-at e b v n h =
     let l = listOf (b 0) (λ j. b (j + 1)) in
     let p : packed l v ≡ number (b 0) (λ j. v (b (j + 1))) =
     ap (λ (m : ℕ). number m (λ j. v (getD l j 0))) (length-list (b 0) (λ j. b (j + 1)))
-    ∙ number-ext (b 0) (λ j. v (getD l j 0)) (λ j. v (b (j + 1))) (λ j h. ap v (list-at (b 0) (λ j. b (j + 1)) j 0 h)) in
+    ∙ number-ext (b 0) (λ j. v (getD l j 0)) (λ j. v (b (j + 1))) (λ j h. ap v (list-at (b 0) (λ j. b (j + 1)) j 0 h))
+    in
     ap (bit (number (2 ^ b 0) (cellBit e b))) p
     ∙ bit-number (2 ^ b 0) (cellBit e b) (number (b 0) (λ j. v (b (j + 1)))) (number-lt (b 0) (λ j. v (b (j + 1))))
     ∙ ap (cellBit e b) (sym (number-short (b 0) n (λ j. v (b (j + 1))) h))
@@ -58,9 +62,11 @@ table-room e o k x h l = omega (arith, table-bits e o, pow-mono {i = k} {j = e .
 pub table-part : (e : Edition) (r : List ℕ) (x : ℕ) → x / 8 < length r - e .start
     → tableBit (take (length r - e .start) (drop (e .start) r)) x ≡ cellBit e (byteAt r) x
 table-part e r x h =
-    ap (λ (y : ℕ). bit y (x % 8)) (getD-take (length r - e .start) (drop (e .start) r) (x / 8) 0 h ∙ getD-drop (e .start) r (x / 8) 0)
+    ap (λ (y : ℕ). bit y (x % 8)) (getD-take (length r - e .start) (drop (e .start) r) (x / 8) 0 h
+    ∙ getD-drop (e .start) r (x / 8) 0)
 
-pub part-length : (e : Edition) (r : List ℕ) → length (take (length r - e .start) (drop (e .start) r)) ≡ length r - e .start
+pub part-length : (e : Edition) (r : List ℕ) → length (take (length r - e .start) (drop (e .start) r))
+    ≡ length r - e .start
 part-length e r = length-take-le (length r - e .start) (drop (e .start) r) (omega (arith, length-drop (e .start) r))
 
 -- it has as many pairs of bits as one input less makes
@@ -68,7 +74,8 @@ pub pairs-room : (e : Edition) → IsEdition e → (r : ℕ) → r < e .most →
 pairs-room e o r h = omega (arith, table-bits e o, pow-mono {i = suc r} {j = e .most} h, pow-suc 2 r)
 
 -- a record that is read can be run
-pub record-read : (e : Edition) → IsEdition e → (s : List ℕ) (m i : ℕ) (r : List ℕ) → i < m → e .size * m ≤ length s → AllReadable e s m
+pub record-read : (e : Edition) → IsEdition e → (s : List ℕ) (m i : ℕ) (r : List ℕ) → i < m → e .size * m ≤ length s
+    → AllReadable e s m
     → r ≡ recordBytes e s i → Runnable e r
 record-read e o s m i r l h a q = record {
   sound = o;
@@ -93,7 +100,8 @@ bit-step w t o s h = go (eqb s t) refl
     go false q = elim (decLt s t) [
       | yes l ↦ sym (bit-below w (val o) t s l)
       | no l ↦ bit-high w t s h (omega arith)
-          ∙ sym (bit-high (w + val o * 2 ^ t) (t + 1) s (less (val o * 2 ^ t) (val-mul-le o (2 ^ t))) (above (omega arith) (eqb-false s t q)))
+          ∙ sym (bit-high (w + val o * 2 ^ t) (t + 1) s (less (val o * 2 ^ t) (val-mul-le o (2 ^ t)))
+          (above (omega arith) (eqb-false s t q)))
     ]
 
 -- i of m records are run: the last of them gave o, signal h is v h, and what is left to run gives X
@@ -106,9 +114,11 @@ module _ (e : Edition) (s : List ℕ) (m : ℕ) where
   ran-none n x v f =
       let p : m ≡ m - 0 = omega arith in
       let q : n ≡ n + 0 = omega arith in
-      ap₂ (λ (r i : ℕ). run false i (cellsFrom e s 0 r) (bit x)) p q ∙ ap (run false (n + 0) (cellsFrom e s 0 (m - 0))) (sym (fun-ext f))
+      ap₂ (λ (r i : ℕ). run false i (cellsFrom e s 0 r) (bit x)) p q
+      ∙ ap (run false (n + 0) (cellsFrom e s 0 (m - 0))) (sym (fun-ext f))
 
-  pub ran-more : (X : Bool) (n i : ℕ) (o o′ : Bool) (v v′ : ℕ → Bool) → i < m → o′ ≡ output (cellOf e (recordAt e s i)) v
+  pub ran-more : (X : Bool) (n i : ℕ) (o o′ : Bool) (v v′ : ℕ → Bool) → i < m → o′
+      ≡ output (cellOf e (recordAt e s i)) v
       → ((h : ℕ) → v′ h ≡ cond (eqb h (n + i)) o′ (v h)) → Ran X n i o v → Ran X n (i + 1) o′ v′
   unfolding run cellsFrom
   ran-more X n i o o′ v v′ l q f g =

@@ -27,7 +27,8 @@ use Rattle.settling.specs.Refusals.{inputSound}
 use Rattle.settling.specs.Settle.{settleLines}
 
 -- the times of a good sheet can be found
-pub good-timed : (e : Edition) → IsEdition e → (d n : ℕ) (s : List ℕ) (m : ℕ) → n ≤ mostInputs → Good e d n s m → Timed e s m
+pub good-timed : (e : Edition) → IsEdition e → (d n : ℕ) (s : List ℕ) (m : ℕ) → n ≤ mostInputs → Good e d n s m
+    → Timed e s m
 good-timed e ok d n s m h g = record {
   sound = ok;
   most = g .most;
@@ -62,6 +63,8 @@ module _ (e : Edition) (ok : IsEdition e) (d n : ℕ) (s : List ℕ) (delay : Fl
       }
 
 -- each input's time is sound
-pub all-sound : (e : Edition) (n : ℕ) (s : List ℕ) (m : ℕ) (ts : List InputTime) → every n (inputSound e s m ts) ≡ true → every n (λ j. soundTime (timeAt ts j)) ≡ true
+pub all-sound : (e : Edition) (n : ℕ) (s : List ℕ) (m : ℕ) (ts : List InputTime) → every n (inputSound e s m ts) ≡ true
+    → every n (λ j. soundTime (timeAt ts j)) ≡ true
 all-sound e n s m ts h =
-    every-all n (λ j. soundTime (timeAt ts j)) (λ j l. and-left (soundTime (timeAt ts j)) _ (every-at n (inputSound e s m ts) h j l))
+    every-all n (λ j. soundTime (timeAt ts j)) (λ j l. and-left (soundTime (timeAt ts j)) _
+    (every-at n (inputSound e s m ts) h j l))

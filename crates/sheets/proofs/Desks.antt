@@ -1,4 +1,5 @@
--- The desk of a sheet: looked over for the desk that its first record says, a sheet breaks the rules exactly where a record doesn't belong,
+-- The desk of a sheet: looked over for the desk that its first record says, a sheet breaks the rules exactly where a
+-- record doesn't belong,
 -- and a sheet that keeps them is for that desk alone. Assumes nothing.
 use mathlib.Core.Path.{_≡_, refl, sym, ap, _∙_, subst}
 use mathlib.Core.Bool.{Bool, true, false, cond, not}
@@ -51,7 +52,8 @@ module _ (e : Edition) (n : ℕ) (s : List ℕ) where
   for : (d i : ℕ) → Keeps e d (n + i) (recordAt e s i) → Keeps e (deskAt e s i) (n + i) (recordAt e s i)
   for d i k = subst (λ (x : ℕ). Keeps e x (n + i) (recordAt e s i)) (sym (k .desk)) k
 
-  keeps-belongs : (i : ℕ) → Keeps e (deskOf e s) (n + 0) (recordAt e s 0) → Keeps e (deskOf e s) (n + i) (recordAt e s i) → Belongs e n s i
+  keeps-belongs : (i : ℕ) → Keeps e (deskOf e s) (n + 0) (recordAt e s 0)
+      → Keeps e (deskOf e s) (n + i) (recordAt e s i) → Belongs e n s i
   keeps-belongs i first k = record {
     rules = for (deskOf e s) i k;
     known = omega (arith, k .desk, desk-most e s);
@@ -60,7 +62,8 @@ module _ (e : Edition) (n : ℕ) (s : List ℕ) where
 
   belongs-keeps : (i : ℕ) → Belongs e n s i → Keeps e (deskOf e s) (n + i) (recordAt e s i)
   belongs-keeps i b =
-      subst (λ (x : ℕ). Keeps e x (n + i) (recordAt e s i)) (b .alike ∙ sym (desk-said e s (omega (arith, b .known, b .alike)))) (b .rules)
+      subst (λ (x : ℕ). Keeps e x (n + i) (recordAt e s i))
+      (b .alike ∙ sym (desk-said e s (omega (arith, b .known, b .alike)))) (b .rules)
 
   module _ (ok : IsEdition e) (m : ℕ) where
     -- the first bad record is the first that doesn't belong
@@ -69,7 +72,8 @@ module _ (e : Edition) (n : ℕ) (s : List ℕ) where
         let l = is-least m (bad e (deskOf e s) n s) in
         let i = firstBad e (deskOf e s) n s m in
         let k : (j : ℕ) → j < i → Keeps e (deskOf e s) (n + j) (recordAt e s j) =
-        λ j g. rules e ok (deskOf e s) (n + j) (recordAt e s j) (not-false (keeps e (deskOf e s) (n + j) (recordAt e s j)) (l .before j g)) in
+        λ j g. rules e ok (deskOf e s) (n + j) (recordAt e s j)
+        (not-false (keeps e (deskOf e s) (n + j) (recordAt e s j)) (l .before j g)) in
         record {
           within = h;
           amiss = λ b.
@@ -79,7 +83,8 @@ module _ (e : Edition) (n : ℕ) (s : List ℕ) where
         }
 
     -- where those before it belong, a record that keeps the rules does
-    belonging : (i : ℕ) → ((j : ℕ) → j < i → Belongs e n s j) → Keeps e (deskOf e s) (n + i) (recordAt e s i) → Belongs e n s i
+    belonging : (i : ℕ) → ((j : ℕ) → j < i → Belongs e n s j) → Keeps e (deskOf e s) (n + i) (recordAt e s i)
+        → Belongs e n s i
     belonging zero before k = keeps-belongs zero k k
     belonging (suc i) before k = keeps-belongs (suc i) (belongs-keeps 0 (before 0 (omega arith))) k
 
@@ -96,7 +101,10 @@ module _ (e : Edition) (n : ℕ) (s : List ℕ) where
 
     -- a good sheet, looked over for its own desk, is for that desk alone
     pub good-one-desk : Good e (deskOf e s) n s m → OneDesk e s m (deskOf e s)
-    good-one-desk g = record { known = desk-most e s; alike = λ i h. record-keeps e ok (deskOf e s) n s m (g .rules) i h .desk }
+    good-one-desk g = record {
+      known = desk-most e s;
+      alike = λ i h. record-keeps e ok (deskOf e s) n s m (g .rules) i h .desk;
+    }
 
     -- and one that is good for some desk has that as its own
     pub good-desk : (d : ℕ) → d ≤ mostDesk → Good e d n s m → deskOf e s ≡ d
@@ -113,7 +121,8 @@ module _ (e : Edition) (d d′ j : ℕ) (other : j ≡ e .most + 1 → ⊥) wher
   same-byte : (c : Cell) → byteAt (encode e d c) j ≡ byteAt (encode e d′ c) j
   unfolding encode recordByte
   same-byte c = elim (decLt j (e .size)) [
-    | yes l ↦ list-at (e .size) (recordByte e d c) j 0 l ∙ rw (ne-eqb j (e .most + 1) other) refl ∙ sym (list-at (e .size) (recordByte e d′ c) j 0 l)
+    | yes l ↦ list-at (e .size) (recordByte e d c) j 0 l ∙ rw (ne-eqb j (e .most + 1) other) refl
+        ∙ sym (list-at (e .size) (recordByte e d′ c) j 0 l)
     | no l ↦ past d c (omega arith) ∙ sym (past d′ c (omega arith))
   ]
 

@@ -22,5 +22,6 @@ table-bits e o =
 pub record-within : (z i m l : ℕ) → i < m → z * m ≤ l → z * i + z ≤ l
 record-within z i m l h g = let k = mul-le-mul-left {m = suc i} {n = m} z h in omega (arith, mul-suc z i)
 
-pub record-length : (e : Edition) (s : List ℕ) (i : ℕ) → e .size * i + e .size ≤ length s → length (recordBytes e s i) ≡ e .size
+pub record-length : (e : Edition) (s : List ℕ) (i : ℕ) → e .size * i + e .size ≤ length s → length (recordBytes e s i)
+    ≡ e .size
 record-length e s i h = length-take-le (e .size) (drop (e .size * i) s) (omega (arith, length-drop (e .size * i) s))

@@ -22,7 +22,8 @@ use Rattle.sheets.specs.Edition.{IsEdition}
 use Rattle.sheets.specs.Record.{cellOf}
 use Rattle.sheets.specs.Sheet.{recordAt, cellsFrom, sheetCells}
 use Rattle.sheets.specs.Writing.{FitsFrom, sheetBytes}
-use Rattle.sheets.specs.Reading.{times, reads, AllRead, unreadCell, unread, firstUnread, IsRead, EachRead, IsFirstUnread}
+use Rattle.sheets.specs.Reading.{times, reads, AllRead, unreadCell, unread, firstUnread, IsRead, EachRead}
+use Rattle.sheets.specs.Reading.{IsFirstUnread}
 use Rattle.sheets.proofs.Wholes.{cells-back}
 
 -- a signal that is there stands at some place
@@ -37,7 +38,8 @@ there x (y ∷ l) h = go (eqb x y) refl h (there x l)
   where
     go : (t : Bool) → eqb x y ≡ t → 1 ≤ val t + times x l → (1 ≤ times x l → At x l) → At x (y ∷ l)
     go true q h ih = record { place = 0; within = omega arith; is = sym (eqb-true x y q) }
-    go false q h ih = let a = ih (omega arith) in record { place = suc (a .place); within = omega (arith, a .within); is = a .is }
+    go false q h ih = let a = ih (omega arith) in record
+        { place = suc (a .place); within = omega (arith, a .within); is = a .is }
 
 pub times-at : (l : List ℕ) (p : ℕ) → p < length l → 1 ≤ times (getD l p 0) l
 times-at [] p h = absurd (not-suc-le-zero h)
@@ -70,7 +72,8 @@ module _ (e : Edition) (s : List ℕ) where
   read-names : (x k a : ℕ) → 1 ≤ reads x (cellsFrom e s a k) → Names x a k
   unfolding cellsFrom cellOf
   read-names x zero a h = absurd (not-suc-le-zero h)
-  read-names x (suc k) a h = elim (decLt 0 (times x l)) [ yes g ↦ here (there x l g) | no g ↦ later (read-names x k (suc a) (omega arith)) ]
+  read-names x (suc k) a h = elim (decLt 0 (times x l))
+      [ yes g ↦ here (there x l g) | no g ↦ later (read-names x k (suc a) (omega arith)) ]
     where
       l : List ℕ
       l = listOf (recordAt e s a 0) (λ j. recordAt e s a (j + 1))
@@ -121,8 +124,10 @@ module _ (e : Edition) (s : List ℕ) where
           let b = recordAt e s a in
           let l = listOf (b 0) (λ j. b (j + 1)) in
           let h : p < b 0 = subst (λ (i : ℕ). p < recordAt e s i 0) q g in
-          let v : getD l p 0 ≡ x = list-at (b 0) (λ j. b (j + 1)) p 0 h ∙ ap (λ (i : ℕ). recordAt e s i (p + 1)) (sym q) ∙ f in
-          let one = subst (λ (y : ℕ). 1 ≤ times y l) v (times-at l p (omega (arith, length-list (b 0) (λ j. b (j + 1))))) in
+          let v : getD l p 0 ≡ x = list-at (b 0) (λ j. b (j + 1)) p 0 h ∙ ap (λ (i : ℕ). recordAt e s i (p + 1)) (sym q)
+          ∙ f in
+          let one = subst (λ (y : ℕ). 1 ≤ times y l) v (times-at l p
+          (omega (arith, length-list (b 0) (λ j. b (j + 1))))) in
           omega arith
 
   -- the test says that no later record names the record's signal
@@ -131,7 +136,11 @@ module _ (e : Edition) (s : List ℕ) where
     unread-is = ap (λ (ds : List Cell). eqb (reads (n + i) ds) 0) (later-cells i m h)
 
     pub read-iff : (unread e n s m i ≡ false) ↔ IsRead e n s m i
-    read-iff = (λ q. to (read-names (n + i) (m - suc i) (suc i) (some-read (sym unread-is ∙ q))), λ w. unread-is ∙ read (names-read (n + i) (m - suc i) (suc i) (of w)))
+    read-iff = (
+      λ q. to (read-names (n + i) (m - suc i) (suc i) (some-read (sym unread-is ∙ q))),
+      λ w. unread-is
+          ∙ read (names-read (n + i) (m - suc i) (suc i) (of w)),
+    )
       where
         some-read : {a : ℕ} → eqb a 0 ≡ false → 1 ≤ a
         some-read {a} q = let z = eqb-false a 0 q in omega arith
@@ -200,7 +209,8 @@ pub cell-read : (n : ℕ) (cs : List Cell) → AllRead n cs → (i : ℕ) → i 
 cell-read n cs r i h = let a = r i h in ne-eqb (reads (n + i) (drop (suc i) cs)) 0 (λ q. omega arith)
 
 -- written as records, each of those but the last is read
-pub written-read : (e : Edition) → IsEdition e → (d n : ℕ) (cs : List Cell) → FitsFrom e n cs → AllRead n cs → EachRead e n (sheetBytes e d cs) (length cs)
+pub written-read : (e : Edition) → IsEdition e → (d n : ℕ) (cs : List Cell) → FitsFrom e n cs → AllRead n cs
+    → EachRead e n (sheetBytes e d cs) (length cs)
 written-read e o d n cs fits r i h =
     read-iff e (sheetBytes e d cs) n (length cs) i (omega arith) .0
     (ap (λ (ds : List Cell). unreadCell n ds i) (cells-back e d o n cs fits) ∙ cell-read n cs r i h)

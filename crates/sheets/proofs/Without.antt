@@ -38,7 +38,8 @@ module _ (g : ℕ) where
   Moved t w v = (x : ℕ) → x < t → (x ≡ g → ⊥) → w x ≡ v (lowered g x)
 
   -- a cell that reads signals below t, and not g, gives the same
-  same-output : (t : ℕ) (w v : ℕ → Bool) (c : Cell) → Moved t w v → ((j : ℕ) → j < length (c .signals) → getD (c .signals) j 0 < t)
+  same-output : (t : ℕ) (w v : ℕ → Bool) (c : Cell) → Moved t w v
+      → ((j : ℕ) → j < length (c .signals) → getD (c .signals) j 0 < t)
       → times g (c .signals) ≡ 0 → output (renumbered g c) v ≡ output c w
   unfolding output
   same-output t w v c moved below none =
@@ -62,18 +63,22 @@ module _ (g : ℕ) where
         | no a ↦ elim (decLt g x) [ yes b ↦ omega (arith, high x b) | no b ↦ let r : x ≡ g = omega arith in other r ]
       ]
 
-      go : (r : Bool) → eqb x (suc u) ≡ r → cond (eqb x (suc u)) o (w x) ≡ cond (eqb (lowered g x) u) o (v (lowered g x))
+      go : (r : Bool) → eqb x (suc u) ≡ r → cond (eqb x (suc u)) o (w x)
+          ≡ cond (eqb (lowered g x) u) o (v (lowered g x))
       go true q =
           let e = eqb-true x (suc u) q in
           let z : lowered g x ≡ u = omega (arith, high x (omega arith)) in
-          ap (λ (r : Bool). cond r o (w x)) q ∙ sym (ap (λ (r : Bool). cond r o (v (lowered g x))) (eq-eqb (lowered g x) u z))
+          ap (λ (r : Bool). cond r o (w x)) q ∙ sym (ap (λ (r : Bool). cond r o (v (lowered g x)))
+          (eq-eqb (lowered g x) u z))
       go false q =
           let n = eqb-false x (suc u) q in
           let m : x < suc u = omega arith in
-          ap (λ (r : Bool). cond r o (w x)) q ∙ moved x m other ∙ sym (ap (λ (r : Bool). cond r o (v (lowered g x))) (ne-eqb (lowered g x) u (apart m)))
+          ap (λ (r : Bool). cond r o (w x)) q ∙ moved x m other
+          ∙ sym (ap (λ (r : Bool). cond r o (v (lowered g x))) (ne-eqb (lowered g x) u (apart m)))
 
   -- so the later cells give the same
-  same-run : (K u : ℕ) (cs : List Cell) (o : Bool) (w v : ℕ → Bool) → g ≤ u → Moved (suc u) w v → Wired K (suc u) cs → reads g cs ≡ 0
+  same-run : (K u : ℕ) (cs : List Cell) (o : Bool) (w v : ℕ → Bool) → g ≤ u → Moved (suc u) w v → Wired K (suc u) cs
+      → reads g cs ≡ 0
       → run o u (map (renumbered g) cs) v ≡ run o (suc u) cs w
   unfolding run
   same-run K u [] o w v h moved wired none = refl
@@ -81,7 +86,8 @@ module _ (g : ℕ) where
       let p = output c w in
       ap (λ (r : Bool). run r (suc u) (map (renumbered g) cs) (λ s. cond (eqb s u) r (v s)))
       (same-output (suc u) w v c moved (wired .1) (first-none (times g (c .signals)) none))
-      ∙ same-run K (suc u) cs p (λ s. cond (eqb s (suc u)) p (w s)) (λ s. cond (eqb s u) p (v s)) (omega arith) (moved-more u w v p h moved) (wired .2)
+      ∙ same-run K (suc u) cs p (λ s. cond (eqb s (suc u)) p (w s)) (λ s. cond (eqb s u) p (v s)) (omega arith)
+      (moved-more u w v p h moved) (wired .2)
       (rest-none (times g (c .signals)) none)
     where
       first-none : (a : ℕ) → a + reads g cs ≡ 0 → a ≡ 0
@@ -91,13 +97,15 @@ module _ (g : ℕ) where
       rest-none a q = omega arith
 
   -- and are wired as before
-  same-wired : (K u : ℕ) (cs : List Cell) → g ≤ u → Wired K (suc u) cs → reads g cs ≡ 0 → Wired K u (map (renumbered g) cs)
+  same-wired : (K u : ℕ) (cs : List Cell) → g ≤ u → Wired K (suc u) cs → reads g cs ≡ 0
+      → Wired K u (map (renumbered g) cs)
   same-wired K u [] h wired none = tt
   same-wired K u (c ∷ cs) h wired none = (
     subst (λ (k : ℕ). k ≤ K) (sym (length-map (c .signals) (lowered g))) (wired .0),
     λ j l.
         let m : j < length (c .signals) = subst (λ (k : ℕ). j < k) (length-map (c .signals) (lowered g)) l in
-        subst (λ (x : ℕ). x < u) (sym (map-at (c .signals) j m)) (lower (getD (c .signals) j 0) (wired .1 j m) (other j m)),
+        subst (λ (x : ℕ). x < u) (sym (map-at (c .signals) j m))
+        (lower (getD (c .signals) j 0) (wired .1 j m) (other j m)),
     same-wired K (suc u) cs (omega arith) (wired .2) (omega arith),
   )
     where
@@ -107,7 +115,11 @@ module _ (g : ℕ) where
       lower : (x : ℕ) → x < suc u → (x ≡ g → ⊥) → lowered g x < u
       lower x l o = elim (decLt x g) [
         | yes a ↦ omega (arith, low x a)
-        | no a ↦ elim (decLt g x) [ yes b ↦ omega (arith, high x b) | no b ↦ let r : x ≡ g = omega arith in absurd (o r) ]
+        | no a ↦ elim (decLt g x) [
+          | yes b ↦ omega (arith, high x b)
+          | no b ↦ let r : x ≡ g = omega arith
+              in absurd (o r)
+        ]
       ]
 
 -- ---- cell i of a network
@@ -119,7 +131,8 @@ shift n i = omega arith
 without-next : (n i : ℕ) (c : Cell) (cs : List Cell) → without n (suc i) (c ∷ cs) ≡ c ∷ without (suc n) i cs
 without-next n i c cs = ap (λ (g : ℕ). c ∷ (take i cs ++ map (renumbered g) (drop (suc i) cs))) (shift n i)
 
-same-without : (K n i : ℕ) (cs : List Cell) (o : Bool) (v : ℕ → Bool) → Wired K n cs → i + 1 < length cs → reads (n + i) (drop (suc i) cs) ≡ 0
+same-without : (K n i : ℕ) (cs : List Cell) (o : Bool) (v : ℕ → Bool) → Wired K n cs → i + 1 < length cs
+    → reads (n + i) (drop (suc i) cs) ≡ 0
     → run o n (without n i cs) v ≡ run o n cs v
 unfolding run
 same-without K n i [] o v wired h none = absurd (not-suc-le-zero h)
@@ -137,23 +150,34 @@ same-without K n (suc i) (c ∷ cs) o v wired h none =
     ∙ same-without K (suc n) i cs (output c v) (λ s. cond (eqb s n) (output c v) (v s)) (wired .2) (omega arith)
     (subst (λ (g : ℕ). reads g (drop (suc i) cs) ≡ 0) (shift n i) none)
 
-without-wired : (K n i : ℕ) (cs : List Cell) → Wired K n cs → i < length cs → reads (n + i) (drop (suc i) cs) ≡ 0 → Wired K n (without n i cs)
+without-wired : (K n i : ℕ) (cs : List Cell) → Wired K n cs → i < length cs → reads (n + i) (drop (suc i) cs) ≡ 0
+    → Wired K n (without n i cs)
 without-wired K n i [] wired h none = absurd (not-suc-le-zero h)
 without-wired K n zero (c ∷ cs) wired h none =
     subst (λ (g : ℕ). Wired K n (map (renumbered g) cs)) (sym (add-zero n))
     (same-wired n K n cs (omega arith) (wired .2) (subst (λ (g : ℕ). reads g cs ≡ 0) (add-zero n) none))
 without-wired K n (suc i) (c ∷ cs) wired h none =
-    subst (Wired K n) (sym (without-next n i c cs))
-    (wired .0, wired .1, without-wired K (suc n) i cs (wired .2) (omega arith) (subst (λ (g : ℕ). reads g (drop (suc i) cs) ≡ 0) (shift n i) none))
+    subst (Wired K n) (sym (without-next n i c cs)) (
+      wired .0,
+      wired .1,
+      without-wired K (suc n) i cs (wired .2) (omega arith)
+          (subst (λ (g : ℕ). reads g (drop (suc i) cs) ≡ 0) (shift n i) none),
+    )
 
 -- one cell less
 pub without-length : (n i : ℕ) (cs : List Cell) → i < length cs → length (without n i cs) + 1 ≡ length cs
 without-length n i [] h = absurd (not-suc-le-zero h)
 without-length n zero (c ∷ cs) h = omega (arith, length-map cs (renumbered (n + 0)))
-without-length n (suc i) (c ∷ cs) h = omega (arith, ap length (without-next n i c cs), without-length (suc n) i cs (omega arith))
+without-length n (suc i) (c ∷ cs) h = omega (
+  arith,
+  ap length (without-next n i c cs),
+  without-length (suc n) i cs
+      (omega arith),
+)
 
 -- a network without a cell, not its last, that isn't read is a network that gives the same
-pub without-gives : (n K i : ℕ) (F : ℕ → Bool) (cs : List Cell) → Gives n K F cs → i + 1 < length cs → unreadCell n cs i ≡ true → Gives n K F (without n i cs)
+pub without-gives : (n K i : ℕ) (F : ℕ → Bool) (cs : List Cell) → Gives n K F cs → i + 1 < length cs → unreadCell n cs i
+    ≡ true → Gives n K F (without n i cs)
 without-gives n K i F cs N h u =
     let none = eqb-true (reads (n + i) (drop (suc i) cs)) 0 u in record {
       some = omega (arith, without-length n i cs (omega arith));
@@ -162,7 +186,8 @@ without-gives n K i F cs N h u =
     }
 
 -- so a sheet's unread record, not its last, can be taken away
-pub sheet-without : (e : Edition) → IsEdition e → (d n : ℕ) (s : List ℕ) (m i : ℕ) → firstBad e d n s m ≡ m → i + 1 < m → unread e n s m i ≡ true
+pub sheet-without : (e : Edition) → IsEdition e → (d n : ℕ) (s : List ℕ) (m i : ℕ) → firstBad e d n s m ≡ m → i + 1 < m
+    → unread e n s m i ≡ true
     → Gives n (e .most) (sheetBit e n s m) (without n i (sheetCells e s m))
 unfolding sheetBit
 sheet-without e o d n s m i good h u =

@@ -20,7 +20,8 @@ index-old : (x : ℕ) (l m : List ℕ) → member x l ≡ true → index x (l ++
 index-old x [] m e = absurd (clash e refl)
 index-old x (y ∷ l) m e = go (eqb x y) e (index-old x l m)
   where
-    go : (t : Bool) → (t || member x l) ≡ true → (member x l ≡ true → index x (l ++ m) ≡ index x l) → cond t 0 (suc (index x (l ++ m))) ≡ cond t 0 (suc (index x l))
+    go : (t : Bool) → (t || member x l) ≡ true → (member x l ≡ true → index x (l ++ m) ≡ index x l)
+        → cond t 0 (suc (index x (l ++ m))) ≡ cond t 0 (suc (index x l))
     go true e ih = refl
     go false e ih = ap suc (ih e)
 
@@ -28,7 +29,8 @@ index-last : (x : ℕ) (l : List ℕ) → member x l ≡ false → index x (l ++
 index-last x [] e = ap (λ (t : Bool). cond t 0 1) (eq-eqb x x refl)
 index-last x (y ∷ l) e = go (eqb x y) e (index-last x l)
   where
-    go : (t : Bool) → (t || member x l) ≡ false → (member x l ≡ false → index x (l ++ (x ∷ [])) ≡ length l) → cond t 0 (suc (index x (l ++ (x ∷ [])))) ≡ suc (length l)
+    go : (t : Bool) → (t || member x l) ≡ false → (member x l ≡ false → index x (l ++ (x ∷ [])) ≡ length l)
+        → cond t 0 (suc (index x (l ++ (x ∷ [])))) ≡ suc (length l)
     go true e ih = absurd (clash refl e)
     go false e ih = ap suc (ih e)
 
@@ -39,9 +41,11 @@ module _ (f : ℕ → ℕ) (a : ℕ) where
   stays : (n k : ℕ) → a < n → index (f a) (firsts f (k + n)) ≡ index (f a) (firsts f n)
   unfolding firsts
   stays n zero h = ap (λ (m : ℕ). index (f a) (firsts f m)) (zero-add n)
-  stays n (suc k) h = ap (λ (m : ℕ). index (f a) (firsts f m)) (suc-add k n) ∙ go (member (f (k + n)) (firsts f (k + n))) ∙ stays n k h
+  stays n (suc k) h = ap (λ (m : ℕ). index (f a) (firsts f m)) (suc-add k n)
+      ∙ go (member (f (k + n)) (firsts f (k + n))) ∙ stays n k h
     where
-      go : (t : Bool) → index (f a) (cond t (firsts f (k + n)) (firsts f (k + n) ++ (f (k + n) ∷ []))) ≡ index (f a) (firsts f (k + n))
+      go : (t : Bool) → index (f a) (cond t (firsts f (k + n)) (firsts f (k + n) ++ (f (k + n) ∷ [])))
+          ≡ index (f a) (firsts f (k + n))
       go true = refl
       go false = index-old (f a) (firsts f (k + n)) (f (k + n) ∷ []) (firsts-has f (k + n) a (omega arith))
 
@@ -59,7 +63,8 @@ module _ (f : ℕ → ℕ) (a : ℕ) where
 
 module _ (n : ℕ) (F : ℕ → Bool) (A B : ℕ → Bool) (b a : ℕ) (h : a < 2 ^ size n A) where
   -- a column that appears first at a has as its number how many different ones come before it
-  pub code-first : ((a′ : ℕ) → a′ < a → column n F A B b a′ ≡ column n F A B b a → ⊥) → code n F A B b a ≡ length (firsts (column n F A B b) a)
+  pub code-first : ((a′ : ℕ) → a′ < a → column n F A B b a′ ≡ column n F A B b a → ⊥) → code n F A B b a
+      ≡ length (firsts (column n F A B b) a)
   unfolding code columns
   code-first new = appears (column n F A B b) a (2 ^ size n A) h new
 

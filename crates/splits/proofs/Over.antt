@@ -22,7 +22,8 @@ module _ (n : ℕ) (S s t : ℕ → Bool) (m : Matches n S s t) where
   agree-gather x y h k l e = go (place n S k l)
     where
       go : Place n S k → bit (gather n S x) k ≡ bit (gather n S y) k
-      go w = gather-place n S x k w ∙ h (w .at) (w .below) (m (w .at) (w .below) (w .member) ∙ ap t (w .rank) ∙ e) ∙ sym (gather-place n S y k w)
+      go w = gather-place n S x k w ∙ h (w .at) (w .below) (m (w .at) (w .below) (w .member) ∙ ap t (w .rank) ∙ e)
+          ∙ sym (gather-place n S y k w)
 
   agree-spread : (v w : ℕ) → Agree (size n S) t v w → Agree n s (spread n S v) (spread n S w)
   agree-spread v w h j l e = bit-spread n S v j l ∙ go (S j) refl ∙ sym (bit-spread n S w j l)
@@ -31,7 +32,8 @@ module _ (n : ℕ) (S s t : ℕ → Bool) (m : Matches n S s t) where
       go true q = h (size j S) (size-lt n S j l q) (sym (m j l q) ∙ e)
       go false q = refl
 
-module _ (n : ℕ) (F : ℕ → Bool) (S : ℕ → Bool) (sees : Sees n F S) (A B A′ B′ : ℕ → Bool) (mA : Matches n S A A′) (mB : Matches n S B B′) where
+module _ (n : ℕ) (F : ℕ → Bool) (S : ℕ → Bool) (sees : Sees n F S) (A B A′ B′ : ℕ → Bool) (mA : Matches n S A A′)
+    (mB : Matches n S B B′) where
   mD : Matches n S (readsD A B) (readsD A′ B′)
   mD j l e = ap₂ (λ (a b : Bool). a || b) (mA j l e) (mB j l e)
 
@@ -47,4 +49,5 @@ module _ (n : ℕ) (F : ℕ → Bool) (S : ℕ → Bool) (sees : Sees n F S) (A 
   -- and the other way round
   pub possible-over : (r : ℕ) → Possible n F A B r → Possible (size n S) (bit (tableOver n S F)) A′ B′ r
   possible-over = possible-through (size n S) (bit (tableOver n S F)) A′ B′ n F A B (spread n S)
-      (agree-spread n S (readsD A B) (readsD A′ B′) mD) (agree-spread n S (readsH A B) (readsH A′ B′) mH) (λ v h. (spread-lt n S v, over-at n S F v h))
+      (agree-spread n S (readsD A B) (readsD A′ B′) mD) (agree-spread n S (readsH A B) (readsH A′ B′) mH)
+      (λ v h. (spread-lt n S v, over-at n S F v h))

@@ -17,5 +17,6 @@ module _ (n : ℕ) (F : ℕ → Bool) (A B : ℕ → Bool) (m : ℕ) (G : ℕ �
       (λ t x. P .D t (gather m (readsD A′ B′) (f x)))
       (λ d x. P .H (gather m (readsH A′ B′) (f x) + d * 2 ^ size m (readsH A′ B′)))
       (λ t x y h. ap (P .D t) (gather-ext m (readsD A′ B′) (f x) (f y) (seesD x y h)))
-      (λ d x y h. ap (λ (g : ℕ). P .H (g + d * 2 ^ size m (readsH A′ B′))) (gather-ext m (readsH A′ B′) (f x) (f y) (seesH x y h)))
+      (λ d x y h. ap (λ (g : ℕ). P .H (g + d * 2 ^ size m (readsH A′ B′)))
+      (gather-ext m (readsH A′ B′) (f x) (f y) (seesH x y h)))
       (λ x h. is x h .1 ∙ P .gives (f x) (is x h .0))

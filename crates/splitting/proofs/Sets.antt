@@ -69,15 +69,20 @@ module _ (n K r A B : ℕ) where
         }
 
 -- the bytes of H's table: it reads all inputs but the own ones, and the first cells' outputs
-pub bytes-H : {n K r A B : ℕ} → Candidate n K r A B → (F : ℕ → Bool) → tableLength (n + r - size n (bit A)) ≡ tableLength (inputsH n F (bit A) (bit B) r)
+pub bytes-H : {n K r A B : ℕ} → Candidate n K r A B → (F : ℕ → Bool) → tableLength (n + r - size n (bit A))
+    ≡ tableLength (inputsH n F (bit A) (bit B) r)
 bytes-H {n} {K} {r} {A} {B} c F =
-    let e : n + r - size n (bit A) ≡ inputsH n F (bit A) (bit B) r = omega (arith, inputs-H n (bit A) (bit B) (c .apart) F r) in ap tableLength e
+    let e : n + r - size n (bit A) ≡ inputsH n F (bit A) (bit B) r = omega
+    (arith, inputs-H n (bit A) (bit B) (c .apart) F r) in ap tableLength e
 
 -- lines of which none is 8 refuse without counting columns
-pub no-columns : (ls : List Line) → others 8 ls ≡ true → (n A B : ℕ) (t : List ℕ) (why : Refusal) → verdict ls ≡ Refused why → columnsNamed n A B t why ≡ 0
+pub no-columns : (ls : List Line) → others 8 ls ≡ true → (n A B : ℕ) (t : List ℕ) (why : Refusal) → verdict ls
+    ≡ Refused why → columnsNamed n A B t why ≡ 0
 no-columns ls o n A B t why h =
-    ap (λ (b : Bool). cond b (length (columns n (tableBit t) (bit A) (bit B) (why .place))) 0) (ne-eqb (why .number) 8 (another ls 8 why o h))
+    ap (λ (b : Bool). cond b (length (columns n (tableBit t) (bit A) (bit B) (why .place))) 0)
+    (ne-eqb (why .number) 8 (another ls 8 why o h))
 
 -- what is said of a split's numbers is said of those it was made of
 pub carried : {n n′ a a′ b b′ : ℕ} (P : ℕ → ℕ → ℕ → Type 0) → n ≡ n′ → a ≡ a′ → b ≡ b′ → P n a b → P n′ a′ b′
-carried {n} {n′} {a} {a′} {b} {b′} P p q r h = subst (λ (i : ℕ). P i a′ b′) p (subst (λ (i : ℕ). P n i b′) q (subst (λ (i : ℕ). P n a i) r h))
+carried {n} {n′} {a} {a′} {b} {b′} P p q r h = subst (λ (i : ℕ). P i a′ b′) p
+    (subst (λ (i : ℕ). P n i b′) q (subst (λ (i : ℕ). P n a i) r h))

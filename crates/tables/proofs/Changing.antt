@@ -39,19 +39,23 @@ pub record Others (n live j top m : ℕ) : Type 0 where
   pub below : m < 2 ^ top
   pub words : (i : ℕ) → bit m i ≡ (bit live (6 + i) && not (eqb (6 + i) j))
 
-other-words : (live j : ℕ) → live < 2 ^ 16 → j < 16 → (i : ℕ) → bit (bitAnd live (2 ^ 16 - 1 - 2 ^ j) / 2 ^ 6) i ≡ (bit live (6 + i) && not (eqb (6 + i) j))
-other-words live j small l i = bit-shr (bitAnd live (2 ^ 16 - 1 - 2 ^ j)) 6 i ∙ bit-and live (2 ^ 16 - 1 - 2 ^ j) (6 + i) ∙ elim (decLt (6 + i) 16) [
-  | yes h ↦
-      let power : 2 ^ j < 2 ^ 16 = omega (arith, pow-mono {i = j} {j = 15} (omega arith)) in
-      let one = ap (λ (m : ℕ). bit m (6 + i)) (sym (single 16 j l)) ∙ bit-number 16 (λ k. eqb k j) (6 + i) h in
-      ap (λ (t : Bool). bit live (6 + i) && t) (bit-not 16 (2 ^ j) (6 + i) power h ∙ ap not one)
-  | no h ↦
-      let off = bit-high live 16 (6 + i) small (omega arith) in
-      ap (λ (t : Bool). t && bit (2 ^ 16 - 1 - 2 ^ j) (6 + i)) off ∙ sym (ap (λ (t : Bool). t && not (eqb (6 + i) j)) off)
-]
+other-words : (live j : ℕ) → live < 2 ^ 16 → j < 16 → (i : ℕ) → bit (bitAnd live (2 ^ 16 - 1 - 2 ^ j) / 2 ^ 6) i
+    ≡ (bit live (6 + i) && not (eqb (6 + i) j))
+other-words live j small l i = bit-shr (bitAnd live (2 ^ 16 - 1 - 2 ^ j)) 6 i
+    ∙ bit-and live (2 ^ 16 - 1 - 2 ^ j) (6 + i) ∙ elim (decLt (6 + i) 16) [
+      | yes h ↦
+          let power : 2 ^ j < 2 ^ 16 = omega (arith, pow-mono {i = j} {j = 15} (omega arith)) in
+          let one = ap (λ (m : ℕ). bit m (6 + i)) (sym (single 16 j l)) ∙ bit-number 16 (λ k. eqb k j) (6 + i) h in
+          ap (λ (t : Bool). bit live (6 + i) && t) (bit-not 16 (2 ^ j) (6 + i) power h ∙ ap not one)
+      | no h ↦
+          let off = bit-high live 16 (6 + i) small (omega arith) in
+          ap (λ (t : Bool). t && bit (2 ^ 16 - 1 - 2 ^ j) (6 + i)) off
+          ∙ sym (ap (λ (t : Bool). t && not (eqb (6 + i) j)) off)
+    ]
 
 -- as `(live & !(1 << j)) >> 6`
-pub others-are : (n live j top : ℕ) → n ≤ mostInputs → live < 2 ^ n → j < n → top ≡ n - 6 → Others n live j top (bitAnd live (65535 - 1 * 2 ^ j % 65536) / 64)
+pub others-are : (n live j top : ℕ) → n ≤ mostInputs → live < 2 ^ n → j < n → top ≡ n - 6
+    → Others n live j top (bitAnd live (65535 - 1 * 2 ^ j % 65536) / 64)
 others-are n live j top most small l e =
     subst (λ (k : ℕ). Others n live j top (bitAnd live (65535 - k) / 64)) (sym (shl-one 16 j (omega arith))) (record {
       at = e;
@@ -62,8 +66,12 @@ others-are n live j top most small l e =
 
 module _ (n : ℕ) (F : ℕ → Bool) (j : ℕ) (l : j < n) where
   -- two numbers that are the same where nothing changes, and by which nothing in word w does
-  pub compared : (w a b : ℕ) → (((x : ℕ) → Steady n F j x) → a ≡ b) → (a ≡ b → (i : ℕ) → i < 64 → Steady n F j (64 * w + i)) → Compared n F j w (not (eqb a b))
-  compared w a b there back = record { changes = λ e. go (counts n F j) refl e; steady = λ e. back (eqb-true a b (turn (eqb a b) e)) }
+  pub compared : (w a b : ℕ) → (((x : ℕ) → Steady n F j x) → a ≡ b)
+      → (a ≡ b → (i : ℕ) → i < 64 → Steady n F j (64 * w + i)) → Compared n F j w (not (eqb a b))
+  compared w a b there back = record {
+    changes = λ e. go (counts n F j) refl e;
+    steady = λ e. back (eqb-true a b (turn (eqb a b) e));
+  }
     where
       turn : (t : Bool) → not t ≡ false → t ≡ true
       turn true e = refl
@@ -83,36 +91,43 @@ module _ (n : ℕ) (F : ℕ → Bool) (j : ℕ) (l : j < n) where
     place-bit i = let e : 64 * w + i ≡ i + w * 2 ^ 6 = omega arith in ap (λ (x : ℕ). bit x j) e ∙ bit-below i w 6 j six
 
     here : (i : ℕ) → i < 64 → bit (bitAnd o m) i ≡ ((ltb (64 * w + i) (2 ^ n) && F (64 * w + i)) && not (bit i j))
-    here i h = bit-and o m i ∙ ap₂ _&&_ (bit-number 64 (λ i. ltb (64 * w + i) (2 ^ n) && F (64 * w + i)) i h) (half six i h)
+    here i h = bit-and o m i ∙ ap₂ _&&_ (bit-number 64 (λ i. ltb (64 * w + i) (2 ^ n) && F (64 * w + i)) i h)
+        (half six i h)
 
     there : (i : ℕ) → i < 64 → bit i j ≡ false
         → bit (bitAnd (o / 2 ^ (2 ^ j)) m) i ≡ ((ltb (64 * w + i + 2 ^ j) (2 ^ n) && F (64 * w + i + 2 ^ j)) && true)
     there i h off =
         let q : 64 * w + (2 ^ j + i) ≡ 64 * w + i + 2 ^ j = omega arith in
         bit-and (o / 2 ^ (2 ^ j)) m i
-        ∙ ap₂ _&&_ (bit-shr o (2 ^ j) i ∙ bit-number 64 (λ i. ltb (64 * w + i) (2 ^ n) && F (64 * w + i)) (2 ^ j + i) (omega (arith, plus-lt 6 i j h six off))
+        ∙ ap₂ _&&_ (bit-shr o (2 ^ j) i ∙ bit-number 64 (λ i. ltb (64 * w + i) (2 ^ n) && F (64 * w + i)) (2 ^ j + i)
+        (omega (arith, plus-lt 6 i j h six off))
         ∙ ap (λ (x : ℕ). ltb x (2 ^ n) && F x) q) (half six i h ∙ ap not off)
 
     pub halves-same : ((x : ℕ) → Steady n F j x) → bitAnd (o / 2 ^ (2 ^ j)) m ≡ bitAnd o m
     halves-same steady =
         same-bits 64 (bitAnd (o / 2 ^ (2 ^ j)) m) (bitAnd o m)
-        (lt-of-le-of-lt (and-le-l (o / 2 ^ (2 ^ j)) m) (lt-of-le-of-lt (div-le-self o (2 ^ (2 ^ j))) small)) (lt-of-le-of-lt (and-le-l o m) small)
+        (lt-of-le-of-lt (and-le-l (o / 2 ^ (2 ^ j)) m) (lt-of-le-of-lt (div-le-self o (2 ^ (2 ^ j))) small))
+        (lt-of-le-of-lt (and-le-l o m) small)
         (λ i h. go i h (bit i j) refl)
       where
         small : o < 2 ^ 64
         small = number-lt 64 (λ i. ltb (64 * w + i) (2 ^ n) && F (64 * w + i))
 
-        both : (i : ℕ) → i < 64 → bit i j ≡ false → (ltb (64 * w + i + 2 ^ j) (2 ^ n) && F (64 * w + i + 2 ^ j)) ≡ (ltb (64 * w + i) (2 ^ n) && F (64 * w + i))
+        both : (i : ℕ) → i < 64 → bit i j ≡ false → (ltb (64 * w + i + 2 ^ j) (2 ^ n) && F (64 * w + i + 2 ^ j))
+            ≡ (ltb (64 * w + i) (2 ^ n) && F (64 * w + i))
         both i h off = elim (decLt (64 * w + i) (2 ^ n)) [
           | yes g ↦ let x = place-bit i ∙ off in
-              ap₂ _&&_ (lt-ltb (64 * w + i + 2 ^ j) (2 ^ n) (plus-lt n (64 * w + i) j g l x) ∙ sym (lt-ltb (64 * w + i) (2 ^ n) g))
+              ap₂ _&&_ (lt-ltb (64 * w + i + 2 ^ j) (2 ^ n) (plus-lt n (64 * w + i) j g l x)
+              ∙ sym (lt-ltb (64 * w + i) (2 ^ n) g))
               (sym (steady (64 * w + i) g x))
-          | no g ↦ ap₂ _&&_ (le-ltb (64 * w + i + 2 ^ j) (2 ^ n) (omega arith)) refl ∙ sym (ap₂ _&&_ (le-ltb (64 * w + i) (2 ^ n) (omega arith)) refl)
+          | no g ↦ ap₂ _&&_ (le-ltb (64 * w + i + 2 ^ j) (2 ^ n) (omega arith)) refl
+              ∙ sym (ap₂ _&&_ (le-ltb (64 * w + i) (2 ^ n) (omega arith)) refl)
         ]
 
         go : (i : ℕ) → i < 64 → (t : Bool) → bit i j ≡ t → bit (bitAnd (o / 2 ^ (2 ^ j)) m) i ≡ bit (bitAnd o m) i
         go i h true on =
-            bit-and (o / 2 ^ (2 ^ j)) m i ∙ ap (λ (t : Bool). bit (o / 2 ^ (2 ^ j)) i && t) (half six i h ∙ ap not on) ∙ and-false (bit (o / 2 ^ (2 ^ j)) i)
+            bit-and (o / 2 ^ (2 ^ j)) m i ∙ ap (λ (t : Bool). bit (o / 2 ^ (2 ^ j)) i && t) (half six i h ∙ ap not on)
+            ∙ and-false (bit (o / 2 ^ (2 ^ j)) i)
             ∙ sym (bit-and o m i ∙ ap (λ (t : Bool). bit o i && t) (half six i h ∙ ap not on) ∙ and-false (bit o i))
         go i h false off = there i h off ∙ ap (λ (t : Bool). t && true) (both i h off)
             ∙ sym (here i h ∙ ap (λ (t : Bool). (ltb (64 * w + i) (2 ^ n) && F (64 * w + i)) && not t) off)
@@ -120,9 +135,12 @@ module _ (n : ℕ) (F : ℕ → Bool) (j : ℕ) (l : j < n) where
     pub halves-steady : bitAnd (o / 2 ^ (2 ^ j)) m ≡ bitAnd o m → (i : ℕ) → i < 64 → Steady n F j (64 * w + i)
     halves-steady e i h g off =
         let low = sym (place-bit i) ∙ off in
-        sym (ap (λ (t : Bool). (t && F (64 * w + i)) && true) (lt-ltb (64 * w + i) (2 ^ n) g) ∙ and-true (F (64 * w + i)))
-        ∙ ap (λ (t : Bool). (ltb (64 * w + i) (2 ^ n) && F (64 * w + i)) && not t) (sym low) ∙ sym (here i h) ∙ ap (λ (x : ℕ). bit x i) (sym e) ∙ there i h low
-        ∙ ap (λ (t : Bool). (t && F (64 * w + i + 2 ^ j)) && true) (lt-ltb (64 * w + i + 2 ^ j) (2 ^ n) (plus-lt n (64 * w + i) j g l off))
+        sym (ap (λ (t : Bool). (t && F (64 * w + i)) && true) (lt-ltb (64 * w + i) (2 ^ n) g)
+        ∙ and-true (F (64 * w + i)))
+        ∙ ap (λ (t : Bool). (ltb (64 * w + i) (2 ^ n) && F (64 * w + i)) && not t) (sym low) ∙ sym (here i h)
+        ∙ ap (λ (x : ℕ). bit x i) (sym e) ∙ there i h low
+        ∙ ap (λ (t : Bool). (t && F (64 * w + i + 2 ^ j)) && true)
+        (lt-ltb (64 * w + i + 2 ^ j) (2 ^ n) (plus-lt n (64 * w + i) j g l off))
         ∙ and-true (F (64 * w + i + 2 ^ j))
 
   -- ---- between words
@@ -142,23 +160,27 @@ module _ (n : ℕ) (F : ℕ → Bool) (j : ℕ) (l : j < n) where
         ∙ ap (λ (t : Bool). t && F (64 * w′ + i)) (lt-ltb (64 * w′ + i) (2 ^ n) (omega (arith, whole)))
 
     other-bit : (i : ℕ) → i < 64 → bit (gateWord n F (w + 2 ^ (j - 6))) i ≡ F (64 * w + i + 2 ^ j)
-    other-bit i h = let e : 64 * (w + 2 ^ (j - 6)) + i ≡ 64 * w + i + 2 ^ j = omega (arith, step) in word-bit (w + 2 ^ (j - 6)) i other-lt h ∙ ap F e
+    other-bit i h = let e : 64 * (w + 2 ^ (j - 6)) + i ≡ 64 * w + i + 2 ^ j = omega (arith, step)
+        in word-bit (w + 2 ^ (j - 6)) i other-lt h ∙ ap F e
 
     off : (i : ℕ) → i < 64 → bit (64 * w + i) j ≡ false
     off i h =
         let e : 6 + (j - 6) ≡ j = omega arith in
         let q : (64 * w + i) / 2 ^ 6 ≡ w = omega arith in
-        ap (bit (64 * w + i)) (sym e) ∙ sym (bit-shr (64 * w + i) 6 (j - 6)) ∙ ap (λ (x : ℕ). bit x (j - 6)) q ∙ without .off more
+        ap (bit (64 * w + i)) (sym e) ∙ sym (bit-shr (64 * w + i) 6 (j - 6)) ∙ ap (λ (x : ℕ). bit x (j - 6)) q
+        ∙ without .off more
 
     pub words-same : ((x : ℕ) → Steady n F j x) → gateWord n F w ≡ gateWord n F (w + 2 ^ (j - 6))
     words-same steady =
         same-bits 64 (gateWord n F w) (gateWord n F (w + 2 ^ (j - 6))) (number-lt 64 _) (number-lt 64 _)
-        (λ i h. word-bit w i (without .below) h ∙ steady (64 * w + i) (omega (arith, whole, without .below)) (off i h) ∙ sym (other-bit i h))
+        (λ i h. word-bit w i (without .below) h ∙ steady (64 * w + i) (omega (arith, whole, without .below)) (off i h)
+        ∙ sym (other-bit i h))
 
     pub words-steady : gateWord n F w ≡ gateWord n F (w + 2 ^ (j - 6)) → (i : ℕ) → i < 64 → Steady n F j (64 * w + i)
     words-steady e i h g _ = sym (word-bit w i (without .below) h) ∙ ap (λ (x : ℕ). bit x i) e ∙ other-bit i h
 
-  -- ---- where idle inputs are 0: F sees the inputs of a mask alone, and m are those of them that number words, but for j
+  -- ---- where idle inputs are 0: F sees the inputs of a mask alone, and m are those of them that number words, but for
+  -- j
   module _ (live top m : ℕ) (lives : Live n F live j) (others : Others n live j top m) where
     abbrev S : ℕ → Bool
     S = bit live
@@ -171,7 +193,8 @@ module _ (n : ℕ) (F : ℕ → Bool) (j : ℕ) (l : j < n) where
           let e : 6 + (j - 6) ≡ j = omega arith in
           bit-spread top (bit m) v (j - 6) (omega (arith, others .at))
           ∙ ap (λ (t : Bool). t && bit v (size (j - 6) (bit m)))
-          (others .words (j - 6) ∙ ap₂ (λ (s t : Bool). s && not t) (ap S e ∙ lives .member) (eq-eqb (6 + (j - 6)) j e));
+          (others .words (j - 6) ∙ ap₂ (λ (s t : Bool). s && not t) (ap S e ∙ lives .member)
+          (eq-eqb (6 + (j - 6)) j e));
     }
 
     -- x with idle inputs at 0
@@ -188,7 +211,8 @@ module _ (n : ℕ) (F : ℕ → Bool) (j : ℕ) (l : j < n) where
 
     only-off : (x : ℕ) → bit x j ≡ false → bit (only x) j ≡ false
     unfolding only
-    only-off x off = bit-spread n S (gather n S x) j l ∙ ap (λ (t : Bool). t && bit (gather n S x) (size j S)) (lives .member)
+    only-off x off = bit-spread n S (gather n S x) j l
+        ∙ ap (λ (t : Bool). t && bit (gather n S x) (size j S)) (lives .member)
         ∙ gather-bit n S x j l (lives .member) ∙ off
 
     -- setting input j there does what it does at x
@@ -196,30 +220,38 @@ module _ (n : ℕ) (F : ℕ → Bool) (j : ℕ) (l : j < n) where
     unfolding only
     only-steady x h off e =
         sym (cleared n F S (lives .sees) x h) ∙ e
-        ∙ lives .sees (only x + 2 ^ j) (x + 2 ^ j) (plus-lt n (only x) j (only-lt x) l (only-off x off)) (plus-lt n x j h l off) (λ i g s.
+        ∙ lives .sees (only x + 2 ^ j) (x + 2 ^ j) (plus-lt n (only x) j (only-lt x) l (only-off x off))
+        (plus-lt n x j h l off) (λ i g s.
         plus-bit n (only x) j (only-lt x) l (only-off x off) i g
-        ∙ ap (λ (t : Bool). t || eqb i j) (only-bit x i g ∙ ap (λ (t : Bool). t && bit (gather n S x) (size i S)) s ∙ gather-bit n S x i g s)
+        ∙ ap (λ (t : Bool). t || eqb i j) (only-bit x i g ∙ ap (λ (t : Bool). t && bit (gather n S x) (size i S)) s
+        ∙ gather-bit n S x i g s)
         ∙ sym (plus-bit n x j h l off i g))
 
     -- and its word is one of those that m numbers
     only-word : (x : ℕ) → bit x j ≡ false → only x / 64 ≡ spread top (bit m) (gather top (bit m) (only x / 64))
     only-word x off =
-        sym (inside-spread top (bit m) (only x / 64) (subst (λ (k : ℕ). only x / 64 < 2 ^ k) (sym (others .at)) (word-lt n (only x) (only-lt x))) (λ i h on.
-        others .words i ∙ ap₂ (λ (s t : Bool). s && not t) (in-S i h on) (ne-eqb (6 + i) j (λ e. clash (high i on) (ap (bit (only x)) e ∙ only-off x off)))))
+        sym (inside-spread top (bit m) (only x / 64) (subst (λ (k : ℕ). only x / 64 < 2 ^ k) (sym (others .at))
+        (word-lt n (only x) (only-lt x))) (λ i h on.
+        others .words i ∙ ap₂ (λ (s t : Bool). s && not t) (in-S i h on)
+        (ne-eqb (6 + i) j (λ e. clash (high i on) (ap (bit (only x)) e ∙ only-off x off)))))
       where
         high : (i : ℕ) → bit (only x / 64) i ≡ true → bit (only x) (6 + i) ≡ true
         high i on = sym (bit-shr (only x) 6 i) ∙ on
 
         in-S : (i : ℕ) → i < top → bit (only x / 64) i ≡ true → S (6 + i) ≡ true
-        in-S i h on = and-left (S (6 + i)) (bit (gather n S x) (size (6 + i) S)) (sym (only-bit x (6 + i) (omega (arith, others .at))) ∙ high i on)
+        in-S i h on = and-left (S (6 + i)) (bit (gather n S x) (size (6 + i) S))
+            (sym (only-bit x (6 + i) (omega (arith, others .at))) ∙ high i on)
 
-    pub enough-words : ((v : ℕ) → v < 2 ^ size top (bit m) → (i : ℕ) → i < 64 → Steady n F j (64 * spread top (bit m) v + i)) → (x : ℕ) → Steady n F j x
+    pub enough-words : ((v : ℕ) → v < 2 ^ size top (bit m) → (i : ℕ) → i < 64
+        → Steady n F j (64 * spread top (bit m) v + i)) → (x : ℕ) → Steady n F j x
     enough-words steady x h off =
         let y = only x in
         let v = gather top (bit m) (y / 64) in
         let e : 64 * spread top (bit m) v + y % 64 ≡ y = omega (arith, only-word x off) in
-        let s : Steady n F j (64 * spread top (bit m) v + y % 64) = steady v (gather-lt top (bit m) (y / 64)) (y % 64) (omega arith) in
+        let s : Steady n F j (64 * spread top (bit m) v + y % 64) = steady v (gather-lt top (bit m) (y / 64)) (y % 64)
+        (omega arith) in
         only-steady x h off (at (64 * spread top (bit m) v + y % 64) y e s (only-lt x) (only-off x off))
       where
         at : (a b : ℕ) → a ≡ b → Steady n F j a → Steady n F j b
-        at a b e s g o = ap F (sym e) ∙ s (omega arith) (ap (λ (z : ℕ). bit z j) e ∙ o) ∙ ap (λ (z : ℕ). F (z + 2 ^ j)) e
+        at a b e s g o = ap F (sym e) ∙ s (omega arith) (ap (λ (z : ℕ). bit z j) e ∙ o)
+            ∙ ap (λ (z : ℕ). F (z + 2 ^ j)) e

@@ -24,7 +24,8 @@ every-fails : (n : ℕ) (p : ℕ → Bool) → every n p ≡ false → (j : ℕ)
 every-fails zero p e = absurd (clash refl e)
 every-fails (suc n) p e = go (p n) refl e (every-fails n p)
   where
-    go : (t : Bool) → p n ≡ t → cond t (every n p) false ≡ false → (every n p ≡ false → (j : ℕ) × (j < n) × (p j ≡ false))
+    go : (t : Bool) → p n ≡ t → cond t (every n p) false ≡ false
+        → (every n p ≡ false → (j : ℕ) × (j < n) × (p j ≡ false))
         → (j : ℕ) × (j < suc n) × (p j ≡ false)
     go true q e ih = let w = ih e in (w .0, omega arith, w .2)
     go false q e ih = (n, omega arith, q)
@@ -41,7 +42,8 @@ module _ (n : ℕ) (F : ℕ → Bool) (j : ℕ) (l : j < n) where
     y = x + 2 ^ j;
     belowX = h;
     belowY = plus-lt n x j h l off;
-    alike = λ i g ne. sym (plus-bit n x j h l off i g ∙ ap (λ (t : Bool). bit x i || t) (ne-eqb i j ne) ∙ or-false (bit x i));
+    alike = λ i g ne. sym (plus-bit n x j h l off i g ∙ ap (λ (t : Bool). bit x i || t) (ne-eqb i j ne)
+        ∙ or-false (bit x i));
     differ = differ;
   }
 
@@ -59,7 +61,8 @@ module _ (n : ℕ) (F : ℕ → Bool) (j : ℕ) (l : j < n) where
       -- y is x with input j set
       up : (x y : ℕ) → x < 2 ^ n → y < 2 ^ n → AlikeBut n j x y → bit x j ≡ false → bit y j ≡ true → F x ≡ F y
       up x y p q but off on =
-          alike x p off ∙ ap F (same-bits n (x + 2 ^ j) y (plus-lt n x j p l off) q (λ i g. plus-bit n x j p l off i g ∙ at i g (eqb i j) refl))
+          alike x p off ∙ ap F (same-bits n (x + 2 ^ j) y (plus-lt n x j p l off) q
+          (λ i g. plus-bit n x j p l off i g ∙ at i g (eqb i j) refl))
         where
           at : (i : ℕ) → i < n → (t : Bool) → eqb i j ≡ t → (bit x i || t) ≡ bit y i
           at i g true r = or-true (bit x i) ∙ sym (ap (bit y) (eqb-true i j r) ∙ on)
@@ -126,7 +129,8 @@ module _ (n : ℕ) (F : ℕ → Bool) (j : ℕ) (l : j < n) where
 -- ---- all inputs
 module _ (n : ℕ) (F : ℕ → Bool) where
   pub sees-counts : Sees n F (counts n F)
-  sees-counts x y p q agree = upto n (omega arith) ∙ ap F (same-bits n (mixed n) y (number-lt n (mix n)) q (λ i l. at n i l ∙ low n i l))
+  sees-counts x y p q agree = upto n (omega arith)
+      ∙ ap F (same-bits n (mixed n) y (number-lt n (mix n)) q (λ i l. at n i l ∙ low n i l))
     where
       -- y's bits below m, and x's from m up
       mix : ℕ → ℕ → Bool
@@ -154,8 +158,10 @@ module _ (n : ℕ) (F : ℕ → Bool) where
           ] ∙ sym (at (suc m) i l)
 
           go : (t : Bool) → counts n F m ≡ t → F (mixed m) ≡ F (mixed (suc m))
-          go false c = idle-ignores n F m h c (mixed m) (mixed (suc m)) (number-lt n (mix m)) (number-lt n (mix (suc m))) other
-          go true c = ap F (same-bits n (mixed m) (mixed (suc m)) (number-lt n (mix m)) (number-lt n (mix (suc m))) (λ i l. both i l (eqb i m) refl))
+          go false c = idle-ignores n F m h c (mixed m) (mixed (suc m)) (number-lt n (mix m))
+              (number-lt n (mix (suc m))) other
+          go true c = ap F (same-bits n (mixed m) (mixed (suc m)) (number-lt n (mix m)) (number-lt n (mix (suc m)))
+              (λ i l. both i l (eqb i m) refl))
             where
               both : (i : ℕ) → i < n → (t : Bool) → eqb i m ≡ t → bit (mixed m) i ≡ bit (mixed (suc m)) i
               both i l true r =
@@ -165,7 +171,8 @@ module _ (n : ℕ) (F : ℕ → Bool) where
               both i l false r = other i l (eqb-false i m r)
 
       upto : (m : ℕ) → m ≤ n → F x ≡ F (mixed m)
-      upto zero h = ap F (same-bits n x (mixed 0) p (number-lt n (mix 0)) (λ i l. sym (at 0 i l ∙ high 0 i (omega arith))))
+      upto zero h = ap F (same-bits n x (mixed 0) p (number-lt n (mix 0))
+          (λ i l. sym (at 0 i l ∙ high 0 i (omega arith))))
       upto (suc m) h = upto m (omega arith) ∙ step m (omega arith)
 
   support-bit : (j : ℕ) → j < n → bit (support n F) j ≡ counts n F j
@@ -197,11 +204,13 @@ count-ext n F G same all j l = let p = all j l in record {
 
 pub support-ext : (n : ℕ) (F G : ℕ → Bool) → ((x : ℕ) → x < 2 ^ n → F x ≡ G x) → support n F ≡ support n G
 unfolding support counts
-support-ext n F G same = number-ext n (counts n F) (counts n G) (λ j l. ap not (every-ext (2 ^ n) (at F j) (at G j) (λ x h. go j l x h (bit x j) refl)))
+support-ext n F G same = number-ext n (counts n F) (counts n G)
+    (λ j l. ap not (every-ext (2 ^ n) (at F j) (at G j) (λ x h. go j l x h (bit x j) refl)))
   where
     at : (ℕ → Bool) → ℕ → ℕ → Bool
     at F j x = bit x j || Bool·beq (F x) (F (x + 2 ^ j))
 
-    go : (j : ℕ) → j < n → (x : ℕ) → x < 2 ^ n → (t : Bool) → bit x j ≡ t → (t || Bool·beq (F x) (F (x + 2 ^ j))) ≡ (t || Bool·beq (G x) (G (x + 2 ^ j)))
+    go : (j : ℕ) → j < n → (x : ℕ) → x < 2 ^ n → (t : Bool) → bit x j ≡ t → (t || Bool·beq (F x) (F (x + 2 ^ j)))
+        ≡ (t || Bool·beq (G x) (G (x + 2 ^ j)))
     go j l x h true e = refl
     go j l x h false e = ap₂ Bool·beq (same x h) (same (x + 2 ^ j) (plus-lt n x j h l e))

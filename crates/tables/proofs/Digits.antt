@@ -27,7 +27,8 @@ cut a F x = ltb x a && F x
 -- from a on there is nothing
 pub cut-none : (a b k : ℕ) (F : ℕ → Bool) → a ≤ b → number k (λ i. cut a F (b + i)) ≡ 0
 cut-none a b k F h =
-    number-ext k (λ i. cut a F (b + i)) (λ i. false) (λ i l. ap (λ (t : Bool). t && F (b + i)) (le-ltb (b + i) a (omega arith)))
+    number-ext k (λ i. cut a F (b + i)) (λ i. false)
+    (λ i l. ap (λ (t : Bool). t && F (b + i)) (le-ltb (b + i) a (omega arith)))
     ∙ none-zero k
 
 pub cut-number : (a m : ℕ) (F : ℕ → Bool) → a ≤ m → number m (λ x. ltb x a && F x) ≡ number a F
@@ -48,11 +49,13 @@ short-word n F h =
     ∙ cut-number (2 ^ n) 64 F (pow-mono {i = n} {j = 6} h))
 
 -- with 6 or more all are full
-pub full-word : (n : ℕ) (F : ℕ → Bool) (w : ℕ) → 6 ≤ n → w < 2 ^ (n - 6) → number 64 (λ i. F (64 * w + i)) ≡ gateWord n F w
+pub full-word : (n : ℕ) (F : ℕ → Bool) (w : ℕ) → 6 ≤ n → w < 2 ^ (n - 6) → number 64 (λ i. F (64 * w + i))
+    ≡ gateWord n F w
 full-word n F w h l =
     let e : 6 + (n - 6) ≡ n = omega arith in
     number-ext 64 (λ i. F (64 * w + i)) (λ i. ltb (64 * w + i) (2 ^ n) && F (64 * w + i))
-    (λ i g. sym (ap (λ (t : Bool). t && F (64 * w + i)) (lt-ltb (64 * w + i) (2 ^ n) (omega (arith, ap (λ (k : ℕ). 2 ^ k) e, pow-add 2 6 (n - 6))))))
+    (λ i g. sym (ap (λ (t : Bool). t && F (64 * w + i))
+    (lt-ltb (64 * w + i) (2 ^ n) (omega (arith, ap (λ (k : ℕ). 2 ^ k) e, pow-add 2 6 (n - 6))))))
 
 -- all bits of n inputs lie in the words that these make
 pub within-words : (n : ℕ) → 2 ^ n ≤ 64 * 2 ^ (n - 6)
@@ -75,5 +78,6 @@ part-word n w stop F most within rest =
     same : (i : ℕ) → i < 64 → ltb (64 * w + i) (2 ^ n) ≡ ltb i stop
     same i l = elim (decLt i stop) [
       | yes g ↦ lt-ltb (64 * w + i) (2 ^ n) (omega arith) ∙ sym (lt-ltb i stop g)
-      | no g ↦ let r = rest (omega arith) in le-ltb (64 * w + i) (2 ^ n) (omega arith) ∙ sym (le-ltb i stop (omega arith))
+      | no g ↦ let r = rest (omega arith) in le-ltb (64 * w + i) (2 ^ n) (omega arith)
+          ∙ sym (le-ltb i stop (omega arith))
     ]

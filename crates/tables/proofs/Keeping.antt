@@ -31,7 +31,8 @@ some-bits n m l ne = go (size n (bit m)) refl
     go : (k : ℕ) → size n (bit m) ≡ k → 1 ≤ k
     go zero e =
         absurd (ne (sym (number-bit n m l)
-        ∙ number-ext n (bit m) (λ j. false) (λ j h. false-of (bit m j) (λ q. omega (arith, size-lt n (bit m) j h q))) ∙ none-zero n))
+        ∙ number-ext n (bit m) (λ j. false) (λ j h. false-of (bit m j) (λ q. omega (arith, size-lt n (bit m) j h q)))
+        ∙ none-zero n))
     go (suc k) e = omega arith
 
 module _ (n : ℕ) (F : ℕ → Bool) where
@@ -52,7 +53,8 @@ module _ (n : ℕ) (F : ℕ → Bool) where
       go false e = subst P (sym (kept-by false e)) (some (some-bits n s (number-lt n (counts n F)) (eqb-false s 0 e)))
 
   pub kept-sees : Sees n F (bit (kept n F))
-  kept-sees = by (λ m. Sees n F (bit m)) (λ e x y p q _. support-sees n F x y p q (λ j l on. absurd (clash on (ap (λ (m : ℕ). bit m j) e ∙ bit-zero j))))
+  kept-sees = by (λ m. Sees n F (bit m)) (λ e x y p q _. support-sees n F x y p q
+      (λ j l on. absurd (clash on (ap (λ (m : ℕ). bit m j) e ∙ bit-zero j))))
       (λ _. support-sees n F)
 
   pub kept-lt : 1 ≤ n → kept n F < 2 ^ n
@@ -85,7 +87,8 @@ module _ (n : ℕ) (F : ℕ → Bool) where
   all-counting all = size-full n (bit s) (λ j l. support-all n F j l (all j l))
 
   pub all-kept : AllCount n F → (j : ℕ) → j < n → bit (kept n F) j ≡ true
-  all-kept all j l = let m = support-all n F j l (all j l) in ap (λ (k : ℕ). bit k j) (some-kept (omega (arith, size-lt n (bit s) j l m))) ∙ m
+  all-kept all j l = let m = support-all n F j l (all j l)
+      in ap (λ (k : ℕ). bit k j) (some-kept (omega (arith, size-lt n (bit s) j l m))) ∙ m
 
 pub kept-ext : (n : ℕ) (F G : ℕ → Bool) → ((x : ℕ) → x < 2 ^ n → F x ≡ G x) → kept n F ≡ kept n G
 unfolding kept

@@ -23,11 +23,13 @@ module _ (n : ℕ) (F : ℕ → Bool) where
   pub live-all : live n + 1 ≡ 2 ^ n
   unfolding live
   live-all =
-      ap (λ (m : ℕ). m + 1) (number-ext n (λ i. ltb i n || counts n F i) (λ i. true) (λ i h. ap (λ (t : Bool). t || counts n F i) (lt-ltb i n h))) ∙ all-ones n
+      ap (λ (m : ℕ). m + 1) (number-ext n (λ i. ltb i n || counts n F i) (λ i. true)
+      (λ i h. ap (λ (t : Bool). t || counts n F i) (lt-ltb i n h))) ∙ all-ones n
 
   pub live-none : live 0 ≡ support n F
   unfolding live support
-  live-none = number-ext n (λ i. ltb i 0 || counts n F i) (counts n F) (λ i h. ap (λ (t : Bool). t || counts n F i) (le-ltb i 0 (omega arith)))
+  live-none = number-ext n (λ i. ltb i 0 || counts n F i) (counts n F)
+      (λ i h. ap (λ (t : Bool). t || counts n F i) (le-ltb i 0 (omega arith)))
 
   module _ (j : ℕ) (l : j < n) where
     live-bit : (k i : ℕ) → i < n → bit (live k) i ≡ (ltb i k || counts n F i)
@@ -38,7 +40,8 @@ module _ (n : ℕ) (F : ℕ → Bool) where
     unfolding live
     lives = record {
       below = number-lt n (λ i. ltb i (suc j) || counts n F i);
-      sees = λ x y p q agree. sees-counts n F x y p q (λ i h e. agree i h (live-bit (suc j) i h ∙ or-right (ltb i (suc j)) (counts n F i) e));
+      sees = λ x y p q agree. sees-counts n F x y p q
+          (λ i h e. agree i h (live-bit (suc j) i h ∙ or-right (ltb i (suc j)) (counts n F i) e));
       member = live-bit (suc j) j l ∙ or-left (ltb j (suc j)) (counts n F j) (lt-ltb j (suc j) (omega arith));
     }
 
@@ -52,7 +55,8 @@ module _ (n : ℕ) (F : ℕ → Bool) where
     -- it stays live if it counts, and is set aside if it doesn't
     pub live-stays : counts n F j ≡ true → live (suc j) ≡ live j
     unfolding live
-    live-stays c = number-ext n (λ i. ltb i (suc j) || counts n F i) (λ i. ltb i j || counts n F i) (λ i h. go i (eqb i j) refl)
+    live-stays c = number-ext n (λ i. ltb i (suc j) || counts n F i) (λ i. ltb i j || counts n F i)
+        (λ i h. go i (eqb i j) refl)
       where
         go : (i : ℕ) (t : Bool) → eqb i j ≡ t → (ltb i (suc j) || counts n F i) ≡ (ltb i j || counts n F i)
         go i true e =
@@ -64,11 +68,14 @@ module _ (n : ℕ) (F : ℕ → Bool) where
     unfolding live
     live-goes c =
         sym (plus-is n (live j) j (number-lt n (λ i. ltb i j || counts n F i)) l off
-        ∙ number-ext n (λ i. bit (live j) i || eqb i j) (λ i. ltb i (suc j) || counts n F i) (λ i h. go i h (eqb i j) refl))
+        ∙ number-ext n (λ i. bit (live j) i || eqb i j) (λ i. ltb i (suc j) || counts n F i)
+        (λ i h. go i h (eqb i j) refl))
       where
         off : bit (live j) j ≡ false
         off = live-bit j j l ∙ ap₂ _||_ (le-ltb j j (omega arith)) c
 
         go : (i : ℕ) → i < n → (t : Bool) → eqb i j ≡ t → (bit (live j) i || t) ≡ (ltb i (suc j) || counts n F i)
-        go i h true e = or-true (bit (live j) i) ∙ sym (or-left (ltb i (suc j)) (counts n F i) (lt-ltb i (suc j) (omega (arith, eqb-true i j e))))
-        go i h false e = or-false (bit (live j) i) ∙ live-bit j i h ∙ ap (λ (t : Bool). t || counts n F i) (sym (other i (eqb-false i j e)))
+        go i h true e = or-true (bit (live j) i) ∙ sym
+            (or-left (ltb i (suc j)) (counts n F i) (lt-ltb i (suc j) (omega (arith, eqb-true i j e))))
+        go i h false e = or-false (bit (live j) i) ∙ live-bit j i h
+            ∙ ap (λ (t : Bool). t || counts n F i) (sym (other i (eqb-false i j e)))

@@ -21,7 +21,8 @@ over-lt n S F = number-lt (2 ^ size n S) (λ v. F (spread n S v))
 
 pub over-ext : (n : ℕ) (S F G : ℕ → Bool) → ((x : ℕ) → x < 2 ^ n → F x ≡ G x) → tableOver n S F ≡ tableOver n S G
 unfolding tableOver
-over-ext n S F G same = number-ext (2 ^ size n S) (λ v. F (spread n S v)) (λ v. G (spread n S v)) (λ v _. same (spread n S v) (spread-lt n S v))
+over-ext n S F G same = number-ext (2 ^ size n S) (λ v. F (spread n S v)) (λ v. G (spread n S v))
+    (λ v _. same (spread n S v) (spread-lt n S v))
 
 -- over all inputs it is the table itself
 pub over-full : (n : ℕ) (S F : ℕ → Bool) → ((j : ℕ) → j < n → S j ≡ true) → tableOver n S F ≡ number (2 ^ n) F

@@ -15,7 +15,8 @@ use Rattle.bits.specs.Sets.{wordPositions, Apart, size, spread}
 use Rattle.bits.proofs.Bools.{clash, false-of, and-left}
 use Rattle.bits.proofs.Building.{joined, joined-fits}
 use Rattle.bits.proofs.Members.{spread-low}
-use Rattle.bits.proofs.Numbers.{number-lt, number-ext, number-mod, number-bit, none-zero, bit-number, bit-below, bit-high, bit-mod, bit-shr, top-low, top-high}
+use Rattle.bits.proofs.Numbers.{number-lt, number-ext, number-mod, number-bit, none-zero, bit-number, bit-below}
+use Rattle.bits.proofs.Numbers.{bit-high, bit-mod, bit-shr, top-low, top-high}
 use Rattle.bits.proofs.Sizes.{size-le, size-more, size-ext}
 use Rattle.bits.proofs.Spreading.{bit-spread, spread-lt, spread-more, spread-ext}
 use Rattle.bits.proofs.Sums.{number-append, number-join}
@@ -23,7 +24,8 @@ use Rattle.tables.specs.Table.{tableBit}
 use Rattle.tables.specs.Words.{WordAt}
 
 -- a byte of a table, taken from the word that has it
-pub word-byte : (f : ℕ → Bool) (i w : ℕ) → w ≡ number 64 (λ j. f (64 * (i / 8) + j)) → w / 2 ^ (8 * (i % 8)) % 2 ^ 8 ≡ number 8 (λ j. f (i * 8 + j))
+pub word-byte : (f : ℕ → Bool) (i w : ℕ) → w ≡ number 64 (λ j. f (64 * (i / 8) + j)) → w / 2 ^ (8 * (i % 8)) % 2 ^ 8
+    ≡ number 8 (λ j. f (i * 8 + j))
 word-byte f i w e =
     sym (number-mod 8 (w / 2 ^ (8 * (i % 8)))) ∙ number-ext 8 (bit (w / 2 ^ (8 * (i % 8)))) (λ j. f (i * 8 + j)) (λ j l.
     let at : 64 * (i / 8) + (8 * (i % 8) + j) ≡ i * 8 + j = omega arith in
@@ -45,7 +47,14 @@ pub apart-lt : (n a m v : ℕ) → a < 2 ^ n → Apart n (bit a) (bit m) → a +
 unfolding spread
 apart-lt n a m v l apart =
     let g : ℕ → Bool = λ j. bit m j && bit v (size j (bit m)) in
-    omega (arith, number-bit n a l, number-join n (bit a) g (λ j h e. off (bit m j) (bit v (size j (bit m))) (λ q. clash e (apart j h q))), number-lt n (λ j. bit a j || g j))
+    omega (
+      arith,
+      number-bit n a l,
+      number-join n (bit a) g
+          (λ j h e. off (bit m j) (bit v (size j (bit m))) (λ q. clash e (apart j h q))),
+      number-lt n
+          (λ j. bit a j || g j),
+    )
   where
     off : (s t : Bool) → (s ≡ true → ⊥) → (s && t) ≡ false
     off true t h = absurd (h refl)
@@ -71,7 +80,8 @@ above-part m j e = elim (decLt j wordPositions) [
 -- their parts step from word to word
 pub above-whole : (n m v : ℕ) → spread n (bit (above m)) v % 64 ≡ 0
 above-whole n m v =
-    sym (number-mod wordPositions (spread n (bit (above m)) v)) ∙ number-ext wordPositions (bit (spread n (bit (above m)) v)) (λ j. false) (λ j l.
+    sym (number-mod wordPositions (spread n (bit (above m)) v))
+    ∙ number-ext wordPositions (bit (spread n (bit (above m)) v)) (λ j. false) (λ j l.
     false-of _ (λ e. clash (spread-part n (above m) v j e) (top-low m wordPositions j l))) ∙ none-zero wordPositions
 
 -- past the mask's own positions nothing is spread
@@ -79,7 +89,8 @@ spread-wide : (n e m v : ℕ) → m < 2 ^ n → spread (n + e) (bit m) v ≡ spr
 spread-wide n zero m v h = ap (λ (i : ℕ). spread i (bit m) v) (add-zero n)
 spread-wide n (suc e) m v h =
     let i : n + suc e ≡ n + e + 1 = omega arith in
-    let none = ap (λ (t : Bool). val (t && bit v (size (n + e) (bit m))) * 2 ^ (n + e)) (bit-high m n (n + e) h (omega arith)) in
+    let none = ap (λ (t : Bool). val (t && bit v (size (n + e) (bit m))) * 2 ^ (n + e))
+    (bit-high m n (n + e) h (omega arith)) in
     ap (λ (i : ℕ). spread i (bit m) v) i ∙ spread-more (n + e) (bit m) v ∙ omega (arith, none, spread-wide n e m v h)
 
 -- c and u, one above the other: c goes to the members from 6 on, u to those below
@@ -92,7 +103,8 @@ module _ (m c u : ℕ) (small : u < 2 ^ size wordPositions (bit m)) where
 
   sizes : (e : ℕ) → size (6 + e) (bit m) ≡ k + size (6 + e) (bit (above m))
   unfolding size
-  sizes zero = sym (ap (λ (i : ℕ). k + i) (size-ext 6 (bit (above m)) (λ j. false) (λ j l. top-low m 6 j l)) ∙ add-zero k)
+  sizes zero = sym (ap (λ (i : ℕ). k + i) (size-ext 6 (bit (above m)) (λ j. false) (λ j l. top-low m 6 j l))
+      ∙ add-zero k)
   sizes (suc e) =
       let i : 6 + suc e ≡ 6 + e + 1 = omega arith in
       omega (
@@ -107,11 +119,13 @@ module _ (m c u : ℕ) (small : u < 2 ^ size wordPositions (bit m)) where
   unfolding spread number
   parts zero =
       let none = spread-ext 6 (bit (above m)) (λ j. false) c (λ j l. top-low m 6 j l) ∙ none-zero 6 in
-      let low = spread-low 6 (bit m) v u (λ i l. ap (λ (y : ℕ). bit y i) (add-comm (c * 2 ^ k) u) ∙ bit-below u c k i l) in
+      let low = spread-low 6 (bit m) v u (λ i l. ap (λ (y : ℕ). bit y i) (add-comm (c * 2 ^ k) u) ∙ bit-below u c k i l)
+      in
       omega (arith, none, low)
   parts (suc e) =
       let read : bit v (size (6 + e) (bit m)) ≡ bit c (size (6 + e) (bit (above m))) =
-      ap (bit v) (sizes e) ∙ sym (bit-shr v k (size (6 + e) (bit (above m)))) ∙ ap (λ (y : ℕ). bit y (size (6 + e) (bit (above m)))) (high c k small) in
+      ap (bit v) (sizes e) ∙ sym (bit-shr v k (size (6 + e) (bit (above m))))
+      ∙ ap (λ (y : ℕ). bit y (size (6 + e) (bit (above m)))) (high c k small) in
       let i : 6 + suc e ≡ 6 + e + 1 = omega arith in
       omega (
         arith,
@@ -147,18 +161,22 @@ module _ (m : ℕ) where
       let k = size wordPositions (bit m) in
       let i : 6 ≡ 6 - k + k = omega (arith, size-le wordPositions (bit m)) in
       let all : 64 ≡ 2 ^ (6 - k) * 2 ^ k = ap (λ (j : ℕ). 2 ^ j) i ∙ pow-add 2 (6 - k) k in
-      ap (λ (j : ℕ). 64 / 2 ^ j * 2 ^ k) e ∙ ap (λ (j : ℕ). j / 2 ^ k * 2 ^ k) all ∙ ap (λ (j : ℕ). j * 2 ^ k) (shl-shr (2 ^ (6 - k)) k) ∙ sym all
+      ap (λ (j : ℕ). 64 / 2 ^ j * 2 ^ k) e ∙ ap (λ (j : ℕ). j / 2 ^ k * 2 ^ k) all
+      ∙ ap (λ (j : ℕ). j * 2 ^ k) (shl-shr (2 ^ (6 - k)) k) ∙ sym all
 
   -- piece q ends within the word
   pub piece-within : (p q : ℕ) → p * each ≡ 64 → q < p → q * each + each ≤ 64
   piece-within p q fill l = omega (arith, mul-le-mul-right {m = suc q} {n = p} each l, suc-mul q each, fill)
 
   -- `q << few`
-  pub piece-place : (few p q : ℕ) → few ≡ size wordPositions (bit m) → p * each ≡ 64 → q < p → q * 2 ^ few % 2 ^ 32 ≡ q * each
-  piece-place few p q e fill l = ap (λ (j : ℕ). q * 2 ^ j % 2 ^ 32) e ∙ mod-eq-of-lt (omega (arith, piece-within p q fill l))
+  pub piece-place : (few p q : ℕ) → few ≡ size wordPositions (bit m) → p * each ≡ 64 → q < p → q * 2 ^ few % 2 ^ 32
+      ≡ q * each
+  piece-place few p q e fill l = ap (λ (j : ℕ). q * 2 ^ j % 2 ^ 32) e
+      ∙ mod-eq-of-lt (omega (arith, piece-within p q fill l))
 
 -- word i of the table over the members, the others as a has them; f names the word of its piece q
-module _ (t : List ℕ) (n m a : ℕ) (room : 2 ^ n ≤ 8 * length t) (below : m < 2 ^ n) (under : a < 2 ^ n) (apart : Apart n (bit a) (bit m)) where
+module _ (t : List ℕ) (n m a : ℕ) (room : 2 ^ n ≤ 8 * length t) (below : m < 2 ^ n) (under : a < 2 ^ n)
+    (apart : Apart n (bit a) (bit m)) where
   abbrev over : ℕ → ℕ → Bool
   over i j = tableBit t (a + spread n (bit m) (64 * i + j))
 
@@ -208,5 +226,6 @@ module _ (t : List ℕ) (n m a : ℕ) (room : 2 ^ n ≤ 8 * length t) (below : m
         piece-joined =
             let e : q * each m + each m ≡ (q + 1) * each m = omega (arith, add-mul q 1 (each m)) in
             joined 64 (each m) (q * each m) (piece-within m p q fill l) less small
-            ∙ ap₂ (λ (x y : ℕ). x + y * 2 ^ (q * each m)) so-far piece ∙ sym (number-append (q * each m) (each m) (over i))
+            ∙ ap₂ (λ (x y : ℕ). x + y * 2 ^ (q * each m)) so-far piece
+            ∙ sym (number-append (q * each m) (each m) (over i))
             ∙ ap (λ (j : ℕ). number j (over i)) e

@@ -50,10 +50,12 @@ kept-le h m j = omega (arith, ap (λ (d : ℕ). h * d) (bit-digit m j), mul-comm
 
 -- bit j of what stands in block b of q * 2 ^ (j + 1)
 block : (q : ℕ) (b : Bool) (j l x : ℕ) → l < 2 ^ j → x ≡ l + val b * 2 ^ j + q * 2 ^ (j + 1) → bit x j ≡ b
-block q b j l x h e = ap (λ (m : ℕ). bit m j) e ∙ bit-below (l + val b * 2 ^ j) q (j + 1) j (omega arith) ∙ bit-top l b j h
+block q b j l x h e = ap (λ (m : ℕ). bit m j) e ∙ bit-below (l + val b * 2 ^ j) q (j + 1) j (omega arith)
+    ∙ bit-top l b j h
 
 -- one position more: the lower half stays, and the upper one is moved to where k members leave room
-module _ (word m w low high j : ℕ) (inv : Squeezed word m w j) (within : j < wordPositions) (whole : w < 2 ^ 64) (small : high < 2 ^ 64)
+module _ (word m w low high j : ℕ) (inv : Squeezed word m w j) (within : j < wordPositions) (whole : w < 2 ^ 64)
+    (small : high < 2 ^ 64)
     (lows : (x : ℕ) → x < 64 → bit low x ≡ (bit w x && not (bit x j)))
     (highs : (x : ℕ) → x < 64 → bit high x ≡ (bit w x && bit x j)) where
   abbrev k : ℕ
@@ -81,14 +83,16 @@ module _ (word m w low high j : ℕ) (inv : Squeezed word m w j) (within : j < w
 
   -- what is moved to x: nothing where j is no member, else what stands at y in the upper half of its block
   away : (x : ℕ) → bit (moved false) x ≡ false
-  away x = let z : high * val false ≡ 0 = omega arith in ap (λ (y : ℕ). bit y x) (ap (λ (y : ℕ). y / 2 ^ by) z ∙ zero-div (2 ^ by)) ∙ bit-zero x
+  away x = let z : high * val false ≡ 0 = omega arith
+      in ap (λ (y : ℕ). bit y x) (ap (λ (y : ℕ). y / 2 ^ by) z ∙ zero-div (2 ^ by)) ∙ bit-zero x
 
   came : (x y : ℕ) (b : Bool) → y ≡ by + x → bit y j ≡ b → bit (moved true) x ≡ (bit w y && b)
   came x y b e at =
       let one : high * val true ≡ high = omega arith in
       ap (λ (h : ℕ). bit (h / 2 ^ by) x) one ∙ bit-shr high by x ∙ ap (bit high) (sym e) ∙ elim (decLt y 64) [
         | yes l ↦ highs y l ∙ ap (λ (t : Bool). bit w y && t) at
-        | no l ↦ bit-high high 64 y small (omega arith) ∙ sym (ap (λ (t : Bool). t && b) (bit-high w 64 y whole (omega arith)))
+        | no l ↦ bit-high high 64 y small (omega arith)
+            ∙ sym (ap (λ (t : Bool). t && b) (bit-high w 64 y whole (omega arith)))
       ]
 
   -- place l of block q
@@ -102,35 +106,43 @@ module _ (word m w low high j : ℕ) (inv : Squeezed word m w j) (within : j < w
     stays : l < 2 ^ j → bit low x ≡ (ltb l (2 ^ k) && from 0)
     stays u =
         let e : x ≡ (q + q) * 2 ^ j + l = omega (arith, even q) in
-        let z : spread j (bit m) l + (q + q) * 2 ^ j ≡ spread j (bit m) l + 0 * 2 ^ j + q * 2 ^ (j + 1) = omega (arith, even q) in
+        let z : spread j (bit m) l + (q + q) * 2 ^ j ≡ spread j (bit m) l + 0 * 2 ^ j
+        + q * 2 ^ (j + 1) = omega (arith, even q) in
         lows x (omega arith)
         ∙ ap₂ (λ (a b : Bool). a && not b)
-        (ap (bit w) e ∙ inv (q + q) l u (omega (arith, even q, twice j)) ∙ ap (λ (y : ℕ). ltb l (2 ^ k) && bit word y) z)
+        (ap (bit w) e ∙ inv (q + q) l u (omega (arith, even q, twice j))
+        ∙ ap (λ (y : ℕ). ltb l (2 ^ k) && bit word y) z)
         (block q false j l x u (omega arith))
         ∙ and-true (ltb l (2 ^ k) && from 0)
 
     goes : 2 ^ j ≤ l → bit low x ≡ false
     goes u =
-        lows x (omega arith) ∙ ap (λ (b : Bool). bit w x && not b) (block q true j (l - 2 ^ j) x (omega (arith, twice j)) (omega arith))
+        lows x (omega arith) ∙ ap (λ (b : Bool). bit w x && not b)
+        (block q true j (l - 2 ^ j) x (omega (arith, twice j)) (omega arith))
         ∙ and-false (bit w x)
 
     -- no member
     without : (bit low x || bit (moved false) x) ≡ (ltb l (2 ^ (k + 0)) && from 0)
     without = ap (λ (t : Bool). bit low x || t) (away x) ∙ or-false (bit low x) ∙ elim (decLt l (2 ^ j)) [
       | yes u ↦ stays u ∙ ap (λ (i : ℕ). ltb l (2 ^ i) && from 0) (sym (add-zero k))
-      | no u ↦ goes (omega arith) ∙ sym (ap (λ (t : Bool). t && from 0) (le-ltb l (2 ^ (k + 0)) (omega (arith, less, ap (λ (i : ℕ). 2 ^ i) (add-zero k)))))
+      | no u ↦ goes (omega arith) ∙ sym (ap (λ (t : Bool). t && from 0)
+          (le-ltb l (2 ^ (k + 0)) (omega (arith, less, ap (λ (i : ℕ). 2 ^ i) (add-zero k)))))
     ]
 
     -- a member, and l below where the upper half goes, at it, and past it
     under : l < 2 ^ k → (bit low x || bit (moved true) x) ≡ (ltb l (2 ^ (k + 1)) && from (val (bit l k)))
     under u =
         ap₂ _||_ (stays (omega (arith, less)) ∙ ap (λ (t : Bool). t && from 0) (lt-ltb l (2 ^ k) u))
-        (came x (by + x) false refl (block q false j (by + l) (by + x) (omega (arith, less)) (omega arith)) ∙ and-false (bit w (by + x)))
+        (came x (by + x) false refl (block q false j (by + l) (by + x) (omega (arith, less)) (omega arith))
+        ∙ and-false (bit w (by + x)))
         ∙ or-false (from 0)
-        ∙ sym (ap₂ (λ (t : Bool) (d : ℕ). t && from d) (lt-ltb l (2 ^ (k + 1)) (omega (arith, twice k))) (ap val (bit-high l k k u (omega arith))))
+        ∙ sym (ap₂ (λ (t : Bool) (d : ℕ). t && from d) (lt-ltb l (2 ^ (k + 1)) (omega (arith, twice k)))
+        (ap val (bit-high l k k u (omega arith))))
 
-    there : 2 ^ k ≤ l → l < 2 ^ j + 2 ^ k → (bit low x || bit (moved true) x) ≡ (ltb l (2 ^ (k + 1)) && from (val (bit l k)))
-    there u v = ap₂ _||_ none (came x (by + x) true refl (block q true j (l - 2 ^ k) (by + x) (omega arith) (omega (arith, less))) ∙ and-true (bit w (by + x))) ∙ read
+    there : 2 ^ k ≤ l → l < 2 ^ j + 2 ^ k → (bit low x || bit (moved true) x)
+        ≡ (ltb l (2 ^ (k + 1)) && from (val (bit l k)))
+    there u v = ap₂ _||_ none (came x (by + x) true refl
+        (block q true j (l - 2 ^ k) (by + x) (omega arith) (omega (arith, less))) ∙ and-true (bit w (by + x))) ∙ read
       where
         none : bit low x ≡ false
         none = elim (decLt l (2 ^ j)) [
@@ -141,26 +153,32 @@ module _ (word m w low high j : ℕ) (inv : Squeezed word m w j) (within : j < w
         read : bit w (by + x) ≡ (ltb l (2 ^ (k + 1)) && from (val (bit l k)))
         read =
             let e : by + x ≡ (q + q + 1) * 2 ^ j + (l - 2 ^ k) = omega (arith, odd q, less) in
-            ap (bit w) e ∙ inv (q + q + 1) (l - 2 ^ k) (omega arith) (omega (arith, odd q, twice j)) ∙ elim (decLt l (2 ^ (k + 1))) [
+            ap (bit w) e ∙ inv (q + q + 1) (l - 2 ^ k) (omega arith) (omega (arith, odd q, twice j))
+            ∙ elim (decLt l (2 ^ (k + 1))) [
               | yes p ↦
                   let is : l ≡ l - 2 ^ k + val true * 2 ^ k = omega arith in
                   let small : l - 2 ^ k < 2 ^ k = omega (arith, twice k) in
                   let same : spread j (bit m) (l - 2 ^ k) ≡ spread j (bit m) l =
-                  spread-low j (bit m) (l - 2 ^ k) l (λ i b. sym (ap (λ (y : ℕ). bit y i) is ∙ bit-below (l - 2 ^ k) (val true) k i b)) in
+                  spread-low j (bit m) (l - 2 ^ k) l (λ i b. sym
+                  (ap (λ (y : ℕ). bit y i) is ∙ bit-below (l - 2 ^ k) (val true) k i b)) in
                   let one : bit l k ≡ true = ap (λ (y : ℕ). bit y k) is ∙ bit-top (l - 2 ^ k) true k small in
-                  let z : spread j (bit m) (l - 2 ^ k) + (q + q + 1) * 2 ^ j ≡ spread j (bit m) l + 1 * 2 ^ j + q * 2 ^ (j + 1) = omega (arith, odd q, same) in
+                  let z : spread j (bit m) (l - 2 ^ k) + (q + q + 1) * 2 ^ j ≡ spread j (bit m) l + 1 * 2 ^ j
+                  + q * 2 ^ (j + 1) = omega (arith, odd q, same) in
                   ap₂ (λ (t : Bool) (y : ℕ). t && bit word y) (lt-ltb (l - 2 ^ k) (2 ^ k) small) z
                   ∙ sym (ap₂ (λ (t : Bool) (d : ℕ). t && from d) (lt-ltb l (2 ^ (k + 1)) p) (ap val one))
               | no p ↦
-                  ap (λ (t : Bool). t && bit word (spread j (bit m) (l - 2 ^ k) + (q + q + 1) * 2 ^ j)) (le-ltb (l - 2 ^ k) (2 ^ k) (omega (arith, twice k)))
+                  ap (λ (t : Bool). t && bit word (spread j (bit m) (l - 2 ^ k) + (q + q + 1) * 2 ^ j))
+                  (le-ltb (l - 2 ^ k) (2 ^ k) (omega (arith, twice k)))
                   ∙ sym (ap (λ (t : Bool). t && from (val (bit l k))) (le-ltb l (2 ^ (k + 1)) (omega arith)))
             ]
 
     past : 2 ^ j + 2 ^ k ≤ l → (bit low x || bit (moved true) x) ≡ (ltb l (2 ^ (k + 1)) && from (val (bit l k)))
     past u =
-        let next : (q + 1) * 2 ^ (j + 1) ≡ q * 2 ^ (j + 1) + 2 ^ (j + 1) = add-mul q 1 (2 ^ (j + 1)) ∙ ap (λ (p : ℕ). q * 2 ^ (j + 1) + p) (one-mul (2 ^ (j + 1))) in
+        let next : (q + 1) * 2 ^ (j + 1) ≡ q * 2 ^ (j + 1) + 2 ^ (j + 1) = add-mul q 1 (2 ^ (j + 1))
+        ∙ ap (λ (p : ℕ). q * 2 ^ (j + 1) + p) (one-mul (2 ^ (j + 1))) in
         ap₂ _||_ (goes (omega arith))
-        (came x (by + x) false refl (block (q + 1) false j (l - 2 ^ k - 2 ^ j) (by + x) (omega (arith, twice j, less)) (omega (arith, next, twice j, less))) ∙ and-false (bit w (by + x)))
+        (came x (by + x) false refl (block (q + 1) false j (l - 2 ^ k - 2 ^ j) (by + x) (omega (arith, twice j, less))
+        (omega (arith, next, twice j, less))) ∙ and-false (bit w (by + x)))
         ∙ sym (ap (λ (t : Bool). t && from (val (bit l k))) (le-ltb l (2 ^ (k + 1)) (omega (arith, twice k, less))))
 
     both : (t : Bool) → (bit low x || bit (moved t) x) ≡ (ltb l (2 ^ (k + val t)) && from (val (t && bit l k)))
@@ -173,4 +191,5 @@ module _ (word m w low high j : ℕ) (inv : Squeezed word m w j) (within : j < w
   pub squeezed-more : Squeezed word m (bitOr low (moved (bit m j))) (j + 1)
   squeezed-more q l h g =
       bit-or low (moved (bit m j)) (q * 2 ^ (j + 1) + l) ∙ both q l h g (bit m j)
-      ∙ sym (ap₂ (λ (i y : ℕ). ltb l (2 ^ i) && bit word (y + q * 2 ^ (j + 1))) (size-more j (bit m)) (spread-more j (bit m) l))
+      ∙ sym (ap₂ (λ (i y : ℕ). ltb l (2 ^ i) && bit word (y + q * 2 ^ (j + 1))) (size-more j (bit m))
+      (spread-more j (bit m) l))

@@ -1,8 +1,12 @@
--- Whether a time is a whole number of sixteenths: what the product by 16, the cut and the way back say. Assumes nothing.
+-- Whether a time is a whole number of sixteenths: what the product by 16, the cut and the way back say. Assumes
+-- nothing.
 use mathlib.Core.Path.{_≡_, refl, ap, ap₂, sym, _∙_, subst}
 use mathlib.Core.Bool.{Bool, true, false, _&&_, _||_}
 use Prim.Native.Nat.{ℕ, zero, suc, _+_, _-_, _*_, _/_, _%_, _^_, _≤_, _<_}
-use native.Mathlib.Nat.{mul-assoc, mul-comm, mul-left-comm, mul-right-comm, mul-one, mul-pos, zero-mul, eq-of-mul-eq-mul-right, le-of-mul-le-mul-right, mul-le-mul-right, lt-of-le-of-lt, lt-of-lt-of-le, le-of-lt, lt-irrefl, lt-trans, le-trans, min-le-left, div-le-of-le-mul, zero-lt-suc}
+use native.Mathlib.Nat.{mul-assoc, mul-comm, mul-left-comm, mul-right-comm, mul-one, mul-pos, zero-mul}
+use native.Mathlib.Nat.{eq-of-mul-eq-mul-right, le-of-mul-le-mul-right, mul-le-mul-right, lt-of-le-of-lt}
+use native.Mathlib.Nat.{lt-of-lt-of-le, le-of-lt, lt-irrefl, lt-trans, le-trans, min-le-left, div-le-of-le-mul}
+use native.Mathlib.Nat.{zero-lt-suc}
 use native.Mathlib.Omega.{arith}
 use native.Mathlib.Decide.{decLe}
 use lib.Dec.{T, eqb, ltb, leb, lit<, lit≤, eqb→eq, ltb→lt, leb→le, lt→ltb, le→leb}
@@ -39,9 +43,11 @@ small-exp k h = go (decLe (suc k) 1074)
     go (yes l) = l
     go (no n) = let l : 1074 < suc k = omega arith in absurd (lt-irrefl _ (lt-of-lt-of-le (pow-lt l) h))
 
-exact-at : (m : ℕ) (e : ℤ) → m < 2 ^ 53 → down e ≤ 2 ^ 1074 → m * up e ≤ 4096 * down e → HasValue (round binary64 false (m * up e * 16) (down e * 1)) false (m * up e * 16) (down e * 1)
+exact-at : (m : ℕ) (e : ℤ) → m < 2 ^ 53 → down e ≤ 2 ^ 1074 → m * up e ≤ 4096 * down e
+    → HasValue (round binary64 false (m * up e * 16) (down e * 1)) false (m * up e * 16) (down e * 1)
 exact-at m (pos k) q d h =
-    let e : m * 2 ^ (k + 1078) ≡ m * 2 ^ k * 2 ^ 1078 = ap (λ (n : ℕ). m * n) (pow-add 2 k 1078) ∙ sym (mul-assoc m (2 ^ k) (2 ^ 1078)) in
+    let e : m * 2 ^ (k + 1078) ≡ m * 2 ^ k * 2 ^ 1078 = ap (λ (n : ℕ). m * n) (pow-add 2 k 1078)
+    ∙ sym (mul-assoc m (2 ^ k) (2 ^ 1078)) in
     round-exact binary64 false (m * 2 ^ k * 16) 1 m (k + 1078) (lit< tt) q
     (lt-of-le-of-lt (subst (λ (n : ℕ). n ≤ 4096 * 2 ^ 1078) (sym e) (mul-le-mul-right (2 ^ 1078) h)) (lit< tt))
     (mul-assoc (m * 2 ^ k) 16 (2 ^ 1074) ∙ sym e ∙ sym (mul-one (m * 2 ^ (k + 1078))))
@@ -78,18 +84,24 @@ at-most a b t = go (ltb a b) (eqb a b) (ltb→lt a b) (eqb→eq a b) t
 
 pub bound : (m : ℕ) (e : ℤ) → T (le (fin false m e) (fin false 1 (pos 12))) → m * up e ≤ 4096 * down e
 unfolding le lt eq
-bound m e t = let h = at-most (m * up e * 1) (4096 * down e) t in subst (λ (n : ℕ). n ≤ 4096 * down e) (mul-one (m * up e)) h
+bound m e t = let h = at-most (m * up e * 1) (4096 * down e) t
+    in subst (λ (n : ℕ). n ≤ 4096 * down e) (mul-one (m * up e)) h
 
 pub no-minus : (m : ℕ) (e : ℤ) → T (le (fin false 0 (pos 0)) (fin true (suc m) e)) → ⊥
 unfolding le lt eq
-no-minus m e t = go (0 * 1 * down e) (suc m * up e * 1) (mul-pos (mul-pos (zero-lt-suc m) (up-pos e)) (lit< tt)) (ap (λ (n : ℕ). n * down e) (zero-mul 1) ∙ zero-mul (down e)) t
+no-minus m e t = go (0 * 1 * down e) (suc m * up e * 1) (mul-pos (mul-pos (zero-lt-suc m) (up-pos e)) (lit< tt))
+    (ap (λ (n : ℕ). n * down e) (zero-mul 1) ∙ zero-mul (down e)) t
   where
     go : (a b : ℕ) → 0 < b → a ≡ 0 → T (eqb a b && (false || eqb a 0)) → ⊥
     go a b h k t = let q : a ≡ b = eqb→eq a b (and-l (eqb a b) (eqb a 0) t) in omega arith
 
 pub parts : (x : Float) → T (inRange x) → T (le (fin false 0 (pos 0)) x) × T (le x (fin false 1 (pos 12)))
 unfolding inRange
-parts x r = (and-l (le (fin false 0 (pos 0)) x) (le x (fin false 1 (pos 12))) r, and-r (le (fin false 0 (pos 0)) x) (le x (fin false 1 (pos 12))) r)
+parts x r = (
+  and-l (le (fin false 0 (pos 0)) x) (le x (fin false 1 (pos 12))) r,
+  and-r (le (fin false 0 (pos 0)) x)
+      (le x (fin false 1 (pos 12))) r,
+)
 
 middle : (p q r s : Bool) → T (p && q && r && s) → T q × T r
 middle true true true true t = (tt, tt)
@@ -107,7 +119,8 @@ time (fin true zero e) f r z = let h : true ≡ false = cc in absurd (never h)
 time (fin true (suc m) e) f r z = absurd (no-minus m e (parts (fin true (suc m) e) r .0))
 time (fin false zero e) f r z = record { m = 0; e = pos 0; is = z; few = lit< tt; fine = lit≤ tt; within = lit≤ tt }
 time (fin false (suc m) e) f r z =
-    let k = middle (eqb (suc m % 2) 1) (ltb (suc m) (2 ^ 53)) (leb (down e) (2 ^ 1074)) (ltb (suc m * up e) (2 ^ 1024 * down e)) f in
+    let k = middle (eqb (suc m % 2) 1) (ltb (suc m) (2 ^ 53)) (leb (down e) (2 ^ 1074))
+    (ltb (suc m * up e) (2 ^ 1024 * down e)) f in
     record {
       m = suc m;
       e = e;
@@ -119,15 +132,18 @@ time (fin false (suc m) e) f r z =
 
 -- ---- the product of a time by 16: its value, and that it can be cut
 
-pub product : (x : Float) (t : Time x) → HasValue (mul binary64 x (fin false 1 (pos 4))) false (t .m * up (t .e) * 16) (down (t .e) * 1)
+pub product : (x : Float) (t : Time x) → HasValue (mul binary64 x (fin false 1 (pos 4))) false (t .m * up (t .e) * 16)
+    (down (t .e) * 1)
 unfolding mul
 product x t =
-    subst (λ (v : Float). HasValue (mul binary64 v (fin false 1 (pos 4))) false (t .m * up (t .e) * 16) (down (t .e) * 1)) (sym (t .is))
+    subst (λ (v : Float). HasValue (mul binary64 v (fin false 1 (pos 4))) false (t .m * up (t .e) * 16)
+    (down (t .e) * 1)) (sym (t .is))
     (exact-at (t .m) (t .e) (t .few) (t .fine) (t .within))
 
 few-of : (a d A C : ℕ) → 0 < C → A ≤ 1048576 * C → a * C ≡ A * d → a ≤ 1048576 * d
 few-of a d A C p l h =
-    le-of-mul-le-mul-right (subst (λ (n : ℕ). n ≤ 1048576 * d * C) (sym h) (subst (λ (n : ℕ). A * d ≤ n) (mul-right-comm 1048576 C d) (mul-le-mul-right d l))) p
+    le-of-mul-le-mul-right (subst (λ (n : ℕ). n ≤ 1048576 * d * C) (sym h)
+    (subst (λ (n : ℕ). A * d ≤ n) (mul-right-comm 1048576 C d) (mul-le-mul-right d l))) p
 
 small-cut : (y : Float) (A C : ℕ) → 0 < C → A ≤ 1048576 * C → HasValue y false A C → toUnsigned 64 y ≤ 1048576
 unfolding toUnsigned
@@ -136,21 +152,26 @@ small-cut (inf s) A C p l h = absurd h
 small-cut (fin true m e) A C p l h = absurd (never (h .0))
 small-cut (fin false m e) A C p l h =
     le-trans (min-le-left (m * up e / down e) (2 ^ 64 - 1))
-    (div-le-of-le-mul (down e) (subst (λ (n : ℕ). m * up e ≤ n) (mul-comm 1048576 (down e)) (few-of (m * up e) (down e) A C p l (h .1))))
+    (div-le-of-le-mul (down e) (subst (λ (n : ℕ). m * up e ≤ n) (mul-comm 1048576 (down e))
+    (few-of (m * up e) (down e) A C p l (h .1))))
 
-pub cut : (y : Float) (A C : ℕ) → 0 < C → A ≤ 1048576 * C → HasValue y false A C → T (lt (fin true 1 (pos 0)) y) × T (lt y (fin false 1 (pos 64)))
+pub cut : (y : Float) (A C : ℕ) → 0 < C → A ≤ 1048576 * C → HasValue y false A C → T (lt (fin true 1 (pos 0)) y)
+    × T (lt y (fin false 1 (pos 64)))
 unfolding lt
 cut nan A C p l h = absurd h
 cut (inf s) A C p l h = absurd h
 cut (fin true m e) A C p l h = absurd (never (h .0))
 cut (fin false m e) A C p l h = (
   lt→ltb 0 (1 * 1 * down e + m * up e * 1) (let d = down-pos e in omega arith),
-  lt→ltb (m * up e * 1) (2 ^ 64 * down e) (let v = few-of (m * up e) (down e) A C p l (h .1) in let d = down-pos e in omega arith),
+  lt→ltb (m * up e * 1) (2 ^ 64 * down e) (let v = few-of (m * up e) (down e) A C p l (h .1) in let d = down-pos e
+      in omega arith),
 )
 
-pub cuttable : (x : Float) (t : Time x) → T (lt (fin true 1 (pos 0)) (mul binary64 x (fin false 1 (pos 4)))) × T (lt (mul binary64 x (fin false 1 (pos 4))) (fin false 1 (pos 64)))
+pub cuttable : (x : Float) (t : Time x) → T (lt (fin true 1 (pos 0)) (mul binary64 x (fin false 1 (pos 4))))
+    × T (lt (mul binary64 x (fin false 1 (pos 4))) (fin false 1 (pos 64)))
 cuttable x t =
-    cut (mul binary64 x (fin false 1 (pos 4))) (t .m * up (t .e) * 16) (down (t .e) * 1) (mul-pos (down-pos (t .e)) (lit< tt)) (let w = t .within in omega arith) (product x t)
+    cut (mul binary64 x (fin false 1 (pos 4))) (t .m * up (t .e) * 16) (down (t .e) * 1)
+    (mul-pos (down-pos (t .e)) (lit< tt)) (let w = t .within in omega arith) (product x t)
 
 self : (s : Bool) (m : ℕ) (e : ℤ) → eq (fin s m e) (fin s m e) ≡ true
 unfolding eq
@@ -168,7 +189,8 @@ same (fin t m e) (inf s) n A C h k q = absurd k
 same (fin t m e) (fin u p d) n A C h k q =
     eq-of-mul-eq-mul-right (down e * down d) (mul-pos (down-pos e) (down-pos d)) A (n * C)
     (rearranged A (down e) (down d) ∙ ap (λ (v : ℕ). v * down d) (sym (h .1)) ∙ mul-right-comm (m * up e) C (down d)
-    ∙ ap (λ (v : ℕ). v * C) (sym (eqb→eq _ _ (and-l (eqb (p * up d * down e) (m * up e * down d)) _ (subst T (sym q) tt))))
+    ∙ ap (λ (v : ℕ). v * C) (sym (eqb→eq _ _ (and-l (eqb (p * up d * down e) (m * up e * down d)) _
+    (subst T (sym q) tt))))
     ∙ ap (λ (v : ℕ). v * down e * C) (sym (mul-one (p * up d)) ∙ k .1)
     ∙ last n (down d) (down e) C)
   where
@@ -178,14 +200,16 @@ same (fin t m e) (fin u p d) n A C h k q =
     last : (n d e c : ℕ) → n * d * e * c ≡ n * c * (e * d)
     last n d e c = simp (mul-assoc, mul-comm, mul-left-comm)
 
-pub sound : (x : Float) (t : Time x) (n : ℕ) → HasValue (ofInt binary64 (pos n)) false n 1 → eq (ofInt binary64 (pos n)) (mul binary64 x (fin false 1 (pos 4))) ≡ true → HasValue x false n 16
+pub sound : (x : Float) (t : Time x) (n : ℕ) → HasValue (ofInt binary64 (pos n)) false n 1
+    → eq (ofInt binary64 (pos n)) (mul binary64 x (fin false 1 (pos 4))) ≡ true → HasValue x false n 16
 sound x t n h q =
     let g = same (mul binary64 x (fin false 1 (pos 4))) (ofInt binary64 (pos n)) n _ _ (product x t) h q in
     subst (λ (v : Float). HasValue v false n 16) (sym (t .is)) (refl, g ∙ ap (λ (k : ℕ). n * k) (mul-one (down (t .e))))
 
 pub counted : (x : Float) (t : Time x) → toUnsigned 64 (mul binary64 x (fin false 1 (pos 4))) ≤ 1048576
 counted x t =
-    small-cut (mul binary64 x (fin false 1 (pos 4))) (t .m * up (t .e) * 16) (down (t .e) * 1) (mul-pos (down-pos (t .e)) (lit< tt)) (let w = t .within in omega arith) (product x t)
+    small-cut (mul binary64 x (fin false 1 (pos 4))) (t .m * up (t .e) * 16) (down (t .e) * 1)
+    (mul-pos (down-pos (t .e)) (lit< tt)) (let w = t .within in omega arith) (product x t)
 
 pub whole-value : (n : ℕ) → n ≤ 1048576 → HasValue (ofInt binary64 (pos n)) false n 1
 unfolding ofInt

@@ -29,7 +29,8 @@ module _ {A : Type 0} where
   zeros-at (suc k) (suc h) z = zeros-at k h z
 
   -- one place written
-  pub written-at : (l : List A) (t : ℕ) (o z : A) (h : ℕ) → t < length l → getD (set l t o) h z ≡ cond (eqb h t) o (getD l h z)
+  pub written-at : (l : List A) (t : ℕ) (o z : A) (h : ℕ) → t < length l → getD (set l t o) h z
+      ≡ cond (eqb h t) o (getD l h z)
   written-at l t o z h k = go (eqb h t) refl
     where
       go : (r : Bool) → eqb h t ≡ r → getD (set l t o) h z ≡ cond r o (getD l h z)
@@ -38,18 +39,24 @@ module _ {A : Type 0} where
 
 -- ---- the inputs
 
-pub no-inputs : (late : Bool) (ts : List InputTime) (l : List Float) (k h : ℕ) → l ≡ replicate k zeroTime → getD l h zeroTime ≡ inputTimes late 0 ts h
-no-inputs late ts l k h q = ap (λ (m : List Float). getD m h zeroTime) q ∙ zeros-at k h zeroTime ∙ sym (ap (λ (t : Bool). cond t (timeOf late (timeAt ts h)) zeroTime) (le-ltb h 0 (omega arith)))
+pub no-inputs : (late : Bool) (ts : List InputTime) (l : List Float) (k h : ℕ) → l ≡ replicate k zeroTime
+    → getD l h zeroTime ≡ inputTimes late 0 ts h
+no-inputs late ts l k h q = ap (λ (m : List Float). getD m h zeroTime) q ∙ zeros-at k h zeroTime
+    ∙ sym (ap (λ (t : Bool). cond t (timeOf late (timeAt ts h)) zeroTime) (le-ltb h 0 (omega arith)))
 
-pub one-input : (late : Bool) (ts : List InputTime) (l : List Float) (j : ℕ) (o : Float) → j < length l → o ≡ timeOf late (timeAt ts j)
-    → ((h : ℕ) → getD l h zeroTime ≡ inputTimes late j ts h) → (h : ℕ) → getD (set l j o) h zeroTime ≡ inputTimes late (j + 1) ts h
+pub one-input : (late : Bool) (ts : List InputTime) (l : List Float) (j : ℕ) (o : Float) → j < length l → o
+    ≡ timeOf late (timeAt ts j)
+    → ((h : ℕ) → getD l h zeroTime ≡ inputTimes late j ts h) → (h : ℕ) → getD (set l j o) h zeroTime
+    ≡ inputTimes late (j + 1) ts h
 one-input late ts l j o k q f h = written-at l j o zeroTime h k ∙ go (eqb h j) refl
   where
     go : (r : Bool) → eqb h j ≡ r → cond r o (getD l h zeroTime) ≡ inputTimes late (j + 1) ts h
     go true e =
         let p = eqb-true h j e in
-        q ∙ ap (λ (i : ℕ). timeOf late (timeAt ts i)) (sym p) ∙ sym (ap (λ (t : Bool). cond t (timeOf late (timeAt ts h)) zeroTime) (lt-ltb h (j + 1) (omega (arith, p))))
-    go false e = f h ∙ ap (λ (t : Bool). cond t (timeOf late (timeAt ts h)) zeroTime) (same (decLt h j) (eqb-false h j e))
+        q ∙ ap (λ (i : ℕ). timeOf late (timeAt ts i)) (sym p)
+        ∙ sym (ap (λ (t : Bool). cond t (timeOf late (timeAt ts h)) zeroTime) (lt-ltb h (j + 1) (omega (arith, p))))
+    go false e = f h ∙ ap (λ (t : Bool). cond t (timeOf late (timeAt ts h)) zeroTime)
+        (same (decLt h j) (eqb-false h j e))
       where
         same : Dec (h < j) → (h ≡ j → ⊥) → ltb h j ≡ ltb h (j + 1)
         same (yes l) d = lt-ltb h j l ∙ sym (lt-ltb h (j + 1) (omega arith))
@@ -72,12 +79,14 @@ module _ {A : Type 0} (pick : A → A → A) where
       ap (λ (i : ℕ). pick (kept pick v i) (v (suc k))) p ∙ sym (ap (kept pick v) q)
 
   -- a record's cell, by its bytes
-  pub cell-at : (after : A → A) (e : Edition) (b : ℕ → ℕ) (v : ℕ → A) → 1 ≤ b 0 → cellTime pick after (cellOf e b) v ≡ after (kept pick (λ j. v (b (j + 1))) (b 0 - 1))
+  pub cell-at : (after : A → A) (e : Edition) (b : ℕ → ℕ) (v : ℕ → A) → 1 ≤ b 0 → cellTime pick after (cellOf e b) v
+      ≡ after (kept pick (λ j. v (b (j + 1))) (b 0 - 1))
   unfolding cellTime cellOf
   cell-at after e b v h =
       let l = listOf (b 0) (λ j. b (j + 1)) in
       ap after (ap (λ (k : ℕ). kept pick (λ j. v (getD l j 0)) (k - 1)) (length-list (b 0) (λ j. b (j + 1)))
-      ∙ kept-ext (b 0 - 1) (λ j. v (getD l j 0)) (λ j. v (b (j + 1))) (λ j g. ap v (list-at (b 0) (λ j. b (j + 1)) j 0 (omega arith))))
+      ∙ kept-ext (b 0 - 1) (λ j. v (getD l j 0)) (λ j. v (b (j + 1)))
+      (λ j g. ap v (list-at (b 0) (λ j. b (j + 1)) j 0 (omega arith))))
 
 -- ---- the cells: i of m records are passed, the last of them at o; signal h settles at v h, and what is left gives X
 
@@ -91,7 +100,8 @@ module _ {A : Type 0} (pick : A → A → A) (after : A → A) (e : Edition) (s 
       let q : n ≡ n + 0 = omega arith in
       ap₂ (λ (r i : ℕ). outputTime pick after o i (cellsFrom e s 0 r) v) p q
 
-  pub passed-more : (X : A) (n i : ℕ) (o o′ : A) (v v′ : ℕ → A) → i < m → o′ ≡ cellTime pick after (cellOf e (recordAt e s i)) v
+  pub passed-more : (X : A) (n i : ℕ) (o o′ : A) (v v′ : ℕ → A) → i < m → o′
+      ≡ cellTime pick after (cellOf e (recordAt e s i)) v
       → ((h : ℕ) → v′ h ≡ cond (eqb h (n + i)) o′ (v h)) → Passed X n i o v → Passed X n (i + 1) o′ v′
   unfolding outputTime cellsFrom
   passed-more X n i o o′ v v′ l q f g =
@@ -99,10 +109,12 @@ module _ {A : Type 0} (pick : A → A → A) (after : A → A) (e : Edition) (s 
       let p : m - i ≡ suc r = omega arith in
       let t : suc (n + i) ≡ n + (i + 1) = omega arith in
       g ∙ ap (λ (k : ℕ). outputTime pick after o (n + i) (cellsFrom e s i k) v) p
-      ∙ ap (λ (b : A). outputTime pick after b (suc (n + i)) (cellsFrom e s (suc i) r) (λ h. cond (eqb h (n + i)) b (v h))) (sym q)
+      ∙ ap (λ (b : A). outputTime pick after b (suc (n + i)) (cellsFrom e s (suc i) r)
+      (λ h. cond (eqb h (n + i)) b (v h))) (sym q)
       ∙ ap (outputTime pick after o′ (suc (n + i)) (cellsFrom e s (suc i) r)) (sym (fun-ext f))
       ∙ ap₂ (λ (u j : ℕ). outputTime pick after o′ u (cellsFrom e s j r) v′) t (sym (add-one i))
 
   pub passed-all : (X : A) (n i : ℕ) (o : A) (v : ℕ → A) → m ≤ i → Passed X n i o v → X ≡ o
   unfolding outputTime cellsFrom
-  passed-all X n i o v h g = let q : m - i ≡ 0 = omega arith in g ∙ ap (λ (r : ℕ). outputTime pick after o (n + i) (cellsFrom e s i r) v) q
+  passed-all X n i o v h g = let q : m - i ≡ 0 = omega arith in g
+      ∙ ap (λ (r : ℕ). outputTime pick after o (n + i) (cellsFrom e s i r) v) q

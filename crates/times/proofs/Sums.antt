@@ -1,4 +1,5 @@
--- The sum of two values with the same denominator is their sum, rounded once; whole sixteenths of at most 53 digits are values. Assumes nothing.
+-- The sum of two values with the same denominator is their sum, rounded once; whole sixteenths of at most 53 digits are
+-- values. Assumes nothing.
 use mathlib.Core.Path.{_≡_, ap, ap₂, sym, _∙_, subst}
 use mathlib.Core.Bool.{true, false}
 use Prim.Native.Nat.{ℕ, _+_, _*_, _^_, _<_}
@@ -28,7 +29,8 @@ cross x y p q a b c h k =
     ∙ sym (add-mul a b (p * q))
 
 -- the sum of two values with the same denominator is their sum, rounded once
-pub add-at : (x y : Float) (a b c : ℕ) → 0 < c → HasValue x false a c → HasValue y false b c → add binary64 x y ≡ round binary64 false (a + b) c
+pub add-at : (x y : Float) (a b c : ℕ) → 0 < c → HasValue x false a c → HasValue y false b c → add binary64 x y
+    ≡ round binary64 false (a + b) c
 unfolding add sum
 add-at nan y a b c C h k = absurd h
 add-at (inf s) y a b c C h k = absurd h
@@ -37,4 +39,5 @@ add-at (fin s m e) (inf t) a b c C h k = absurd k
 add-at (fin true m e) (fin t n d) a b c C h k = absurd (never (h .0))
 add-at (fin false m e) (fin true n d) a b c C h k = absurd (never (k .0))
 add-at (fin false m e) (fin false n d) a b c C h k =
-    round-same binary64 false _ _ (a + b) c (mul-pos (down-pos e) (down-pos d)) C (cross (m * up e) (n * up d) (down e) (down d) a b c (h .1) (k .1))
+    round-same binary64 false _ _ (a + b) c (mul-pos (down-pos e) (down-pos d)) C
+    (cross (m * up e) (n * up d) (down e) (down d) a b c (h .1) (k .1))

@@ -1,4 +1,5 @@
--- A time and its number of sixteenths, and the test whether that is a whole number; zero with either sign. Assumes nothing.
+-- A time and its number of sixteenths, and the test whether that is a whole number; zero with either sign. Assumes
+-- nothing.
 use mathlib.Core.Path.{_≡_, refl, ap, sym, _∙_, subst}
 use mathlib.Core.Bool.{Bool, true, false}
 use Prim.Native.Nat.{ℕ, zero, suc, _+_, _-_, _*_, _/_, _%_, _≤_}
@@ -13,7 +14,8 @@ use lib.Ieee.Fits.{down-pos}
 use Rattle.bits.proofs.Bools.{iff}
 use Rattle.times.specs.InputTimes.{plainZero, inRange}
 use Rattle.times.specs.Sixteenths.{sixteenthsOf, inSixteenths}
-use Rattle.times.proofs.Counting.{mul16, Time, time, no-minus, parts, bound, sound, counted, whole-value, read-back, apart}
+use Rattle.times.proofs.Counting.{mul16, Time, time, no-minus, parts, bound, sound, counted, whole-value}
+use Rattle.times.proofs.Counting.{read-back, apart}
 
 -- ---- a time and its number of sixteenths
 
@@ -35,13 +37,16 @@ pub record Ranged (x : Float) : Type 0 where
   pub within : m * up e ≤ 4096 * down e
 
 -- one that is a whole number of sixteenths is that number of them
-pub of-whole : (x : Float) → Ranged x → inSixteenths x ≡ true → HasValue x false (sixteenthsOf x) 16 × (sixteenthsOf x ≤ 65536)
-of-whole x t h = subst (λ (v : Float). HasValue v false (sixteenthsOf v) 16 × (sixteenthsOf v ≤ 65536)) (sym (t .is)) (at (t .m) (t .e) (t .within) (ap inSixteenths (sym (t .is)) ∙ h))
+pub of-whole : (x : Float) → Ranged x → inSixteenths x ≡ true → HasValue x false (sixteenthsOf x) 16
+    × (sixteenthsOf x ≤ 65536)
+of-whole x t h = subst (λ (v : Float). HasValue v false (sixteenthsOf v) 16 × (sixteenthsOf v ≤ 65536)) (sym (t .is))
+    (at (t .m) (t .e) (t .within) (ap inSixteenths (sym (t .is)) ∙ h))
   where
     none : {a b : ℕ} → b ≡ 0 → a + b ≡ a
     none h = omega arith
 
-    at : (m : ℕ) (e : ℤ) → m * up e ≤ 4096 * down e → inSixteenths (fin false m e) ≡ true → HasValue (fin false m e) false (sixteenthsOf (fin false m e)) 16 × (sixteenthsOf (fin false m e) ≤ 65536)
+    at : (m : ℕ) (e : ℤ) → m * up e ≤ 4096 * down e → inSixteenths (fin false m e) ≡ true
+        → HasValue (fin false m e) false (sixteenthsOf (fin false m e)) 16 × (sixteenthsOf (fin false m e) ≤ 65536)
     at m e l q = unfold inSixteenths sixteenthsOf in (
       (refl, sym (div-add-mod' (m * up e * 16) (down e)) ∙ none (eqb-true (m * up e * 16 % down e) 0 q)),
       div-le-of-le-mul (down e) (omega (arith, l)),
@@ -77,7 +82,12 @@ ranged (inf true) r = absurd (parts (inf true) (subst T (sym r) tt) .0)
 ranged (inf false) r = absurd (parts (inf false) (subst T (sym r) tt) .1)
 ranged (fin s zero e) r = record { m = 0; e = pos 0; is = refl; within = lit≤ tt }
 ranged (fin true (suc m) e) r = absurd (no-minus m e (parts (fin true (suc m) e) (subst T (sym r) tt) .0))
-ranged (fin false (suc m) e) r = record { m = suc m; e = e; is = refl; within = bound (suc m) e (parts (fin false (suc m) e) (subst T (sym r) tt) .1) }
+ranged (fin false (suc m) e) r = record {
+  m = suc m;
+  e = e;
+  is = refl;
+  within = bound (suc m) e (parts (fin false (suc m) e) (subst T (sym r) tt) .1);
+}
 
 pub same-count : (x : Float) → sixteenthsOf (plainZero x) ≡ sixteenthsOf x
 unfolding plainZero sixteenthsOf
@@ -90,14 +100,17 @@ pub same-sixteenths : (x : Float) → inSixteenths (plainZero x) ≡ inSixteenth
 unfolding plainZero inSixteenths
 same-sixteenths nan = refl
 same-sixteenths (inf s) = refl
-same-sixteenths (fin s zero e) = sym (eq-eqb (0 * up e * 16 % down e) 0 (ap (λ (n : ℕ). n * 16 % down e) (zero-mul (up e)) ∙ zero-mod (down e)))
+same-sixteenths (fin s zero e) = sym (eq-eqb (0 * up e * 16 % down e) 0
+    (ap (λ (n : ℕ). n * 16 % down e) (zero-mul (up e)) ∙ zero-mod (down e)))
 same-sixteenths (fin s (suc m) e) = refl
 
 -- the test by the way back: where y is a time by 16, and k its whole part
-pub test-is : (x : Float) (t : Time x) (k : ℕ) (b : Float) → k ≡ toUnsigned 64 (mul binary64 x (fin false 1 (pos 4))) → b ≡ ofInt binary64 (pos k)
+pub test-is : (x : Float) (t : Time x) (k : ℕ) (b : Float) → k ≡ toUnsigned 64 (mul binary64 x (fin false 1 (pos 4)))
+    → b ≡ ofInt binary64 (pos k)
     → eq b (mul binary64 x (fin false 1 (pos 4))) ≡ inSixteenths x
 test-is x t k b p q = iff (eq b y) (inSixteenths x)
-    (λ h. whole-of x k (sound x t k (whole-value k (subst (λ (v : ℕ). v ≤ 1048576) (sym p) (counted x t))) (ap (λ (z : Float). eq z y) (sym q) ∙ h)) .0)
+    (λ h. whole-of x k (sound x t k (whole-value k (subst (λ (v : ℕ). v ≤ 1048576) (sym p) (counted x t)))
+    (ap (λ (z : Float). eq z y) (sym q) ∙ h)) .0)
     (λ h. there (of-whole x (record { m = t .m; e = t .e; is = t .is; within = t .within }) h))
   where
     y : Float

@@ -92,10 +92,12 @@ module _ (n : ℕ) (F : ℕ → Bool) (A B : ℕ) (c : Candidate n 2 1 A B) (Q :
       differ : D (bit (e .x) a) (bit (e .x) b) ≡ D (bit (e .y) a) (bit (e .x) b) → ⊥
       differ q =
           let o : gives (e .x) ≡ gives (e .y) =
-          sym (pairs.first-cell n F A B c Q (e .x)) ∙ q ∙ ap (D (bit (e .y) a)) b-same ∙ pairs.first-cell n F A B c Q (e .y) in
+          sym (pairs.first-cell n F A B c Q (e .x)) ∙ q ∙ ap (D (bit (e .y) a)) b-same
+          ∙ pairs.first-cell n F A B c Q (e .y) in
           e .differ (
           pairs.asked-gives n F A B c Q (e .x) (e .belowX)
-          ∙ ap H (pairs.ask-sees n F A B c Q (gives (e .x)) (e .x) (e .y) (λ j l m. e .alike j l (pairs.not-a n F A B c Q j m))
+          ∙ ap H (pairs.ask-sees n F A B c Q (gives (e .x)) (e .x) (e .y)
+          (λ j l m. e .alike j l (pairs.not-a n F A B c Q j m))
           ∙ ap (ask (e .y)) o)
           ∙ sym (pairs.asked-gives n F A B c Q (e .y) (e .belowY)))
 
@@ -124,13 +126,15 @@ module _ (n : ℕ) (F : ℕ → Bool) (A B : ℕ) (c : Candidate n 2 1 A B) (Q :
 
     at-b : (y : ℕ) → bit (point y) b ≡ w .v
     unfolding bitBy
-    at-b y = point-bit y b (P .belowB) ∙ ap₂ (λ (s t : Bool). bitBy s t y b) (ne-eqb b a (λ z. P .differ (sym z))) (eq-eqb b b refl)
+    at-b y = point-bit y b (P .belowB) ∙ ap₂ (λ (s t : Bool). bitBy s t y b) (ne-eqb b a (λ z. P .differ (sym z)))
+        (eq-eqb b b refl)
 
     at-other : (y p : ℕ) → p < n → sH p ≡ true → bit (point y) p ≡ bit y (size p sH)
     unfolding bitBy
     at-other y p l e =
         point-bit y p l
-        ∙ ap₂ (λ (s t : Bool). bitBy s t y p) (ne-eqb p a (pairs.not-a n F A B c Q p e)) (ne-eqb p b (pairs.not-b n F A B c Q p e))
+        ∙ ap₂ (λ (s t : Bool). bitBy s t y p) (ne-eqb p a (pairs.not-a n F A B c Q p e))
+        (ne-eqb p b (pairs.not-b n F A B c Q p e))
 
     -- H is asked there at y
     point-asked : (y : ℕ) → y < 2 ^ (k + 1) → ask (point y) (gives (point y)) ≡ y
@@ -146,7 +150,8 @@ module _ (n : ℕ) (F : ℕ → Bool) (A B : ℕ) (c : Candidate n 2 1 A B) (Q :
         new : (q : ℕ) → q ≡ k → bit (ask (point y) (gives (point y))) q ≡ bit y q
         new q r =
             ap (bit (ask (point y) (gives (point y)))) r ∙ pairs.ask-top n F A B c Q (point y) (gives (point y))
-            ∙ sym (pairs.first-cell n F A B c Q (point y)) ∙ ap₂ D (at-a y) (at-b y) ∙ w .undo (bit y k) ∙ ap (bit y) (sym r)
+            ∙ sym (pairs.first-cell n F A B c Q (point y)) ∙ ap₂ D (at-a y) (at-b y) ∙ w .undo (bit y k)
+            ∙ ap (bit y) (sym r)
 
     value-at : (y p : ℕ) (s t : Bool) → value (by s t p) (bit y) ≡ bitBy s t y p
     unfolding by bitBy
@@ -162,7 +167,8 @@ module _ (n : ℕ) (F : ℕ → Bool) (A B : ℕ) (c : Candidate n 2 1 A B) (Q :
         → uses q (by s t p) ≤ val (eqb p (cond u a (nth n sH q)))
     unfolding by
     once q p l true t e g true r = val-le (eqb k q) (eqb p a) (λ _. e)
-    once q p l true t e g false r = val-le (eqb k q) (eqb p (nth n sH q)) (λ z. absurd (eqb-false q k r (sym (eqb-true k q z))))
+    once q p l true t e g false r = val-le (eqb k q) (eqb p (nth n sH q))
+        (λ z. absurd (eqb-false q k r (sym (eqb-true k q z))))
     once q p l false true e g u r = omega arith
     once q p l false false e g true r =
         val-le (eqb (size p sH) q) (eqb p a) (λ z.
@@ -181,9 +187,12 @@ module _ (n : ℕ) (F : ℕ → Bool) (A B : ℕ) (c : Candidate n 2 1 A B) (Q :
     unfolding fixed point
     tree-fixed t W =
         computes-graft n F t W (k + 1) H fixed point (λ q. cond (eqb q k) a (nth n sH q))
-        (λ y p l. value-at y p (eqb p a) (eqb p b) ∙ sym (point-bit y p l)) (λ y. number-lt n (λ p. bitBy (eqb p a) (eqb p b) y p))
-        (λ y h. pairs.asked-gives n F A B c Q (point y) (number-lt n (λ p. bitBy (eqb p a) (eqb p b) y p)) ∙ ap H (point-asked y h))
-        (λ q p h l. once q p l (eqb p a) (eqb p b) refl refl (eqb q k) refl) (λ q p h l. none q p h l (eqb p a) (eqb p b) refl refl)
+        (λ y p l. value-at y p (eqb p a) (eqb p b) ∙ sym (point-bit y p l))
+        (λ y. number-lt n (λ p. bitBy (eqb p a) (eqb p b) y p))
+        (λ y h. pairs.asked-gives n F A B c Q (point y) (number-lt n (λ p. bitBy (eqb p a) (eqb p b) y p))
+        ∙ ap H (point-asked y h))
+        (λ q p h l. once q p l (eqb p a) (eqb p b) refl refl (eqb q k) refl)
+        (λ q p h l. none q p h l (eqb p a) (eqb p b) refl refl)
 
   pub tree-fore : (t : Tree) → Computes n F t → DependsOn n F (pair-of n A B c .a) → (u : Tree) × Computes (k + 1) H u
   tree-fore t W e = let w = fixing e in (graft (fixed w) t, tree-fixed w t W)

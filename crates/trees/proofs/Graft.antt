@@ -46,29 +46,39 @@ here : (j : ℕ) → 1 ≤ val (eqb j j)
 here j = omega (arith, ap val (eq-eqb j j refl))
 
 module _ (σ : ℕ → Tree) where
-  pub value-graft : (t : Tree) (v w : ℕ → Bool) → ((j : ℕ) → 1 ≤ uses j t → value (σ j) v ≡ w j) → value (graft σ t) v ≡ value t w
+  pub value-graft : (t : Tree) (v w : ℕ → Bool) → ((j : ℕ) → 1 ≤ uses j t → value (σ j) v ≡ w j) → value (graft σ t) v
+      ≡ value t w
   unfolding graft
   value-graft (constant b) v w h = refl
   value-graft (input f j) v w h = value-flip f (σ j) v ∙ ap (flipped f) (h j (here j))
-  value-graft (node g s t) v w h = ap₂ g (value-graft s v w (λ j l. h j (omega arith))) (value-graft t v w (λ j l. h j (omega arith)))
+  value-graft (node g s t) v w h = ap₂ g (value-graft s v w (λ j l. h j (omega arith)))
+      (value-graft t v w (λ j l. h j (omega arith)))
 
-  pub uses-graft : (t : Tree) (q k : ℕ) → ((j : ℕ) → 1 ≤ uses j t → uses q (σ j) ≤ val (eqb j k)) → uses q (graft σ t) ≤ uses k t
+  pub uses-graft : (t : Tree) (q k : ℕ) → ((j : ℕ) → 1 ≤ uses j t → uses q (σ j) ≤ val (eqb j k)) → uses q (graft σ t)
+      ≤ uses k t
   unfolding graft
   uses-graft (constant b) q k h = omega arith
   uses-graft (input f j) q k h = omega (arith, uses-flip f (σ j) q, h j (here j))
-  uses-graft (node g s t) q k h = omega (arith, uses-graft s q k (λ j l. h j (omega arith)), uses-graft t q k (λ j l. h j (omega arith)))
+  uses-graft (node g s t) q k h = omega (
+    arith,
+    uses-graft s q k (λ j l. h j (omega arith)),
+    uses-graft t q k
+        (λ j l. h j (omega arith)),
+  )
 
   pub uses-none : (t : Tree) (q : ℕ) → ((j : ℕ) → 1 ≤ uses j t → uses q (σ j) ≡ 0) → uses q (graft σ t) ≡ 0
   unfolding graft
   uses-none (constant b) q h = refl
   uses-none (input f j) q h = uses-flip f (σ j) q ∙ h j (here j)
-  uses-none (node g s t) q h = ap₂ _+_ (uses-none s q (λ j l. h j (omega arith))) (uses-none t q (λ j l. h j (omega arith)))
+  uses-none (node g s t) q h = ap₂ _+_ (uses-none s q (λ j l. h j (omega arith)))
+      (uses-none t q (λ j l. h j (omega arith)))
 
 -- a tree sees what it reads alone
 pub value-reads : (t : Tree) (v w : ℕ → Bool) → ((j : ℕ) → 1 ≤ uses j t → v j ≡ w j) → value t v ≡ value t w
 value-reads (constant b) v w h = refl
 value-reads (input f j) v w h = ap (flipped f) (h j (here j))
-value-reads (node g s t) v w h = ap₂ g (value-reads s v w (λ j l. h j (omega arith))) (value-reads t v w (λ j l. h j (omega arith)))
+value-reads (node g s t) v w h = ap₂ g (value-reads s v w (λ j l. h j (omega arith)))
+    (value-reads t v w (λ j l. h j (omega arith)))
 
 -- ---- a tree that computes F, reads each input at most once, and none from n up: what inductions carry
 pub record Computes (n : ℕ) (F : ℕ → Bool) (t : Tree) : Type 0 where
@@ -94,7 +104,8 @@ counted-read {n} {F} {t} W j c = elim (decLt 0 (uses j t)) [
 
 -- σ makes a tree of G over m inputs into one of F over n: it stands for the assignment `point x`, and reads input q in
 -- place of input `from q` alone
-module _ (m : ℕ) (G : ℕ → Bool) (t : Tree) (W : Computes m G t) (n : ℕ) (F : ℕ → Bool) (σ : ℕ → Tree) (point from : ℕ → ℕ)
+module _ (m : ℕ) (G : ℕ → Bool) (t : Tree) (W : Computes m G t) (n : ℕ) (F : ℕ → Bool) (σ : ℕ → Tree)
+    (point from : ℕ → ℕ)
     (stands : (x j : ℕ) → j < m → value (σ j) (bit x) ≡ bit (point x) j)
     (below : (x : ℕ) → point x < 2 ^ m)
     (same : (x : ℕ) → x < 2 ^ n → G (point x) ≡ F x)
@@ -107,7 +118,8 @@ module _ (m : ℕ) (G : ℕ → Bool) (t : Tree) (W : Computes m G t) (n : ℕ) 
       | no l ↦ omega (arith, unread q (omega arith))
     ];
     within = unread;
-    computes = λ x l. value-graft σ t (bit x) (bit (point x)) (λ j r. stands x j (read-below W j r)) ∙ W .computes (point x) (below x) ∙ same x l;
+    computes = λ x l. value-graft σ t (bit x) (bit (point x)) (λ j r. stands x j (read-below W j r))
+        ∙ W .computes (point x) (below x) ∙ same x l;
   }
     where
       unread : (q : ℕ) → n ≤ q → uses q (graft σ t) ≡ 0

@@ -34,7 +34,8 @@ module _ (n : ℕ) (F : ℕ → Bool) (S : ℕ → Bool) (sees : Sees n F S) whe
       (λ v p l. go v p (S p) ∙ sym (bit-spread n S v p l)) (spread-lt n S) (λ v h. sym (over-at n S F v h))
       (λ q p h l. once q p h l (S p) refl) (λ q p h l. none q p h l (S p) refl)
     where
-      go : (v p : ℕ) (t : Bool) → value (cond t (input false (size p S)) (constant false)) (bit v) ≡ (t && bit v (size p S))
+      go : (v p : ℕ) (t : Bool) → value (cond t (input false (size p S)) (constant false)) (bit v)
+          ≡ (t && bit v (size p S))
       go v p true = refl
       go v p false = refl
 
@@ -45,7 +46,8 @@ module _ (n : ℕ) (F : ℕ → Bool) (S : ℕ → Bool) (sees : Sees n F S) whe
           eq-eqb p (nth n S q) (sym (nth-rank n S p l e) ∙ ap (nth n S) (eqb-true (size p S) q r)))
       once q p h l false e = omega arith
 
-      none : (q p : ℕ) → c ≤ q → p < n → (t : Bool) → S p ≡ t → uses q (cond t (input false (size p S)) (constant false)) ≡ 0
+      none : (q p : ℕ) → c ≤ q → p < n → (t : Bool) → S p ≡ t
+          → uses q (cond t (input false (size p S)) (constant false)) ≡ 0
       none q p h l true e = ap val (ne-eqb (size p S) q (λ r. omega (arith, size-lt n S p l e)))
       none q p h l false e = refl
 
@@ -63,4 +65,5 @@ module _ (n : ℕ) (F : ℕ → Bool) (S : ℕ → Bool) (sees : Sees n F S) whe
       (λ p q h l. ap val (ne-eqb (nth n S q) p (λ r. omega (arith, nth-below n S q l))))
     where
       at : (x q : ℕ) → q < c → bit x (nth n S q) ≡ bit (gather n S x) q
-      at x q l = sym (ap (bit (gather n S x)) (sym (rank-nth n S q l)) ∙ gather-bit n S x (nth n S q) (nth-below n S q l) (nth-member n S q l))
+      at x q l = sym (ap (bit (gather n S x)) (sym (rank-nth n S q l))
+          ∙ gather-bit n S x (nth n S q) (nth-below n S q l) (nth-member n S q l))

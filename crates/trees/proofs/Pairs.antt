@@ -107,7 +107,8 @@ module _ (n : ℕ) (F : ℕ → Bool) (A B : ℕ) (c : Candidate n 2 1 A B) (Q :
   unfolding gives number tableH
   asked-gives x h =
       let m = asked.code n F (bit A) (bit B) (c .apart) 1 Q x in
-      let e : m ≡ val (bit m 0) = omega (arith, number-bit 1 m (asked.code-small n F (bit A) (bit B) (c .apart) 1 Q x)) in
+      let e : m ≡ val (bit m 0) = omega (arith, number-bit 1 m (asked.code-small n F (bit A) (bit B) (c .apart) 1 Q x))
+      in
       asked.gives n F (bit A) (bit B) (c .apart) 1 Q x h
       ∙ ap (λ (d : ℕ). bitH n F (bit A) (bit B) (inputH n (bit A) (bit B) x d)) e
       ∙ sym (bit-number (2 ^ (k + 1)) (bitH n F (bit A) (bit B)) (ask x (gives x)) (ask-lt x (gives x)))
@@ -160,5 +161,6 @@ module _ (n : ℕ) (F : ℕ → Bool) (A B : ℕ) (c : Candidate n 2 1 A B) (Q :
 
       at-b : (j : ℕ) → j ≡ P .b → cond (eqb j (P .a)) p (cond (eqb j (P .b)) q false) ≡ bit x j
       at-b j e =
-          ap₂ (λ (t u : Bool). cond t p (cond u q false)) (ne-eqb j (P .a) (λ r. P .differ (sym r ∙ e))) (eq-eqb j (P .b) e)
+          ap₂ (λ (t u : Bool). cond t p (cond u q false)) (ne-eqb j (P .a) (λ r. P .differ (sym r ∙ e)))
+          (eq-eqb j (P .b) e)
           ∙ ap (bit x) (sym e)

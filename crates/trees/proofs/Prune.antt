@@ -37,7 +37,8 @@ module _ (n : ℕ) (F : ℕ → Bool) where
   prune j = cond (S j) (input false j) (constant false)
 
   -- so the tree is asked at x with what does not count cleared
-  prune-stands : (x j : ℕ) (s : Bool) → S j ≡ s → value (cond s (input false j) (constant false)) (bit x) ≡ bit (spread n S (gather n S x)) j
+  prune-stands : (x j : ℕ) (s : Bool) → S j ≡ s → value (cond s (input false j) (constant false)) (bit x)
+      ≡ bit (spread n S (gather n S x)) j
   prune-stands x j true e = sym (spread-gather n S x j (member-below j e) e)
   prune-stands x j false e = sym (elim (decLt j n) [
     | yes l ↦ bit-spread n S (gather n S x) j l ∙ ap (λ (s : Bool). s && bit (gather n S x) (size j S)) e
@@ -45,7 +46,8 @@ module _ (n : ℕ) (F : ℕ → Bool) where
   ])
 
   -- a tree that computes F and reads each input that counts once, whatever else it reads
-  module _ (t : Tree) (once : (j : ℕ) → j < n → DependsOn n F j → uses j t ≡ 1) (gives : (x : ℕ) → x < 2 ^ n → value t (bit x) ≡ F x) where
+  module _ (t : Tree) (once : (j : ℕ) → j < n → DependsOn n F j → uses j t ≡ 1)
+      (gives : (x : ℕ) → x < 2 ^ n → value t (bit x) ≡ F x) where
     off : (j : ℕ) → S j ≡ false → uses j (graft prune t) ≡ 0
     unfolding prune
     off j e = uses-none prune t j (λ i _. none i (S i) refl)

@@ -39,7 +39,8 @@ module _ (n : ℕ) (F : ℕ → Bool) (A B : ℕ) (c : Candidate n 2 1 A B) (Q :
 
   -- in place of H's last input the first cell's node, of another the input that it stands for
   by : Bool → ℕ → Tree
-  by last q = cond last (node (pairs.D n F A B c Q) (input false (P .a)) (input false (P .b))) (input false (nth n sH q))
+  by last q = cond last (node (pairs.D n F A B c Q) (input false (P .a)) (input false (P .b)))
+      (input false (nth n sH q))
 
   put : ℕ → Tree
   put q = by (eqb q k) q
@@ -47,7 +48,8 @@ module _ (n : ℕ) (F : ℕ → Bool) (A B : ℕ) (c : Candidate n 2 1 A B) (Q :
   less : (q : ℕ) → q < k + 1 → eqb q k ≡ false → q < k
   less q l e = let z = eqb-false q k e in omega arith
 
-  value-at : (x q : ℕ) → q < k + 1 → (last : Bool) → eqb q k ≡ last → value (by last q) (bit x) ≡ bit (ask x (gives x)) q
+  value-at : (x q : ℕ) → q < k + 1 → (last : Bool) → eqb q k ≡ last → value (by last q) (bit x)
+      ≡ bit (ask x (gives x)) q
   unfolding by
   value-at x q l true r =
       pairs.first-cell n F A B c Q x
@@ -87,7 +89,8 @@ module _ (n : ℕ) (F : ℕ → Bool) (A B : ℕ) (c : Candidate n 2 1 A B) (Q :
   none : (p q : ℕ) → n ≤ p → q < k + 1 → (last : Bool) → eqb q k ≡ last → uses p (by last q) ≡ 0
   unfolding by
   none p q h l true r =
-      ap₂ _+_ (ap val (ne-eqb (P .a) p (λ z. omega (arith, P .belowA)))) (ap val (ne-eqb (P .b) p (λ z. omega (arith, P .belowB))))
+      ap₂ _+_ (ap val (ne-eqb (P .a) p (λ z. omega (arith, P .belowA))))
+      (ap val (ne-eqb (P .b) p (λ z. omega (arith, P .belowB))))
   none p q h l false r = ap val (ne-eqb (nth n sH q) p (λ z. omega (arith, nth-below n sH q (less q l r))))
 
   pub tree-back : (t : Tree) → Computes (k + 1) H t → (u : Tree) × Computes n F u

@@ -38,7 +38,8 @@ module _ (g : Bool → Bool → Bool) (s t : Tree) (most : (j : ℕ) → uses j 
     readB = omega (arith, J .readB);
     D = J .D;
     H = λ e v. g (J .H e v) (value t v);
-    others = λ e v w h. ap₂ g (J .others e v w h) (value-reads t v w (λ j r. h j (out (J .a) (J .readA) j r) (out (J .b) (J .readB) j r)));
+    others = λ e v w h. ap₂ g (J .others e v w h)
+        (value-reads t v w (λ j r. h j (out (J .a) (J .readA) j r) (out (J .b) (J .readB) j r)));
     gives = λ v. ap (λ (z : Bool). g z (value t v)) (J .gives v);
   }
     where
@@ -54,7 +55,8 @@ module _ (g : Bool → Bool → Bool) (s t : Tree) (most : (j : ℕ) → uses j 
     readB = omega (arith, J .readB);
     D = J .D;
     H = λ e v. g (value s v) (J .H e v);
-    others = λ e v w h. ap₂ g (value-reads s v w (λ j r. h j (out (J .a) (J .readA) j r) (out (J .b) (J .readB) j r))) (J .others e v w h);
+    others = λ e v w h. ap₂ g (value-reads s v w (λ j r. h j (out (J .a) (J .readA) j r) (out (J .b) (J .readB) j r)))
+        (J .others e v w h);
     gives = λ v. ap (g (value s v)) (J .gives v);
   }
     where

@@ -56,7 +56,8 @@ module _ (n : ℕ) (F : ℕ → Bool) (t : Tree) (W : Computes n F t) (J : Joine
 
   own-size : size n (bit own) ≡ 2
   own-size =
-      sym (size-sum n (λ j. eqb j a) (λ j. eqb j b) (bit own) (λ j l. go j (eqb j a) (eqb j b) refl refl ∙ ap val (sym (own-bit j l))))
+      sym (size-sum n (λ j. eqb j a) (λ j. eqb j b) (bit own)
+      (λ j l. go j (eqb j a) (eqb j b) refl refl ∙ ap val (sym (own-bit j l))))
       ∙ ap₂ _+_ (one a la) (one b lb)
     where
       go : (j : ℕ) (s t : Bool) → eqb j a ≡ s → eqb j b ≡ t → val s + val t ≡ val (s || t)
@@ -81,16 +82,19 @@ module _ (n : ℕ) (F : ℕ → Bool) (t : Tree) (W : Computes n F t) (J : Joine
       (h b lb (reads b lb (or-right (eqb b a) (eqb b b) (eq-eqb b b refl)))))
       (λ d x y h. J .others (bit d 0) (bit (x % 2 ^ n)) (bit (y % 2 ^ n)) (same x y h))
       (λ x l. sym (W .computes x l) ∙ J .gives (bit x)
-      ∙ ap₂ (λ (o : Bool) (m : ℕ). J .H o (bit m)) (sym (bit-number 1 (λ t. J .D (bit x a) (bit x b)) 0 (omega arith))) (sym (mod-eq-of-lt l)))
+      ∙ ap₂ (λ (o : Bool) (m : ℕ). J .H o (bit m)) (sym (bit-number 1 (λ t. J .D (bit x a) (bit x b)) 0 (omega arith)))
+      (sym (mod-eq-of-lt l)))
     where
       reads : (j : ℕ) → j < n → (eqb j a || eqb j b) ≡ true → (bit own j || bit 0 j) ≡ true
       reads j l e = or-left (bit own j) (bit 0 j) (own-bit j l ∙ e)
 
       -- what agrees on all inputs but the two is the same to H
-      same : (x y : ℕ) → Agree n (readsH (bit own) (bit 0)) x y → (j : ℕ) → (j ≡ a → ⊥) → (j ≡ b → ⊥) → bit (x % 2 ^ n) j ≡ bit (y % 2 ^ n) j
+      same : (x y : ℕ) → Agree n (readsH (bit own) (bit 0)) x y → (j : ℕ) → (j ≡ a → ⊥) → (j ≡ b → ⊥)
+          → bit (x % 2 ^ n) j ≡ bit (y % 2 ^ n) j
       same x y h j p q = elim (decLt j n) [
         | yes l ↦ bit-mod x n j l
-            ∙ h j l (ap₂ (λ (s t : Bool). t || not (s || t)) (own-bit j l ∙ ap₂ _||_ (ne-eqb j a p) (ne-eqb j b q)) (bit-zero j))
+            ∙ h j l (ap₂ (λ (s t : Bool). t || not (s || t)) (own-bit j l ∙ ap₂ _||_ (ne-eqb j a p) (ne-eqb j b q))
+            (bit-zero j))
             ∙ sym (bit-mod y n j l)
         | no l ↦ bit-high (x % 2 ^ n) n j (mod-lt x (pow-pos n)) (omega arith)
             ∙ sym (bit-high (y % 2 ^ n) n j (mod-lt y (pow-pos n)) (omega arith))
@@ -105,7 +109,8 @@ tree-splits n F t h all W e = go (shape t (W .most))
   where
     -- what takes no notice of an input is not F
     still : (j : ℕ) → j < n → ((x y : ℕ) → AlikeBut n j x y → value t (bit x) ≡ value t (bit y)) → ⊥
-    still j l f = let c = all j l in c .differ (sym (W .computes (c .x) (c .belowX)) ∙ f (c .x) (c .y) (c .alike) ∙ W .computes (c .y) (c .belowY))
+    still j l f = let c = all j l in c .differ (sym (W .computes (c .x) (c .belowX)) ∙ f (c .x) (c .y) (c .alike)
+        ∙ W .computes (c .y) (c .belowY))
 
     -- an input beside j
     other : (j : ℕ) → (q : ℕ) × (q < n) × (j ≡ q → ⊥)
@@ -114,5 +119,6 @@ tree-splits n F t h all W e = go (shape t (W .most))
 
     go : Shape t → ⊥
     go (flat f) = still 0 (omega arith) (λ x y _. f (bit x) (bit y))
-    go (single j r f) = let w = other j in still (w .0) (w .1) (λ x y alike. f (bit x) (bit y) (alike j (read-below W j r) (w .2)))
+    go (single j r f) = let w = other j in still (w .0) (w .1)
+        (λ x y alike. f (bit x) (bit y) (alike j (read-below W j r) (w .2)))
     go (joined J) = pair-splits n F t W J e

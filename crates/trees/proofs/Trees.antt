@@ -1,4 +1,5 @@
--- With cells of two inputs a sheet is made exactly where the table has a tree. A sheet's cells make a tree, each node put
+-- With cells of two inputs a sheet is made exactly where the table has a tree. A sheet's cells make a tree, each node
+-- put
 -- in place of its output; and where there is a tree, three inputs that count have a split, and every split keeps a tree
 -- of H, so the chain comes to its end. Assumes nothing.
 use mathlib.Core.Path.{_≡_, refl, sym, _∙_, subst}
@@ -68,11 +69,13 @@ tree-makes (suc k) i l T all w h = elim (decLt 2 (length l)) [
     n = length l
 
     more : 2 < n → (a : Answer) → best n 1 (bit T) 2 ≡ a
-        → ((l : List ℕ) (T : ℕ) → (2 < length l → AllCount (length l) (bit T)) → Some (length l) (bit T) → length l ≤ k + 2
+        → ((l : List ℕ) (T : ℕ) → (2 < length l → AllCount (length l) (bit T)) → Some (length l) (bit T) → length l ≤ k
+        + 2
         → (cs : List Cell) × Makes 2 (suc i) l T cs)
         → (cs : List Cell) × Makes 2 i l T cs
     more g none e ih = absurd (tree-splits n (bit T) (w .0) g (all g) (w .1) e)
-    more g (split A B) e ih = go (tree-fore n (bit T) A B (b .candidate) (b .possible) (w .0) (w .1) (all g (p .a) (p .belowA)))
+    more g (split A B) e ih = go (tree-fore n (bit T) A B (b .candidate) (b .possible) (w .0) (w .1)
+        (all g (p .a) (p .belowA)))
       where
         b : Best n 2 1 (bit T) A B
         b = best-split n 1 (bit T) 2 A B e
@@ -80,12 +83,14 @@ tree-makes (suc k) i l T all w h = elim (decLt 2 (length l)) [
         p : Pair n A B
         p = pair-of n A B (b .candidate)
 
-        go : Some (size n (readsH (bit A) (bit B)) + 1) (bit (tableH n (bit T) (bit A) (bit B) 1)) → (cs : List Cell) × Makes 2 i l T cs
+        go : Some (size n (readsH (bit A) (bit B)) + 1) (bit (tableH n (bit T) (bit A) (bit B) 1)) → (cs : List Cell)
+            × Makes 2 i l T cs
         go u =
             let q = sym (next-inputs l A B i) in
             let r = ih (nextSignals l A B i) (nextTable l T A B)
             (λ _. subst (λ (m : ℕ). AllCount m (bit (nextTable l T A B))) q (next-counts n 2 (bit T) A B b (all g)))
-            (u .0, subst (λ (m : ℕ). Computes m (bit (nextTable l T A B)) (u .0)) q (u .1)) (omega (arith, next-shorter l i b)) in
+            (u .0, subst (λ (m : ℕ). Computes m (bit (nextTable l T A B)) (u .0)) q (u .1))
+            (omega (arith, next-shorter l i b)) in
             (firstCell l T A B ∷ r .0, goes g b (r .1))
 
 -- ---- the sheet of the gate's table F
@@ -117,7 +122,8 @@ module _ (n : ℕ) (F : ℕ → Bool) (p : 1 ≤ n) where
   tree-made t I = go (tree-makes n n l U all over (omega (arith, size-is, size-le n S)))
     where
       counting : 2 < length l → Counting n F S
-      counting g = subst (λ (m : ℕ). Counting n F (bit m)) (sym (two-kept n F (omega (arith, size-is)))) (support-counting n F)
+      counting g = subst (λ (m : ℕ). Counting n F (bit m)) (sym (two-kept n F (omega (arith, size-is))))
+          (support-counting n F)
 
       all : 2 < length l → AllCount (length l) (bit U)
       all g = subst (λ (m : ℕ). AllCount m (bit U)) (sym size-is) (over-counts n F S (kept-sees n F) (counting g))
@@ -136,7 +142,8 @@ module _ (n : ℕ) (F : ℕ → Bool) (p : 1 ≤ n) where
   pub stuck-treeless : (sheetAside n 2 (number (2 ^ n) F) ≡ stuck) ↔ ((t : Tree) → TreeOf n F t → ⊥)
   stuck-treeless = (λ e t I. never e (tree-made t I), λ f. back (sheetAside n 2 (number (2 ^ n) F)) refl f)
     where
-      never : sheetAside n 2 (number (2 ^ n) F) ≡ stuck → (cs : List Cell) × (sheetAside n 2 (number (2 ^ n) F) ≡ made cs) → ⊥
+      never : sheetAside n 2 (number (2 ^ n) F) ≡ stuck → (cs : List Cell)
+          × (sheetAside n 2 (number (2 ^ n) F) ≡ made cs) → ⊥
       never e w = let q : made (w .0) ≡ stuck = sym (w .1) ∙ e in let z : _≡_ {A = ℕ} 0 1 = cc in omega arith
 
       back : (r : Made) → sheetAside n 2 (number (2 ^ n) F) ≡ r → ((t : Tree) → TreeOf n F t → ⊥) → r ≡ stuck

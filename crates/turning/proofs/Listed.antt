@@ -103,7 +103,8 @@ listed w k =
     let h₂ = every-at 3 (filed (w .flip) (w .mask) (w .p0) (w .p1)) h₁ (w .p2) (k .within 2 (omega arith)) in
     alike-same (wayAt (rank w)) w
     (second _ _ (second _ _ (second _ _ h₂
-    (unlike w k 0 1 (omega arith) (omega arith))) (unlike w k 0 2 (omega arith) (omega arith))) (unlike w k 1 2 (omega arith) (omega arith)))
+    (unlike w k 0 1 (omega arith) (omega arith))) (unlike w k 0 2 (omega arith) (omega arith)))
+    (unlike w k 1 2 (omega arith) (omega arith)))
 
 pub rank-lt : (w : Way) → IsWay w → rank w < wayCount
 unfolding rank

@@ -1,4 +1,5 @@
--- Sheets made with cells of two inputs: a cell of two signals depends on both, and each signal is read at most once. Assumes nothing.
+-- Sheets made with cells of two inputs: a cell of two signals depends on both, and each signal is read at most once.
+-- Assumes nothing.
 use mathlib.Core.Path.{_≡_, refl, sym, ap, ap₂, _∙_, subst}
 use mathlib.Core.Logic.{⊎-elim}
 use mathlib.Core.Bool.{Bool, true, false, cond}
@@ -57,7 +58,8 @@ module _ (n : ℕ) (F : ℕ → Bool) (A B : ℕ) (c : Candidate n 2 1 A B) (Q :
       ) in
       let whole : code x ≡ code x / 2 ^ 0 % 2 = omega (arith, small) in
       whole ∙ sym (val-bit (code x) 0)
-      ∙ ap val (sym (bit-number (2 ^ size n sD) (λ v. bit (codeAt n F (bit A) (bit B) v) 0) (gather n sD x) (gather-lt n sD x)))
+      ∙ ap val (sym (bit-number (2 ^ size n sD) (λ v. bit (codeAt n F (bit A) (bit B) v) 0) (gather n sD x)
+      (gather-lt n sD x)))
 
   own-counts : AllCount n F → (j : ℕ) → j < size n sD → DependsOn (size n sD) (bit D) j
   own-counts all j h = go (place n sD j h)
@@ -79,13 +81,15 @@ module _ (n : ℕ) (F : ℕ → Bool) (A B : ℕ) (c : Candidate n 2 1 A B) (Q :
           }
             where
               agree : Agree n (readsH (bit A) (bit B)) (d .x) (d .y)
-              agree p l e = d .alike p l (λ q. ⊎-elim (λ r. not-a n F A B c Q p e (q ∙ r)) (λ r. not-b n F A B c Q p e (q ∙ r)) (pair-of n A B c .only (w .at) (w .below) (w .member)))
+              agree p l e = d .alike p l (λ q. ⊎-elim (λ r. not-a n F A B c Q p e (q ∙ r))
+                  (λ r. not-b n F A B c Q p e (q ∙ r)) (pair-of n A B c .only (w .at) (w .below) (w .member)))
 
               same : code (d .x) ≡ code (d .y) → F (d .x) ≡ F (d .y)
               same e =
                   let k = size n (readsH (bit A) (bit B)) in
                   pair-gives n F (bit A) (bit B) (d .x) (d .belowX)
-                  ∙ ap₂ (λ (g i : ℕ). bitH n F (bit A) (bit B) (g + i * 2 ^ k)) (gather-ext n (readsH (bit A) (bit B)) (d .x) (d .y) agree) e
+                  ∙ ap₂ (λ (g i : ℕ). bitH n F (bit A) (bit B) (g + i * 2 ^ k))
+                  (gather-ext n (readsH (bit A) (bit B)) (d .x) (d .y) agree) e
                   ∙ sym (pair-gives n F (bit A) (bit B) (d .y) (d .belowY))
 
 -- ---- each cell of two signals does
@@ -97,16 +101,24 @@ abbrev pub AllBoth : List Cell → Type 0
 AllBoth [] = Unit {0}
 AllBoth (c ∷ cs) = Both c × AllBoth cs
 
-pub makes-both : {i : ℕ} {l : List ℕ} {T : ℕ} {cs : List Cell} → Makes 2 i l T cs → (2 ≤ length l → AllCount (length l) (bit T)) → AllBoth cs
+pub makes-both : {i : ℕ} {l : List ℕ} {T : ℕ} {cs : List Cell} → Makes 2 i l T cs
+    → (2 ≤ length l → AllCount (length l) (bit T)) → AllBoth cs
 makes-both (ends {l = l} {T = T} h) all =
     (λ q j g. subst (λ (m : ℕ). DependsOn m (bit T) j) q (all (omega arith) j (omega arith)), tt)
 makes-both (goes {i = i} {l = l} {T = T} {A = A} {B = B} h b m) all =
     let every = all (omega arith) in
     let two : size (length l) (readsD (bit A) (bit B)) ≡ 2 =
-    omega (arith, first-count l (b .candidate), pick-length (length l) (readsD (bit A) (bit B)) l, b .candidate .more, b .candidate .most) in (
+    omega (
+      arith,
+      first-count l (b .candidate),
+      pick-length (length l) (readsD (bit A) (bit B)) l,
+      b .candidate .more,
+      b .candidate .most,
+    ) in (
       λ q j g. subst (λ (k : ℕ). DependsOn k (bit (tableD (length l) (bit T) (bit A) (bit B) 0)) j) two
           (own-counts (length l) (bit T) A B (b .candidate) (b .possible) every j (omega arith)),
-      makes-both m (λ _. subst (λ (k : ℕ). AllCount k (bit (nextTable l T A B))) (sym (next-inputs l A B i)) (next-counts (length l) 2 (bit T) A B b every)),
+      makes-both m (λ _. subst (λ (k : ℕ). AllCount k (bit (nextTable l T A B))) (sym (next-inputs l A B i))
+          (next-counts (length l) 2 (bit T) A B b every)),
     )
 
 -- ---- each signal is read at most once
@@ -117,7 +129,8 @@ times-snoc x (b ∷ l) a = omega (arith, times-snoc x l a)
 
 module _ (s t : ℕ → Bool) (l : List ℕ) (x : ℕ) where
   -- what two sets without a common member pick is among the whole
-  picked : (n : ℕ) → n ≤ length l → ((j : ℕ) → j < n → s j ≡ true → t j ≡ true → ⊥) → times x (pick n s l) + times x (pick n t l) ≤ times x (take n l)
+  picked : (n : ℕ) → n ≤ length l → ((j : ℕ) → j < n → s j ≡ true → t j ≡ true → ⊥) → times x (pick n s l)
+      + times x (pick n t l) ≤ times x (take n l)
   unfolding pick
   picked zero h apart = omega arith
   picked (suc n) h apart =
@@ -130,7 +143,8 @@ module _ (s t : ℕ → Bool) (l : List ℕ) (x : ℕ) where
         times-snoc x (take n l) a,
       )
     where
-      go : (p q : Bool) → (p ≡ true → q ≡ true → ⊥) → times x (cond p (pick n s l ++ (getD l n 0 ∷ [])) (pick n s l)) + times x (cond q (pick n t l ++ (getD l n 0 ∷ [])) (pick n t l))
+      go : (p q : Bool) → (p ≡ true → q ≡ true → ⊥) → times x (cond p (pick n s l ++ (getD l n 0 ∷ [])) (pick n s l))
+          + times x (cond q (pick n t l ++ (getD l n 0 ∷ [])) (pick n t l))
           ≤ times x (pick n s l) + times x (pick n t l) + val (eqb x (getD l n 0))
       go true true f = absurd (f refl refl)
       go true false f = omega (arith, times-snoc x (pick n s l) (getD l n 0))
@@ -142,18 +156,26 @@ pub record ReadOnce (i : ℕ) (l : List ℕ) (cs : List Cell) (x : ℕ) : Type 0
   pub listed : x < i → reads x cs ≤ times x l
   pub given : i ≤ x → reads x cs ≤ 1
 
-pub makes-once : {i : ℕ} {l : List ℕ} {T : ℕ} {cs : List Cell} → Makes 2 i l T cs → AllBelow i l → (x : ℕ) → ReadOnce i l cs x
-makes-once (ends {i = i} {l = l} {T = T} h) low x = record { listed = λ g. omega arith; given = λ g. omega (arith, times-none l i x low g) }
+pub makes-once : {i : ℕ} {l : List ℕ} {T : ℕ} {cs : List Cell} → Makes 2 i l T cs → AllBelow i l → (x : ℕ)
+    → ReadOnce i l cs x
+makes-once (ends {i = i} {l = l} {T = T} h) low x = record
+    { listed = λ g. omega arith; given = λ g. omega (arith, times-none l i x low g) }
 makes-once (goes {i = i} {l = l} {T = T} {A = A} {B = B} {cs = cs} h b m) low x =
     step (makes-once m (next-below A B i l low) x)
   where
     apart : (j : ℕ) → j < length l → readsD (bit A) (bit B) j ≡ true → readsH (bit A) (bit B) j ≡ true → ⊥
     apart j g d e =
-        ⊎-elim (λ r. not-a (length l) (bit T) A B (b .candidate) (b .possible) j e r) (λ r. not-b (length l) (bit T) A B (b .candidate) (b .possible) j e r)
+        ⊎-elim (λ r. not-a (length l) (bit T) A B (b .candidate) (b .possible) j e r)
+        (λ r. not-b (length l) (bit T) A B (b .candidate) (b .possible) j e r)
         (pair-of (length l) A B (b .candidate) .only j g d)
 
-    among : times x (pick (length l) (readsD (bit A) (bit B)) l) + times x (pick (length l) (readsH (bit A) (bit B)) l) ≤ times x l
-    among = omega (arith, picked (readsD (bit A) (bit B)) (readsH (bit A) (bit B)) l x (length l) (omega arith) apart, ap (times x) (take-length l))
+    among : times x (pick (length l) (readsD (bit A) (bit B)) l) + times x (pick (length l) (readsH (bit A) (bit B)) l)
+        ≤ times x l
+    among = omega (
+      arith,
+      picked (readsD (bit A) (bit B)) (readsH (bit A) (bit B)) l x (length l) (omega arith) apart,
+      ap (times x) (take-length l),
+    )
 
     next : times x (nextSignals l A B i) ≡ times x (pick (length l) (readsH (bit A) (bit B)) l) + val (eqb x i)
     next = times-snoc x (pick (length l) (readsH (bit A) (bit B)) l) i
@@ -163,6 +185,7 @@ makes-once (goes {i = i} {l = l} {T = T} {A = A} {B = B} {cs = cs} h b m) low x 
       listed = λ g. omega (arith, r .listed (omega arith), next, among, ap val (ne-eqb x i (λ q. omega arith)));
       given = λ g. elim (decLt i x) [
         | yes k ↦ omega (arith, r .given k, among, times-none l i x low g)
-        | no k ↦ let q : x ≡ i = omega arith in omega (arith, r .listed (omega arith), next, among, times-none l i x low g, ap val (eq-eqb x i q))
+        | no k ↦ let q : x ≡ i = omega arith in omega
+            (arith, r .listed (omega arith), next, among, times-none l i x low g, ap val (eq-eqb x i q))
       ];
     }

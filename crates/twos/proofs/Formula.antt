@@ -1,4 +1,5 @@
--- The formula that is printed of a sheet made with cells of two inputs is a tree: it reads each of the inputs that count once. Assumes nothing.
+-- The formula that is printed of a sheet made with cells of two inputs is a tree: it reads each of the inputs that
+-- count once. Assumes nothing.
 use mathlib.Core.Path.{_≡_, refl, sym, ap, ap₂, _∙_}
 use mathlib.Core.Bool.{Bool, true, false, cond, not}
 use mathlib.Core.List.{List, [], _∷_, _++_}
@@ -76,12 +77,14 @@ module _ (j : ℕ) where
   flipped-reads true F = uses-flip (treeOf F)
   flipped-reads false F = refl
 
-  one-reads : (a b f : Bool) (F : Formula) → letters (cond a (constant false) (cond b (constant true) (negatedIf f F))) ≤ letters F
+  one-reads : (a b f : Bool) (F : Formula) → letters (cond a (constant false) (cond b (constant true) (negatedIf f F)))
+      ≤ letters F
   one-reads true b f F = omega arith
   one-reads false true f F = omega arith
   one-reads false false f F = omega (arith, flipped-reads f F)
 
-  cell-reads : (l : List ℕ) (t : ℕ) (v : ℕ → Formula) → letters (bySides (constant false) oneFormula twoFormula l t v) ≤ 0 + weighed (λ s. letters (v s)) l
+  cell-reads : (l : List ℕ) (t : ℕ) (v : ℕ → Formula) → letters (bySides (constant false) oneFormula twoFormula l t v)
+      ≤ 0 + weighed (λ s. letters (v s)) l
   cell-reads [] t v = omega arith
   cell-reads (a ∷ []) t v = omega (arith, one-reads (eqb t 0) (eqb t 3) (eqb t 1) (v a))
   cell-reads (a ∷ b ∷ l) t v = omega (arith, flipped-reads (flipsLow t) (v a), flipped-reads (flipsHigh t) (v b))
@@ -105,18 +108,21 @@ weighs-none m (s ∷ l) h = omega (arith, h 0 (omega arith), weighs-none m l (λ
 
 -- the list of kept inputs has each at most once, and no other
 module _ (n : ℕ) (s : ℕ → Bool) (j : ℕ) where
-  kept-times : (k : ℕ) → k ≤ n → (times j (pick k s (inputs n)) ≤ val (s j)) × (k ≤ j → times j (pick k s (inputs n)) ≡ 0)
+  kept-times : (k : ℕ) → k ≤ n → (times j (pick k s (inputs n)) ≤ val (s j))
+      × (k ≤ j → times j (pick k s (inputs n)) ≡ 0)
   unfolding pick
   kept-times zero h = (omega arith, λ g. refl)
   kept-times (suc k) h = go (s k) refl (kept-times k (omega arith))
     where
-      go : (b : Bool) → s k ≡ b → (times j (pick k s (inputs n)) ≤ val (s j)) × (k ≤ j → times j (pick k s (inputs n)) ≡ 0)
+      go : (b : Bool) → s k ≡ b → (times j (pick k s (inputs n)) ≤ val (s j))
+          × (k ≤ j → times j (pick k s (inputs n)) ≡ 0)
           → (times j (cond b (pick k s (inputs n) ++ (getD (inputs n) k 0 ∷ [])) (pick k s (inputs n))) ≤ val (s j))
           × (suc k ≤ j → times j (cond b (pick k s (inputs n) ++ (getD (inputs n) k 0 ∷ [])) (pick k s (inputs n))) ≡ 0)
       go false q w = (w .0, λ g. w .1 (omega arith))
       go true q w = at (eqb j k) refl
         where
-          all : times j (pick k s (inputs n) ++ (getD (inputs n) k 0 ∷ [])) ≡ times j (pick k s (inputs n)) + val (eqb j k)
+          all : times j (pick k s (inputs n) ++ (getD (inputs n) k 0 ∷ [])) ≡ times j (pick k s (inputs n))
+              + val (eqb j k)
           all = times-snoc j (pick k s (inputs n)) (getD (inputs n) k 0)
               ∙ ap (λ (a : ℕ). times j (pick k s (inputs n)) + val (eqb j a)) (inputs-at n k (omega arith))
 
@@ -143,16 +149,24 @@ formed e i [] f p = tt
 formed e i (c ∷ cs) f p = (record { plain = p .0; table = f .0 .table }, formed e (suc i) cs (f .1) (p .1))
 
 -- no letter beyond n
-letters-below : (j n K : ℕ) → n ≤ j → (cs : List Cell) → Wired K n cs → (s : ℕ) → s < n + length cs → uses j (treeOf (formulaOf n cs s)) ≡ 0
+letters-below : (j n K : ℕ) → n ≤ j → (cs : List Cell) → Wired K n cs → (s : ℕ) → s < n + length cs
+    → uses j (treeOf (formulaOf n cs s)) ≡ 0
 unfolding formulaOf
 letters-below j n K h cs w =
-    each-signal cellFormula (λ c u. false) (λ s F b. uses j (treeOf F) ≡ 0) Any n step K cs n letter (λ s. false) (omega arith) (any cs) w
+    each-signal cellFormula (λ c u. false) (λ s F b. uses j (treeOf F) ≡ 0) Any n step K cs n letter (λ s. false)
+    (omega arith) (any cs) w
     (λ s g. ap val (ne-eqb s j (λ q. omega arith)))
   where
-    step : (c : Cell) (i : ℕ) (v : ℕ → Formula) (u : ℕ → Bool) → n ≤ i → Any c → ((k : ℕ) → k < length (c .signals) → getD (c .signals) k 0 < i)
+    step : (c : Cell) (i : ℕ) (v : ℕ → Formula) (u : ℕ → Bool) → n ≤ i → Any c
+        → ((k : ℕ) → k < length (c .signals) → getD (c .signals) k 0 < i)
         → ((s : ℕ) → s < i → uses j (treeOf (v s)) ≡ 0) → uses j (treeOf (cellFormula c v)) ≡ 0
     step c i v u low a known free =
-        omega (arith, cell-reads j (c .signals) (c .table) v, weighs-none (λ s. uses j (treeOf (v s))) (c .signals) (λ k g. free (getD (c .signals) k 0) (known k g)))
+        omega (
+          arith,
+          cell-reads j (c .signals) (c .table) v,
+          weighs-none (λ s. uses j (treeOf (v s))) (c .signals)
+              (λ k g. free (getD (c .signals) k 0) (known k g)),
+        )
 
 -- as many letters j as input j is read
 letters-read : (j n : ℕ) → j < n → (cs : List Cell) → 1 ≤ length cs → Wired 2 n cs → Printable n cs
@@ -163,18 +177,21 @@ letters-read j n h (c ∷ cs) some w p =
     let q : n + length cs ≡ n + (suc (length cs) - 1) = omega arith in
     omega (
       arith,
-      measured 2 cellFormula (λ F. uses j (treeOf F)) 0 (λ c v. cell-reads j (c .signals) (c .table) v) cs c n letter w (p .once)
+      measured 2 cellFormula (λ F. uses j (treeOf F)) 0 (λ c v. cell-reads j (c .signals) (c .table) v) cs c n letter w
+          (p .once)
           (λ s g. ap val (ne-eqb s j (λ q. omega arith))),
       all-reads j (c ∷ cs),
       ap (λ (x : ℕ). uses j (treeOf (inTurn cellFormula n (c ∷ cs) letter x))) q,
     )
 
 -- a constant reads nothing
-constant-reads : (j n : ℕ) (b : Bool) → uses j (treeOf (formulaOf n (lastCell (0 ∷ []) (cond b 3 0) ∷ []) (n + (1 - 1)))) ≡ 0
+constant-reads : (j n : ℕ) (b : Bool) → uses j
+    (treeOf (formulaOf n (lastCell (0 ∷ []) (cond b 3 0) ∷ []) (n + (1 - 1)))) ≡ 0
 unfolding formulaOf inTurn
 constant-reads j n b =
     let q : n + (1 - 1) ≡ n = omega arith in
-    ap (λ (t : Bool). uses j (treeOf (cond t (oneFormula (cond b 3 0) (letter 0)) (letter (n + (1 - 1)))))) (eq-eqb (n + (1 - 1)) n q) ∙ go b
+    ap (λ (t : Bool). uses j (treeOf (cond t (oneFormula (cond b 3 0) (letter 0)) (letter (n + (1 - 1))))))
+    (eq-eqb (n + (1 - 1)) n q) ∙ go b
   where
     go : (b : Bool) → uses j (treeOf (oneFormula (cond b 3 0) (letter 0))) ≡ 0
     go true = refl
@@ -189,19 +206,30 @@ module _ (n : ℕ) (F : ℕ → Bool) (p : 1 ≤ n) (cs : List Cell) (is : sheet
 
   some-read : (j : ℕ) → j < n → uses j t ≤ val (bit (kept n F) j)
   some-read j h =
-      omega (arith, letters-read j n h cs (network .some) (network .wired) (made-printable n F p cs is), read-once n F p cs is j .listed h, kept-times n (bit (kept n F)) j n (omega arith) .0)
+      omega (
+        arith,
+        letters-read j n h cs (network .some) (network .wired) (made-printable n F p cs is),
+        read-once n F p
+            cs is j .listed h,
+        kept-times n (bit (kept n F)) j n (omega arith) .0,
+      )
 
   none-read : (j : ℕ) → n ≤ j → uses j t ≡ 0
   none-read j h = letters-below j n 2 h cs (network .wired) (n + (length cs - 1)) (omega (arith, network .some))
 
   computes : Computes n F t
   computes = record {
-    most = λ j. elim (decLt j n) [ yes h ↦ omega (arith, some-read j h, val-lt (bit (kept n F) j)) | no h ↦ omega (arith, none-read j (omega arith)) ];
+    most = λ j. elim (decLt j n) [
+      | yes h ↦ omega (arith, some-read j h, val-lt (bit (kept n F) j))
+      | no h ↦ omega
+          (arith, none-read j (omega arith))
+    ];
     within = none-read;
     computes = λ x h.
         value-tree (formulaOf n cs (n + (length cs - 1))) x
         ∙ formula-runs n 2 cs (network .wired)
-        (formed firstEdition n cs (table-fits n 2 F p (omega arith) cs is firstEdition (omega arith)) (made-printable n F p cs is .plain)) (network .some) x
+        (formed firstEdition n cs (table-fits n 2 F p (omega arith) cs is firstEdition (omega arith))
+        (made-printable n F p cs is .plain)) (network .some) x
         ∙ network .gives x h;
   }
 
@@ -216,7 +244,8 @@ module _ (n : ℕ) (F : ℕ → Bool) (p : 1 ≤ n) (cs : List Cell) (is : sheet
   ]
     where
       by-kept : j < n → (b : Bool) → bit (kept n F) j ≡ b → 0 < size n (bit (support n F)) → uses j t ≡ 0
-      by-kept h true q g = absurd (never h (support-counting n F j h (ap (λ (m : ℕ). bit m j) (sym (some-kept n F g)) ∙ q)))
+      by-kept h true q g = absurd (never h (support-counting n F j h
+          (ap (λ (m : ℕ). bit m j) (sym (some-kept n F g)) ∙ q)))
       by-kept h false q g = omega (arith, some-read j h, ap val q)
 
       flatly : sheetAside n 2 (number (2 ^ n) F) ≡ made (lastCell (0 ∷ []) (cond (F 0) 3 0) ∷ []) → uses j t ≡ 0

@@ -28,7 +28,11 @@ use Rattle.twos.proofs.Cells.{AllBoth, makes-both, ReadOnce, makes-once
 -- cells that fit records, read at most two signals, and depend on both of two, are plain
 all-plain : (e : Edition) (i : ℕ) (cs : List Cell) → FitsFrom e i cs → AtMost 2 cs → AllBoth cs → AllPlain cs
 all-plain e i [] f a b = tt
-all-plain e i (c ∷ cs) f a b = (record { some = f .0 .some; few = a .0; both = b .0 }, all-plain e (suc i) cs (f .1) (a .1) (b .1))
+all-plain e i (c ∷ cs) f a b = (
+  record { some = f .0 .some; few = a .0; both = b .0 },
+  all-plain e (suc i) cs (f .1)
+      (a .1) (b .1),
+)
 
 reads-later : (x k : ℕ) (cs : List Cell) → reads x (drop k cs) ≤ reads x cs
 reads-later x zero cs = omega arith
@@ -55,7 +59,8 @@ module _ (n : ℕ) (F : ℕ → Bool) (p : 1 ≤ n) (cs : List Cell) (is : sheet
   all : 2 ≤ length l → AllCount (length l) (bit U)
   all g =
       subst (λ (m : ℕ). AllCount m (bit U)) (sym size-is)
-      (over-counts n F S (kept-sees n F) (subst (λ (m : ℕ). Counting n F (bit m)) (sym (two-kept n F (omega (arith, size-is)))) (support-counting n F)))
+      (over-counts n F S (kept-sees n F) (subst (λ (m : ℕ). Counting n F (bit m))
+      (sym (two-kept n F (omega (arith, size-is)))) (support-counting n F)))
 
   low : AllBelow n l
   low = pick-below n S (inputs n) n (λ j h. inputs-below n j (omega (arith, inputs-length n)))
@@ -66,8 +71,15 @@ module _ (n : ℕ) (F : ℕ → Bool) (p : 1 ≤ n) (cs : List Cell) (is : sheet
   pub made-printable : Printable n cs
   made-printable = record {
     plain =
-        all-plain firstEdition n cs (table-fits n 2 F p (omega arith) cs is firstEdition (omega arith)) (table-few n 2 F p (omega arith) cs is 2 (omega arith))
+        all-plain firstEdition n cs (table-fits n 2 F p (omega arith) cs is firstEdition (omega arith))
+        (table-few n 2 F p (omega arith) cs is 2 (omega arith))
         (makes-both makes all);
     once = λ i h.
-        omega (arith, read-once (n + i) .given (omega arith), table-read n 2 F p (omega arith) cs is i h, reads-later (n + i) (suc i) cs);
+        omega (
+          arith,
+          read-once (n + i) .given (omega arith),
+          table-read n 2 F p (omega arith) cs is i h,
+          reads-later
+              (n + i) (suc i) cs,
+        );
   }

@@ -35,7 +35,8 @@ times-append x (y ∷ l) m = omega (arith, times-append x l m)
 -- at least one of two
 some : (a b : ℕ) → ltb 0 (a + b) ≡ (ltb 0 a || ltb 0 b)
 some zero b = let q : 0 + b ≡ b = omega arith in ap (ltb 0) q
-some (suc a) b = lt-ltb 0 (suc a + b) (omega arith) ∙ ap (λ (t : Bool). t || ltb 0 b) (sym (lt-ltb 0 (suc a) (omega arith)))
+some (suc a) b = lt-ltb 0 (suc a + b) (omega arith)
+    ∙ ap (λ (t : Bool). t || ltb 0 b) (sym (lt-ltb 0 (suc a) (omega arith)))
 
 or-assoc : (s t u : Bool) → ((s || t) || u) ≡ (s || (t || u))
 or-assoc true t u = refl
@@ -65,12 +66,15 @@ module _ (b : ℕ → ℕ) (w : ℕ) where
   named-more j h =
       let l = listOf j (λ t. b (t + 1)) in
       let y = b (j + 1) in
-      sym (number-bit 32 (bitOr (Named b w j) (2 ^ y)) (or-lt 32 (Named b w j) (2 ^ y) (number-lt 32 (λ x. bit w x || ltb 0 (times x l))) (pow-lt h)))
-      ∙ number-ext 32 (bit (bitOr (Named b w j) (2 ^ y))) (λ x. bit w x || ltb 0 (times x (listOf (j + 1) (λ t. b (t + 1))))) (λ x g.
+      sym (number-bit 32 (bitOr (Named b w j) (2 ^ y))
+      (or-lt 32 (Named b w j) (2 ^ y) (number-lt 32 (λ x. bit w x || ltb 0 (times x l))) (pow-lt h)))
+      ∙ number-ext 32 (bit (bitOr (Named b w j) (2 ^ y)))
+      (λ x. bit w x || ltb 0 (times x (listOf (j + 1) (λ t. b (t + 1))))) (λ x g.
       bit-or (Named b w j) (2 ^ y) x
       ∙ ap₂ (λ (s t : Bool). s || t) (bit-number 32 (λ x. bit w x || ltb 0 (times x l)) x g) (bit-power y x h g)
       ∙ or-assoc (bit w x) (ltb 0 (times x l)) (eqb x y)
-      ∙ ap (λ (t : Bool). bit w x || t) (ap (λ (t : Bool). ltb 0 (times x l) || t) (sym (some-digit (eqb x y))) ∙ sym (some (times x l) (times x (y ∷ [])))
+      ∙ ap (λ (t : Bool). bit w x || t) (ap (λ (t : Bool). ltb 0 (times x l) || t) (sym (some-digit (eqb x y)))
+      ∙ sym (some (times x l) (times x (y ∷ [])))
       ∙ ap (ltb 0) (sym (times-append x l (y ∷ [])) ∙ ap (times x) (sym (list-more j (λ t. b (t + 1)))))))
 
 -- ---- the mask of what the records from i on read
@@ -86,14 +90,16 @@ or-swap false true = refl
 or-swap false false = refl
 
 module _ (e : Edition) (s : List ℕ) where
-  mask-record : (i k w : ℕ) → w ≡ readMask (cellsFrom e s (suc i) k) → alsoRead (recordAt e s i) w ≡ readMask (cellsFrom e s i (suc k))
+  mask-record : (i k w : ℕ) → w ≡ readMask (cellsFrom e s (suc i) k) → alsoRead (recordAt e s i) w
+      ≡ readMask (cellsFrom e s i (suc k))
   unfolding cellsFrom cellOf
   mask-record i k w q =
       let b = recordAt e s i in
       let cs = cellsFrom e s (suc i) k in
       let l = listOf (b 0) (λ j. b (j + 1)) in
       number-ext 32 (λ x. bit w x || ltb 0 (times x l)) (λ x. ltb 0 (times x l + reads x cs)) (λ x h.
-      ap (λ (t : Bool). t || ltb 0 (times x l)) (ap (λ (m : ℕ). bit m x) q ∙ bit-number 32 (λ x. ltb 0 (reads x cs)) x h)
+      ap (λ (t : Bool). t || ltb 0 (times x l)) (ap (λ (m : ℕ). bit m x) q
+      ∙ bit-number 32 (λ x. ltb 0 (reads x cs)) x h)
       ∙ or-swap (ltb 0 (reads x cs)) (ltb 0 (times x l)) ∙ sym (some (times x l) (reads x cs)))
 
   -- the last record's
@@ -108,7 +114,8 @@ module _ (e : Edition) (s : List ℕ) where
   mask-more i m w h g q =
       let a : i ≡ suc (i - 1) = omega arith in
       let b : suc (m - i) ≡ m - (i - 1) = omega arith in
-      mask-record (i - 1) (m - i) w (q ∙ ap (λ (j : ℕ). readMask (cellsFrom e s j (m - i))) a) ∙ ap (λ (k : ℕ). readMask (cellsFrom e s (i - 1) k)) b
+      mask-record (i - 1) (m - i) w (q ∙ ap (λ (j : ℕ). readMask (cellsFrom e s j (m - i))) a)
+      ∙ ap (λ (k : ℕ). readMask (cellsFrom e s (i - 1) k)) b
 
   -- record i - 1 is unread exactly where its bit is 0
   pub mask-tells : (n m i w : ℕ) → 0 < i → i ≤ m → n + (i - 1) < 32 → w ≡ readMask (cellsFrom e s i (m - i))
@@ -117,7 +124,8 @@ module _ (e : Edition) (s : List ℕ) where
       let a : suc (i - 1) ≡ i = omega arith in
       let x = n + (i - 1) in
       let cs = cellsFrom e s i (m - i) in
-      ap (λ (ds : List Cell). eqb (reads x ds) 0) (later-cells e s (i - 1) m (omega arith) ∙ ap (λ (j : ℕ). cellsFrom e s j (m - j)) a)
+      ap (λ (ds : List Cell). eqb (reads x ds) 0) (later-cells e s (i - 1) m (omega arith)
+      ∙ ap (λ (j : ℕ). cellsFrom e s j (m - j)) a)
       ∙ none (reads x cs) ∙ ap not (sym (ap (λ (v : ℕ). bit v x) q ∙ bit-number 32 (λ x. ltb 0 (reads x cs)) x l))
     where
       none : (a : ℕ) → eqb a 0 ≡ not (ltb 0 a)
@@ -125,25 +133,36 @@ module _ (e : Edition) (s : List ℕ) where
       none (suc a) = ne-eqb (suc a) 0 (λ q. omega arith) ∙ ap not (sym (lt-ltb 0 (suc a) (omega arith)))
 
   -- so, looking back from record i to the one before it, the first unread one is found
-  module _ (n m i w f : ℕ) (some : 0 < i) (most : i < m) (low : n + (i - 1) < 32) (is : w ≡ readMask (cellsFrom e s i (m - i))) where
+  module _ (n m i w f : ℕ) (some : 0 < i) (most : i < m) (low : n + (i - 1) < 32)
+      (is : w ≡ readMask (cellsFrom e s i (m - i))) where
     pub found-here : bitAnd (w / 2 ^ (n + (i - 1))) 1 ≡ 0 → LeastFrom (i - 1) (m - 1) (unread e n s m) (i - 1)
     found-here h =
         from-here (m - 1) (unread e n s m) (i - 1) (omega arith)
         (mask-tells n m i w some (omega arith) low is ∙ ap not (bit-clear w (n + (i - 1)) (λ q. omega arith)))
 
-    pub found-later : (bitAnd (w / 2 ^ (n + (i - 1))) 1 ≡ 0 → ⊥) → LeastFrom i (m - 1) (unread e n s m) f → LeastFrom (i - 1) (m - 1) (unread e n s m) f
+    pub found-later : (bitAnd (w / 2 ^ (n + (i - 1))) 1 ≡ 0 → ⊥) → LeastFrom i (m - 1) (unread e n s m) f
+        → LeastFrom (i - 1) (m - 1) (unread e n s m) f
     found-later h g =
         let x = n + (i - 1) in
         let a : i ≡ suc (i - 1) = omega arith in
         let one : bitAnd (w / 2 ^ x) 1 ≡ 1 = omega (arith, and-mask (w / 2 ^ x) 1) in
-        from-pass (m - 1) (unread e n s m) (i - 1) f (mask-tells n m i w some (omega arith) low is ∙ ap not (bit-set w x one))
+        from-pass (m - 1) (unread e n s m) (i - 1) f (mask-tells n m i w some (omega arith) low is
+        ∙ ap not (bit-set w x one))
         (subst (λ (j : ℕ). LeastFrom j (m - 1) (unread e n s m) f) a g)
 
 -- a record that can be run has its signals within it, each a bit of a mask
-pub record-named : (e : Edition) → IsEdition e → (s : List ℕ) (m i : ℕ) (r : List ℕ) → i < m → e .size * m ≤ length s → AllReadable e s m
+pub record-named : (e : Edition) → IsEdition e → (s : List ℕ) (m i : ℕ) (r : List ℕ) → i < m → e .size * m ≤ length s
+    → AllReadable e s m
     → r ≡ recordBytes e s i → (byteAt r 0 < length r) × ((j : ℕ) → j < byteAt r 0 → byteAt r (j + 1) < 32)
 record-named e o s m i r l h a q =
     let w = subst (λ (b : List ℕ). Readable e (byteAt b)) (sym q) (a i l) in (
-      omega (arith, w .few, ap length q, record-length e s i (record-within (e .size) i m (length s) l h), o .order, o .ends),
+      omega (
+        arith,
+        w .few,
+        ap length q,
+        record-length e s i (record-within (e .size) i m (length s) l h),
+        o .order,
+        o .ends,
+      ),
       w .below,
     )

@@ -73,7 +73,8 @@ number-not n f = omega (arith, not-sum n f)
 
 -- ---- stretches
 
-pub four-of : (f : ℕ → ℕ) (w : ℕ) {x₀ x₁ x₂ x₃ : ℕ} → x₀ ≡ f (4 * w + 0) → x₁ ≡ f (4 * w + 1) → x₂ ≡ f (4 * w + 2) → x₃ ≡ f (4 * w + 3)
+pub four-of : (f : ℕ → ℕ) (w : ℕ) {x₀ x₁ x₂ x₃ : ℕ} → x₀ ≡ f (4 * w + 0) → x₁ ≡ f (4 * w + 1) → x₂ ≡ f (4 * w + 2) → x₃
+    ≡ f (4 * w + 3)
     → _≡_ {A = Stretch} (record { a = x₀; b = x₁; c = x₂; d = x₃ }) (four f w)
 four-of f w {x₀} {x₁} {x₂} {x₃} e₀ e₁ e₂ e₃ =
     ap₂ (λ (x y : ℕ). record { a = x; b = y; c = x₂; d = x₃ }) e₀ e₁
@@ -83,12 +84,15 @@ four-of f w {x₀} {x₁} {x₂} {x₃} e₀ e₁ e₂ e₃ =
 words-of : {f g : ℕ → ℕ} → ((i : ℕ) → f i ≡ g i) → (w : ℕ) → four f w ≡ four g w
 words-of {f} {g} h w = four-of g w (h (4 * w + 0)) (h (4 * w + 1)) (h (4 * w + 2)) (h (4 * w + 3))
 
-pub joined-stretch : (k : ℕ) (op : ℕ → ℕ → ℕ) → ((f g : ℕ → Bool) → op (number 64 f) (number 64 g) ≡ number 64 (λ i. join k (f i) (g i)))
-    → (F G : Formula) (w : ℕ) → inBoth op (stretchOf (value F) w) (stretchOf (value G) w) ≡ stretchOf (value (joined k F G)) w
+pub joined-stretch : (k : ℕ) (op : ℕ → ℕ → ℕ)
+    → ((f g : ℕ → Bool) → op (number 64 f) (number 64 g) ≡ number 64 (λ i. join k (f i) (g i)))
+    → (F G : Formula) (w : ℕ) → inBoth op (stretchOf (value F) w) (stretchOf (value G) w)
+    ≡ stretchOf (value (joined k F G)) w
 unfolding stretchOf value
 joined-stretch k op h F G w = words-of (λ i. h (λ x. value F (64 * i + x)) (λ x. value G (64 * i + x))) w
 
-pub not-stretch : (F : Formula) (w : ℕ) → inEach (λ x. 2 ^ 64 - 1 - x) (stretchOf (value F) w) ≡ stretchOf (value (negated F)) w
+pub not-stretch : (F : Formula) (w : ℕ) → inEach (λ x. 2 ^ 64 - 1 - x) (stretchOf (value F) w)
+    ≡ stretchOf (value (negated F)) w
 unfolding stretchOf value
 not-stretch F w = words-of (λ i. number-not 64 (λ x. value F (64 * i + x))) w
 
@@ -119,7 +123,9 @@ input-across j w i h k =
     ∙ bit-shr (64 * (4 * w + i) + x) 8 (j - 8) ∙ ap (bit (64 * (4 * w + i) + x)) b)
 
 pub across : (j w : ℕ) {x : ℕ} → 8 ≤ j → x ≡ inputWord (j - 2) w → alike x ≡ four (inputWord j) w
-across j w h e = four-of (inputWord j) w (e ∙ input-across j w 0 h (omega arith)) (e ∙ input-across j w 1 h (omega arith)) (e ∙ input-across j w 2 h (omega arith)) (e ∙ input-across j w 3 h (omega arith))
+across j w h e = four-of (inputWord j) w (e ∙ input-across j w 0 h (omega arith))
+    (e ∙ input-across j w 1 h (omega arith)) (e ∙ input-across j w 2 h (omega arith))
+    (e ∙ input-across j w 3 h (omega arith))
 
 -- ---- the words of a stretch
 
@@ -137,12 +143,14 @@ word-last v (suc (suc zero)) a b c = absurd (c refl)
 word-last v (suc (suc (suc k))) a b c = refl
 
 -- the word of byte i of a table, from the stretch of that byte
-pub table-word : (n i : ℕ) (F : ℕ → Bool) {v : Stretch} {y o : ℕ} → 64 * (i / 8) < 2 ^ n → v ≡ stretchOf F (i / 32) → y ≡ wordIn v (i / 8 % 4)
+pub table-word : (n i : ℕ) (F : ℕ → Bool) {v : Stretch} {y o : ℕ} → 64 * (i / 8) < 2 ^ n → v ≡ stretchOf F (i / 32) → y
+    ≡ wordIn v (i / 8 % 4)
     → o ≡ number 64 (λ x. ltb x (2 ^ n) && bit y x) → o ≡ gateWord n F (i / 8)
 unfolding stretchOf
 table-word n i F {v} {y} {o} l e d f =
     let p : 4 * (i / 32) + i / 8 % 4 ≡ i / 8 = omega arith in
     let a : y ≡ wordOf F (i / 8) =
-    d ∙ ap (λ (v : Stretch). wordIn v (i / 8 % 4)) e ∙ word-of (wordOf F) (i / 32) (i / 8 % 4) (omega arith) ∙ ap (wordOf F) p in
+    d ∙ ap (λ (v : Stretch). wordIn v (i / 8 % 4)) e ∙ word-of (wordOf F) (i / 32) (i / 8 % 4) (omega arith)
+    ∙ ap (wordOf F) p in
     f ∙ ap (λ (y : ℕ). number 64 (λ x. ltb x (2 ^ n) && bit y x)) a
     ∙ first-of n (i / 8) (wordOf F (i / 8)) F l (λ x m o. sym (bit-number 64 (λ x. F (64 * (i / 8) + x)) x m))

@@ -1,4 +1,5 @@
--- Where a walk over masks may stop: the inputs that cannot be free no longer fit, or one of them was passed over. Assumes nothing.
+-- Where a walk over masks may stop: the inputs that cannot be free no longer fit, or one of them was passed over.
+-- Assumes nothing.
 use mathlib.Core.Path.{_≡_, refl, sym, ap, ap₂, _∙_, subst}
 use mathlib.Core.Bool.{Bool, true, false, not, _&&_, _||_}
 use mathlib.Core.List.{List}
@@ -47,16 +48,19 @@ missing (suc n) s t h = go (s n) (t n) refl refl (missing n s t)
     go false v p q ih = up (ih (omega (arith, ap val p)))
 
 -- where a set has no room for the members of another besides those it holds, one is missing
-pub crowded : (n : ℕ) (acc left S : ℕ → Bool) → ((j : ℕ) → j < n → left j ≡ true → acc j ≡ false) → Inside acc S → size n S < size n acc + size n left
+pub crowded : (n : ℕ) (acc left S : ℕ → Bool) → ((j : ℕ) → j < n → left j ≡ true → acc j ≡ false) → Inside acc S
+    → size n S < size n acc + size n left
     → (c : ℕ) × (c < n) × (left c ≡ true) × (S c ≡ false)
-crowded n acc left S off inside h = pick (missing n (union acc left) S (omega (arith, size-sum n acc left (union acc left) (λ j l. join (acc j) (left j) (off j l)))))
+crowded n acc left S off inside h = pick (missing n (union acc left) S
+    (omega (arith, size-sum n acc left (union acc left) (λ j l. join (acc j) (left j) (off j l)))))
   where
     join : (u v : Bool) → (v ≡ true → u ≡ false) → val u + val v ≡ val (u || v)
     join true true f = let z : true ≡ false = f refl in absurd (clash refl z)
     join true false f = refl
     join false v f = omega arith
 
-    pick : (c : ℕ) × (c < n) × (union acc left c ≡ true) × (S c ≡ false) → (c : ℕ) × (c < n) × (left c ≡ true) × (S c ≡ false)
+    pick : (c : ℕ) × (c < n) × (union acc left c ≡ true) × (S c ≡ false) → (c : ℕ) × (c < n) × (left c ≡ true)
+        × (S c ≡ false)
     pick w = (w .0, w .1, go (acc (w .0)) refl (w .2), w .3)
       where
         go : (u : Bool) → acc (w .0) ≡ u → (u || left (w .0)) ≡ true → left (w .0) ≡ true
@@ -75,7 +79,8 @@ module _ (need acc : ℕ) (fits : acc < 65536) where
   left-off : (j : ℕ) → j < 16 → bit (bitAnd need (65535 - acc)) j ≡ true → (bit need j ≡ true) × (bit acc j ≡ false)
   left-off j l e = go (bit need j) (bit acc j) refl refl (sym (left-bit j l) ∙ e)
     where
-      go : (u v : Bool) → bit need j ≡ u → bit acc j ≡ v → (u && not v) ≡ true → (bit need j ≡ true) × (bit acc j ≡ false)
+      go : (u v : Bool) → bit need j ≡ u → bit acc j ≡ v → (u && not v) ≡ true → (bit need j ≡ true)
+          × (bit acc j ≡ false)
       go true false p q f = (p, q)
       go true true p q f = absurd (clash f refl)
       go false v p q f = absurd (clash f refl)
@@ -86,14 +91,16 @@ module _ {n p acc : ℕ} (r : Range n p acc) (i : ℕ) (l : i < 2 ^ p) where
   range-stays j h =
       let e : j ≡ p + (j - p) = omega arith in
       let a : (acc + i) / 2 ^ p ≡ acc / 2 ^ p = ap (λ (m : ℕ). (m + i) / 2 ^ p) (even r) ∙ high (acc / 2 ^ p) p l in
-      ap (bit (acc + i)) e ∙ sym (bit-shr (acc + i) p (j - p)) ∙ ap (λ (m : ℕ). bit m (j - p)) a ∙ bit-shr acc p (j - p) ∙ ap (bit acc) (sym e)
+      ap (bit (acc + i)) e ∙ sym (bit-shr (acc + i) p (j - p)) ∙ ap (λ (m : ℕ). bit m (j - p)) a ∙ bit-shr acc p (j - p)
+      ∙ ap (bit acc) (sym e)
 
   pub range-has : Inside (bit acc) (bit (acc + i))
   range-has j e = elim (decLt j p) [ yes g ↦ absurd (clash e (r .low j g)) | no g ↦ range-stays j (omega arith) ∙ e ]
 
 -- ---- what is never answered
 module _ (n r : ℕ) (F : ℕ → Bool) where
-  pub tryB-never : (q A B : ℕ) → (size n (bit B) ≡ q → Apart n (bit A) (bit B) → fewColumns n F (bit A) (bit B) (2 ^ r) ≡ false) → tryB n r F q A B ≡ none
+  pub tryB-never : (q A B : ℕ) → (size n (bit B) ≡ q → Apart n (bit A) (bit B) → fewColumns n F (bit A) (bit B) (2 ^ r)
+      ≡ false) → tryB n r F q A B ≡ none
   tryB-never q A B h = go (tryB n r F q A B) refl
     where
       go : (a : Answer) → tryB n r F q A B ≡ a → a ≡ none
@@ -103,54 +110,84 @@ module _ (n r : ℕ) (F : ℕ → Bool) where
           absurd (clash (possible-iff n F (bit A) (bit B) (w .apart) r .1 (w .possible)) (h (w .sizeB) (w .apart)))
 
   -- an input that cannot be free, and is
-  pub lacks : (P : ℕ → Bool) (A B : ℕ) (c : ℕ) → RulesOut n F (2 ^ r) P (single c) → Inside P (bit A) → union (bit A) (bit B) c ≡ false → Apart n (bit A) (bit B)
+  pub lacks : (P : ℕ → Bool) (A B : ℕ) (c : ℕ) → RulesOut n F (2 ^ r) P (single c) → Inside P (bit A)
+      → union (bit A) (bit B) c ≡ false → Apart n (bit A) (bit B)
       → fewColumns n F (bit A) (bit B) (2 ^ r) ≡ false
-  lacks P A B c w inside out apart = w .fails (bit A) (bit B) apart inside (λ j e. ap (λ (i : ℕ). rest (bit A) (bit B) i) (eqb-true j c e) ∙ ap not out)
+  lacks P A B c w inside out apart = w .fails (bit A) (bit B) apart inside
+      (λ j e. ap (λ (i : ℕ). rest (bit A) (bit B) i) (eqb-true j c e) ∙ ap not out)
 
   -- ---- shared masks
-  module _ (own need : ℕ) (w : Needs n F (2 ^ r) (bit own) need) (off : (c : ℕ) → bit need c ≡ true → bit own c ≡ false) {p acc : ℕ} (g : SharedRange n own p acc)
+  module _ (own need : ℕ) (w : Needs n F (2 ^ r) (bit own) need) (off : (c : ℕ) → bit need c ≡ true → bit own c ≡ false)
+      {p acc : ℕ} (g : SharedRange n own p acc)
       (k : ℕ) where
     fits : acc < 65536
     fits = lt-of-lt-of-le (g .range .below) (pow-mono {i = n} {j = 16} (g .range .most))
 
     without : (q c m : ℕ) → bit need c ≡ true → bit m c ≡ false → tryB n r F q own m ≡ none
-    without q c m e f = tryB-never q own m (λ s apart. lacks (bit own) own m c (w c e) (λ j h. h) (ap₂ _||_ (off c e) f) apart)
+    without q c m e f = tryB-never q own m (λ s apart. lacks (bit own) own m c (w c e) (λ j h. h) (ap₂ _||_ (off c e) f)
+        apart)
 
-    pub shared-crowded : k < size 16 (bit (bitAnd need (65535 - acc))) → inRange p acc (tryB n r F (size n (bit acc) + k) own) ≡ none
-    shared-crowded h = first-nothing (2 ^ p) _ (λ i l. tryB-never (size n (bit acc) + k) own (acc + i) (λ s apart. at i l s apart))
+    pub shared-crowded : k < size 16 (bit (bitAnd need (65535 - acc)))
+        → inRange p acc (tryB n r F (size n (bit acc) + k) own) ≡ none
+    shared-crowded h = first-nothing (2 ^ p) _ (λ i l. tryB-never (size n (bit acc) + k) own (acc + i)
+        (λ s apart. at i l s apart))
       where
-        at : (i : ℕ) → i < 2 ^ p → size n (bit (acc + i)) ≡ size n (bit acc) + k → Apart n (bit own) (bit (acc + i)) → fewColumns n F (bit own) (bit (acc + i)) (2 ^ r) ≡ false
+        at : (i : ℕ) → i < 2 ^ p → size n (bit (acc + i)) ≡ size n (bit acc) + k → Apart n (bit own) (bit (acc + i))
+            → fewColumns n F (bit own) (bit (acc + i)) (2 ^ r) ≡ false
         at i l s apart =
-            let x = crowded 16 (bit acc) (bit (bitAnd need (65535 - acc))) (bit (acc + i)) (λ j l e. left-off need acc fits j l e .1) (range-has (g .range) i l)
-            (omega (arith, wide-size n acc (g .range .most) (g .range .below), wide-size n (acc + i) (g .range .most) (range-lt (g .range) i l))) in
+            let x = crowded 16 (bit acc) (bit (bitAnd need (65535 - acc))) (bit (acc + i))
+            (λ j l e. left-off need acc fits j l e .1) (range-has (g .range) i l)
+            (omega (
+              arith,
+              wide-size n acc (g .range .most) (g .range .below),
+              wide-size n (acc + i) (g .range .most)
+                  (range-lt (g .range) i l),
+            )) in
             let e = left-off need acc fits (x .0) (x .1) (x .2) in
-            lacks (bit own) own (acc + i) (x .0) (w (x .0) (e .0)) (λ j h. h) (ap₂ _||_ (off (x .0) (e .0)) (x .3)) apart
+            lacks (bit own) own (acc + i) (x .0) (w (x .0) (e .0)) (λ j h. h) (ap₂ _||_ (off (x .0) (e .0)) (x .3))
+            apart
 
-    pub shared-passed : need < 65536 → bit (bitAnd need (65535 - acc)) p ≡ true → inRange p acc (tryB n r F (size n (bit acc) + k) own) ≡ none
+    pub shared-passed : need < 65536 → bit (bitAnd need (65535 - acc)) p ≡ true
+        → inRange p acc (tryB n r F (size n (bit acc) + k) own) ≡ none
     shared-passed small h =
-        let p-lt : p < 16 = bit-within (bitAnd need (65535 - acc)) 16 p (lt-of-le-of-lt (and-le-l need (65535 - acc)) small) h in
+        let p-lt : p < 16 = bit-within (bitAnd need (65535 - acc)) 16 p
+        (lt-of-le-of-lt (and-le-l need (65535 - acc)) small) h in
         let e = left-off need acc fits p p-lt h in
-        first-nothing (2 ^ p) _ (λ i l. without (size n (bit acc) + k) p (acc + i) (e .0) (range-stays (g .range) i l p (omega arith) ∙ e .1))
+        first-nothing (2 ^ p) _ (λ i l. without (size n (bit acc) + k) p (acc + i) (e .0)
+        (range-stays (g .range) i l p (omega arith) ∙ e .1))
 
   -- ---- own masks
   module _ (need : ℕ) {p acc : ℕ} (w : Needs n F (2 ^ r) (bit acc) need) (g : Range n p acc) (q k : ℕ) where
     own-fits : acc < 65536
     own-fits = lt-of-lt-of-le (g .below) (pow-mono {i = n} {j = 16} (g .most))
 
-    pub own-crowded : q + k < size 16 (bit (bitAnd need (65535 - acc))) → inRange p acc (tryA n r F (size n (bit acc) + k) q) ≡ none
-    own-crowded h = first-nothing (2 ^ p) _ (λ i l. tried i l (ℕ-discrete (size n (bit (acc + i))) (size n (bit acc) + k)))
+    pub own-crowded : q + k < size 16 (bit (bitAnd need (65535 - acc)))
+        → inRange p acc (tryA n r F (size n (bit acc) + k) q) ≡ none
+    own-crowded h = first-nothing (2 ^ p) _ (λ i l. tried i l
+        (ℕ-discrete (size n (bit (acc + i))) (size n (bit acc) + k)))
       where
-        pairs : (i : ℕ) → i < 2 ^ p → size n (bit (acc + i)) ≡ size n (bit acc) + k → (B : ℕ) → B < 2 ^ n → size n (bit B) ≡ q → Apart n (bit (acc + i)) (bit B)
+        pairs : (i : ℕ) → i < 2 ^ p → size n (bit (acc + i)) ≡ size n (bit acc) + k → (B : ℕ) → B < 2 ^ n
+            → size n (bit B) ≡ q → Apart n (bit (acc + i)) (bit B)
             → fewColumns n F (bit (acc + i)) (bit B) (2 ^ r) ≡ false
         pairs i l s B b t apart =
-            let x = crowded 16 (bit acc) (bit (bitAnd need (65535 - acc))) (union (bit (acc + i)) (bit B)) (λ j l e. left-off need acc own-fits j l e .1)
+            let x = crowded 16 (bit acc) (bit (bitAnd need (65535 - acc))) (union (bit (acc + i)) (bit B))
+            (λ j l e. left-off need acc own-fits j l e .1)
             (λ j e. ap (λ (u : Bool). u || bit B j) (range-has g i l j e))
-            (omega (arith, wide-size n acc (g .most) (g .below), wide-size n (acc + i) (g .most) (range-lt g i l), wide-size n B (g .most) b, size-or 16 (bit (acc + i)) (bit B))) in
-            lacks (bit acc) (acc + i) B (x .0) (w (x .0) (left-off need acc own-fits (x .0) (x .1) (x .2) .0)) (range-has g i l) (x .3) apart
+            (omega (
+              arith,
+              wide-size n acc (g .most) (g .below),
+              wide-size n (acc + i) (g .most) (range-lt g i l),
+              wide-size n B (g .most) b,
+              size-or 16 (bit (acc + i)) (bit B),
+            )) in
+            lacks (bit acc) (acc + i) B (x .0) (w (x .0) (left-off need acc own-fits (x .0) (x .1) (x .2) .0))
+            (range-has g i l) (x .3) apart
 
-        tried : (i : ℕ) → i < 2 ^ p → Dec (size n (bit (acc + i)) ≡ size n (bit acc) + k) → tryA n r F (size n (bit acc) + k) q (acc + i) ≡ none
+        tried : (i : ℕ) → i < 2 ^ p → Dec (size n (bit (acc + i)) ≡ size n (bit acc) + k)
+            → tryA n r F (size n (bit acc) + k) q (acc + i) ≡ none
         tried i l (yes s) =
-            tryA-is n r F (size n (bit acc) + k) q (acc + i) s ∙ first-nothing (2 ^ n) _ (λ B b. tryB-never q (acc + i) B (λ t apart. pairs i l s B b t apart))
+            tryA-is n r F (size n (bit acc) + k) q (acc + i) s
+            ∙ first-nothing (2 ^ n) _ (λ B b. tryB-never q (acc + i) B (λ t apart. pairs i l s B b t apart))
         tried i l (no s) = tryA-size n r F (size n (bit acc) + k) q (acc + i) s
 
 pub left-lt : (need acc : ℕ) → need < 65536 → bitAnd need (65535 - acc) < 65536
@@ -158,17 +195,21 @@ left-lt need acc h = lt-of-le-of-lt (and-le-l need (65535 - acc)) h
 
 -- a needed input that the own mask lacks is not own
 pub left-outside : (need acc : ℕ) → need < 65536 → acc < 65536 → Outside (bitAnd need (65535 - acc)) acc
-left-outside need acc h g c e = left-off need acc g c (bit-within (bitAnd need (65535 - acc)) 16 c (left-lt need acc h) e) e .1
+left-outside need acc h g c e = left-off need acc g c
+    (bit-within (bitAnd need (65535 - acc)) 16 c (left-lt need acc h) e) e .1
 
 -- the needed inputs of a mask with one position more
-pub own-more : {n : ℕ} {F : ℕ → Bool} {m p acc k : ℕ} (r : Range n p acc) (d : Turn n p acc k) (l : List ℕ) (need more : ℕ) → BadPairs n F m l
+pub own-more : {n : ℕ} {F : ℕ → Bool} {m p acc k : ℕ} (r : Range n p acc) (d : Turn n p acc k) (l : List ℕ)
+    (need more : ℕ) → BadPairs n F m l
     → Needs n F m (bit acc) need → Adds l acc (p - 1) need more → Needs n F m (bit (acc + maskOf p)) more
-own-more {n} {F} {m} {p} {acc} r d l need more w x a = a .needs n m F (bit (acc + maskOf p)) w inside has (λ c e. rules-more (x c e) inside (λ y h. h))
+own-more {n} {F} {m} {p} {acc} r d l need more w x a = a .needs n m F (bit (acc + maskOf p)) w inside has
+    (λ c e. rules-more (x c e) inside (λ y h. h))
   where
     inside : Inside (bit acc) (bit (acc + maskOf p))
     inside = range-has r (maskOf p) (subst (λ (m : ℕ). m < 2 ^ p) (sym (d .mask)) (pow-lt (omega (arith, d .down))))
 
     has : bit (acc + maskOf p) (p - 1) ≡ true
     has =
-        ap (λ (m : ℕ). bit (acc + m) (p - 1)) (d .mask) ∙ ap (λ (m : ℕ). bit m (p - 1)) (sym (add-zero (acc + 2 ^ (p - 1))))
+        ap (λ (m : ℕ). bit (acc + m) (p - 1)) (d .mask)
+        ∙ ap (λ (m : ℕ). bit m (p - 1)) (sym (add-zero (acc + 2 ^ (p - 1))))
         ∙ upper-has (subst (λ (p : ℕ). Range n p acc) (d .down) r) 0 (pow-pos (p - 1))

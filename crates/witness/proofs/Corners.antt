@@ -1,4 +1,5 @@
--- Two own positions, one free one: at a place where all three are 0, four points and two offsets make eight bits. Where the
+-- Two own positions, one free one: at a place where all three are 0, four points and two offsets make eight bits. Where
+-- the
 -- words of their changes clash, three of the four points are told apart. Assumes nothing.
 use mathlib.Core.Path.{_≡_, refl, sym, ap, ap₂, _∙_, subst}
 use mathlib.Core.Bool.{Bool, true, false, not, _&&_, _||_}
@@ -55,10 +56,13 @@ module _ (F : ℕ → Bool) (at : ℕ → ℕ → ℕ) where
       go false true p q e = (2, q)
       go false false p q e = (3, e)
 
-  module _ (first : ((changes 0 1 || changes 0 2) || changes 0 3) ≡ true) (second : ((changes 1 1 || changes 1 2) || changes 1 3) ≡ true)
-      (alone : ((differ (changes 0 1) (changes 1 1) || differ (changes 0 2) (changes 1 2)) || differ (changes 0 3) (changes 1 3)) ≡ true) where
+  module _ (first : ((changes 0 1 || changes 0 2) || changes 0 3) ≡ true)
+      (second : ((changes 1 1 || changes 1 2) || changes 1 3) ≡ true)
+      (alone : ((differ (changes 0 1) (changes 1 1) || differ (changes 0 2) (changes 1 2))
+      || differ (changes 0 3) (changes 1 3)) ≡ true) where
     two : Two
-    two = let v = one-of (λ a. differ (changes 0 a) (changes 1 a)) alone in go (v .0) (changes 0 (v .0)) (changes 1 (v .0)) refl refl (v .1)
+    two = let v = one-of (λ a. differ (changes 0 a) (changes 1 a)) alone
+        in go (v .0) (changes 0 (v .0)) (changes 1 (v .0)) refl refl (v .1)
       where
         go : (v : ℕ) (s t : Bool) → changes 0 v ≡ s → changes 1 v ≡ t → differ s t ≡ true → Two
         go v true false p q e = let u = one-of (changes 1) second in from 0 1 v (u .0) p q (u .1)
@@ -67,7 +71,8 @@ module _ (F : ℕ → Bool) (at : ℕ → ℕ → ℕ) where
         go v false false p q e = said-no e
 
 -- ---- bit k of what the code joins
-or-bits : (k u v w : ℕ) (r s t : Bool) → bit u k ≡ r → bit v k ≡ s → bit w k ≡ t → bit (bitOr (bitOr u v) w) k ≡ true → ((r || s) || t) ≡ true
+or-bits : (k u v w : ℕ) (r s t : Bool) → bit u k ≡ r → bit v k ≡ s → bit w k ≡ t → bit (bitOr (bitOr u v) w) k ≡ true
+    → ((r || s) || t) ≡ true
 or-bits k u v w r s t f g h e = sym (bit-or (bitOr u v) w k ∙ ap₂ _||_ (bit-or u v k ∙ ap₂ _||_ f g) h) ∙ e
 
 both-bits : (k u v : ℕ) (s t : Bool) → bit u k ≡ s → bit v k ≡ t → bit (bitXor u v) k ≡ differ s t
@@ -77,7 +82,8 @@ pub and-bits : (k u v : ℕ) → bit (bitAnd u v) k ≡ true → (bit u k ≡ tr
 and-bits k u v e = let f = sym (bit-and u v k) ∙ e in (and-left (bit u k) (bit v k) f, and-right (bit u k) (bit v k) f)
 
 -- ---- the bits at place k from x on, with d or not, with p, q, both or neither
-module _ {n : ℕ} (x d p q k : ℕ) (least : 6 ≤ n) (belowX : x < 2 ^ n) (belowD : d < 2 ^ n) (belowP : p < 2 ^ n) (belowQ : q < 2 ^ n)
+module _ {n : ℕ} (x d p q k : ℕ) (least : 6 ≤ n) (belowX : x < 2 ^ n) (belowD : d < 2 ^ n) (belowP : p < 2 ^ n)
+    (belowQ : q < 2 ^ n)
     (still : Still n x d p q k) where
   base : ℕ → ℕ
   base zero = x
@@ -150,16 +156,26 @@ module _ {n : ℕ} (x d p q k : ℕ) (least : 6 ≤ n) (belowX : x < 2 ^ n) (bel
 
   spots : Spots n (bit (bitOr p q)) (bit d) spot
   spots = record {
-    below = λ a o. subst (λ (m : ℕ). m < 2 ^ n) (sym (sum a o)) (number-lt n (union (bit (bitOr (base o) (corner a))) (bit k)));
-    points = λ a a′ o j l e. spot-bit a o j l ∙ ap (λ (t : Bool). (bit (base o) j || t) || bit k j) (corner-off a j e ∙ sym (corner-off a′ j e)) ∙ sym (spot-bit a′ o j l);
-    offsets = λ a o o′ j l e. spot-bit a o j l ∙ ap (λ (t : Bool). (t || bit (corner a) j) || bit k j) (base-off o j e ∙ sym (base-off o′ j e)) ∙ sym (spot-bit a o′ j l);
+    below = λ a o. subst (λ (m : ℕ). m < 2 ^ n) (sym (sum a o))
+        (number-lt n (union (bit (bitOr (base o) (corner a))) (bit k)));
+    points = λ a a′ o j l e. spot-bit a o j l ∙ ap (λ (t : Bool). (bit (base o) j || t) || bit k j)
+        (corner-off a j e ∙ sym (corner-off a′ j e)) ∙ sym (spot-bit a′ o j l);
+    offsets = λ a o o′ j l e. spot-bit a o j l ∙ ap (λ (t : Bool). (t || bit (corner a) j) || bit k j)
+        (base-off o j e ∙ sym (base-off o′ j e)) ∙ sym (spot-bit a o′ j l);
   }
 
   -- the place is within the word that is read
   room : (a o : ℕ) → bitOr (base o) (corner a) % 64 + k < 64
   room a o =
       let m = bitOr (base o) (corner a) in
-      omega (arith, number-mod 6 m, number-bit 6 k (still .below), number-join 6 (bit m) (bit k) off, number-lt 6 (λ j. bit m j || bit k j))
+      omega (
+        arith,
+        number-mod 6 m,
+        number-bit 6 k (still .below),
+        number-join 6 (bit m) (bit k) off,
+        number-lt 6
+            (λ j. bit m j || bit k j),
+      )
     where
       off : (j : ℕ) → j < 6 → bit (bitOr (base o) (corner a)) j ≡ true → bit k j ≡ false
       off j l e = false-of (bit k j) (λ h. clash e (apart a o j (omega (arith, least)) h))
@@ -172,7 +188,8 @@ module _ {n : ℕ} (x d p q k : ℕ) (least : 6 ≤ n) (belowX : x < 2 ^ n) (bel
     change-bit : (a o w : ℕ) → Turned F (base o) (corner a) w → bit w k ≡ changes F spot o a
     unfolding changes spot
     change-bit a o w t =
-        t k (subst (λ (m : ℕ). m % 64 + k < 64) (plain o) (room 0 o)) (room a o) ∙ ap (λ (m : ℕ). differ (F (spot a o)) (F (m + k))) (sym (plain o))
+        t k (subst (λ (m : ℕ). m % 64 + k < 64) (plain o) (room 0 o)) (room a o)
+        ∙ ap (λ (m : ℕ). differ (F (spot a o)) (F (m + k))) (sym (plain o))
 
     -- ---- three points of the four
     two-rule : Two F spot → RulesOut n F 2 (bit (bitOr p q)) (bit d)
@@ -187,13 +204,16 @@ module _ {n : ℕ} (x d p q k : ℕ) (least : 6 ≤ n) (belowX : x < 2 ^ n) (bel
         pick (suc zero) = w .v
         pick (suc (suc i)) = w .u
 
-    module _ (ap′ aq ar bp bq br : ℕ) (tap : Turned F x p ap′) (taq : Turned F x q aq) (tar : Turned F x (bitOr p q) ar) (tbp : Turned F (bitOr x d) p bp)
+    module _ (ap′ aq ar bp bq br : ℕ) (tap : Turned F x p ap′) (taq : Turned F x q aq) (tar : Turned F x (bitOr p q) ar)
+        (tbp : Turned F (bitOr x d) p bp)
         (tbq : Turned F (bitOr x d) q bq) (tbr : Turned F (bitOr x d) (bitOr p q) br) where
-      pub corners-rule : bit (bitAnd (bitAnd (bitOr (bitOr ap′ aq) ar) (bitOr (bitOr bp bq) br)) (bitOr (bitOr (bitXor ap′ bp) (bitXor aq bq)) (bitXor ar br))) k ≡ true
+      pub corners-rule : bit (bitAnd (bitAnd (bitOr (bitOr ap′ aq) ar) (bitOr (bitOr bp bq) br))
+          (bitOr (bitOr (bitXor ap′ bp) (bitXor aq bq)) (bitXor ar br))) k ≡ true
           → RulesOut n F 2 (bit (bitOr p q)) (bit d)
       unfolding base corner
       corners-rule e =
-          let l = and-bits k (bitAnd (bitOr (bitOr ap′ aq) ar) (bitOr (bitOr bp bq) br)) (bitOr (bitOr (bitXor ap′ bp) (bitXor aq bq)) (bitXor ar br)) e in
+          let l = and-bits k (bitAnd (bitOr (bitOr ap′ aq) ar) (bitOr (bitOr bp bq) br))
+          (bitOr (bitOr (bitXor ap′ bp) (bitXor aq bq)) (bitXor ar br)) e in
           let f = and-bits k (bitOr (bitOr ap′ aq) ar) (bitOr (bitOr bp bq) br) (l .0) in
           let cap = change-bit 1 0 ap′ tap in
           let caq = change-bit 2 0 aq taq in
@@ -201,14 +221,17 @@ module _ {n : ℕ} (x d p q k : ℕ) (least : 6 ≤ n) (belowX : x < 2 ^ n) (bel
           let cbp = change-bit 1 1 bp tbp in
           let cbq = change-bit 2 1 bq tbq in
           let cbr = change-bit 3 1 br tbr in
-          two-rule (two F spot (or-bits k ap′ aq ar _ _ _ cap caq car (f .0)) (or-bits k bp bq br _ _ _ cbp cbq cbr (f .1))
-          (or-bits k (bitXor ap′ bp) (bitXor aq bq) (bitXor ar br) _ _ _ (both-bits k ap′ bp _ _ cap cbp) (both-bits k aq bq _ _ caq cbq) (both-bits k ar br _ _ car cbr)
+          two-rule (two F spot (or-bits k ap′ aq ar _ _ _ cap caq car (f .0))
+          (or-bits k bp bq br _ _ _ cbp cbq cbr (f .1))
+          (or-bits k (bitXor ap′ bp) (bitXor aq bq) (bitXor ar br) _ _ _ (both-bits k ap′ bp _ _ cap cbp)
+          (both-bits k aq bq _ _ caq cbq) (both-bits k ar br _ _ car cbr)
           (l .1)))
 
 -- ---- as the code says it
 
 -- the positions from 6 on, without those of `own`
-pub steps-are : (n own all : ℕ) → 6 ≤ n → n ≤ 16 → own < 4294967296 → all ≡ 2 ^ n → Steps n own (bitAnd (all - 64) (4294967295 - own))
+pub steps-are : (n own all : ℕ) → 6 ≤ n → n ≤ 16 → own < 4294967296 → all ≡ 2 ^ n
+    → Steps n own (bitAnd (all - 64) (4294967295 - own))
 steps-are n own all least most fits e = record {
   below = lt-of-le-of-lt (and-le-l (all - 64) (4294967295 - own)) (omega (arith, pow-pos n));
   high = λ j l. bit-and (all - 64) (4294967295 - own) j ∙ ap (λ (t : Bool). t && bit (4294967295 - own) j) (low j l);
@@ -216,7 +239,8 @@ steps-are n own all least most fits e = record {
 }
   where
     whole : all - 64 ≡ 0 + (2 ^ (n - 6) - 1) * 2 ^ 6
-    whole = let g : n ≡ (n - 6) + 6 = omega arith in omega (arith, ap (λ (m : ℕ). 2 ^ m) g ∙ pow-add 2 (n - 6) 6, pow-pos (n - 6))
+    whole = let g : n ≡ (n - 6) + 6 = omega arith
+        in omega (arith, ap (λ (m : ℕ). 2 ^ m) g ∙ pow-add 2 (n - 6) 6, pow-pos (n - 6))
 
     low : (j : ℕ) → j < 6 → bit (all - 64) j ≡ false
     low j l = ap (λ (m : ℕ). bit m j) whole ∙ bit-below 0 (2 ^ (n - 6) - 1) 6 j l ∙ bit-zero j
@@ -226,29 +250,34 @@ steps-are n own all least most fits e = record {
     off false t f = refl
 
     other : (j : ℕ) → bit own j ≡ true → bit (bitAnd (all - 64) (4294967295 - own)) j ≡ false
-    other j f = bit-and (all - 64) (4294967295 - own) j ∙ off (bit (all - 64) j) (bit (4294967295 - own) j) (elim (decLt j 32) [
-      | yes l ↦ bit-not 32 own j fits l ∙ ap not f
-      | no l ↦ absurd (clash f (bit-high own 32 j fits (omega arith)))
-    ])
+    other j f = bit-and (all - 64) (4294967295 - own) j
+        ∙ off (bit (all - 64) j) (bit (4294967295 - own) j) (elim (decLt j 32) [
+          | yes l ↦ bit-not 32 own j fits l ∙ ap not f
+          | no l ↦ absurd (clash f (bit-high own 32 j fits (omega arith)))
+        ])
 
 -- a place at which input i is 0, of the word that x steps to
-pub still-place : (n x d p q k i j c : ℕ) → p ≡ 2 ^ i → q ≡ 2 ^ j → d ≡ 2 ^ c → ((l : ℕ) → l < 6 → bit x l ≡ false) → k < 64 → bit k i ≡ false
+pub still-place : (n x d p q k i j c : ℕ) → p ≡ 2 ^ i → q ≡ 2 ^ j → d ≡ 2 ^ c → ((l : ℕ) → l < 6 → bit x l ≡ false) → k
+    < 64 → bit k i ≡ false
     → bit k j ≡ false → bit k c ≡ false → Still n x d p q k
 still-place n x d p q k i j c ep eq ed low small atI atJ atC = record { below = small; apart = apart }
   where
     at-power : (e m l : ℕ) → m ≡ 2 ^ e → bit k e ≡ false → bit k l ≡ true → bit m l ≡ false
-    at-power e m l f g h = ap (λ (u : ℕ). bit u l) f ∙ power-bit e l ∙ false-of (eqb l e) (λ r. clash h (ap (bit k) (eqb-true l e r) ∙ g))
+    at-power e m l f g h = ap (λ (u : ℕ). bit u l) f ∙ power-bit e l
+        ∙ false-of (eqb l e) (λ r. clash h (ap (bit k) (eqb-true l e r) ∙ g))
 
     apart : Apart n (bit (bitOr (bitOr x d) (bitOr p q))) (bit k)
     apart l b h =
-        bit-or (bitOr x d) (bitOr p q) l ∙ ap₂ _||_ (bit-or x d l ∙ ap₂ _||_ at-x (at-power c d l ed atC h)) (bit-or p q l ∙ ap₂ _||_ (at-power i p l ep atI h) (at-power j q l eq atJ h))
+        bit-or (bitOr x d) (bitOr p q) l ∙ ap₂ _||_ (bit-or x d l ∙ ap₂ _||_ at-x (at-power c d l ed atC h))
+        (bit-or p q l ∙ ap₂ _||_ (at-power i p l ep atI h) (at-power j q l eq atJ h))
       where
         at-x : bit x l ≡ false
         at-x = elim (decLt l 6) [ yes g ↦ low l g | no g ↦ absurd (clash h (bit-high k 6 l small (omega arith))) ]
 
 -- what a walk over a mask gives has no position that the mask lacks
 pub spread-low : (n mask x v j : ℕ) → x ≡ spread n (bit mask) v → j < n → bit mask j ≡ false → bit x j ≡ false
-spread-low n mask x v j e l f = ap (λ (m : ℕ). bit m j) e ∙ false-of (bit (spread n (bit mask) v) j) (λ h. clash (spread-inside n (bit mask) v j l h) f)
+spread-low n mask x v j e l f = ap (λ (m : ℕ). bit m j) e
+    ∙ false-of (bit (spread n (bit mask) v) j) (λ h. clash (spread-inside n (bit mask) v j l h) f)
 
 -- every place is without an input that is not below 6
 pub all-off : (j : ℕ) → 6 ≤ j → Off j 18446744073709551615

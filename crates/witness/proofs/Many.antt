@@ -94,19 +94,23 @@ module _ (F : ℕ → Bool) (e f : ℕ) where
       same : (o : ℕ) → Dec (Bool·beq (F (four o x)) (F (four o y)) ≡ true)
       same o = at (Bool·beq (F (four o x)) (F (four o y))) refl
         where
-          at : (t : Bool) → Bool·beq (F (four o x)) (F (four o y)) ≡ t → Dec (Bool·beq (F (four o x)) (F (four o y)) ≡ true)
+          at : (t : Bool) → Bool·beq (F (four o x)) (F (four o y)) ≡ t
+              → Dec (Bool·beq (F (four o x)) (F (four o y)) ≡ true)
           at true q = yes q
           at false q = no (λ r. clash r q)
 
       told : (o : ℕ) → (Bool·beq (F (four o x)) (F (four o y)) ≡ true → ⊥) → (o : ℕ) × (F (four o x) ≡ F (four o y) → ⊥)
       told o g = (o, λ q. g (same-beq _ _ q))
 
-      all : Bool·beq (F (four 0 x)) (F (four 0 y)) ≡ true → Bool·beq (F (four 1 x)) (F (four 1 y)) ≡ true → Bool·beq (F (four 2 x)) (F (four 2 y)) ≡ true
+      all : Bool·beq (F (four 0 x)) (F (four 0 y)) ≡ true → Bool·beq (F (four 1 x)) (F (four 1 y)) ≡ true
+          → Bool·beq (F (four 2 x)) (F (four 2 y)) ≡ true
           → Bool·beq (F (four 3 x)) (F (four 3 y)) ≡ true → columnOver F e f x ≡ columnOver F e f y
       all p q r s =
           let p′ : val (F x) ≡ val (F y) = ap val (beq-same (F x) (F y) p) in
-          let q′ : val (F (bitXor x e)) ≡ val (F (bitXor y e)) = ap val (beq-same (F (bitXor x e)) (F (bitXor y e)) q) in
-          let r′ : val (F (bitXor x f)) ≡ val (F (bitXor y f)) = ap val (beq-same (F (bitXor x f)) (F (bitXor y f)) r) in
+          let q′ : val (F (bitXor x e)) ≡ val (F (bitXor y e)) = ap val (beq-same (F (bitXor x e)) (F (bitXor y e)) q)
+          in
+          let r′ : val (F (bitXor x f)) ≡ val (F (bitXor y f)) = ap val (beq-same (F (bitXor x f)) (F (bitXor y f)) r)
+          in
           let s′ : val (F (bitXor (bitXor x e) f)) ≡ val (F (bitXor (bitXor y e) f)) =
           ap val (beq-same (F (bitXor (bitXor x e) f)) (F (bitXor (bitXor y e) f)) s) in
           omega (arith, p′, q′, r′, s′)
@@ -150,7 +154,8 @@ module _ (F : ℕ → Bool) (e f : ℕ) where
     four-lt (suc (suc (suc o))) x l = xor-lt n (bitXor x e) f (xor-lt n x e l belowE) belowF
 
     -- ---- a point for each column
-    module _ (m own base seen : ℕ) (belowBase : base < 2 ^ n) (points : Seen n F own base e f seen) (w : Numbered 16 (bit seen) (size 16 (bit seen)))
+    module _ (m own base seen : ℕ) (belowBase : base < 2 ^ n) (points : Seen n F own base e f seen)
+        (w : Numbered 16 (bit seen) (size 16 (bit seen)))
         (many : m < size 16 (bit seen)) where
       pick : {p : ℕ} → Dec (p < size 16 (bit seen)) → ℕ
       pick {p} (yes l) = points (w .nth p) (w .holds p l) .point
@@ -192,12 +197,14 @@ module _ (F : ℕ → Bool) (e f : ℕ) where
           offsets = λ p o o′ j l h. four-still o (point p) j h ∙ sym (four-still o′ (point p) j h);
         };
         told = λ p p′ l h. where-told (point p) (point p′) (λ q.
-            w .apart p p′ l (omega (arith, many)) (sym (point-is p (omega (arith, many))) ∙ q ∙ point-is p′ (omega (arith, many))));
+            w .apart p p′ l (omega (arith, many)) (sym (point-is p (omega (arith, many))) ∙ q
+            ∙ point-is p′ (omega (arith, many))));
       }
 
     pub crowd-rule : (m own base seen : ℕ) → base < 2 ^ n → Seen n F own base e f seen → m < size 16 (bit seen)
         → RulesOut n F m (bit own) (bit (bitOr e f))
-    crowd-rule m own base seen b points many = witness-rules (crowd m own base seen b points (numbered 16 (bit seen)) many)
+    crowd-rule m own base seen b points many = witness-rules
+        (crowd m own base seen b points (numbered 16 (bit seen)) many)
 
 -- ---- as the code says it
 
@@ -206,7 +213,8 @@ pub seen-none : {n : ℕ} {F : ℕ → Bool} {own base e f : ℕ} → Seen n F o
 seen-none c h = absurd (clash h (bit-zero c))
 
 -- then that of one more point
-pub seen-more : {n : ℕ} {F : ℕ → Bool} {own base e f : ℕ} (seen new x v : ℕ) → Seen n F own base e f seen → base < 2 ^ n → x < 2 ^ n → x ≡ spread n (bit own) v
+pub seen-more : {n : ℕ} {F : ℕ → Bool} {own base e f : ℕ} (seen new x v : ℕ) → Seen n F own base e f seen → base < 2 ^ n
+    → x < 2 ^ n → x ≡ spread n (bit own) v
     → new ≡ 2 ^ columnOver F e f (bitXor base x) → Seen n F own base e f (bitOr seen new)
 seen-more {n} {F} {own} {base} {e} {f} seen new x v w b l at is c h = go (bit seen c) refl (sym (bit-or seen new c) ∙ h)
   where
@@ -216,11 +224,19 @@ seen-more {n} {F} {own} {base} {e} {f} seen new x v w b l at is c h = go (bit se
       point = bitXor base x;
       below = xor-lt n base x b l;
       like = λ j k g. xor-still base x j (spread-low n own x v j at k g);
-      is = sym (eqb-true c (columnOver F e f (bitXor base x)) (sym (power-bit (columnOver F e f (bitXor base x)) c) ∙ ap (λ (m : ℕ). bit m c) (sym is) ∙ r));
+      is = sym (eqb-true c (columnOver F e f (bitXor base x))
+          (sym (power-bit (columnOver F e f (bitXor base x)) c) ∙ ap (λ (m : ℕ). bit m c) (sym is) ∙ r));
     }
 
 pub column-lt : (F : ℕ → Bool) (e f x : ℕ) → columnOver F e f x < 16
-column-lt F e f x = omega (arith, small (F x), small (F (bitXor x e)), small (F (bitXor x f)), small (F (bitXor (bitXor x e) f)))
+column-lt F e f x = omega (
+  arith,
+  small (F x),
+  small (F (bitXor x e)),
+  small (F (bitXor x f)),
+  small
+      (F (bitXor (bitXor x e) f)),
+)
   where
     small : (t : Bool) → val t ≤ 1
     small true = omega arith
@@ -246,9 +262,11 @@ module _ (t : List ℕ) (w x e f : ℕ) (belowE : e < 64) (belowF : f < 64) (is 
   by-e = ap (λ (m : ℕ). bitXor m e) split-x ∙ near-xor (x / 64) (x % 64) e low belowE
 
   digit : (j y : ℕ) → j < 64 → y ≡ 64 * (x / 64) + j → bitAnd (w / 2 ^ j) 1 ≡ val (tableBit t y)
-  digit j y l q = bit-digit w j ∙ ap val (ap (λ (m : ℕ). bit m j) is ∙ bit-number 64 (λ i. tableBit t (64 * (x / 64) + i)) j l ∙ ap (tableBit t) (sym q))
+  digit j y l q = bit-digit w j ∙ ap val (ap (λ (m : ℕ). bit m j) is
+      ∙ bit-number 64 (λ i. tableBit t (64 * (x / 64) + i)) j l ∙ ap (tableBit t) (sym q))
 
-  pub near-column : bitAnd (w / 2 ^ (x % 64)) 1 + 2 * bitAnd (w / 2 ^ bitXor (x % 64) e) 1 + 4 * bitAnd (w / 2 ^ bitXor (x % 64) f) 1
+  pub near-column : bitAnd (w / 2 ^ (x % 64)) 1 + 2 * bitAnd (w / 2 ^ bitXor (x % 64) e) 1
+      + 4 * bitAnd (w / 2 ^ bitXor (x % 64) f) 1
       + 8 * bitAnd (w / 2 ^ bitXor (bitXor (x % 64) e) f) 1 ≡ columnOver (tableBit t) e f x
   near-column =
       let le : bitXor (x % 64) e < 64 = xor-lt 6 (x % 64) e low belowE in
@@ -256,7 +274,8 @@ module _ (t : List ℕ) (w x e f : ℕ) (belowE : e < 64) (belowF : f < 64) (is 
         arith,
         digit (x % 64) x low split-x,
         digit (bitXor (x % 64) e) (bitXor x e) le by-e,
-        digit (bitXor (x % 64) f) (bitXor x f) (xor-lt 6 (x % 64) f low belowF) (ap (λ (m : ℕ). bitXor m f) split-x ∙ near-xor (x / 64) (x % 64) f low belowF),
+        digit (bitXor (x % 64) f) (bitXor x f) (xor-lt 6 (x % 64) f low belowF)
+            (ap (λ (m : ℕ). bitXor m f) split-x ∙ near-xor (x / 64) (x % 64) f low belowF),
         digit (bitXor (bitXor (x % 64) e) f) (bitXor (bitXor x e) f) (xor-lt 6 (bitXor (x % 64) e) f le belowF)
             (ap (λ (m : ℕ). bitXor m f) by-e ∙ near-xor (x / 64) (bitXor (x % 64) e) f le belowF),
       )

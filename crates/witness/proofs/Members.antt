@@ -58,13 +58,19 @@ pub bit-within : (m w j : ℕ) → m < 2 ^ w → bit m j ≡ true → j < w
 bit-within m w j h e = elim (decLt j w) [ yes l ↦ l | no l ↦ absurd (clash e (bit-high m w j h (omega arith))) ]
 
 -- what a smaller pair of sets rules out, a larger one rules out too
-pub rules-more : {n : ℕ} {F : ℕ → Bool} {m : ℕ} {P Q P′ Q′ : ℕ → Bool} → RulesOut n F m P Q → Inside P P′ → Inside Q Q′ → RulesOut n F m P′ Q′
-rules-more w p q = record { fails = λ A B apart own free. w .fails A B apart (λ j e. own j (p j e)) (λ j e. free j (q j e)) }
+pub rules-more : {n : ℕ} {F : ℕ → Bool} {m : ℕ} {P Q P′ Q′ : ℕ → Bool} → RulesOut n F m P Q → Inside P P′ → Inside Q Q′
+    → RulesOut n F m P′ Q′
+rules-more w p q = record {
+  fails = λ A B apart own free. w .fails A B apart (λ j e. own j (p j e))
+      (λ j e. free j (q j e));
+}
 
 -- the triple
-pub triple-rule : {n : ℕ} {F : ℕ → Bool} {m : ℕ} (i j c p q d : ℕ) → p ≡ 2 ^ i → q ≡ 2 ^ j → d ≡ 2 ^ c → RulesOut n F m (bit (bitOr p q)) (bit d)
+pub triple-rule : {n : ℕ} {F : ℕ → Bool} {m : ℕ} (i j c p q d : ℕ) → p ≡ 2 ^ i → q ≡ 2 ^ j → d ≡ 2 ^ c
+    → RulesOut n F m (bit (bitOr p q)) (bit d)
     → RulesOut n F m (both i j) (single c)
 triple-rule i j c p q d ep eq ed w =
     rules-more w
-    (λ x e. sym (bit-or p q x ∙ ap₂ _||_ (ap (λ (m : ℕ). bit m x) ep ∙ power-bit i x) (ap (λ (m : ℕ). bit m x) eq ∙ power-bit j x)) ∙ e)
+    (λ x e. sym (bit-or p q x ∙ ap₂ _||_ (ap (λ (m : ℕ). bit m x) ep ∙ power-bit i x)
+    (ap (λ (m : ℕ). bit m x) eq ∙ power-bit j x)) ∙ e)
     (λ x e. sym (ap (λ (m : ℕ). bit m x) ed ∙ power-bit c x) ∙ e)

@@ -7,7 +7,8 @@ use Rattle.bits.specs.Numbers.{bit, val}
 
 -- its four bits as a number below 16
 abbrev pub columnOver : (ℕ → Bool) → ℕ → ℕ → ℕ → ℕ
-columnOver F e f x = val (F x) + 2 * val (F (bitXor x e)) + 4 * val (F (bitXor x f)) + 8 * val (F (bitXor (bitXor x e) f))
+columnOver F e f x = val (F x) + 2 * val (F (bitXor x e)) + 4 * val (F (bitXor x f))
+    + 8 * val (F (bitXor (bitXor x e) f))
 
 -- a point that differs from `base` at positions of the mask `own` alone, and has the column c
 pub record HasColumn (n : ℕ) (F : ℕ → Bool) (own base e f c : ℕ) : Type 0 where

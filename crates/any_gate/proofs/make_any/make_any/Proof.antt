@@ -30,23 +30,29 @@ returns c =
     let a = m .before .before .before .before .before .before .args in
     m .make-for-desk .ensures
     ∙ as-make firstEdition (a .desk) (a .n) (a .k) (a .t .now) (a .sheet .now) (a .work .now)
-    (λ q. c .if1 .taken (u .number-of .ensures ∙ ap (λ (o : MakeOutcome). numberOf (o .answer .verdict)) (m .make-for-desk .ensures) ∙ q))
+    (λ q. c .if1 .taken (u .number-of .ensures ∙ ap (λ (o : MakeOutcome). numberOf (o .answer .verdict))
+    (m .make-for-desk .ensures) ∙ q))
 
 -- make gave 8
 module _ (c : tie.Else1) where
   abbrev g : tie.Start
   g = c .before .before .before .before .before .before .before .before .before .before .before .before
 
-  eight : numberOf (makeOutcome firstEdition (g .args .desk) (g .args .n) (g .args .k) (g .args .t .now) (g .args .sheet .now) (g .args .work .now) .answer .verdict) ≡ 8
+  eight : numberOf (makeOutcome firstEdition (g .args .desk) (g .args .n) (g .args .k) (g .args .t .now)
+      (g .args .sheet .now) (g .args .work .now) .answer .verdict) ≡ 8
   eight = let u = c .before in
       let m = u .before .before .before .before .before in
-      sym (ap (λ (o : MakeOutcome). numberOf (o .answer .verdict)) (m .make-for-desk .ensures)) ∙ sym (u .number-of .ensures) ∙ c .if1 .left
+      sym (ap (λ (o : MakeOutcome). numberOf (o .answer .verdict)) (m .make-for-desk .ensures))
+      ∙ sym (u .number-of .ensures) ∙ c .if1 .left
 
-  form : InOrder (makeForm firstEdition (g .args .desk) (g .args .n) (g .args .k) (g .args .t .now) (g .args .sheet .now) (g .args .work .now))
-  form = eight-form firstEdition (g .args .desk) (g .args .n) (g .args .k) (g .args .t .now) (g .args .sheet .now) (g .args .work .now) eight
+  form : InOrder (makeForm firstEdition (g .args .desk) (g .args .n) (g .args .k) (g .args .t .now)
+      (g .args .sheet .now) (g .args .work .now))
+  form = eight-form firstEdition (g .args .desk) (g .args .n) (g .args .k) (g .args .t .now) (g .args .sheet .now)
+      (g .args .work .now) eight
 
   gate : Sound firstEdition (g .args .n) (g .args .k) (g .args .t .now)
-  gate = let w = form in sound firstEdition (g .args .n) (g .args .k) (g .args .t .now) (w .0, (w .1 .0, (w .1 .1 .0, (w .1 .1 .1 .0, tt))))
+  gate = let w = form in sound firstEdition (g .args .n) (g .args .k) (g .args .t .now)
+      (w .0, (w .1 .0, (w .1 .1 .0, (w .1 .1 .1 .0, tt))))
 
 cast-write-several : tie.Need-cast-write-several
 cast-write-several c = let i = c .before in omega (arith, ltb-false mostDesk (g i .args .desk) (form i .1 .1 .1 .1 .0))
@@ -65,10 +71,18 @@ write-several-requires c κs =
     let w = gate i in
     let e = sym (f .first .ensures) in
     let l = long-both firstEdition (g i .args .sheet .now) (g i .args .work .now) (form i .1 .1 .1 .1 .1 .0) in (
-      (subst IsEdition e first-edition, w .some, w .most, w .two, subst (λ (x : Edition). g i .args .k ≤ x .most) e (w .largest)),
+      (
+        subst IsEdition e first-edition,
+        w .some,
+        w .most,
+        w .two,
+        subst (λ (x : Edition). g i .args .k ≤ x .most) e
+            (w .largest),
+      ),
       (
         w .long,
-        subst (λ (x : Edition). x .size * mostRecords ≤ length (m .make-for-desk .last .1 .1 .1 .1 .0)) e (omega (arith, l .0, m .make-for-desk .kept .1 .1 .1 .1 .0)),
+        subst (λ (x : Edition). x .size * mostRecords ≤ length (m .make-for-desk .last .1 .1 .1 .1 .0)) e
+            (omega (arith, l .0, m .make-for-desk .kept .1 .1 .1 .1 .0)),
         omega (arith, l .1, m .make-for-desk .kept .1 .1 .1 .1 .1 .0),
       ),
     )
@@ -83,13 +97,16 @@ returns-2 c =
     let x = severally (cellsAside mostFirst (a .n) (a .k) (number (2 ^ a .n) (tableBit (a .t .now)))) in
     let w = m .make-for-desk .last .1 .1 .1 .1 .1 .0 in
     v .write-several .ensures
-    ∙ ap₂ (λ (e : Edition) (s : List ℕ). reply (verdict (anySays x)) (makeDone e (a .desk) (cellsAny x) s w) (makeNot s w)) (f .first .ensures)
+    ∙ ap₂ (λ (e : Edition) (s : List ℕ). reply (verdict (anySays x)) (makeDone e (a .desk) (cellsAny x) s w)
+    (makeNot s w)) (f .first .ensures)
     (ap (λ (o : MakeOutcome). o .sheet) (m .make-for-desk .ensures)
     ∙ eight-sheet firstEdition (a .desk) (a .n) (a .k) (a .t .now) (a .sheet .now) (a .work .now) (eight i))
-    ∙ by-several firstEdition (a .desk) (a .n) (a .k) (a .t .now) (a .sheet .now) (a .work .now) (eight i) w (m .make-for-desk .kept .1 .1 .1 .1 .1 .0)
+    ∙ by-several firstEdition (a .desk) (a .n) (a .k) (a .t .now) (a .sheet .now) (a .work .now) (eight i) w
+    (m .make-for-desk .kept .1 .1 .1 .1 .1 .0)
 
 pub make-any-spec : {M : Type 1} → statement M
 make-any-spec =
     tie.close (tie.spec (λ c κs. search needs) (λ c κs. search needs) (λ c. search needs) (λ c. search needs) returns
-    (λ c κs. search needs) cast-write-several cast-write-several-2 cast-write-several-3 write-several-requires (λ c. search needs)
+    (λ c κs. search needs) cast-write-several cast-write-several-2 cast-write-several-3 write-several-requires
+    (λ c. search needs)
     (λ c. search needs) returns-2)

@@ -47,9 +47,11 @@ returns c =
     let m = c .before .before .before .before .before in
     let a = m .before .before .before .before .before .args in
     let r = m .chain-upto .result in
-    ap₂ (λ (x : MakeAnswer) (l : List ℕ). record { answer = x; sheet = a .sheet .now; work = l }) (c .refused .ensures) (m .chain-upto .ensures .cleared)
+    ap₂ (λ (x : MakeAnswer) (l : List ℕ). record { answer = x; sheet = a .sheet .now; work = l }) (c .refused .ensures)
+    (m .chain-upto .ensures .cleared)
     ∙ ap (answered (a .e) (a .d) (a .sheet .now) (a .work .now))
-    (sym (told-stuck r (chainOf (a .n) (a .k) (a .t .now)) (m .chain-upto .ensures .told) (not-true (r .finished) (c .before .if1 .taken))))
+    (sym (told-stuck r (chainOf (a .n) (a .k) (a .t .now)) (m .chain-upto .ensures .told)
+    (not-true (r .finished) (c .before .if1 .taken))))
 
 returns-2 : tie.Need-returns-2
 returns-2 c =
@@ -57,9 +59,11 @@ returns-2 c =
     let m = i .before .before .before .before in
     let a = m .before .before .before .before .before .args in
     let r = m .chain-upto .result in
-    ap₂ (λ (x : MakeAnswer) (l : List ℕ). record { answer = x; sheet = a .sheet .now; work = l }) (c .refused2 .ensures) (m .chain-upto .ensures .cleared)
+    ap₂ (λ (x : MakeAnswer) (l : List ℕ). record { answer = x; sheet = a .sheet .now; work = l }) (c .refused2 .ensures)
+    (m .chain-upto .ensures .cleared)
     ∙ ap (answered (a .e) (a .d) (a .sheet .now) (a .work .now))
-    (sym (told-long r (chainOf (a .n) (a .k) (a .t .now)) (m .chain-upto .ensures .told) (not-false (r .finished) (i .if1 .left)) (omega (arith, c .before .if2 .taken))))
+    (sym (told-long r (chainOf (a .n) (a .k) (a .t .now)) (m .chain-upto .ensures .told)
+    (not-false (r .finished) (i .if1 .left)) (omega (arith, c .before .if2 .taken))))
 
 -- the cells are held
 kept : (c : tie.Else2) → Kept (c .before .before .before .before .before .chain-upto .result)
@@ -70,7 +74,8 @@ kept c =
     let m = c .before .before .before .before .before in
     let a = m .before .before .before .before .before .args in
     let r = m .chain-upto .result in
-    told-sheet r (chainOf (a .n) (a .k) (a .t .now)) (m .chain-upto .ensures .told) (not-false (r .finished) (c .before .if1 .left)) (omega (arith, c .if2 .left))
+    told-sheet r (chainOf (a .n) (a .k) (a .t .now)) (m .chain-upto .ensures .told)
+    (not-false (r .finished) (c .before .if1 .left)) (omega (arith, c .if2 .left))
 
 put-all-requires : tie.Need-put-all-requires
 put-all-requires c κs =
@@ -83,7 +88,8 @@ put-all-requires c κs =
     let few : m .chain-upto .result .sheet .count ≤ mostRecords = omega (arith, k .count, j .if2 .left) in (
       p .0,
       few,
-      cells-few mostFirst (a .n) (a .k) (tableBit (a .t .now)) (p .1) (omega (arith, p .3)) (cellsOf (m .chain-upto .result .sheet)) (k .chain) (a .e .most) (p .4),
+      cells-few mostFirst (a .n) (a .k) (tableBit (a .t .now)) (p .1) (omega (arith, p .3))
+          (cellsOf (m .chain-upto .result .sheet)) (k .chain) (a .e .most) (p .4),
       le-trans (mul-le-mul-left (a .e .size) few) (s .pre .1 .1),
     )
 
@@ -95,7 +101,8 @@ returns-3 c =
     let a = m .before .before .before .before .before .args in
     let r = m .chain-upto .result in
     let k = kept j in
-    ap₂ (λ (l w : List ℕ). record { answer = record { verdict = Fine; count = r .count }; sheet = l; work = w }) (o .put-all .ensures) (m .chain-upto .ensures .cleared)
+    ap₂ (λ (l w : List ℕ). record { answer = record { verdict = Fine; count = r .count }; sheet = l; work = w })
+    (o .put-all .ensures) (m .chain-upto .ensures .cleared)
     ∙ ap (λ (z : ℕ). record {
       answer = record { verdict = Fine; count = z };
       sheet = sheetBytes (a .e) (a .d) (cellsOf (r .sheet)) ++ drop (a .e .size * r .sheet .count) (a .sheet .now);
@@ -107,4 +114,5 @@ returns-3 c =
 pub write-several-spec : {M : Type 1} → statement M
 write-several-spec =
     tie.close (tie.spec (λ c. search needs) chain-upto-requires (λ c κs. search needs) (λ c. search needs) returns
-    (λ c κs. search needs) (λ c. search needs) returns-2 put-all-requires (λ c. search needs) (λ c. search needs) returns-3)
+    (λ c κs. search needs) (λ c. search needs) returns-2 put-all-requires (λ c. search needs) (λ c. search needs)
+    returns-3)

@@ -16,7 +16,8 @@ returns c =
     let r = c .before .before .before .before in
     let f = r .before .before .before in
     let a = f .before .before .before .before .args in
-    r .make-in .ensures ∙ ap (λ (e : Edition). makeOutcome e (a .desk) (a .n) (a .k) (a .t .now) (a .sheet .now) (a .work .now)) (f .first .ensures)
+    r .make-in .ensures ∙ ap (λ (e : Edition). makeOutcome e (a .desk) (a .n) (a .k) (a .t .now) (a .sheet .now)
+    (a .work .now)) (f .first .ensures)
 
 pub make-for-desk-spec : {M : Type 1} → statement M
 make-for-desk-spec =

@@ -20,7 +20,8 @@ returns : tie.Need-returns
 returns c =
     let g = c .before .before in
     let a = g .before .before .before .before .args in
-    stopped (gateLines (a .e) (a .n) (a .k) (a .t .now)) (badDesk (a .d) ∷ shortSheet (a .e) (a .sheet .now) (a .work .now) ∷ []) _ (g .gate .ensures)
+    stopped (gateLines (a .e) (a .n) (a .k) (a .t .now))
+    (badDesk (a .d) ∷ shortSheet (a .e) (a .sheet .now) (a .work .now) ∷ []) _ (g .gate .ensures)
     (c .enum-told2 .given .0 .0) (c .enum-told2 .given .1)
 
 returns-2 : tie.Need-returns-2
@@ -30,7 +31,9 @@ returns-2 c =
     let g = f .before .before in
     let a = g .before .before .before .before .args in
     c .refuse .ensures
-    ∙ decided (gateLines (a .e) (a .n) (a .k) (a .t .now)) (badDesk (a .d) ∷ shortSheet (a .e) (a .sheet .now) (a .work .now) ∷ []) _ (g .gate .ensures) (f .enum-told .given .1)
+    ∙ decided (gateLines (a .e) (a .n) (a .k) (a .t .now))
+    (badDesk (a .d) ∷ shortSheet (a .e) (a .sheet .now) (a .work .now) ∷ []) _ (g .gate .ensures)
+    (f .enum-told .given .1)
     (here (lt-ltb mostDesk (a .d) (i .if1 .taken)))
 
 mul-if2 : tie.Need-mul-if2
@@ -44,9 +47,12 @@ returns-3 c =
     let g = f .before .before in
     let a = g .before .before .before .before .args in
     c .refuse2 .ensures
-    ∙ decided (gateLines (a .e) (a .n) (a .k) (a .t .now)) (badDesk (a .d) ∷ shortSheet (a .e) (a .sheet .now) (a .work .now) ∷ []) _ (g .gate .ensures) (f .enum-told .given .1)
+    ∙ decided (gateLines (a .e) (a .n) (a .k) (a .t .now))
+    (badDesk (a .d) ∷ shortSheet (a .e) (a .sheet .now) (a .work .now) ∷ []) _ (g .gate .ensures)
+    (f .enum-told .given .1)
     (later (le-ltb mostDesk (a .d) (j .if1 .left))
-    (here (or-left (ltb (length (a .sheet .now)) (a .e .size * mostRecords)) (ltb (length (a .work .now)) workLength) (lt-ltb (length (a .sheet .now)) (a .e .size * mostRecords) (i .if2 .taken)))))
+    (here (or-left (ltb (length (a .sheet .now)) (a .e .size * mostRecords)) (ltb (length (a .work .now)) workLength)
+    (lt-ltb (length (a .sheet .now)) (a .e .size * mostRecords) (i .if2 .taken)))))
 
 returns-4 : tie.Need-returns-4
 returns-4 c =
@@ -56,9 +62,12 @@ returns-4 c =
     let g = f .before .before in
     let a = g .before .before .before .before .args in
     c .refuse3 .ensures
-    ∙ decided (gateLines (a .e) (a .n) (a .k) (a .t .now)) (badDesk (a .d) ∷ shortSheet (a .e) (a .sheet .now) (a .work .now) ∷ []) _ (g .gate .ensures) (f .enum-told .given .1)
+    ∙ decided (gateLines (a .e) (a .n) (a .k) (a .t .now))
+    (badDesk (a .d) ∷ shortSheet (a .e) (a .sheet .now) (a .work .now) ∷ []) _ (g .gate .ensures)
+    (f .enum-told .given .1)
     (later (le-ltb mostDesk (a .d) (j .if1 .left))
-    (here (or-right (ltb (length (a .sheet .now)) (a .e .size * mostRecords)) (ltb (length (a .work .now)) workLength) (lt-ltb (length (a .work .now)) workLength (i .if3 .taken)))))
+    (here (or-right (ltb (length (a .sheet .now)) (a .e .size * mostRecords)) (ltb (length (a .work .now)) workLength)
+    (lt-ltb (length (a .work .now)) workLength (i .if3 .taken)))))
 
 returns-5 : tie.Need-returns-5
 returns-5 c =
@@ -66,10 +75,14 @@ returns-5 c =
     let f = j .before in
     let g = f .before .before in
     let a = g .before .before .before .before .args in
-    decided (gateLines (a .e) (a .n) (a .k) (a .t .now)) (badDesk (a .d) ∷ shortSheet (a .e) (a .sheet .now) (a .work .now) ∷ []) _ (g .gate .ensures) (f .enum-told .given .1)
-    (later (le-ltb mostDesk (a .d) (j .if1 .left)) (later (both-long (a .e) (a .sheet .now) (a .work .now) (c .before .if2 .left) (c .if3 .left)) fine))
+    decided (gateLines (a .e) (a .n) (a .k) (a .t .now))
+    (badDesk (a .d) ∷ shortSheet (a .e) (a .sheet .now) (a .work .now) ∷ []) _ (g .gate .ensures)
+    (f .enum-told .given .1)
+    (later (le-ltb mostDesk (a .d) (j .if1 .left))
+    (later (both-long (a .e) (a .sheet .now) (a .work .now) (c .before .if2 .left) (c .if3 .left)) fine))
 
 pub make-form-spec : {M : Type 1} → statement M
 make-form-spec =
     tie.close (tie.spec (λ c κs. search needs) (λ c. search needs) (λ c. search needs) returns (λ c. search needs)
-    (λ c κs. search needs) returns-2 mul-if2 (λ c κs. search needs) returns-3 (λ c κs. search needs) returns-4 returns-5)
+    (λ c κs. search needs) returns-2 mul-if2 (λ c κs. search needs) returns-3 (λ c κs. search needs) returns-4
+    returns-5)

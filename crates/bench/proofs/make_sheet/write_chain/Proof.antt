@@ -1,4 +1,5 @@
--- `write_chain` meets its contract: the held chain is the sheet of the table, and is written as records. Assumes nothing.
+-- `write_chain` meets its contract: the held chain is the sheet of the table, and is written as records. Assumes
+-- nothing.
 use mathlib.Core.Path.{sym, ap, ap₂, _∙_}
 use mathlib.Core.Bool.{Bool, cond}
 use mathlib.Core.List.{List, [], _∷_}
@@ -23,7 +24,8 @@ use Rattle.bench.proofs.make_sheet.write_chain.Tie as tie
 
 -- what is answered of a chain
 abbrev answered : Edition → ℕ → List ℕ → List ℕ → Made → MakeOutcome
-answered e d sheet work w = reply (verdict (chainStuck w ∷ [])) (makeDone e d (cellsIn w) sheet work) (makeNot sheet work)
+answered e d sheet work w = reply (verdict (chainStuck w ∷ [])) (makeDone e d (cellsIn w) sheet work)
+    (makeNot sheet work)
 
 chain-of-requires : tie.Need-chain-of-requires
 chain-of-requires c κs =
@@ -36,9 +38,14 @@ returns c =
     let m = c .before .before .before .before .before in
     let a = m .before .before .before .before .before .args in
     let r = m .chain-of .result in
-    ap₂ (λ (v : Verdict) (l : List ℕ). record { answer = record { verdict = v; count = 0 }; sheet = a .sheet .now; work = l }) (c .refuse .ensures) (m .chain-of .ensures .cleared)
+    ap₂ (λ (v : Verdict) (l : List ℕ). record {
+      answer = record { verdict = v; count = 0 };
+      sheet = a .sheet .now;
+      work = l;
+    }) (c .refuse .ensures) (m .chain-of .ensures .cleared)
     ∙ ap (answered (a .e) (a .d) (a .sheet .now) (a .work .now))
-    (ap (λ (b : Bool). cond b (made (cellsOf (r .sheet))) stuck) (sym (not-true (r .finished) (c .before .if1 .taken))) ∙ m .chain-of .ensures .chain)
+    (ap (λ (b : Bool). cond b (made (cellsOf (r .sheet))) stuck) (sym (not-true (r .finished) (c .before .if1 .taken)))
+    ∙ m .chain-of .ensures .chain)
 
 put-all-requires : tie.Need-put-all-requires
 put-all-requires c κs =
@@ -48,8 +55,15 @@ put-all-requires c κs =
     let a = s .args in
     let p = s .pre .0 in
     let r = m .chain-of .result in
-    let w = sym (m .chain-of .ensures .chain) ∙ ap (λ (b : Bool). cond b (made (cellsOf (r .sheet))) stuck) (not-false (r .finished) (i .if1 .left)) in
-    (p .0, m .chain-of .ensures .few, table-few (a .n) (a .k) (tableBit (a .t .now)) (p .1) (omega (arith, p .3)) (cellsOf (r .sheet)) w (a .e .most) (p .4), le-trans (mul-le-mul-left (a .e .size) (m .chain-of .ensures .few)) (s .pre .1 .1))
+    let w = sym (m .chain-of .ensures .chain) ∙ ap (λ (b : Bool). cond b (made (cellsOf (r .sheet))) stuck)
+    (not-false (r .finished) (i .if1 .left)) in (
+      p .0,
+      m .chain-of .ensures .few,
+      table-few (a .n) (a .k) (tableBit (a .t .now)) (p .1) (omega (arith, p .3))
+          (cellsOf (r .sheet)) w (a .e .most) (p .4),
+      le-trans (mul-le-mul-left (a .e .size) (m .chain-of .ensures .few))
+          (s .pre .1 .1),
+    )
 
 returns-2 : tie.Need-returns-2
 returns-2 c =
@@ -58,10 +72,12 @@ returns-2 c =
     let m = i .before .before .before .before in
     let a = m .before .before .before .before .before .args in
     let r = m .chain-of .result in
-    ap₂ (λ (l w : List ℕ). record { answer = record { verdict = Fine; count = r .sheet .count }; sheet = l; work = w }) (o .put-all .ensures) (m .chain-of .ensures .cleared)
+    ap₂ (λ (l w : List ℕ). record { answer = record { verdict = Fine; count = r .sheet .count }; sheet = l; work = w })
+    (o .put-all .ensures) (m .chain-of .ensures .cleared)
     ∙ written (a .e) (a .d) (r .sheet) (a .sheet .now) (a .work .now)
     ∙ ap (answered (a .e) (a .d) (a .sheet .now) (a .work .now))
-    (ap (λ (b : Bool). cond b (made (cellsOf (r .sheet))) stuck) (sym (not-false (r .finished) (i .if1 .left))) ∙ m .chain-of .ensures .chain)
+    (ap (λ (b : Bool). cond b (made (cellsOf (r .sheet))) stuck) (sym (not-false (r .finished) (i .if1 .left)))
+    ∙ m .chain-of .ensures .chain)
 
 pub write-chain-spec : {M : Type 1} → statement M
 write-chain-spec =

@@ -22,11 +22,20 @@ returns c =
     let r = c .enum-told2 .given .0 .0 in
     let e = c .enum-told2 .given .1 in
     let ls = toldForm (a .w) (a .n) in
-    ap (λ (v : Verdict). record { answer = record { verdict = v; count = 0 }; sheet = a .sheet .now; work = a .work .now }) e
-    ∙ ap (λ (l : List ℕ). record { answer = record { verdict = Refused r; count = 0 }; sheet = a .sheet .now; work = l })
+    ap (λ (v : Verdict). record {
+      answer = record { verdict = v; count = 0 };
+      sheet = a .sheet .now;
+      work = a .work .now;
+    }) e
+    ∙ ap (λ (l : List ℕ). record {
+      answer = record { verdict = Refused r; count = 0 };
+      sheet = a .sheet .now;
+      work = l;
+    })
     (sym (form-leaves ls r refl (sym (f .told .ensures) ∙ e) (a .work .now)))
     ∙ refused-by ls (makeLines (editionOf (a .w)) (a .desk) (a .n) (a .k) (a .t .now) (a .sheet .now) (a .work .now))
-    (makeDone (editionOf (a .w)) (a .desk) (cellsIn (sheetFor (a .n) (a .k) (a .t .now))) (a .sheet .now) (a .work .now)) (makeNot (a .sheet .now) (a .work .now))
+    (makeDone (editionOf (a .w)) (a .desk) (cellsIn (sheetFor (a .n) (a .k) (a .t .now))) (a .sheet .now)
+    (a .work .now)) (makeNot (a .sheet .now) (a .work .now))
     (f .told .result) r (f .told .ensures) e
 
 make-in-requires : tie.Need-make-in-requires
@@ -40,9 +49,12 @@ returns-2 c =
     let i = e .before in
     let f = i .before .before in
     let a = f .before .before .before .before .args in
-    r .make-in .ensures ∙ ap (λ (e : Edition). makeOutcome e (a .desk) (a .n) (a .k) (a .t .now) (a .sheet .now) (a .work .now)) (e .numbered .ensures)
-    ∙ left-to (toldForm (a .w) (a .n)) (makeLines (editionOf (a .w)) (a .desk) (a .n) (a .k) (a .t .now) (a .sheet .now) (a .work .now))
-    (makeDone (editionOf (a .w)) (a .desk) (cellsIn (sheetFor (a .n) (a .k) (a .t .now))) (a .sheet .now) (a .work .now)) (makeNot (a .sheet .now) (a .work .now))
+    r .make-in .ensures ∙ ap (λ (e : Edition). makeOutcome e (a .desk) (a .n) (a .k) (a .t .now) (a .sheet .now)
+    (a .work .now)) (e .numbered .ensures)
+    ∙ left-to (toldForm (a .w) (a .n)) (makeLines (editionOf (a .w)) (a .desk) (a .n) (a .k) (a .t .now) (a .sheet .now)
+    (a .work .now))
+    (makeDone (editionOf (a .w)) (a .desk) (cellsIn (sheetFor (a .n) (a .k) (a .t .now))) (a .sheet .now)
+    (a .work .now)) (makeNot (a .sheet .now) (a .work .now))
     (f .told .result) (f .told .ensures) (i .enum-told .given .1)
 
 pub make-told-spec : {M : Type 1} → statement M

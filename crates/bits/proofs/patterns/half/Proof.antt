@@ -9,7 +9,8 @@ use Rattle.bits.proofs.patterns.half.Tie as tie
 returns : tie.Need-returns
 returns c =
     let a = c .before .before .args in
-    λ x h. c .upper .ensures x h ∙ ap (λ (t : Bool). bit (a .table) x && t) (go (bit x (a .j)) ∙ ap (Bool·beq (bit x (a .j))) (sym (c .before .if1 .taken)))
+    λ x h. c .upper .ensures x h ∙ ap (λ (t : Bool). bit (a .table) x && t)
+    (go (bit x (a .j)) ∙ ap (Bool·beq (bit x (a .j))) (sym (c .before .if1 .taken)))
   where
     go : (s : Bool) → s ≡ Bool·beq s true
     go true = refl
@@ -18,7 +19,8 @@ returns c =
 returns-2 : tie.Need-returns-2
 returns-2 c =
     let a = c .before .before .args in
-    λ x h. c .lower .ensures x h ∙ ap (λ (t : Bool). bit (a .table) x && t) (go (bit x (a .j)) ∙ ap (Bool·beq (bit x (a .j))) (sym (c .before .if1 .left)))
+    λ x h. c .lower .ensures x h ∙ ap (λ (t : Bool). bit (a .table) x && t)
+    (go (bit x (a .j)) ∙ ap (Bool·beq (bit x (a .j))) (sym (c .before .if1 .left)))
   where
     go : (s : Bool) → not s ≡ Bool·beq s false
     go true = refl

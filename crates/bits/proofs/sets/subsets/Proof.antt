@@ -29,9 +29,25 @@ pub subsets-spec : {M : Type 1} → statement M
 subsets-spec =
     tie.close (tie.spec Inv-loop μ-loop loop-holds (λ c. search needs) (λ c. search needs) (λ c. search needs)
     (λ c. search needs)
-    (λ c. let q = c .before .loop in omega (arith, subsets-once (c .before .before .args .mask) (c .loop-test .taken) (q .inv .1)))
-    (λ c. let q = c .before .loop in omega (arith, subsets-shift (c .before .before .args .mask) (c .loop-test .taken) (q .inv .1)))
-    (λ c. let q = c .before .loop in omega (arith, subsets-fits (c .before .before .args .mask) (c .loop-test .taken) (q .inv .1)))
+    (λ c. let q = c .before .loop in omega (
+      arith,
+      subsets-once (c .before .before .args .mask) (c .loop-test .taken)
+          (q .inv .1),
+    ))
+    (λ c. let q = c .before .loop in omega (
+      arith,
+      subsets-shift (c .before .before .args .mask) (c .loop-test .taken)
+          (q .inv .1),
+    ))
+    (λ c. let q = c .before .loop in omega (
+      arith,
+      subsets-fits (c .before .before .args .mask) (c .loop-test .taken)
+          (q .inv .1),
+    ))
     (λ c. search needs) (λ c. search needs)
-    (λ c. let q = c .before .loop in (omega arith, subsets-turn (c .before .before .args .mask) (c .loop-test .taken) (q .inv .1)))
+    (λ c. let q = c .before .loop in (
+      omega arith,
+      subsets-turn (c .before .before .args .mask) (c .loop-test .taken)
+          (q .inv .1),
+    ))
     returns)

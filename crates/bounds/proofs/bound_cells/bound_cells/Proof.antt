@@ -27,7 +27,8 @@ returns c =
     ap (λ (v : Verdict). record { answer = record { verdict = v; least = 0 }; work = a .work .now }) e
     ∙ ap (λ (l : List ℕ). record { answer = record { verdict = Refused r; least = 0 }; work = l })
     (sym (form-leaves ls r refl (sym (f .told .ensures) ∙ e) (a .work .now)))
-    ∙ refused-by ls (findForm (editionOf (a .w)) (a .n) (a .k) (a .t .now) (a .work .now)) (boundDone (a .n) (a .k) (a .t .now) (a .work .now))
+    ∙ refused-by ls (findForm (editionOf (a .w)) (a .n) (a .k) (a .t .now) (a .work .now))
+    (boundDone (a .n) (a .k) (a .t .now) (a .work .now))
     (boundNot (a .work .now)) (f .told .result) r (f .told .ensures) e
 
 bound-in-requires : tie.Need-bound-in-requires
@@ -41,8 +42,10 @@ returns-2 c =
     let i = e .before in
     let f = i .before .before in
     let a = f .before .before .before .args in
-    r .bound-in .ensures ∙ ap (λ (e : Edition). boundIn e (a .n) (a .k) (a .t .now) (a .work .now)) (e .numbered .ensures)
-    ∙ left-to (toldForm (a .w) (a .n)) (findForm (editionOf (a .w)) (a .n) (a .k) (a .t .now) (a .work .now)) (boundDone (a .n) (a .k) (a .t .now) (a .work .now))
+    r .bound-in .ensures ∙ ap (λ (e : Edition). boundIn e (a .n) (a .k) (a .t .now) (a .work .now))
+    (e .numbered .ensures)
+    ∙ left-to (toldForm (a .w) (a .n)) (findForm (editionOf (a .w)) (a .n) (a .k) (a .t .now) (a .work .now))
+    (boundDone (a .n) (a .k) (a .t .now) (a .work .now))
     (boundNot (a .work .now)) (f .told .result) (f .told .ensures) (i .enum-told .given .1)
 
 pub bound-cells-spec : {M : Type 1} → statement M

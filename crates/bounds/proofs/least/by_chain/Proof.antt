@@ -29,4 +29,5 @@ returns-2 c =
 
 pub by-chain-spec : {M : Type 1} → statement M
 by-chain-spec =
-    tie.close (tie.spec (λ c κs. search needs) (λ c. search needs) (λ c. search needs) returns (λ c. search needs) returns-2)
+    tie.close (tie.spec (λ c κs. search needs) (λ c. search needs) (λ c. search needs) returns (λ c. search needs)
+    returns-2)

@@ -20,7 +20,8 @@ add-if1-2 c =
     let s = g .before .before .before .before in
     let a = s .args in
     let p = s .pre in
-    let m = own-few (a .n) (a .k) (a .c) (a .t .now) (a .work .now) _ _ (g .find-counting .ensures) (p .6) (p .2) _ _ (o .own-in .ensures) (c .members .ensures) in
+    let m = own-few (a .n) (a .k) (a .c) (a .t .now) (a .work .now) _ _ (g .find-counting .ensures) (p .6) (p .2) _ _
+    (o .own-in .ensures) (c .members .ensures) in
     omega (arith, m)
 
 returns : tie.Need-returns
@@ -30,7 +31,8 @@ returns c =
     let s = g .before .before .before .before in
     let a = s .args in
     let p = s .pre in (
-      fits (a .n) (a .k) (a .c) (a .t .now) (a .work .now) _ _ (g .find-counting .ensures) (p .6) (p .2) _ _ (o .own-in .ensures) (c .before .members .ensures) (c .if1 .taken),
+      fits (a .n) (a .k) (a .c) (a .t .now) (a .work .now) _ _ (g .find-counting .ensures) (p .6) (p .2) _ _
+          (o .own-in .ensures) (c .before .members .ensures) (c .if1 .taken),
       cleared (a .n) (a .k) (a .c) (a .t .now) (a .work .now) _ _ (g .find-counting .ensures) (p .6) (p .2),
     )
 
@@ -42,11 +44,13 @@ returns-2 c =
     let a = s .args in
     let p = s .pre in (
       c .by-reach .ensures
-          ∙ fits-not (a .n) (a .k) (a .c) (a .t .now) (a .work .now) _ _ (g .find-counting .ensures) (p .6) (p .2) _ _ (o .own-in .ensures) (c .before .before .members .ensures) (c .before .if1 .left),
+          ∙ fits-not (a .n) (a .k) (a .c) (a .t .now) (a .work .now) _ _ (g .find-counting .ensures) (p .6) (p .2) _ _
+          (o .own-in .ensures) (c .before .before .members .ensures) (c .before .if1 .left),
       cleared (a .n) (a .k) (a .c) (a .t .now) (a .work .now) _ _ (g .find-counting .ensures) (p .6) (p .2),
     )
 
 pub by-split-spec : {M : Type 1} → statement M
 by-split-spec =
-    tie.close (tie.spec find-counting-requires (λ c. search needs) (λ c κs. search needs) (λ c κs. search needs) add-if1-2
+    tie.close (tie.spec find-counting-requires (λ c. search needs) (λ c κs. search needs) (λ c κs. search needs)
+    add-if1-2
     (λ c. search needs) returns (λ c κs. search needs) (λ c. search needs) returns-2)

@@ -1,4 +1,5 @@
--- `filed` meets its contract: each return is the first of the four lines that holds, or that none does. Assumes nothing.
+-- `filed` meets its contract: each return is the first of the four lines that holds, or that none does. Assumes
+-- nothing.
 use mathlib.Core.Path.{sym, ap, _∙_, subst}
 use mathlib.Core.List.{[], _∷_}
 use native.Mathlib.Omega.{arith}
@@ -19,17 +20,25 @@ returns : tie.Need-returns
 returns c =
     let i = c .before in
     let a = i .before .before .before .args in
-    c .refuse .ensures ∙ decides (filedLines (a .d) (a .n) (a .s .now)) (here (sym (i .before .bad-inputs .ensures) ∙ i .if1 .taken))
+    c .refuse .ensures ∙ decides (filedLines (a .d) (a .n) (a .s .now))
+    (here (sym (i .before .bad-inputs .ensures) ∙ i .if1 .taken))
 
 cast-read-sheet : tie.Need-cast-read-sheet
 cast-read-sheet c =
     let i = c .before in
-    omega (arith, inside 1 (i .before .before .before .args .n) mostInputs (sym (i .before .bad-inputs .ensures) ∙ i .if1 .left))
+    omega (
+      arith,
+      inside 1 (i .before .before .before .args .n) mostInputs
+          (sym (i .before .bad-inputs .ensures) ∙ i .if1 .left),
+    )
 
 read-sheet-requires : tie.Need-read-sheet-requires
 read-sheet-requires c κs =
-    let i = c .before in
-    (subst IsEdition (sym (c .first .ensures)) first-edition, inside 1 (i .before .before .before .args .n) mostInputs (sym (i .before .bad-inputs .ensures) ∙ i .if1 .left) .1)
+    let i = c .before in (
+      subst IsEdition (sym (c .first .ensures)) first-edition,
+      inside 1 (i .before .before .before .args .n) mostInputs
+          (sym (i .before .bad-inputs .ensures) ∙ i .if1 .left) .1,
+    )
 
 returns-2 : tie.Need-returns-2
 returns-2 c =
@@ -37,7 +46,8 @@ returns-2 c =
     let a = i .before .before .before .args in
     c .read-sheet .ensures
     ∙ ap (λ (e : Edition). verdict (readLines e (a .d) (a .n) (a .s .now))) (c .before .first .ensures)
-    ∙ sym (passes (badInputs (a .n) ∷ []) (readLines firstEdition (a .d) (a .n) (a .s .now)) (sym (i .before .bad-inputs .ensures) ∙ i .if1 .left, tt))
+    ∙ sym (passes (badInputs (a .n) ∷ []) (readLines firstEdition (a .d) (a .n) (a .s .now))
+    (sym (i .before .bad-inputs .ensures) ∙ i .if1 .left, tt))
 
 pub filed-spec : {M : Type 1} → statement M
 filed-spec =

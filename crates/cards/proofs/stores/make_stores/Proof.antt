@@ -12,7 +12,8 @@ use Rattle.cards.proofs.stores.make_stores.Tie as tie
 
 abbrev Inv-loop : tie.InvT-loop
 Inv-loop card₀ d n s first end i₀ card i =
-    (first ≤ i) × (i ≤ end) × (length card ≡ length card₀) × (card ≡ made (take (i - first) (drop first (loadStores d n s))) card₀)
+    (first ≤ i) × (i ≤ end) × (length card ≡ length card₀)
+    × (card ≡ made (take (i - first) (drop first (loadStores d n s))) card₀)
 
 abbrev μ-loop : tie.MeasureT-loop
 μ-loop card₀ d n s first end i₀ card i = end - i
@@ -20,8 +21,13 @@ abbrev μ-loop : tie.MeasureT-loop
 loop-holds : tie.Need-loop-holds Inv-loop μ-loop
 loop-holds c =
     let a = c .before .before .args in
-    let none : 0 ≡ a .first - a .first = omega arith in
-    (omega arith, omega arith, refl, ap (λ (k : ℕ). made (take k (drop (a .first) (loadStores (a .d) (a .n) (a .s .now)))) (a .card .now)) none)
+    let none : 0 ≡ a .first - a .first = omega arith in (
+      omega arith,
+      omega arith,
+      refl,
+      ap (λ (k : ℕ). made
+          (take k (drop (a .first) (loadStores (a .d) (a .n) (a .s .now)))) (a .card .now)) none,
+    )
 
 store-at-requires : tie.Need-store-at-requires Inv-loop μ-loop
 store-at-requires c κs = search needs
@@ -31,7 +37,8 @@ slice-write-card c =
     let q = c .before .before in
     let a = q .before .before .before .args in
     let h = on-card (a .d) (a .n) (a .s .now) (q .loop .i) (omega arith) (omega arith) (omega arith) in
-    let p : c .store-at .result .place ≡ storeAt (a .d) (a .n) (a .s .now) (q .loop .i) .place = ap (λ (t : Store). t .place) (c .store-at .ensures) in
+    let p : c .store-at .result .place ≡ storeAt (a .d) (a .n) (a .s .now) (q .loop .i) .place = ap
+    (λ (t : Store). t .place) (c .store-at .ensures) in
     omega (arith, h, p, q .loop .inv .2)
 
 loop-again : tie.Need-loop-again Inv-loop μ-loop
@@ -42,7 +49,8 @@ loop-again c =
       omega arith,
       omega arith,
       length-set (q .loop .card) (t .place) (t .byte) ∙ q .loop .inv .2,
-      made-next (a .d) (a .n) (a .s .now) (a .card .now) (q .loop .card) t (a .first) (q .loop .i) (omega arith) (omega arith) (c .store-at .ensures) (q .loop .inv .3),
+      made-next (a .d) (a .n) (a .s .now) (a .card .now) (q .loop .card) t (a .first) (q .loop .i) (omega arith)
+          (omega arith) (c .store-at .ensures) (q .loop .inv .3),
     )
 
 returns : tie.Need-returns Inv-loop μ-loop
@@ -50,7 +58,8 @@ returns c =
     let q = c .before in
     let a = q .before .before .before .args in
     let e : q .loop .i ≡ a .end = omega arith in
-    q .loop .inv .3 ∙ ap (λ (k : ℕ). made (take (k - a .first) (drop (a .first) (loadStores (a .d) (a .n) (a .s .now)))) (a .card .now)) e
+    q .loop .inv .3 ∙ ap (λ (k : ℕ). made (take (k - a .first) (drop (a .first) (loadStores (a .d) (a .n) (a .s .now))))
+    (a .card .now)) e
 
 pub make-stores-spec : {M : Type 1} → statement M
 make-stores-spec =

@@ -11,15 +11,18 @@ returns c = let a = c .before .before .args in store-first (a .d) (a .n) (a .s .
 returns-2 : tie.Need-returns-2
 returns-2 c =
     let a = c .before .before .before .before .args in
-    store-place (a .d) (a .n) (a .s .now) (a .i) (c .place-byte .result) (omega arith) (omega arith) (c .place-byte .ensures)
+    store-place (a .d) (a .n) (a .s .now) (a .i) (c .place-byte .result) (omega arith) (omega arith)
+    (c .place-byte .ensures)
 
 returns-3 : tie.Need-returns-3
 returns-3 c =
     let a = c .before .before .before .before .before .args in
-    store-status (a .d) (a .n) (a .s .now) (a .i) (c .status-byte .result) (omega arith) (omega arith) (c .status-byte .ensures)
+    store-status (a .d) (a .n) (a .s .now) (a .i) (c .status-byte .result) (omega arith) (omega arith)
+    (c .status-byte .ensures)
 
 returns-4 : tie.Need-returns-4
-returns-4 c = let a = c .before .before .before .before .args in store-last (a .d) (a .n) (a .s .now) (a .i) (omega arith)
+returns-4 c = let a = c .before .before .before .before .args
+    in store-last (a .d) (a .n) (a .s .now) (a .i) (omega arith)
 
 pub store-at-spec : {M : Type 1} → statement M
 store-at-spec =

@@ -22,7 +22,12 @@ abbrev μ-loop : tie.MeasureT-loop
 μ-loop t s limit seen₀ many base₀ from₀ b₀ seen base from b = many - b
 
 loop-holds : tie.Need-loop-holds Inv-loop μ-loop
-loop-holds c = (charting-starts (c .before .before .before .pre .1 .0 .1), walked-none (c .before .before .before .pre .0 .0 .most) (c .parts .ensures .0), omega arith)
+loop-holds c = (
+  charting-starts (c .before .before .before .pre .1 .0 .1),
+  walked-none
+      (c .before .before .before .pre .0 .0 .most) (c .parts .ensures .0),
+  omega arith,
+)
 
 -- row b has room
 module _ (c : tie.In-loop Inv-loop μ-loop) where
@@ -32,15 +37,22 @@ module _ (c : tie.In-loop Inv-loop μ-loop) where
   room : c .before .loop .from + start .args .limit ≤ length (start .args .seen .now)
   room =
       let q = c .before .loop in
-      omega (arith, q .inv .2, row-room (start .args .limit) _ _ (q .b) (walked-turn (q .inv .1) (c .loop-test .taken)) (start .pre .1 .0 .0))
+      omega (
+        arith,
+        q .inv .2,
+        row-room (start .args .limit) _ _ (q .b) (walked-turn (q .inv .1) (c .loop-test .taken))
+            (start .pre .1 .0 .0),
+      )
 
 look-through-requires : tie.Need-look-through-requires Inv-loop μ-loop
 look-through-requires c κs =
     let q = c .before .before .loop in
     let g = start (c .before) in
     let part = length-take-le (q .from + g .args .limit - q .from) (drop (q .from) (q .seen))
-    (omega (arith, room (c .before), length-drop (q .from) (q .seen))) in
-    ((g .pre .0 .0, walked-within (q .inv .1) (c .before .loop-test .taken), omega (arith, part), omega arith), g .pre .0 .2)
+    (omega (arith, room (c .before), length-drop (q .from) (q .seen))) in (
+      (g .pre .0 .0, walked-within (q .inv .1) (c .before .loop-test .taken), omega (arith, part), omega arith),
+      g .pre .0 .2,
+    )
 
 loop-again : tie.Need-loop-again Inv-loop μ-loop
 loop-again c =
@@ -68,5 +80,6 @@ chart-spec =
     tie.close (tie.spec Inv-loop μ-loop (λ c κs. let p = c .before .before .pre .0 .0 in (p .most, p .belowB))
     loop-holds (λ c. omega (arith, room c)) (λ c. omega (arith, room c)) (λ c. search needs) (λ c. search needs)
     (λ c. omega (arith, room c)) look-through-requires
-    (λ c κs. let i = c .before .before .before .before in let p = start i .pre .0 .0 in (p .most, p .belowB, walked-lt (i .before .loop .inv .1)))
+    (λ c κs. let i = c .before .before .before .before in let p = start i .pre .0 .0
+    in (p .most, p .belowB, walked-lt (i .before .loop .inv .1)))
     (λ c. search needs) (λ c. search needs) loop-again (λ c. search needs) returns)

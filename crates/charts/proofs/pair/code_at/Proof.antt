@@ -26,10 +26,12 @@ module _ (c : tie.After-gather-in) where
 
   there : from + g .args .limit ≤ length (g .args .seen .now)
   there =
-      row-there (g .args .s) (g .pre .0 .0) (tableBit (g .args .t .now)) (g .args .x) base (g .pre .0 .1) refl (g .pre .1 .0) from (g .args .limit) start refl
+      row-there (g .args .s) (g .pre .0 .0) (tableBit (g .args .t .now)) (g .args .x) base (g .pre .0 .1) refl
+      (g .pre .1 .0) from (g .args .limit) start refl
 
 sub-place : tie.Need-sub-place
-sub-place c = base-le (g c .args .s) (g c .pre .0 .0) (tableBit (g c .args .t .now)) (g c .args .x) (base c) (g c .pre .0 .1) refl
+sub-place c = base-le (g c .args .s) (g c .pre .0 .0) (tableBit (g c .args .t .now)) (g c .args .x) (base c)
+    (g c .pre .0 .1) refl
 
 place-requires : tie.Need-place-requires
 place-requires c κs =
@@ -38,11 +40,20 @@ place-requires c κs =
     let p = g w .pre .0 in
     let F = tableBit (a .t .now) in
     let m = from w + a .limit - from w in (
-      (p .0, base-within (a .s) (p .0) F (a .x) (base w) (p .1) refl, own-within (a .s) (p .0) F (a .x) (base w) (p .1) refl),
+      (
+        p .0,
+        base-within (a .s) (p .0) F (a .x) (base w) (p .1) refl,
+        own-within (a .s) (p .0) F (a .x) (base w) (p .1)
+            refl,
+      ),
       (
         p .2,
         (
-          omega (arith, row-length (a .s) (p .0) F (a .x) (base w) (p .1) refl (g w .pre .1 .0) (from w) m (start w) (omega arith)),
+          omega (
+            arith,
+            row-length (a .s) (p .0) F (a .x) (base w) (p .1) refl (g w .pre .1 .0) (from w) m (start w)
+                (omega arith),
+          ),
           row-own (a .s) (p .0) F (a .x) (base w) (p .1) refl (g w .pre .1 .0) (from w) m (start w) (omega arith),
         ),
       ),
@@ -53,7 +64,8 @@ returns c =
     let w = c .before .before in
     let a = g w .args in
     let p = g w .pre .0 in
-    code-found (a .s) (p .0) (tableBit (a .t .now)) (a .x) (base w) (p .1) refl (g w .pre .1 .0) (from w) (from w + a .limit - from w) (start w) (omega arith)
+    code-found (a .s) (p .0) (tableBit (a .t .now)) (a .x) (base w) (p .1) refl (g w .pre .1 .0) (from w)
+    (from w + a .limit - from w) (start w) (omega arith)
     (g w .pre .1 .1) _ (c .place .ensures)
 
 pub code-at-spec : {M : Type 1} → statement M

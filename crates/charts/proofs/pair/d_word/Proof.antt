@@ -32,7 +32,8 @@ D t s which = bitD (s .n) (tableBit t) (bit (s .own)) (bit (s .shared)) which
 
 abbrev Inv-loop : tie.InvT-loop
 Inv-loop t s limit seen which w both many from here r₀ x₀ i₀ r x i =
-    (r ≡ number i (λ j. D t s which (64 * w + j))) × Walked (s .n) (M s) many x (64 * w + i) × (i ≤ here) × (here ≤ 64) × (64 * w + here ≤ many)
+    (r ≡ number i (λ j. D t s which (64 * w + j))) × Walked (s .n) (M s) many x (64 * w + i) × (i ≤ here) × (here ≤ 64)
+    × (64 * w + here ≤ many)
 
 abbrev μ-loop : tie.MeasureT-loop
 μ-loop t s limit seen which w both many from here r₀ x₀ i₀ r x i = here - i
@@ -68,7 +69,12 @@ loop-holds c =
     let none = walked-none {m = M (g .args .s)} (g .pre .0 .0 .most) (p .parts .ensures .0) in
     let e : 64 * g .args .w ≡ 64 * g .args .w + 0 = omega arith in (
       refl,
-      record { all = none .all; few = none .few; upto = omega (arith, b .before .if1 .left); at = c .spread-out .ensures .0 ∙ ap (spread (g .args .s .n) (bit (M (g .args .s)))) e },
+      record {
+        all = none .all;
+        few = none .few;
+        upto = omega (arith, b .before .if1 .left);
+        at = c .spread-out .ensures .0 ∙ ap (spread (g .args .s .n) (bit (M (g .args .s)))) e;
+      },
       omega arith,
       b .bits-left .ensures .0,
       b .bits-left .ensures .1,
@@ -82,11 +88,13 @@ module _ (c : tie.After-d-bit Inv-loop μ-loop) where
   abbrev f : ℕ → Bool
   f j = D (g .args .t .now) (g .args .s) (g .args .which) (64 * g .args .w + j)
 
-  inside : 64 * g .args .w + c .before .before .loop .i < c .before .before .before .before .before .before .parts .result
+  inside : 64 * g .args .w + c .before .before .loop .i
+      < c .before .before .before .before .before .before .parts .result
   inside = let q = c .before .before .loop .inv in omega (arith, q .4, c .before .loop-test .taken)
 
   gives : c .d-bit .result ≡ f (c .before .before .loop .i)
-  gives = c .d-bit .ensures ∙ ap (D (g .args .t .now) (g .args .s) (g .args .which)) (read (g .args .s) (g .pre .0 .0) (c .before .before .loop .inv .1) inside)
+  gives = c .d-bit .ensures ∙ ap (D (g .args .t .now) (g .args .s) (g .args .which))
+      (read (g .args .s) (g .pre .0 .0) (c .before .before .loop .inv .1) inside)
 
   turn : c .before .before .loop .i < 64
   turn = let q = c .before .before .loop .inv in omega (arith, q .3, c .before .loop-test .taken)
@@ -101,7 +109,8 @@ loop-again c =
     let a = g d .args in
     let e : 64 * a .w + q .i + 1 ≡ 64 * a .w + (q .i + 1) = omega arith in (
       summed 64 (f d) (turn d) (q .inv .0) (bool-digit (gives d)),
-      subst (λ (v : ℕ). Walked (a .s .n) (M (a .s)) (d .before .before .before .before .before .before .parts .result) (c .next .result) v) e
+      subst (λ (v : ℕ). Walked (a .s .n) (M (a .s)) (d .before .before .before .before .before .before .parts .result)
+          (c .next .result) v) e
           (walked-more (q .inv .1) (inside d) (c .next .ensures .1)),
       omega (arith, d .before .loop-test .taken),
       q .inv .3,
@@ -120,15 +129,18 @@ returns-2 c =
     let many = all (a .s) (h .pre .0 .0) (p .parts .ensures .0) in
     let e : q .i ≡ b .bits-left .result = omega (arith, q .inv .2, c .loop-test .left) in
     q .inv .0 ∙ ap (λ (m : ℕ). number m (λ j. F (64 * a .w + j))) e
-    ∙ part-word k (a .w) (b .bits-left .result) F (b .bits-left .ensures .0) (omega (arith, many, b .bits-left .ensures .1))
+    ∙ part-word k (a .w) (b .bits-left .result) F (b .bits-left .ensures .0)
+    (omega (arith, many, b .bits-left .ensures .1))
     (λ l. let r = b .bits-left .ensures .2 l in omega (arith, many))
 
 pub d-word-spec : {M : Type 1} → statement M
 d-word-spec =
     tie.close (tie.spec Inv-loop μ-loop
-    (λ c. let g = c .before .before .before in omega (arith, below (g .args .s) (g .pre .0 .0), mask-most (g .pre .0 .0 .most)))
+    (λ c. let g = c .before .before .before in omega
+    (arith, below (g .args .s) (g .pre .0 .0), mask-most (g .pre .0 .0 .most)))
     (λ c κs. let g = c .before .before .before in (g .pre .0 .0 .most, below (g .args .s) (g .pre .0 .0)))
-    (λ c. let g = c .before .before .before .before in omega (arith, g .pre .0 .1)) returns (λ c κs. omega (arith, c .if1 .left))
+    (λ c. let g = c .before .before .before .before in omega (arith, g .pre .0 .1)) returns
+    (λ c κs. omega (arith, c .if1 .left))
     (λ c κs. let g = c .before .before .before .before .before .before in g .pre .0 .0 .most) loop-holds
     (λ c κs.
     let q = c .before .loop .inv in

@@ -13,7 +13,8 @@ returns : tie.Need-returns
 returns c =
     let q = c .before in
     let p = q .before in
-    ap₂ (λ (x y : CellTable). cells x y (c .table-or-zero3 .result)) (p .table-or-zero .ensures) (q .table-or-zero2 .ensures) ∙ ap (cells _ _) (c .table-or-zero3 .ensures)
+    ap₂ (λ (x y : CellTable). cells x y (c .table-or-zero3 .result)) (p .table-or-zero .ensures)
+    (q .table-or-zero2 .ensures) ∙ ap (cells _ _) (c .table-or-zero3 .ensures)
 
 pub first-cells-spec : {M : Type 1} → statement M
 first-cells-spec =

@@ -16,9 +16,11 @@ returns c =
     let y = z .before in
     let x = y .before in
     let a = x .before .before .before .args in
-    four-words (gateWord (size (a .s .n) (firstReads (a .s))) (bitD (a .s .n) (tableBit (a .t .now)) (bit (a .s .own)) (bit (a .s .shared)) (a .which)))
+    four-words (gateWord (size (a .s .n) (firstReads (a .s)))
+    (bitD (a .s .n) (tableBit (a .t .now)) (bit (a .s .own)) (bit (a .s .shared)) (a .which)))
     (x .d-word .ensures) (y .d-word2 .ensures) (z .d-word3 .ensures) (c .d-word4 .ensures)
 
 pub table-of-spec : {M : Type 1} → statement M
 table-of-spec =
-    tie.close (tie.spec (λ c κs. search needs) (λ c κs. search needs) (λ c κs. search needs) (λ c κs. search needs) returns)
+    tie.close (tie.spec (λ c κs. search needs) (λ c κs. search needs) (λ c κs. search needs) (λ c κs. search needs)
+    returns)

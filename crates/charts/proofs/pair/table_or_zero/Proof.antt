@@ -20,7 +20,8 @@ use Rattle.charts.proofs.pair.table_or_zero.Tie as tie
 -- what is returned, as there is such a cell or not
 module _ (c : tie.Start) where
   abbrev by : Bool → CellTable
-  by b = cond b (heldD (c .args .s .n) (tableBit (c .args .t .now)) (bit (c .args .s .own)) (bit (c .args .s .shared)) (c .args .which)) noTable
+  by b = cond b (heldD (c .args .s .n) (tableBit (c .args .t .now)) (bit (c .args .s .own)) (bit (c .args .s .shared))
+      (c .args .which)) noTable
 
 returns : tie.Need-returns
 returns c =

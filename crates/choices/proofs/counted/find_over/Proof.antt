@@ -24,7 +24,8 @@ module _ (c : tie.After-members) where
   within : c .before .support-of .result < 2 ^ c .before .before .before .before .args .n
   unfolding support
   within = let a = c .before .before .before .before .args in
-      subst (λ (m : ℕ). m < 2 ^ a .n) (sym (c .before .support-of .ensures)) (number-lt (a .n) (counts (a .n) (tableBit (a .t .now))))
+      subst (λ (m : ℕ). m < 2 ^ a .n) (sym (c .before .support-of .ensures))
+      (number-lt (a .n) (counts (a .n) (tableBit (a .t .now))))
 
   many : c .members .result ≡ size (c .before .before .before .before .args .n) (bit (c .before .support-of .result))
   many = c .members .ensures (c .before .before .before .before .args .n) within
@@ -44,7 +45,8 @@ length-for-requires c κs =
     omega (arith, few m, m .before .before .before .before .pre .1)
 
 -- the table over them is no longer than the whole, and lies in the work area
-fits : (c : tie.After-length-for) → c .length-for .result ≤ length (c .before .before .before .set-aside .last .1 .1 .1 .0)
+fits : (c : tie.After-length-for) → c .length-for .result
+    ≤ length (c .before .before .before .set-aside .last .1 .1 .1 .0)
 fits c =
     let m = c .before .before .before .before .before in
     let g = m .before .before .before .before in
@@ -58,7 +60,8 @@ fits c =
     )
 
 slice-aggregate-find-upto : tie.Need-slice-aggregate-find-upto
-slice-aggregate-find-upto c = let l = c .before in sym (length-take-le (l .length-for .result) (l .before .before .before .set-aside .last .1 .1 .1 .0) (fits l))
+slice-aggregate-find-upto c = let l = c .before
+    in sym (length-take-le (l .length-for .result) (l .before .before .before .set-aside .last .1 .1 .1 .0) (fits l))
 
 find-upto-requires : tie.Need-find-upto-requires
 find-upto-requires c κs =
@@ -91,13 +94,16 @@ returns c =
     let a = m .before .before .before .before .args in
     let S = m .before .support-of .result in (
       c .spread-back .ensures ∙ ap (spreadChoice (a .n) (bit S)) (f .find-upto .ensures .0)
-          ∙ over-found (a .n) mostFirst (a .k) S (tableBit (a .t .now)) (s .set-aside .last .1 .1 .1 .0) (m .members .result) (l .length-for .result)
-          (m .before .support-of .ensures) (many m) (omega (arith, l .length-for .ensures, length-holds (m .members .result))) (s .set-aside .ensures),
+          ∙ over-found (a .n) mostFirst (a .k) S (tableBit (a .t .now)) (s .set-aside .last .1 .1 .1 .0)
+          (m .members .result) (l .length-for .result)
+          (m .before .support-of .ensures) (many m) (omega
+          (arith, l .length-for .ensures, length-holds (m .members .result))) (s .set-aside .ensures),
       k .clear .ensures ∙ ap (λ (z : ℕ). replicate z 0) (s .set-aside .kept .1 .1 .1 .0),
     )
 
 pub find-over-spec : {M : Type 1} → statement M
 find-over-spec =
     tie.close (tie.spec (λ c κs. search needs) (λ c κs. search needs) set-aside-requires length-for-requires fits
-    slice-aggregate-find-upto (λ c. search needs) find-upto-requires (λ c κs. search needs) (λ c κs. search needs) same-length
+    slice-aggregate-find-upto (λ c. search needs) find-upto-requires (λ c κs. search needs) (λ c κs. search needs)
+    same-length
     returns)

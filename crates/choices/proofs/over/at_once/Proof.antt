@@ -17,7 +17,8 @@ abbrev μ-loop : tie.MeasureT-loop
 μ-loop t n upto k r₀ r = upto + 1 - r
 
 first-try-requires : tie.Need-first-try-requires Inv-loop μ-loop
-first-try-requires c κs = let p = c .before .before .before .pre in (p .0, omega (arith, p .1, c .loop-test .taken), p .2)
+first-try-requires c κs = let p = c .before .before .before .pre
+    in (p .0, omega (arith, p .1, c .loop-test .taken), p .2)
 
 returns : tie.Need-returns Inv-loop μ-loop
 returns c =
@@ -25,7 +26,8 @@ returns c =
     let l = m .before .before .loop in
     let a = m .before .before .before .before .args in
     let e = m .first-try .ensures _ _ (ap answerOf (c .before .early .given .1)) in
-    subst (AtOnce (a .n) (a .k) (a .upto) (tableBit (a .t .now))) (sym (is-choice _ (λ z. omega (arith, l .inv .0, z)))) (record {
+    subst (AtOnce (a .n) (a .k) (a .upto) (tableBit (a .t .now))) (sym (is-choice _ (λ z. omega (arith, l .inv .0, z))))
+    (record {
       some = l .inv .0;
       most = omega (arith, m .before .loop-test .taken);
       answer = e .0;

@@ -31,7 +31,11 @@ with-found-requires c κs =
     let w = i .before .loop .inv in
     let p = i .before .before .before .pre in (
       (w .some, omega (arith, p .1, i .loop-test .taken), p .0, w .few),
-      (chose-below w .0, found-below w (c .before .floor .result) (answerOf (c .find-above .result)) (c .find-above .ensures)),
+      (
+        chose-below w .0,
+        found-below w (c .before .floor .result) (answerOf (c .find-above .result))
+            (c .find-above .ensures),
+      ),
     )
 
 loop-again : tie.Need-loop-again Inv-loop μ-loop
@@ -39,7 +43,8 @@ loop-again c =
     let f = c .before in
     let g = f .before in
     let i = g .before in
-    chose-more (i .before .loop .inv) (g .floor .result) (answerOf (f .find-above .result)) (f .find-above .ensures) (g .floor .ensures)
+    chose-more (i .before .loop .inv) (g .floor .result) (answerOf (f .find-above .result)) (f .find-above .ensures)
+    (g .floor .ensures)
     (c .with-found .result) (omega (arith, i .loop-test .taken)) (c .with-found .ensures)
 
 pub find-sparing-spec : {M : Type 1} → statement M

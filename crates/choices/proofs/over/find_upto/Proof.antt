@@ -21,7 +21,8 @@ returns c =
 -- what was found at once
 module _ (c : tie.Else1) where
   whole : let a = c .before .before .before .before .args in
-      let d = c .before .before .at-once .result in Whole (a .n) (a .k) (a .most) (tableBit (a .t .now)) (d .first) (d .own) (d .shared)
+      let d = c .before .before .at-once .result in Whole (a .n) (a .k) (a .most) (tableBit (a .t .now)) (d .first)
+      (d .own) (d .shared)
   whole =
       let a = c .before .before .before .before .args in
       let o = c .before .before .at-once in
@@ -60,7 +61,8 @@ returns-2 c =
     let a = i .before .before .before .before .args in
     let d = i .before .before .at-once .result in
     let e = c .larger .ensures in (
-      e .0 ∙ ap (λ (x : Choice). better (a .n) (d .first) x (split (d .own) (d .shared))) (c .before .find-sparing2 .ensures .0)
+      e .0 ∙ ap (λ (x : Choice). better (a .n) (d .first) x (split (d .own) (d .shared)))
+          (c .before .find-sparing2 .ensures .0)
           ∙ whole-best (a .n) (a .k) (tableBit (a .t .now)) (a .most) (d .first) (d .own) (d .shared) (whole i),
       e .1,
     )

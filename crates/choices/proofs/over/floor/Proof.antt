@@ -12,7 +12,8 @@ use Rattle.choices.proofs.over.floor.Statement.{statement}
 use Rattle.choices.proofs.over.floor.Tie as tie
 
 module _ (c : tie.After-members) where
-  counted : c .members .result ≡ size (c .before .before .before .args .n) (bit (c .before .before .before .args .kept .own))
+  counted : c .members .result ≡ size (c .before .before .before .args .n)
+      (bit (c .before .before .before .args .kept .own))
   counted =
       let g = c .before .before .before in
       c .members .ensures (g .args .n) (own-below (g .args .n) (g .args .kept) (c .before .if1 .left) (g .pre .3))
@@ -20,7 +21,12 @@ module _ (c : tie.After-members) where
   spares : c .before .before .before .args .low + c .before .before .before .args .kept .first < c .members .result
   spares =
       let g = c .before .before .before in
-      omega (arith, counted, kept-spares (g .args .n) (g .args .r) (g .args .low) (g .args .kept) (c .before .if1 .left) (g .pre .4))
+      omega (
+        arith,
+        counted,
+        kept-spares (g .args .n) (g .args .r) (g .args .low) (g .args .kept) (c .before .if1 .left)
+            (g .pre .4),
+      )
 
 add-result-2 : tie.Need-add-result-2
 add-result-2 c =
@@ -31,9 +37,11 @@ returns-2 : tie.Need-returns-2
 returns-2 c =
     let g = c .before .before .before .before in
     let a = g .args in
-    subst (λ m. Floor (a .n) (a .r) (a .low) (choiceOf (a .kept)) (m - a .kept .first + a .r)) (sym (counted (c .before)))
+    subst (λ m. Floor (a .n) (a .r) (a .low) (choiceOf (a .kept)) (m - a .kept .first + a .r))
+    (sym (counted (c .before)))
     (floor-kept (a .n) (a .r) (a .low) (a .kept) (c .before .before .if1 .left) (g .pre .4))
 
 pub floor-spec : {M : Type 1} → statement M
 floor-spec =
-    tie.close (tie.spec (λ c. search needs) (λ c. search needs) (λ c κs. search needs) (λ c. omega (arith, spares (c .before))) add-result-2 returns-2)
+    tie.close (tie.spec (λ c. search needs) (λ c. search needs) (λ c κs. search needs)
+    (λ c. omega (arith, spares (c .before))) add-result-2 returns-2)

@@ -11,19 +11,29 @@ use Rattle.choices.proofs.over.with_found.Tie as tie
 returns : tie.Need-returns
 returns c =
     let g = c .before .before in
-    let a = g .args in
-    (ap (λ (f : Found). better (a .n) (a .r) (choiceOf (a .kept)) (answerOf f)) (sym (c .enum-told .given .1)), g .pre .0 .3)
+    let a = g .args in (
+      ap (λ (f : Found). better (a .n) (a .r) (choiceOf (a .kept)) (answerOf f)) (sym (c .enum-told .given .1)),
+      g .pre .0 .3,
+    )
 
 larger-requires : tie.Need-larger-requires
 larger-requires c κs =
     let g = c .before .before .before in
-    let p = g .pre .0 in
-    (p .0, p .1, p .2, p .3, g .pre .1 .0, subst (λ (f : Found). SplitBelow (g .args .n) (answerOf f)) (c .before .found .given .1) (g .pre .1 .1))
+    let p = g .pre .0 in (
+      p .0,
+      p .1,
+      p .2,
+      p .3,
+      g .pre .1 .0,
+      subst (λ (f : Found). SplitBelow (g .args .n) (answerOf f))
+          (c .before .found .given .1) (g .pre .1 .1),
+    )
 
 returns-2 : tie.Need-returns-2
 returns-2 c =
     let a = c .before .before .before .before .args in (
-      c .larger .ensures .0 ∙ ap (λ (f : Found). better (a .n) (a .r) (choiceOf (a .kept)) (answerOf f)) (sym (c .before .before .found .given .1)),
+      c .larger .ensures .0 ∙ ap (λ (f : Found). better (a .n) (a .r) (choiceOf (a .kept)) (answerOf f))
+          (sym (c .before .before .found .given .1)),
       c .larger .ensures .1,
     )
 

@@ -22,13 +22,27 @@ look-through-requires : tie.Need-look-through-requires
 look-through-requires c κs =
     let o = c .before .spread-out .ensures in
     let s = c .before .before .before in
-    let p = s .pre in
-    ((p .0 .0, subst (Within (s .args .s .n) (s .args .s .shared)) (sym (o .0)) (within-spread (s .args .s .n) (s .args .s .shared) (s .args .b) (p .1)), omega arith, omega arith), p .0 .2)
+    let p = s .pre in (
+      (
+        p .0 .0,
+        subst (Within (s .args .s .n) (s .args .s .shared)) (sym (o .0))
+            (within-spread (s .args .s .n) (s .args .s .shared) (s .args .b) (p .1)),
+        omega arith,
+        omega arith,
+      ),
+      p .0 .2,
+    )
 
 -- at most as many columns as own assignments
-columns-most : (n : ℕ) (F : ℕ → Bool) (A B : ℕ → Bool) (b : ℕ) → size n A ≤ mostOwn → length (columns n F A B b) ≤ 2 ^ mostOwn
+columns-most : (n : ℕ) (F : ℕ → Bool) (A B : ℕ → Bool) (b : ℕ) → size n A ≤ mostOwn → length (columns n F A B b)
+    ≤ 2 ^ mostOwn
 unfolding columns
-columns-most n F A B b h = omega (arith, firsts-most (column n F A B b) (2 ^ size n A), pow-mono {i = size n A} {j = mostOwn} h)
+columns-most n F A B b h = omega (
+  arith,
+  firsts-most (column n F A B b) (2 ^ size n A),
+  pow-mono {i = size n A}
+      {j = mostOwn} h,
+)
 
 returns : tie.Need-returns
 returns c =
@@ -38,10 +52,17 @@ returns c =
     let a = s .args in
     let F = tableBit (a .t .now) in
     let at : gather (a .s .n) (bit (a .s .shared)) (l .before .before .spread-out .result) ≡ a .b =
-    ap (gather (a .s .n) (bit (a .s .shared))) (o .0) ∙ gather-spread (a .s .n) (bit (a .s .shared)) (a .b) (s .pre .1) in
+    ap (gather (a .s .n) (bit (a .s .shared))) (o .0) ∙ gather-spread (a .s .n) (bit (a .s .shared)) (a .b) (s .pre .1)
+    in
     let w = l .look-through .ensures in
     let few : l .look-through .result ≤ 2 ^ mostOwn = elim (decLt (2 ^ mostOwn) (l .look-through .result)) [
-      | yes g ↦ absurd (omega (arith, w .many (λ m. omega arith), columns-most (a .s .n) F (bit (a .s .own)) (bit (a .s .shared)) (gather (a .s .n) (bit (a .s .shared)) (l .before .before .spread-out .result)) (s .pre .0 .1)))
+      | yes g ↦ absurd (omega (
+        arith,
+        w .many (λ m. omega arith),
+        columns-most (a .s .n) F (bit (a .s .own))
+            (bit (a .s .shared)) (gather (a .s .n) (bit (a .s .shared)) (l .before .before .spread-out .result))
+            (s .pre .0 .1),
+      ))
       | no g ↦ omega arith
     ] in
     w .few few ∙ ap (λ (b : ℕ). length (columnsOf (a .s) F b)) at

@@ -39,8 +39,10 @@ module _ (c : tie.After-look-through Inv-loop μ-loop) where
 
 look-through-requires : tie.Need-look-through-requires Inv-loop μ-loop
 look-through-requires c κs =
-    let p = c .before .before .before .before .pre .0 in
-    ((p .0, walked-within (c .before .before .loop .inv .1) (c .before .loop-test .taken), omega arith, omega arith), p .2)
+    let p = c .before .before .before .before .pre .0 in (
+      (p .0, walked-within (c .before .before .loop .inv .1) (c .before .loop-test .taken), omega arith, omega arith),
+      p .2,
+    )
 
 returns : tie.Need-returns Inv-loop μ-loop
 unfolding firstBroken
@@ -49,7 +51,8 @@ returns c =
     let a = start w .args in
     let i = inside w .before .loop .inv in
     let l = inside w .loop-test .taken in
-    sym (least-stop _ _ (many (a .t .now) (a .s) (a .limit)) (i .0) (seen-many (i .1) l (w .look-through .ensures) (c .if1 .taken)) (walked-turn (i .1) l))
+    sym (least-stop _ _ (many (a .t .now) (a .s) (a .limit)) (i .0)
+    (seen-many (i .1) l (w .look-through .ensures) (c .if1 .taken)) (walked-turn (i .1) l))
 
 loop-again : tie.Need-loop-again Inv-loop μ-loop
 loop-again c =
@@ -57,7 +60,8 @@ loop-again c =
     let a = start w .args in
     let i = inside w .before .loop .inv in
     let l = inside w .loop-test .taken in (
-      least-more _ (many (a .t .now) (a .s) (a .limit)) (i .0) (seen-few (i .1) l (w .look-through .ensures) (c .before .if1 .left)),
+      least-more _ (many (a .t .now) (a .s) (a .limit)) (i .0)
+          (seen-few (i .1) l (w .look-through .ensures) (c .before .if1 .left)),
       walked-more (i .1) l (c .next .ensures .1),
       w .look-through .kept .1 .1 .1 .1 .0 ∙ i .2,
     )
@@ -76,5 +80,6 @@ first-broken-spec =
     tie.close (tie.spec Inv-loop μ-loop
     (λ c. (refl, walked-none (c .before .pre .0 .0 .most) (c .before .pre .1), refl)) (λ c. search needs)
     look-through-requires returns
-    (λ c κs. let w = c .before .before in let p = start w .pre .0 .0 in (p .most, p .belowB, walked-lt (inside w .before .loop .inv .1)))
+    (λ c κs. let w = c .before .before in let p = start w .pre .0 .0
+    in (p .most, p .belowB, walked-lt (inside w .before .loop .inv .1)))
     (λ c. search needs) (λ c. search needs) loop-again returns-2)

@@ -39,7 +39,8 @@ returns : tie.Need-returns Inv-loop μ-loop
 returns c =
     let w = c .before .before in
     let i = at w .loop .inv in
-    looking-stops (i .0) (start w .pre .0 .2) (i .1) (w .before .before .loop-test .taken) (w .place .ensures) (c .before .if1 .taken) (c .if2 .taken)
+    looking-stops (i .0) (start w .pre .0 .2) (i .1) (w .before .before .loop-test .taken) (w .place .ensures)
+    (c .before .if1 .taken) (c .if2 .taken)
 
 cast-seen : tie.Need-cast-seen Inv-loop μ-loop
 cast-seen c =
@@ -53,10 +54,13 @@ loop-again c =
     let a = start w .args in
     let l = w .before .before .loop-test .taken in
     let room = start w .pre .0 .2 in
-    let So : List ℕ → ℕ → Type 0 = λ l k. SoFar (a .s) (tableBit (a .t .now)) (gather (a .s .n) (bit (a .s .shared)) (a .base)) (a .limit) (a .seen .now) l k (q .a + 1) in (
+    let So : List ℕ → ℕ → Type 0 = λ l k. SoFar (a .s) (tableBit (a .t .now))
+    (gather (a .s .n) (bit (a .s .shared)) (a .base)) (a .limit) (a .seen .now) l k (q .a + 1) in (
       ⊎-elim
-          (λ u. subst₂ So (sym (u .2)) (sym (u .3)) (looking-new (q .inv .0) room (q .inv .1) l (w .place .ensures) (u .0 .taken) (u .1 .left)))
-          (λ u. subst₂ So (sym (u .1)) (sym (u .2)) (looking-old (q .inv .0) room (q .inv .1) l (w .place .ensures) (u .0 .left)))
+          (λ u. subst₂ So (sym (u .2)) (sym (u .3)) (looking-new (q .inv .0) room (q .inv .1) l (w .place .ensures)
+          (u .0 .taken) (u .1 .left)))
+          (λ u. subst₂ So (sym (u .1)) (sym (u .2)) (looking-old (q .inv .0) room (q .inv .1) l (w .place .ensures)
+          (u .0 .left)))
           (c .before .if1 .came),
       walked-more (q .inv .1) l (c .next .ensures .1),
     )

@@ -34,7 +34,8 @@ module _ (c : tie.In-loop Inv-loop μ-loop) where
   g = c .before .before .before .before
 
   here : Without (g .args .s .n) (g .args .s .free) (g .args .base + g .args .z)
-  here = let p = g .pre .0 in start (g .args .s) (p .0) (tableBit (g .args .t .now)) (g .args .base) (p .1) (g .args .z) (p .2)
+  here = let p = g .pre .0 in start (g .args .s) (p .0) (tableBit (g .args .t .now)) (g .args .base) (p .1) (g .args .z)
+      (p .2)
 
   abbrev y : ℕ
   y = getD (g .args .seen .now) (c .before .loop .i) 0
@@ -42,16 +43,19 @@ module _ (c : tie.In-loop Inv-loop μ-loop) where
   there : Without (g .args .s .n) (g .args .s .free) (g .args .base + y)
   there =
       let p = g .pre .0 in
-      start (g .args .s) (p .0) (tableBit (g .args .t .now)) (g .args .base) (p .1) y (g .pre .1 .1 .1 (c .before .loop .i) (c .loop-test .taken))
+      start (g .args .s) (p .0) (tableBit (g .args .t .now)) (g .args .base) (p .1) y
+      (g .pre .1 .1 .1 (c .before .loop .i) (c .loop-test .taken))
 
 -- what the comparison says
 told : (c : tie.After-same-column Inv-loop μ-loop) → (t : Bool) → c .same-column .result ≡ t
-    → let i = c .before .before in let a = g i .args in eqb (at (a .t .now) (a .s) (a .base) (a .z)) (at (a .t .now) (a .s) (a .base) (y i)) ≡ t
+    → let i = c .before .before in let a = g i .args
+    in eqb (at (a .t .now) (a .s) (a .base) (a .z)) (at (a .t .now) (a .s) (a .base) (y i)) ≡ t
 told c t e =
     let i = c .before .before in
     let a = g i .args in
     let p = g i .pre .0 in
-    sym (alike-column (a .s) (p .0) (tableBit (a .t .now)) (a .base) (p .1) (a .z) (y i) (p .2) (g i .pre .1 .1 .1 (i .before .loop .i) (i .loop-test .taken)))
+    sym (alike-column (a .s) (p .0) (tableBit (a .t .now)) (a .base) (p .1) (a .z) (y i) (p .2)
+    (g i .pre .1 .1 .1 (i .before .loop .i) (i .loop-test .taken)))
     ∙ sym (c .same-column .ensures) ∙ e
 
 returns : tie.Need-returns Inv-loop μ-loop
@@ -59,7 +63,8 @@ returns c =
     let w = c .before in
     let i = w .before .before in
     let a = g i .args in
-    seek-is (at (a .t .now) (a .s) (a .base)) (a .seen .now) (a .k) (g i .pre .1 .1 .0) _ (i .before .loop .i) (i .loop-test .taken) (i .before .loop .inv .1)
+    seek-is (at (a .t .now) (a .s) (a .base)) (a .seen .now) (a .k) (g i .pre .1 .1 .0) _ (i .before .loop .i)
+    (i .loop-test .taken) (i .before .loop .inv .1)
     (told w true (c .if1 .taken))
 
 returns-2 : tie.Need-returns-2 Inv-loop μ-loop
@@ -68,7 +73,8 @@ returns-2 c =
     let g = c .before .before .before .before in
     let a = g .args in
     let e : q .i ≡ a .k = omega arith in
-    e ∙ seek-none (at (a .t .now) (a .s) (a .base)) (a .seen .now) (a .k) (g .pre .1 .1 .0) _ (λ j h. q .inv .1 j (omega arith))
+    e ∙ seek-none (at (a .t .now) (a .s) (a .base)) (a .seen .now) (a .k) (g .pre .1 .1 .0) _
+    (λ j h. q .inv .1 j (omega arith))
 
 pub place-spec : {M : Type 1} → statement M
 place-spec =
@@ -78,5 +84,9 @@ place-spec =
     (λ c. omega (arith, there (c .before) .below, mask-most (g (c .before) .pre .0 .0 .most)))
     (λ c κs. let i = c .before in ((g i .pre .0 .0, here i, there i), g i .pre .1 .0)) returns (λ c. search needs)
     (λ c. search needs)
-    (λ c. (omega arith, below-more _ _ (c .before .before .before .before .loop .inv .1) (told (c .before) false (c .if1 .left))))
+    (λ c. (
+      omega arith,
+      below-more _ _ (c .before .before .before .before .loop .inv .1)
+          (told (c .before) false (c .if1 .left)),
+    ))
     returns-2)

@@ -55,8 +55,10 @@ told c =
     let p = g i .pre .0 in
     let F = tableBit (g i .args .t .now) in
     let l = free-lt (s i) (p .0) in (
-      equal-even (s i .n) (s i .free) l (walk i) F _ _ (p .1) (p .2) (p .0 .low) (c .before .before .bits-from .ensures) (c .bits-from2 .ensures),
-      even-equal (s i .n) (s i .free) l (walk i) F _ _ (p .1) (p .2) (p .0 .low) (c .before .before .bits-from .ensures) (c .bits-from2 .ensures),
+      equal-even (s i .n) (s i .free) l (walk i) F _ _ (p .1) (p .2) (p .0 .low) (c .before .before .bits-from .ensures)
+          (c .bits-from2 .ensures),
+      even-equal (s i .n) (s i .free) l (walk i) F _ _ (p .1) (p .2) (p .0 .low) (c .before .before .bits-from .ensures)
+          (c .bits-from2 .ensures),
     )
 
 returns : tie.Need-returns Inv-loop μ-loop
@@ -64,7 +66,8 @@ returns c =
     let w = c .before .before in
     let i = w .before .before .before in
     let a = g i .args in
-    sym (false-of _ (λ e. c .if2 .taken (told w .1 (alike-even (s i .n) (s i .free) (free-lt (s i) (g i .pre .0 .0)) (tableBit (a .t .now)) (a .x) (a .y) e _))))
+    sym (false-of _ (λ e. c .if2 .taken (told w .1
+    (alike-even (s i .n) (s i .free) (free-lt (s i) (g i .pre .0 .0)) (tableBit (a .t .now)) (a .x) (a .y) e _))))
 
 returns-2 : tie.Need-returns-2 Inv-loop μ-loop
 returns-2 c =
@@ -81,7 +84,13 @@ same-column-spec =
     (λ c κs. word-at (s c .n) (g c .args .t .now) _ (g c .pre .1) (x-lt c))
     (λ c. let i = c .before .before in omega (arith, y-lt i, mask-most (g i .pre .0 .0 .most)))
     (λ c κs. let i = c .before .before in word-at (s i .n) (g i .args .t .now) _ (g i .pre .1) (y-lt i)) returns
-    (λ c κs. let i = c .before .before .before .before .before in let h = g i .pre .0 .0 in (h .most, omega (arith, free-lt (s i) h), walked-lt (walk i)))
+    (λ c κs. let i = c .before .before .before .before .before in let h = g i .pre .0 .0
+    in (h .most, omega (arith, free-lt (s i) h), walked-lt (walk i)))
     (λ c. search needs) (λ c. search needs)
-    (λ c. let w = c .before .before .before in let i = w .before .before .before in (walked-more (walk i) (i .if1 .taken) (c .next .ensures .1), below-more _ _ (i .before .before .loop .inv .1) (told w .0 (c .before .if2 .left))))
+    (λ c. let w = c .before .before .before in let i = w .before .before .before
+    in (
+      walked-more (walk i) (i .if1 .taken) (c .next .ensures .1),
+      below-more _ _ (i .before .before .loop .inv .1)
+          (told w .0 (c .before .if2 .left)),
+    ))
     returns-2)

@@ -18,7 +18,12 @@ returns-3 c = rw (c .before .before .enum-told .given .1, c .enum-told6 .given .
 returns-4 : tie.Need-returns-4
 returns-4 c =
     let a = c .before .before .before .before .before .args in
-    rw (c .before .before .before .enum-told .given .1, c .before .enum-told5 .given .1, le-leb (a .i) (a .j) (omega (arith, c .if1 .taken)))
+    rw (
+      c .before .before .before .enum-told .given .1,
+      c .before .enum-told5 .given .1,
+      le-leb (a .i) (a .j)
+          (omega (arith, c .if1 .taken)),
+    )
     refl
 
 returns-5 : tie.Need-returns-5

@@ -1,4 +1,5 @@
--- `keep_in` meets its contract: both verdicts are the check's, and the lengths give the numbers of records. Assumes nothing.
+-- `keep_in` meets its contract: both verdicts are the check's, and the lengths give the numbers of records. Assumes
+-- nothing.
 use mathlib.Core.Path.{ap₂, _∙_}
 use borrow.Author.Needs.{needs}
 use Rattle.sheets.specs.Sheet.{records}

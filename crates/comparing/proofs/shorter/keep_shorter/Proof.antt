@@ -12,7 +12,8 @@ returns : tie.Need-returns
 returns c =
     let a = c .before .before .before .before .before .args in
     c .keep-in .ensures
-    ∙ ap (λ (e : Edition). keptOutcome e (a .n) (a .t .now) (a .first .now) (a .second .now)) (c .before .first .ensures)
+    ∙ ap (λ (e : Edition). keptOutcome e (a .n) (a .t .now) (a .first .now) (a .second .now))
+    (c .before .first .ensures)
 
 pub keep-shorter-spec : {M : Type 1} → statement M
 keep-shorter-spec =

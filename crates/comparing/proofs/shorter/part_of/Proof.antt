@@ -1,4 +1,5 @@
--- `part_of` meets its contract: what is handed back is the whole of the slice named, or none of the first. Assumes nothing.
+-- `part_of` meets its contract: what is handed back is the whole of the slice named, or none of the first. Assumes
+-- nothing.
 use mathlib.Core.Path.{refl}
 use borrow.Author.Needs.{needs}
 use borrow.Author.Tests.{eq-eqb, ne-eqb}

@@ -24,7 +24,8 @@ returns : tie.Need-returns
 returns c =
     let s = c .before .before .before .before in
     let o = s .args .o .now in
-    c .refuse .ensures ∙ decides (deskLines o (s .args .d) (s .args .x)) (later (s .pre .1) (here (ap not (ne-eqb (openMark o) 1 (c .before .if1 .taken)))))
+    c .refuse .ensures ∙ decides (deskLines o (s .args .d) (s .args .x))
+    (later (s .pre .1) (here (ap not (ne-eqb (openMark o) 1 (c .before .if1 .taken)))))
 
 -- after the look at its sheet
 module _ (c : tie.After-filed) where
@@ -41,17 +42,20 @@ module _ (c : tie.After-filed) where
   ms = badAssignment (inputs o) (start .args .x) ∷ []
 
   seen : c .filed .result ≡ verdict ls
-  seen = c .filed .ensures ∙ ap (λ (t : List ℕ). verdict (filedLines (start .args .d) (inputs o) t)) (c .before .sheet-on .ensures)
+  seen = c .filed .ensures ∙ ap (λ (t : List ℕ). verdict (filedLines (start .args .d) (inputs o) t))
+      (c .before .sheet-on .ensures)
 
   -- only its lines and 11 are left
   opened : verdict (ls ++ ms) ≡ verdict (deskLines o (start .args .d) (start .args .x))
-  opened = sym (open-lines o (start .args .d) (start .args .x) (start .pre .0) (start .pre .1) (c .before .before .before .if1 .left))
+  opened = sym (open-lines o (start .args .d) (start .args .x) (start .pre .0) (start .pre .1)
+      (c .before .before .before .if1 .left))
 
   few : c .filed .result ≡ Fine → inputs o < 64
   few e = omega (arith, inside 1 (inputs o) mostInputs (in-order ls (sym seen ∙ e) .0))
 
 returns-2 : tie.Need-returns-2
-returns-2 c = let l = c .before .before in stopped (ls l) (ms l) _ (seen l) (c .enum-told2 .given .0 .0) (c .enum-told2 .given .1) ∙ opened l
+returns-2 c = let l = c .before .before in stopped (ls l) (ms l) _ (seen l) (c .enum-told2 .given .0 .0)
+    (c .enum-told2 .given .1) ∙ opened l
 
 shl-if2 : tie.Need-shl-if2
 shl-if2 c = few (c .before .before) (c .enum-told .given .1)

@@ -18,7 +18,8 @@ use Rattle.desks.proofs.run_desk.run_desk.Tie as tie
 returns : tie.Need-returns
 returns c =
     let a = c .before .before .before .args in
-    ap (λ (v : Verdict). record { verdict = v; bit = false }) (c .refuse .ensures) ∙ sym (run-short (a .card .now) (a .d) (a .x) (c .before .if1 .taken))
+    ap (λ (v : Verdict). record { verdict = v; bit = false }) (c .refuse .ensures)
+    ∙ sym (run-short (a .card .now) (a .d) (a .x) (c .before .if1 .taken))
 
 returns-2 : tie.Need-returns-2
 returns-2 c =
@@ -48,8 +49,11 @@ module _ (c : tie.Else2) where
 run-own-requires : tie.Need-run-own-requires
 run-own-requires c κs =
     let p = c .before in
-    let l = p .before .before .before .before .args .card .now in
-    (ap (λ (k : ℕ). length (take k (drop (base (d p)) l))) (cut p) ∙ own-length l (d p) (p .before .before .if1 .left) (most p), known p)
+    let l = p .before .before .before .before .args .card .now in (
+      ap (λ (k : ℕ). length (take k (drop (base (d p)) l))) (cut p)
+          ∙ own-length l (d p) (p .before .before .if1 .left) (most p),
+      known p,
+    )
 
 returns-3 : tie.Need-returns-3
 returns-3 c =

@@ -29,7 +29,8 @@ returns c =
     let o = f .before .before .args .o .now in
     let e = c .enum-told2 .given .1 in
     ap (λ (v : Verdict). record { verdict = v; bit = false }) e
-    ∙ ap (λ (v : Verdict). reply v (runDone firstEdition (inputs o) (sheetOn o) (f .before .before .args .x)) runNot) (sym e ∙ f .own-form .ensures)
+    ∙ ap (λ (v : Verdict). reply v (runDone firstEdition (inputs o) (sheetOn o) (f .before .before .args .x)) runNot)
+    (sym e ∙ f .own-form .ensures)
 
 -- where the desk's lines are in order
 module _ (c : tie.After-shared-slice-known2) where
@@ -40,7 +41,9 @@ module _ (c : tie.After-shared-slice-known2) where
   o = start .args .o .now
 
   able : Ready firstEdition (inputs o) (sheetOn o) (start .args .x)
-  able = ready o (start .args .d) (start .args .x) (start .pre .0) (sym (c .before .before .before .before .before .own-form .ensures) ∙ c .before .before .before .enum-told .given .1)
+  able = ready o (start .args .d) (start .args .x) (start .pre .0)
+      (sym (c .before .before .before .before .before .own-form .ensures)
+      ∙ c .before .before .before .enum-told .given .1)
 
 cast-bit-of : tie.Need-cast-bit-of
 cast-bit-of c = omega (arith, able c .0 .2)
@@ -51,8 +54,10 @@ cast-bit-of-2 c = omega (arith, able c .1, pow-mono {i = inputs (o c)} {j = most
 bit-of-requires : tie.Need-bit-of-requires
 bit-of-requires c κs =
     let x = start c .args .x in
-    subst (λ (e : Edition). Ready e (inputs (o c)) (c .before .before .sheet-on .result .now) x) (sym (c .before .first .ensures))
-    (subst (λ (s : List ℕ). Ready firstEdition (inputs (o c)) s x) (sym (c .before .before .sheet-on .ensures)) (able c))
+    subst (λ (e : Edition). Ready e (inputs (o c)) (c .before .before .sheet-on .result .now) x)
+    (sym (c .before .first .ensures))
+    (subst (λ (s : List ℕ). Ready firstEdition (inputs (o c)) s x) (sym (c .before .before .sheet-on .ensures))
+    (able c))
 
 returns-2 : tie.Need-returns-2
 unfolding deskOutcome
@@ -61,11 +66,13 @@ returns-2 c =
     let x = start l .args .x in
     let n = inputs (o l) in
     let bit = c .bit-of .ensures
-    ∙ ap (λ (e : Edition). sheetBit e n (l .before .before .sheet-on .result .now) (length (l .before .before .sheet-on .result .now) / recordSize) x) (l .before .first .ensures)
+    ∙ ap (λ (e : Edition). sheetBit e n (l .before .before .sheet-on .result .now)
+    (length (l .before .before .sheet-on .result .now) / recordSize) x) (l .before .first .ensures)
     ∙ ap (λ (s : List ℕ). sheetBit firstEdition n s (length s / recordSize) x) (l .before .before .sheet-on .ensures) in
     ap (λ (b : Bool). record { verdict = Fine; bit = b }) bit
     ∙ ap (λ (v : Verdict). reply v (runDone firstEdition n (sheetOn (o l)) x) runNot)
-    (sym (l .before .before .before .enum-told .given .1) ∙ l .before .before .before .before .before .own-form .ensures)
+    (sym (l .before .before .before .enum-told .given .1)
+    ∙ l .before .before .before .before .before .own-form .ensures)
 
 pub run-own-spec : {M : Type 1} → statement M
 run-own-spec =

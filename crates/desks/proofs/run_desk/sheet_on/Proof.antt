@@ -13,7 +13,8 @@ returns : tie.Need-returns
 returns c = let o = c .before .before .args .o .now in sym (take-all (recordSize * cells o) o (omega arith))
 
 slice-aggregate-result : tie.Need-slice-aggregate-result
-slice-aggregate-result c = let o = c .before .before .before .args .o .now in sym (length-take-le (recordSize * cells o) o (omega arith))
+slice-aggregate-result c = let o = c .before .before .before .args .o .now
+    in sym (length-take-le (recordSize * cells o) o (omega arith))
 
 pub sheet-on-spec : {M : Type 1} → statement M
 sheet-on-spec =

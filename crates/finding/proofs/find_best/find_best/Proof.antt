@@ -16,7 +16,8 @@ returns c =
     let r = c .before .before in
     let f = r .before .before in
     let a = f .before .before .before .args in
-    r .find-in .ensures ∙ ap (λ (e : Edition). findOutcome e (a .n) (a .k) (a .t .now) (a .work .now)) (f .first .ensures)
+    r .find-in .ensures ∙ ap (λ (e : Edition). findOutcome e (a .n) (a .k) (a .t .now) (a .work .now))
+    (f .first .ensures)
 
 pub find-best-spec : {M : Type 1} → statement M
 find-best-spec = tie.close (tie.spec (λ c κs. search needs) find-in-requires (λ c. search needs) returns)

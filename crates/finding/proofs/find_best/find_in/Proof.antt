@@ -29,27 +29,38 @@ returns c =
     ap (λ (v : Verdict). record { answer = record { verdict = v; own = 0; shared = 0 }; work = a .work .now }) e
     ∙ ap (λ (l : List ℕ). record { answer = record { verdict = Refused r; own = 0; shared = 0 }; work = l })
     (sym (form-leaves ls r refl (sym (f .find-form .ensures) ∙ e) (a .work .now)))
-    ∙ refused-by ls (findSays (a .n) (a .k) (a .t .now)) (findDone b (a .work .now)) (findNot (a .work .now)) (f .find-form .result) r (f .find-form .ensures) e
+    ∙ refused-by ls (findSays (a .n) (a .k) (a .t .now)) (findDone b (a .work .now)) (findNot (a .work .now))
+    (f .find-form .result) r (f .find-form .ensures) e
 
 cast-search : tie.Need-cast-search
 cast-search c =
     let f = c .before .before in
     let a = f .before .before .before .before .args in
-    omega (arith, sound-before (a .e) (a .n) (a .k) (a .t .now) (shortWork (a .work .now) ∷ []) _ (f .find-form .ensures) (c .enum-told .given .1) .most)
+    omega (
+      arith,
+      sound-before (a .e) (a .n) (a .k) (a .t .now) (shortWork (a .work .now) ∷ []) _
+          (f .find-form .ensures) (c .enum-told .given .1) .most,
+    )
 
 cast-search-2 : tie.Need-cast-search-2
 cast-search-2 c =
     let f = c .before .before in
     let s = f .before .before .before .before in
     let a = s .args in
-    omega (arith, sound-before (a .e) (a .n) (a .k) (a .t .now) (shortWork (a .work .now) ∷ []) _ (f .find-form .ensures) (c .enum-told .given .1) .largest, s .pre .eight)
+    omega (
+      arith,
+      sound-before (a .e) (a .n) (a .k) (a .t .now) (shortWork (a .work .now) ∷ []) _
+          (f .find-form .ensures) (c .enum-told .given .1) .largest,
+      s .pre .eight,
+    )
 
 search-requires : tie.Need-search-requires
 search-requires c κs =
     let f = c .before .before .before in
     let s = f .before .before .before .before in
     let a = s .args in
-    let w = sound-before (a .e) (a .n) (a .k) (a .t .now) (shortWork (a .work .now) ∷ []) _ (f .find-form .ensures) (c .before .enum-told .given .1) in
+    let w = sound-before (a .e) (a .n) (a .k) (a .t .now) (shortWork (a .work .now) ∷ []) _ (f .find-form .ensures)
+    (c .before .enum-told .given .1) in
     let q = sym (f .find-form .ensures) ∙ c .before .enum-told .given .1 in
     let l = in-order (findForm (a .e) (a .n) (a .k) (a .t .now) (a .work .now)) q .1 .1 .1 .1 .0 in
     (w .most, omega (arith, w .largest, s .pre .eight), w .long, ltb-false (length (a .work .now)) workLength l)
@@ -62,7 +73,8 @@ returns-2 c =
     let a = f .before .before .before .before .args in
     let b = bestFor (a .n) (a .k) (a .t .now) in
     r .search .ensures
-    ∙ left-to (findForm (a .e) (a .n) (a .k) (a .t .now) (a .work .now)) (findSays (a .n) (a .k) (a .t .now)) (findDone b (a .work .now)) (findNot (a .work .now))
+    ∙ left-to (findForm (a .e) (a .n) (a .k) (a .t .now) (a .work .now)) (findSays (a .n) (a .k) (a .t .now))
+    (findDone b (a .work .now)) (findNot (a .work .now))
     (f .find-form .result) (f .find-form .ensures) (r .before .before .enum-told .given .1)
 
 pub find-in-spec : {M : Type 1} → statement M

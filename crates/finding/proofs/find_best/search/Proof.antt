@@ -22,7 +22,8 @@ abbrev answered : List ℕ → Bool → Answer → FindOutcome
 answered work few a = reply (verdict (line 7 few ∷ noneBest a ∷ [])) (findDone a work) (findNot work)
 
 -- what was found, told by its case
-told : {n K : ℕ} {t work work′ : List ℕ} {r : Counted} (s : Counted) → r ≡ s → FoundCounting n 1 K t work r work′ → FoundCounting n 1 K t work s work′
+told : {n K : ℕ} {t work work′ : List ℕ} {r : Counted} (s : Counted) → r ≡ s → FoundCounting n 1 K t work r work′
+    → FoundCounting n 1 K t work s work′
 told {n} {K} {t} {work} {work′} s e w = subst (λ (r : Counted). FoundCounting n 1 K t work r work′) e w
 
 find-counting-requires : tie.Need-find-counting-requires
@@ -36,7 +37,8 @@ returns c =
     let f = c .before .before .before .before .before in
     let a = f .before .before .before .before .args in
     let w = told _ (c .before .enum-told .given .1) (f .find-counting .ensures) in
-    ap₂ (λ (v : Verdict) (l : List ℕ). record { answer = record { verdict = v; own = 0; shared = 0 }; work = l }) (c .refuse .ensures) (w .left)
+    ap₂ (λ (v : Verdict) (l : List ℕ). record { answer = record { verdict = v; own = 0; shared = 0 }; work = l })
+    (c .refuse .ensures) (w .left)
     ∙ ap (λ (few : Bool). answered (a .work .now) few (bestFor (a .n) (a .k) (a .t .now))) (w .few)
 
 returns-2 : tie.Need-returns-2
@@ -45,7 +47,8 @@ returns-2 c =
     let f = c .before .before .before .before .before in
     let a = f .before .before .before .before .args in
     let w = told _ (o .1) (f .find-counting .ensures) in
-    ap (λ (l : List ℕ). record { answer = record { verdict = Fine; own = o .0 .0; shared = o .0 .1 .0 }; work = l }) (w .left)
+    ap (λ (l : List ℕ). record { answer = record { verdict = Fine; own = o .0 .0; shared = o .0 .1 .0 }; work = l })
+    (w .left)
     ∙ ap₂ (answered (a .work .now)) (w .few) (w .answer)
 
 returns-3 : tie.Need-returns-3
@@ -53,7 +56,8 @@ returns-3 c =
     let f = c .before .before .before .before .before in
     let a = f .before .before .before .before .args in
     let w = told _ (c .before .enum-told2 .given .1) (f .find-counting .ensures) in
-    ap₂ (λ (v : Verdict) (l : List ℕ). record { answer = record { verdict = v; own = 0; shared = 0 }; work = l }) (c .refuse2 .ensures) (w .left)
+    ap₂ (λ (v : Verdict) (l : List ℕ). record { answer = record { verdict = v; own = 0; shared = 0 }; work = l })
+    (c .refuse2 .ensures) (w .left)
     ∙ ap₂ (answered (a .work .now)) (w .few) (w .answer)
 
 pub search-spec : {M : Type 1} → statement M

@@ -25,7 +25,8 @@ returns c =
     ap (λ (v : Verdict). record { answer = record { verdict = v; own = 0; shared = 0 }; work = a .work .now }) e
     ∙ ap (λ (l : List ℕ). record { answer = record { verdict = Refused r; own = 0; shared = 0 }; work = l })
     (sym (form-leaves ls r refl (sym (f .told .ensures) ∙ e) (a .work .now)))
-    ∙ refused-by ls (findLines (editionOf (a .w)) (a .n) (a .k) (a .t .now) (a .work .now)) (findDone (bestFor (a .n) (a .k) (a .t .now)) (a .work .now))
+    ∙ refused-by ls (findLines (editionOf (a .w)) (a .n) (a .k) (a .t .now) (a .work .now))
+    (findDone (bestFor (a .n) (a .k) (a .t .now)) (a .work .now))
     (findNot (a .work .now)) (f .told .result) r (f .told .ensures) e
 
 find-in-requires : tie.Need-find-in-requires
@@ -39,8 +40,10 @@ returns-2 c =
     let i = e .before in
     let f = i .before .before in
     let a = f .before .before .before .args in
-    r .find-in .ensures ∙ ap (λ (e : Edition). findOutcome e (a .n) (a .k) (a .t .now) (a .work .now)) (e .numbered .ensures)
-    ∙ left-to (toldForm (a .w) (a .n)) (findLines (editionOf (a .w)) (a .n) (a .k) (a .t .now) (a .work .now)) (findDone (bestFor (a .n) (a .k) (a .t .now)) (a .work .now))
+    r .find-in .ensures ∙ ap (λ (e : Edition). findOutcome e (a .n) (a .k) (a .t .now) (a .work .now))
+    (e .numbered .ensures)
+    ∙ left-to (toldForm (a .w) (a .n)) (findLines (editionOf (a .w)) (a .n) (a .k) (a .t .now) (a .work .now))
+    (findDone (bestFor (a .n) (a .k) (a .t .now)) (a .work .now))
     (findNot (a .work .now)) (f .told .result) (f .told .ensures) (i .enum-told .given .1)
 
 pub find-told-spec : {M : Type 1} → statement M

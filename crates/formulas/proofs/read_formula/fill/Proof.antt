@@ -1,4 +1,5 @@
--- `fill` meets its contract. The loop's invariant: the bytes passed are the table's, and within a stretch v is that stretch. Assumes nothing.
+-- `fill` meets its contract. The loop's invariant: the bytes passed are the table's, and within a stretch v is that
+-- stretch. Assumes nothing.
 use mathlib.Core.Path.{_≡_, refl, ap, _∙_}
 use mathlib.Core.Logic.{⊎-elim}
 use mathlib.Core.Bool.{Bool, _&&_}
@@ -25,7 +26,8 @@ bits n t x = ltb x (2 ^ n) && valueIn (textOf n t) x
 
 abbrev Inv-loop : tie.InvT-loop
 Inv-loop n t table₀ v₀ i₀ table v i =
-    Filled 0 (length table₀) (λ k. number 8 (λ j. bits n t (k * 8 + j))) table₀ table i × ((i % 32 ≡ 0 → ⊥) → v ≡ stretchOf (valueIn (textOf n t)) (i / 32))
+    Filled 0 (length table₀) (λ k. number 8 (λ j. bits n t (k * 8 + j))) table₀ table i
+    × ((i % 32 ≡ 0 → ⊥) → v ≡ stretchOf (valueIn (textOf n t)) (i / 32))
 
 abbrev μ-loop : tie.MeasureT-loop
 μ-loop n t table₀ v₀ i₀ table v i = length table₀ - i
@@ -51,7 +53,9 @@ loop-again c =
     let w : u .if1 .v ≡ stretchOf (valueIn (textOf (a .n) (a .t .now))) (i / 32) =
     ⊎-elim (λ u. u .2 ∙ u .1 .ensures) (λ u. u .1 ∙ q .loop .inv .1 (u .0 .left)) (u .if1 .came) in (
       filled-more (q .loop .inv .0) (omega arith) (omega arith)
-          (word-byte (bits (a .n) (a .t .now)) i _ (table-word (a .n) i (valueIn (textOf (a .n) (a .t .now))) (word-starts (a .n) i (omega (arith, t .pre .1))) w (c .before .word-in .ensures) (c .first-bits .ensures))),
+          (word-byte (bits (a .n) (a .t .now)) i _ (table-word (a .n) i (valueIn (textOf (a .n) (a .t .now)))
+          (word-starts (a .n) i (omega (arith, t .pre .1))) w (c .before .word-in .ensures)
+          (c .first-bits .ensures))),
       λ h. let e : i / 32 ≡ (i + 1) / 32 = omega arith in w ∙ ap (stretchOf (valueIn (textOf (a .n) (a .t .now)))) e,
     )
 
@@ -61,7 +65,8 @@ returns c =
     let q = c .before in
     let t = q .before .before .before .before in
     let a = t .args in
-    filled-whole (q .loop .inv .0) (omega arith) (omega arith) ∙ ap (λ (k : ℕ). bytesOf k (bits (a .n) (a .t .now))) (t .pre .1)
+    filled-whole (q .loop .inv .0) (omega arith) (omega arith)
+    ∙ ap (λ (k : ℕ). bytesOf k (bits (a .n) (a .t .now))) (t .pre .1)
 
 pub fill-spec : {M : Type 1} → statement M
 fill-spec =

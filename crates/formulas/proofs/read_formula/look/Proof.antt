@@ -17,7 +17,8 @@ returns-2 c =
     let s = m .before .before in
     let a = s .before .before .before .args in
     c .refuse-at2 .ensures
-    ∙ text-refused (a .n) (a .t .now) (text-bad (a .n) (a .t .now) (s .before .if1 .left) (m .p .given .1) (s .sum .ensures))
+    ∙ text-refused (a .n) (a .t .now) (text-bad (a .n) (a .t .now) (s .before .if1 .left) (m .p .given .1)
+    (s .sum .ensures))
 
 returns-3 : tie.Need-returns-3
 returns-3 c =
@@ -25,14 +26,16 @@ returns-3 c =
     let s = m .before .before in
     let a = s .before .before .before .args in
     c .refuse-at3 .ensures
-    ∙ text-refused (a .n) (a .t .now) (text-left (a .n) (a .t .now) (s .before .if1 .left) (m .q .given .1) (s .sum .ensures) (c .before .if2 .taken))
+    ∙ text-refused (a .n) (a .t .now) (text-left (a .n) (a .t .now) (s .before .if1 .left) (m .q .given .1)
+    (s .sum .ensures) (c .before .if2 .taken))
 
 returns-4 : tie.Need-returns-4
 returns-4 c =
     let m = c .before .before in
     let s = m .before .before in
     let a = s .before .before .before .args in
-    text-fine (a .n) (a .t .now) (text-good (a .n) (a .t .now) (s .before .if1 .left) (m .q .given .1) (s .sum .ensures) (c .if2 .left))
+    text-fine (a .n) (a .t .now) (text-good (a .n) (a .t .now) (s .before .if1 .left) (m .q .given .1) (s .sum .ensures)
+    (c .if2 .left))
 
 pub look-spec : {M : Type 1} → statement M
 look-spec =

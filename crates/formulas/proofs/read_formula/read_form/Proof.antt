@@ -1,4 +1,5 @@
--- `read_form` meets its contract: each return is the first line that holds, or what the look at the text says. Assumes nothing.
+-- `read_form` meets its contract: each return is the first line that holds, or what the look at the text says. Assumes
+-- nothing.
 use mathlib.Core.Path.{sym, _∙_}
 use mathlib.Core.List.{[], _∷_}
 use native.Mathlib.Omega.{arith}
@@ -16,13 +17,19 @@ returns : tie.Need-returns
 returns c =
     let i = c .before in
     let a = i .before .before .before .before .args in
-    c .refuse .ensures ∙ decides (readLines (a .n) (a .t .now) (a .table .now)) (here (sym (i .before .bad-inputs .ensures) ∙ i .if1 .taken))
+    c .refuse .ensures ∙ decides (readLines (a .n) (a .t .now) (a .table .now))
+    (here (sym (i .before .bad-inputs .ensures) ∙ i .if1 .taken))
 
 cast-inputs : tie.Need-cast-inputs
-cast-inputs c = omega (arith, inside 1 (c .before .before .before .before .args .n) mostInputs (sym (c .before .bad-inputs .ensures) ∙ c .if1 .left))
+cast-inputs c = omega (
+  arith,
+  inside 1 (c .before .before .before .before .args .n) mostInputs
+      (sym (c .before .bad-inputs .ensures) ∙ c .if1 .left),
+)
 
 bad-table-requires : tie.Need-bad-table-requires
-bad-table-requires c κs = inside 1 (c .before .before .before .before .args .n) mostInputs (sym (c .before .bad-inputs .ensures) ∙ c .if1 .left) .1
+bad-table-requires c κs = inside 1 (c .before .before .before .before .args .n) mostInputs
+    (sym (c .before .bad-inputs .ensures) ∙ c .if1 .left) .1
 
 returns-2 : tie.Need-returns-2
 returns-2 c =
@@ -30,12 +37,15 @@ returns-2 c =
     let i = b .before .before in
     let a = i .before .before .before .before .args in
     c .refuse2 .ensures
-    ∙ decides (readLines (a .n) (a .t .now) (a .table .now)) (later (sym (i .before .bad-inputs .ensures) ∙ i .if1 .left) (here (sym (b .before .bad-table .ensures) ∙ b .if2 .taken)))
+    ∙ decides (readLines (a .n) (a .t .now) (a .table .now))
+    (later (sym (i .before .bad-inputs .ensures) ∙ i .if1 .left)
+    (here (sym (b .before .bad-table .ensures) ∙ b .if2 .taken)))
 
 look-requires : tie.Need-look-requires
 look-requires c κs =
     let i = c .before .before in
-    inside 1 (i .before .before .before .before .args .n) mostInputs (sym (i .before .bad-inputs .ensures) ∙ i .if1 .left) .1
+    inside 1 (i .before .before .before .before .args .n) mostInputs
+    (sym (i .before .bad-inputs .ensures) ∙ i .if1 .left) .1
 
 returns-3 : tie.Need-returns-3
 returns-3 c =

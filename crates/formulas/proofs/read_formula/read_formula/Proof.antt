@@ -1,4 +1,5 @@
--- `read_formula` meets its contract: a refusal is its lines' verdict, and where these are in order the text is a formula. Assumes nothing.
+-- `read_formula` meets its contract: a refusal is its lines' verdict, and where these are in order the text is a
+-- formula. Assumes nothing.
 use mathlib.Core.Path.{sym, ap, _∙_}
 use mathlib.Core.List.{List}
 use Prim.Native.Nat.{ℕ}
@@ -21,20 +22,23 @@ returns c =
     let a = f .before .before .before .before .args in
     let e = c .enum-told2 .given .1 in
     ap (λ (v : Verdict). record { verdict = v; table = a .table .now }) e
-    ∙ ap (λ (v : Verdict). reply v (readDone (a .n) (a .t .now)) (readNot (a .table .now))) (sym e ∙ f .read-form .ensures)
+    ∙ ap (λ (v : Verdict). reply v (readDone (a .n) (a .t .now)) (readNot (a .table .now)))
+    (sym e ∙ f .read-form .ensures)
 
 cast-fill : tie.Need-cast-fill
 cast-fill c =
     let f = c .before .before in
     let a = f .before .before .before .before .args in
-    let w = in-order (readLines (a .n) (a .t .now) (a .table .now)) (sym (f .read-form .ensures) ∙ c .enum-told .given .1) in
+    let w = in-order (readLines (a .n) (a .t .now) (a .table .now))
+    (sym (f .read-form .ensures) ∙ c .enum-told .given .1) in
     omega (arith, inside 1 (a .n) mostInputs (w .0))
 
 fill-requires : tie.Need-fill-requires
 fill-requires c κs =
     let f = c .before .before .before in
     let a = f .before .before .before .before .args in
-    let w = in-order (readLines (a .n) (a .t .now) (a .table .now)) (sym (f .read-form .ensures) ∙ c .before .enum-told .given .1) in
+    let w = in-order (readLines (a .n) (a .t .now) (a .table .now))
+    (sym (f .read-form .ensures) ∙ c .before .enum-told .given .1) in
     (inside 1 (a .n) mostInputs (w .0) .1, right-table (a .n) (a .table .now) (w .1 .0), w .1 .1 .0)
 
 returns-2 : tie.Need-returns-2

@@ -10,14 +10,16 @@ returns c =
     let s = m .before .before in
     let t = s .before .before in
     let a = t .args in
-    absurd (stretch-stuck (a .n) (a .t .now) (good-text (a .n) (a .t .now) (t .pre .1)) (m .enum-told .given .1) (s .sum .ensures))
+    absurd (stretch-stuck (a .n) (a .t .now) (good-text (a .n) (a .t .now) (t .pre .1)) (m .enum-told .given .1)
+    (s .sum .ensures))
 
 returns-2 : tie.Need-returns-2
 returns-2 c =
     let s = c .before .before .before in
     let t = s .before .before in
     let a = t .args in
-    stretch-found (a .n) (a .t .now) (good-text (a .n) (a .t .now) (t .pre .1)) (c .before .v .given .1) (s .sum .ensures)
+    stretch-found (a .n) (a .t .now) (good-text (a .n) (a .t .now) (t .pre .1)) (c .before .v .given .1)
+    (s .sum .ensures)
 
 pub text-stretch-spec : {M : Type 1} → statement M
 text-stretch-spec =

@@ -1,4 +1,5 @@
--- The four readers give what the definition reads. The number that falls: four for each byte that is left, and the level. Assumes nothing.
+-- The four readers give what the definition reads. The number that falls: four for each byte that is left, and the
+-- level. Assumes nothing.
 use Prim.Native.Nat.{ℕ, _+_, _*_, _-_, _<_}
 use native.Mathlib.Omega.{arith}
 use borrow.Author.Needs.{needs}
@@ -7,7 +8,8 @@ use lib.Bits.{bitAnd, bitOr, bitXor}
 use Rattle.formulas.proofs.ByteKinds.{kind-bang, kind-open}
 use Rattle.values.specs.Stretches.{inBoth}
 use Rattle.values.proofs.Bitwise.{number-and, number-or, number-xor, joined-stretch}
-use Rattle.formulas.proofs.Words.{ahead, first-bad, last, last-end, next-bad, next, f-end, f-deep-not, f-deep-open, f-not-bad, f-not, f-open-bad, f-closed}
+use Rattle.formulas.proofs.Words.{ahead, first-bad, last, last-end, next-bad, next, f-end, f-deep-not}
+use Rattle.formulas.proofs.Words.{f-deep-open, f-not-bad, f-not, f-open-bad, f-closed}
 use borrow.Fn.Kinds.{In}
 use borrow.Fn.PlainCycle.{Measures, is, falls, and}
 use Rattle.formulas.proofs.reading.factor.Reads as factor
@@ -105,21 +107,31 @@ factor-returns-2 : (t : ℕ) → factor-lts.Need-returns-2 (factor-beside t) (fa
 factor-returns-2 t c = f-deep-not _ _ _ (kind-bang _ _ (c .before .if2 .taken)) (c .if3 .taken)
 
 factor-returns-3 : (t : ℕ) → factor-lts.Need-returns-3 (factor-beside t) (factor-at t) factor.Post
-factor-returns-3 t c = f-not-bad _ _ _ (kind-bang _ _ (c .before .before .before .before .before .if2 .taken)) (c .before .before .before .before .if3 .left) (c .before .before .before .before .before .before .before .if1 .left) (c .before .p .given .1) (c .before .before .before .factor .ensures)
+factor-returns-3 t c = f-not-bad _ _ _ (kind-bang _ _ (c .before .before .before .before .before .if2 .taken))
+    (c .before .before .before .before .if3 .left)
+    (c .before .before .before .before .before .before .before .if1 .left) (c .before .p .given .1)
+    (c .before .before .before .factor .ensures)
 
 factor-returns-4 : (t : ℕ) → factor-lts.Need-returns-4 (factor-beside t) (factor-at t) factor.Post
-factor-returns-4 t c = f-not _ _ _ (kind-bang _ _ (c .before .before .before .before .before .before .if2 .taken)) (c .before .before .before .before .before .if3 .left) (c .before .before .before .before .before .before .before .before .if1 .left) (c .before .before .v .given .1) (c .before .before .before .before .factor .ensures) (c .turned .ensures)
+factor-returns-4 t c = f-not _ _ _ (kind-bang _ _ (c .before .before .before .before .before .before .if2 .taken))
+    (c .before .before .before .before .before .if3 .left)
+    (c .before .before .before .before .before .before .before .before .if1 .left) (c .before .before .v .given .1)
+    (c .before .before .before .before .factor .ensures) (c .turned .ensures)
 
 factor-returns-5 : (t : ℕ) → factor-lts.Need-returns-5 (factor-beside t) (factor-at t) factor.Post
 factor-returns-5 t c = f-deep-open _ _ _ (kind-open _ _ (c .before .if4 .taken)) (c .if5 .taken)
 
 factor-returns-6 : (t : ℕ) → factor-lts.Need-returns-6 (factor-beside t) (factor-at t) factor.Post
-factor-returns-6 t c = f-open-bad _ _ _ (kind-open _ _ (c .before .before .before .before .before .if4 .taken)) (c .before .before .before .before .if5 .left) (c .before .before .before .before .before .before .before .before .if1 .left) (c .before .p2 .given .1) (c .before .before .before .sum .ensures)
+factor-returns-6 t c = f-open-bad _ _ _ (kind-open _ _ (c .before .before .before .before .before .if4 .taken))
+    (c .before .before .before .before .if5 .left)
+    (c .before .before .before .before .before .before .before .before .if1 .left) (c .before .p2 .given .1)
+    (c .before .before .before .sum .ensures)
 
 factor-returns-7 : (t : ℕ) → factor-lts.Need-returns-7 (factor-beside t) (factor-at t) factor.Post
 factor-returns-7 t c =
     let m = c .before .before .before .before in
-    f-closed _ _ _ (kind-open _ _ (m .before .before .if4 .taken)) (m .before .if5 .left) (m .before .before .before .before .before .if1 .left) (c .before .before .v2 .given .1) (m .sum .ensures)
+    f-closed _ _ _ (kind-open _ _ (m .before .before .if4 .taken)) (m .before .if5 .left)
+    (m .before .before .before .before .before .if1 .left) (c .before .before .v2 .given .1) (m .sum .ensures)
     (c .closed .ensures)
 
 factor-returns-8 : (t : ℕ) → factor-lts.Need-returns-8 (factor-beside t) (factor-at t) factor.Post
@@ -129,19 +141,29 @@ part-returns : (t : ℕ) → part-lts.Need-returns (part-beside t) (part-at t) p
 part-returns t c = first-bad _ _ _ (c .before .p .given .1) (c .before .before .before .factor .ensures)
 
 part-part-requires : (t : ℕ) → part-lts.Need-part-requires (part-beside t) (part-at t) part.Post
-part-part-requires t c κs = let h = ahead (c .before .before .before .before .v .given .1) (c .before .before .before .before .before .before .factor .ensures) (search needs) in (omega arith, (omega arith, search needs))
+part-part-requires t c κs = let h = ahead (c .before .before .before .before .v .given .1)
+    (c .before .before .before .before .before .before .factor .ensures) (search needs)
+    in (omega arith, (omega arith, search needs))
 
 part-returns-2 : (t : ℕ) → part-lts.Need-returns-2 (part-beside t) (part-at t) part.Post
-part-returns-2 t c = next-bad _ _ _ (c .before .before .before .before .before .before .before .before .v .given .1) (c .before .before .before .before .before .before .before .before .before .before .factor .ensures) (search needs) (c .before .before .before .before .if2 .taken) (c .before .p2 .given .1) (c .before .before .before .part .ensures)
+part-returns-2 t c = next-bad _ _ _ (c .before .before .before .before .before .before .before .before .v .given .1)
+    (c .before .before .before .before .before .before .before .before .before .before .factor .ensures) (search needs)
+    (c .before .before .before .before .if2 .taken) (c .before .p2 .given .1) (c .before .before .before .part .ensures)
 
 part-returns-3 : (t : ℕ) → part-lts.Need-returns-3 (part-beside t) (part-at t) part.Post
-part-returns-3 t c = next _ _ _ (inBoth bitAnd) (λ F G. joined-stretch 0 bitAnd (number-and 64) F G _) (c .before .before .before .before .before .before .before .before .before .v .given .1) (c .before .before .before .before .before .before .before .before .before .before .before .factor .ensures) (search needs) (c .before .before .before .before .before .if2 .taken) (c .before .before .x .given .1) (c .before .before .before .before .part .ensures) (c .both .ensures)
+part-returns-3 t c = next _ _ _ (inBoth bitAnd) (λ F G. joined-stretch 0 bitAnd (number-and 64) F G _)
+    (c .before .before .before .before .before .before .before .before .before .v .given .1)
+    (c .before .before .before .before .before .before .before .before .before .before .before .factor .ensures)
+    (search needs) (c .before .before .before .before .before .if2 .taken) (c .before .before .x .given .1)
+    (c .before .before .before .before .part .ensures) (c .both .ensures)
 
 part-returns-4 : (t : ℕ) → part-lts.Need-returns-4 (part-beside t) (part-at t) part.Post
-part-returns-4 t c = last _ _ _ (c .before .before .before .before .v .given .1) (c .before .before .before .before .before .before .factor .ensures) (c .if2 .left)
+part-returns-4 t c = last _ _ _ (c .before .before .before .before .v .given .1)
+    (c .before .before .before .before .before .before .factor .ensures) (c .if2 .left)
 
 part-returns-5 : (t : ℕ) → part-lts.Need-returns-5 (part-beside t) (part-at t) part.Post
-part-returns-5 t c = last-end _ _ _ (c .before .before .v .given .1) (c .before .before .before .before .factor .ensures) (c .if1 .left)
+part-returns-5 t c = last-end _ _ _ (c .before .before .v .given .1)
+    (c .before .before .before .before .factor .ensures) (c .if1 .left)
 
 sum-returns :
     (t : ℕ) →
@@ -149,27 +171,37 @@ sum-returns :
 sum-returns t c = first-bad _ _ _ (c .before .p .given .1) (c .before .before .before .term .ensures)
 
 sum-sum-requires : (t : ℕ) → sum-lts.Need-sum-requires (sum-beside t) (sum-at t) sum.Post
-sum-sum-requires t c κs = let h = ahead (c .before .before .before .before .v .given .1) (c .before .before .before .before .before .before .term .ensures) (search needs) in (omega arith, (omega arith, search needs))
+sum-sum-requires t c κs = let h = ahead (c .before .before .before .before .v .given .1)
+    (c .before .before .before .before .before .before .term .ensures) (search needs)
+    in (omega arith, (omega arith, search needs))
 
 sum-returns-2 :
     (t : ℕ) →
     sum-lts.Need-returns-2 (sum-beside t) (sum-at t) sum.Post
-sum-returns-2 t c = next-bad _ _ _ (c .before .before .before .before .before .before .before .before .v .given .1) (c .before .before .before .before .before .before .before .before .before .before .term .ensures) (search needs) (c .before .before .before .before .if2 .taken) (c .before .p2 .given .1) (c .before .before .before .sum .ensures)
+sum-returns-2 t c = next-bad _ _ _ (c .before .before .before .before .before .before .before .before .v .given .1)
+    (c .before .before .before .before .before .before .before .before .before .before .term .ensures) (search needs)
+    (c .before .before .before .before .if2 .taken) (c .before .p2 .given .1) (c .before .before .before .sum .ensures)
 
 sum-returns-3 :
     (t : ℕ) →
     sum-lts.Need-returns-3 (sum-beside t) (sum-at t) sum.Post
-sum-returns-3 t c = next _ _ _ (inBoth bitOr) (λ F G. joined-stretch 2 bitOr (number-or 64) F G _) (c .before .before .before .before .before .before .before .before .before .v .given .1) (c .before .before .before .before .before .before .before .before .before .before .before .term .ensures) (search needs) (c .before .before .before .before .before .if2 .taken) (c .before .before .x .given .1) (c .before .before .before .before .sum .ensures) (c .either .ensures)
+sum-returns-3 t c = next _ _ _ (inBoth bitOr) (λ F G. joined-stretch 2 bitOr (number-or 64) F G _)
+    (c .before .before .before .before .before .before .before .before .before .v .given .1)
+    (c .before .before .before .before .before .before .before .before .before .before .before .term .ensures)
+    (search needs) (c .before .before .before .before .before .if2 .taken) (c .before .before .x .given .1)
+    (c .before .before .before .before .sum .ensures) (c .either .ensures)
 
 sum-returns-4 :
     (t : ℕ) →
     sum-lts.Need-returns-4 (sum-beside t) (sum-at t) sum.Post
-sum-returns-4 t c = last _ _ _ (c .before .before .before .before .v .given .1) (c .before .before .before .before .before .before .term .ensures) (c .if2 .left)
+sum-returns-4 t c = last _ _ _ (c .before .before .before .before .v .given .1)
+    (c .before .before .before .before .before .before .term .ensures) (c .if2 .left)
 
 sum-returns-5 :
     (t : ℕ) →
     sum-lts.Need-returns-5 (sum-beside t) (sum-at t) sum.Post
-sum-returns-5 t c = last-end _ _ _ (c .before .before .v .given .1) (c .before .before .before .before .term .ensures) (c .if1 .left)
+sum-returns-5 t c = last-end _ _ _ (c .before .before .v .given .1) (c .before .before .before .before .term .ensures)
+    (c .if1 .left)
 
 term-returns :
     (t : ℕ) →
@@ -177,19 +209,29 @@ term-returns :
 term-returns t c = first-bad _ _ _ (c .before .p .given .1) (c .before .before .before .part .ensures)
 
 term-term-requires : (t : ℕ) → term-lts.Need-term-requires (term-beside t) (term-at t) term.Post
-term-term-requires t c κs = let h = ahead (c .before .before .before .before .v .given .1) (c .before .before .before .before .before .before .part .ensures) (search needs) in (omega arith, (omega arith, search needs))
+term-term-requires t c κs = let h = ahead (c .before .before .before .before .v .given .1)
+    (c .before .before .before .before .before .before .part .ensures) (search needs)
+    in (omega arith, (omega arith, search needs))
 
 term-returns-2 : (t : ℕ) → term-lts.Need-returns-2 (term-beside t) (term-at t) term.Post
-term-returns-2 t c = next-bad _ _ _ (c .before .before .before .before .before .before .before .before .v .given .1) (c .before .before .before .before .before .before .before .before .before .before .part .ensures) (search needs) (c .before .before .before .before .if2 .taken) (c .before .p2 .given .1) (c .before .before .before .term .ensures)
+term-returns-2 t c = next-bad _ _ _ (c .before .before .before .before .before .before .before .before .v .given .1)
+    (c .before .before .before .before .before .before .before .before .before .before .part .ensures) (search needs)
+    (c .before .before .before .before .if2 .taken) (c .before .p2 .given .1) (c .before .before .before .term .ensures)
 
 term-returns-3 : (t : ℕ) → term-lts.Need-returns-3 (term-beside t) (term-at t) term.Post
-term-returns-3 t c = next _ _ _ (inBoth bitXor) (λ F G. joined-stretch 1 bitXor (number-xor 64) F G _) (c .before .before .before .before .before .before .before .before .before .v .given .1) (c .before .before .before .before .before .before .before .before .before .before .before .part .ensures) (search needs) (c .before .before .before .before .before .if2 .taken) (c .before .before .x .given .1) (c .before .before .before .before .term .ensures) (c .one-of .ensures)
+term-returns-3 t c = next _ _ _ (inBoth bitXor) (λ F G. joined-stretch 1 bitXor (number-xor 64) F G _)
+    (c .before .before .before .before .before .before .before .before .before .v .given .1)
+    (c .before .before .before .before .before .before .before .before .before .before .before .part .ensures)
+    (search needs) (c .before .before .before .before .before .if2 .taken) (c .before .before .x .given .1)
+    (c .before .before .before .before .term .ensures) (c .one-of .ensures)
 
 term-returns-4 : (t : ℕ) → term-lts.Need-returns-4 (term-beside t) (term-at t) term.Post
-term-returns-4 t c = last _ _ _ (c .before .before .before .before .v .given .1) (c .before .before .before .before .before .before .part .ensures) (c .if2 .left)
+term-returns-4 t c = last _ _ _ (c .before .before .before .before .v .given .1)
+    (c .before .before .before .before .before .before .part .ensures) (c .if2 .left)
 
 term-returns-5 : (t : ℕ) → term-lts.Need-returns-5 (term-beside t) (term-at t) term.Post
-term-returns-5 t c = last-end _ _ _ (c .before .before .v .given .1) (c .before .before .before .before .part .ensures) (c .if1 .left)
+term-returns-5 t c = last-end _ _ _ (c .before .before .v .given .1) (c .before .before .before .before .part .ensures)
+    (c .if1 .left)
 
 pub +factor+part+sum+term-spec : {M : Type 1} → statement M
 +factor+part+sum+term-spec = close μ-factor μ-part μ-sum μ-term (λ t. factor-lts.spec (factor-beside t) (factor-at t)

@@ -1,4 +1,5 @@
--- `check_in` meets its contract: each return is the first line that holds, or that none does; a good sheet can be run. Assumes nothing.
+-- `check_in` meets its contract: each return is the first line that holds, or that none does; a good sheet can be run.
+-- Assumes nothing.
 use mathlib.Core.Path.{_≡_, sym, ap, _∙_}
 use mathlib.Core.Bool.{true}
 use mathlib.Core.List.{List, [], _∷_, _++_}
@@ -40,14 +41,17 @@ looked n t v p q = let w = in-order (tableLines n t) (sym p ∙ q) in record {
 behind : (e : Edition) (d n : ℕ) (t s : List ℕ) (v : Verdict) → v ≡ verdict (tableLines n t) → v ≡ Fine
     → verdict (sheetLines e d n s ++ (tableDiffers e n t s ∷ unreadRecord e n s ∷ [])) ≡ checkOutcome e d n t s
 unfolding checkOutcome
-behind e d n t s v p q = sym (passes (tableLines n t) (sheetLines e d n s ++ (tableDiffers e n t s ∷ unreadRecord e n s ∷ [])) (in-order (tableLines n t) (sym p ∙ q)))
+behind e d n t s v p q = sym (passes (tableLines n t)
+    (sheetLines e d n s ++ (tableDiffers e n t s ∷ unreadRecord e n s ∷ [])) (in-order (tableLines n t) (sym p ∙ q)))
 
 returns : tie.Need-returns
 unfolding checkOutcome
 returns c =
     let f = c .before .before in
     let a = f .before .before .before .args in
-    stopped (tableLines (a .n) (a .t .now)) (sheetLines (a .e) (a .d) (a .n) (a .s .now) ++ (tableDiffers (a .e) (a .n) (a .t .now) (a .s .now) ∷ unreadRecord (a .e) (a .n) (a .s .now) ∷ [])) _ (f .table-form .ensures)
+    stopped (tableLines (a .n) (a .t .now)) (sheetLines (a .e) (a .d) (a .n) (a .s .now)
+    ++ (tableDiffers (a .e) (a .n) (a .t .now) (a .s .now) ∷ unreadRecord (a .e) (a .n) (a .s .now) ∷ [])) _
+    (f .table-form .ensures)
     (c .enum-told2 .given .0 .0) (c .enum-told2 .given .1)
 
 sheet-requires : tie.Need-sheet-requires
@@ -67,11 +71,14 @@ returns-2 c =
     let l = c .before .before in
     let f = l .before .before .before in
     let a = f .before .before .before .args in
-    stopped (sheetLines (a .e) (a .d) (a .n) (a .s .now)) (tableDiffers (a .e) (a .n) (a .t .now) (a .s .now) ∷ unreadRecord (a .e) (a .n) (a .s .now) ∷ []) _ (l .sheet .ensures) (c .enum-told4 .given .0 .0) (c .enum-told4 .given .1)
+    stopped (sheetLines (a .e) (a .d) (a .n) (a .s .now))
+    (tableDiffers (a .e) (a .n) (a .t .now) (a .s .now) ∷ unreadRecord (a .e) (a .n) (a .s .now) ∷ []) _
+    (l .sheet .ensures) (c .enum-told4 .given .0 .0) (c .enum-told4 .given .1)
     ∙ behind (a .e) (a .d) (a .n) (a .t .now) (a .s .now) _ (f .table-form .ensures) (l .before .enum-told .given .1)
 
 div-first-difference : tie.Need-div-first-difference
-div-first-difference c = let s = c .before .before .before .before .before .before .before .before .before in omega (arith, s .pre .ends, s .pre .order)
+div-first-difference c = let s = c .before .before .before .before .before .before .before .before .before
+    in omega (arith, s .pre .ends, s .pre .order)
 
 first-difference-requires : tie.Need-first-difference-requires
 first-difference-requires c κs =
@@ -81,7 +88,9 @@ first-difference-requires c κs =
     let a = s .args in
     let w = looked (a .n) (a .t .now) _ (f .table-form .ensures) (l .before .enum-told .given .1) in (
       runnable (a .e) (a .d) (a .n) (a .s .now) (s .pre) (records (a .e) (a .s .now)) (w .most)
-          (good-sheet (a .e) (a .d) (a .n) (a .s .now) (s .pre) (in-order (sheetLines (a .e) (a .d) (a .n) (a .s .now)) (sym (l .sheet .ensures) ∙ c .before .enum-told3 .given .1))),
+          (good-sheet (a .e) (a .d) (a .n) (a .s .now) (s .pre)
+          (in-order (sheetLines (a .e) (a .d) (a .n) (a .s .now))
+          (sym (l .sheet .ensures) ∙ c .before .enum-told3 .given .1))),
       (w .long, w .spare),
     )
 
@@ -89,7 +98,11 @@ shl-if1 : tie.Need-shl-if1
 shl-if1 c =
     let f = c .before .before .before .before .before .before .before in
     let a = f .before .before .before .args in
-    omega (arith, looked (a .n) (a .t .now) _ (f .table-form .ensures) (c .before .before .before .before .before .enum-told .given .1) .most)
+    omega (
+      arith,
+      looked (a .n) (a .t .now) _ (f .table-form .ensures)
+          (c .before .before .before .before .before .enum-told .given .1) .most,
+    )
 
 returns-3 : tie.Need-returns-3
 returns-3 c =
@@ -99,9 +112,12 @@ returns-3 c =
     let a = f .before .before .before .args in
     let w = looked (a .n) (a .t .now) _ (f .table-form .ensures) (l .before .enum-told .given .1) in
     let p = shl-one 32 (a .n) (omega (arith, w .most)) in
-    let near : firstDifference (a .e) (a .n) (a .s .now) (records (a .e) (a .s .now)) (a .t .now) < 2 ^ a .n = omega (arith, p, x .first-difference .ensures, c .before .if1 .taken) in
+    let near : firstDifference (a .e) (a .n) (a .s .now) (records (a .e) (a .s .now)) (a .t .now)
+    < 2 ^ a .n = omega (arith, p, x .first-difference .ensures, c .before .if1 .taken) in
     c .refuse-at .ensures ∙ ap (λ (k : ℕ). Refused (refusal 12 k)) (x .first-difference .ensures)
-    ∙ decided (sheetLines (a .e) (a .d) (a .n) (a .s .now)) (tableDiffers (a .e) (a .n) (a .t .now) (a .s .now) ∷ unreadRecord (a .e) (a .n) (a .s .now) ∷ []) _ (l .sheet .ensures) (x .before .before .enum-told3 .given .1)
+    ∙ decided (sheetLines (a .e) (a .d) (a .n) (a .s .now))
+    (tableDiffers (a .e) (a .n) (a .t .now) (a .s .now) ∷ unreadRecord (a .e) (a .n) (a .s .now) ∷ []) _
+    (l .sheet .ensures) (x .before .before .enum-told3 .given .1)
     (here (lt-ltb _ (2 ^ a .n) near))
     ∙ behind (a .e) (a .d) (a .n) (a .t .now) (a .s .now) _ (f .table-form .ensures) (l .before .enum-told .given .1)
 
@@ -114,7 +130,8 @@ all-read-requires c κs =
     let a = s .args in (
       s .pre,
       looked (a .n) (a .t .now) _ (f .table-form .ensures) (l .before .enum-told .given .1) .most,
-      in-order (sheetLines (a .e) (a .d) (a .n) (a .s .now)) (sym (l .sheet .ensures) ∙ x .before .before .enum-told3 .given .1),
+      in-order (sheetLines (a .e) (a .d) (a .n) (a .s .now))
+          (sym (l .sheet .ensures) ∙ x .before .before .enum-told3 .given .1),
     )
 
 returns-4 : tie.Need-returns-4
@@ -125,12 +142,14 @@ returns-4 c =
     let a = f .before .before .before .args in
     let w = looked (a .n) (a .t .now) _ (f .table-form .ensures) (l .before .enum-told .given .1) in
     let p = shl-one 32 (a .n) (omega (arith, w .most)) in
-    let far : 2 ^ a .n ≤ firstDifference (a .e) (a .n) (a .s .now) (records (a .e) (a .s .now)) (a .t .now) = omega (arith, p, x .first-difference .ensures, c .before .if1 .left) in
+    let far : 2 ^ a .n ≤ firstDifference (a .e) (a .n) (a .s .now) (records (a .e) (a .s .now)) (a .t .now) = omega
+    (arith, p, x .first-difference .ensures, c .before .if1 .left) in
     let ls = sheetLines (a .e) (a .d) (a .n) (a .s .now) in
     let differ = tableDiffers (a .e) (a .n) (a .t .now) (a .s .now) in
     let ms = unreadRecord (a .e) (a .n) (a .s .now) ∷ [] in
     c .all-read .ensures
-    ∙ sym (passes ls (differ ∷ ms) (in-order ls (sym (l .sheet .ensures) ∙ x .before .before .enum-told3 .given .1)) ∙ passes (differ ∷ []) ms (le-ltb _ (2 ^ a .n) far, tt))
+    ∙ sym (passes ls (differ ∷ ms) (in-order ls (sym (l .sheet .ensures) ∙ x .before .before .enum-told3 .given .1))
+    ∙ passes (differ ∷ []) ms (le-ltb _ (2 ^ a .n) far, tt))
     ∙ behind (a .e) (a .d) (a .n) (a .t .now) (a .s .now) _ (f .table-form .ensures) (l .before .enum-told .given .1)
 
 pub check-in-spec : {M : Type 1} → statement M

@@ -1,4 +1,5 @@
--- `check_told` meets its contract: n and the edition refuse, or the edition handed down is the one with that number. Assumes nothing.
+-- `check_told` meets its contract: n and the edition refuse, or the edition handed down is the one with that number.
+-- Assumes nothing.
 use mathlib.Core.Path.{sym, ap, _∙_, subst}
 use borrow.Author.Needs.{needs}
 use Rattle.sheets.specs.declared.kinds.Edition.{Edition}
@@ -16,7 +17,8 @@ returns c =
     let f = c .before .before in
     let a = f .before .before .before .args in
     let e = editionOf (a .w) in
-    stopped (toldForm (a .w) (a .n)) (checkLines e (deskOf e (a .s .now)) (a .n) (a .t .now) (a .s .now)) (f .told .result) (f .told .ensures)
+    stopped (toldForm (a .w) (a .n)) (checkLines e (deskOf e (a .s .now)) (a .n) (a .t .now) (a .s .now))
+    (f .told .result) (f .told .ensures)
     (c .enum-told2 .given .0 .0) (c .enum-told2 .given .1)
 
 returns-2 : tie.Need-returns-2
@@ -29,7 +31,8 @@ returns-2 c =
     let ls = toldForm (a .w) (a .n) in
     c .check-own .ensures
     ∙ ap (λ (e : Edition). checkOwn e (a .n) (a .t .now) (a .s .now)) (c .before .numbered .ensures)
-    ∙ sym (passes ls (checkLines e (deskOf e (a .s .now)) (a .n) (a .t .now) (a .s .now)) (in-order ls (sym (f .told .ensures) ∙ g .enum-told .given .1)))
+    ∙ sym (passes ls (checkLines e (deskOf e (a .s .now)) (a .n) (a .t .now) (a .s .now))
+    (in-order ls (sym (f .told .ensures) ∙ g .enum-told .given .1)))
 
 pub check-told-spec : {M : Type 1} → statement M
 check-told-spec =

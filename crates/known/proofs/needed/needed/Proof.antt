@@ -18,7 +18,11 @@ loop-holds : tie.Need-loop-holds Inv-loop μ-loop
 loop-holds c = adds-none _ _ _ _
 
 loop-less : tie.Need-loop-less Inv-loop μ-loop
-loop-less c = omega (arith, and-le-r (c .before .before .loop .x) (c .before .before .loop .x - 1), c .before .loop-test .taken)
+loop-less c = omega (
+  arith,
+  and-le-r (c .before .before .loop .x) (c .before .before .loop .x - 1),
+  c .before .loop-test .taken,
+)
 
 loop-again : tie.Need-loop-again Inv-loop μ-loop
 loop-again c = adds-both _ _ _ (c .before .before .loop .inv) (c .with-pair .ensures)
@@ -28,4 +32,5 @@ returns c = c .before .loop .inv
 
 pub needed-spec : {M : Type 1} → statement M
 needed-spec =
-    tie.close (tie.spec Inv-loop μ-loop loop-holds (λ c κs. search needs) (λ c. search needs) loop-less loop-again returns)
+    tie.close (tie.spec Inv-loop μ-loop loop-holds (λ c κs. search needs) (λ c. search needs) loop-less loop-again
+    returns)

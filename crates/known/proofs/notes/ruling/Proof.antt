@@ -19,4 +19,7 @@ returns-2 c l = c .before .meets .ensures (c .if2 .taken)
 
 pub ruling-spec : {M : Type 1} → statement M
 ruling-spec =
-    tie.close (tie.spec Inv-loop μ-loop (λ c. search needs) cast-kept (λ c. search needs) (λ c l. absurd (omega arith)) (λ c. search needs) (λ c. search needs) (λ c. search needs) (λ c. search needs) (λ c. search needs) (λ c κs. search needs) returns-2 (λ c. search needs) (λ c. search needs) (λ c. search needs) (λ c l. absurd (omega arith)))
+    tie.close (tie.spec Inv-loop μ-loop (λ c. search needs) cast-kept (λ c. search needs) (λ c l. absurd (omega arith))
+    (λ c. search needs) (λ c. search needs) (λ c. search needs) (λ c. search needs) (λ c. search needs)
+    (λ c κs. search needs) returns-2 (λ c. search needs) (λ c. search needs) (λ c. search needs)
+    (λ c l. absurd (omega arith)))

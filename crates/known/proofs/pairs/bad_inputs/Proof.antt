@@ -17,7 +17,11 @@ abbrev μ-loop : tie.MeasureT-loop
 μ-loop t n most i j places mask₀ c₀ mask c = c
 
 loop-holds : tie.Need-loop-holds Inv-loop μ-loop
-loop-holds c = (omega arith, needs-none (both (c .before .before .before .args .i) (c .before .before .before .args .j)))
+loop-holds c = (
+  omega arith,
+  needs-none (both (c .before .before .before .args .i)
+      (c .before .before .before .args .j)),
+)
 
 with-bad-requires : tie.Need-with-bad-requires Inv-loop μ-loop
 with-bad-requires c κs =
@@ -37,4 +41,5 @@ returns-2 c = c .before .loop .inv .1
 
 pub bad-inputs-spec : {M : Type 1} → statement M
 bad-inputs-spec =
-    tie.close (tie.spec Inv-loop μ-loop (λ c κs. search needs) (λ c κs. search needs) loop-holds (λ c. search needs) with-bad-requires (λ c κs. search needs) returns (λ c. search needs) loop-again returns-2)
+    tie.close (tie.spec Inv-loop μ-loop (λ c κs. search needs) (λ c κs. search needs) loop-holds (λ c. search needs)
+    with-bad-requires (λ c κs. search needs) returns (λ c. search needs) loop-again returns-2)

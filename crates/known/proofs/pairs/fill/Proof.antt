@@ -25,7 +25,11 @@ slice-write-table : tie.Need-slice-write-table Inv-loop μ-loop
 slice-write-table c = omega (arith, c .before .before .loop .inv .1 .long)
 
 loop-again : tie.Need-loop-again Inv-loop μ-loop
-loop-again c = (omega arith, pairs-more _ _ _ (c .before .before .loop .inv .1) (c .before .loop-test .taken) (c .entry .ensures))
+loop-again c = (
+  omega arith,
+  pairs-more _ _ _ (c .before .before .loop .inv .1) (c .before .loop-test .taken)
+      (c .entry .ensures),
+)
 
 same-length : tie.Need-same-length Inv-loop μ-loop
 same-length c = c .before .loop .inv .1 .long ∙ sym (c .before .before .before .before .pre .1 .long)
@@ -35,4 +39,5 @@ returns c = c .before .loop .inv .1
 
 pub fill-spec : {M : Type 1} → statement M
 fill-spec =
-    tie.close (tie.spec Inv-loop μ-loop loop-holds (λ c. search needs) (λ c. search needs) entry-requires (λ c. search needs) slice-write-table (λ c. search needs) (λ c. search needs) loop-again same-length returns)
+    tie.close (tie.spec Inv-loop μ-loop loop-holds (λ c. search needs) (λ c. search needs) entry-requires
+    (λ c. search needs) slice-write-table (λ c. search needs) (λ c. search needs) loop-again same-length returns)

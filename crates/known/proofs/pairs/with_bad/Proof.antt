@@ -11,7 +11,9 @@ returns-3 : tie.Need-returns-3
 returns-3 c =
     let s = c .before .before .before .before .before in
     let a = s .args in
-    needs-or (both (a .i) (a .j)) _ _ (s .pre .1) (needs-power (both (a .i) (a .j)) (a .c) _ (shl-one 16 (a .c) (omega (arith, s .pre .0 .0 .most, s .pre .0 .3))) (c .before .bad .ensures (c .if3 .taken)))
+    needs-or (both (a .i) (a .j)) _ _ (s .pre .1)
+    (needs-power (both (a .i) (a .j)) (a .c) _ (shl-one 16 (a .c) (omega (arith, s .pre .0 .0 .most, s .pre .0 .3)))
+    (c .before .bad .ensures (c .if3 .taken)))
 
 pub with-bad-spec : {M : Type 1} → statement M
 with-bad-spec =

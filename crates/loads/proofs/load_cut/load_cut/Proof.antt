@@ -22,7 +22,11 @@ returns c =
     p .load-part .ensures
     ∙ ap (λ (ts : List Store). partOutcome ts (a .card .now) (a .d) (a .n) (a .s .now))
     (take-all storeCount l (le-of-eq (length-load (a .d) (a .n) (a .s .now)))
-    ∙ sym (take-all (a .stores) l (omega (arith, length-load (a .d) (a .n) (a .s .now), p .before .before .if1 .taken))))
+    ∙ sym (take-all (a .stores) l (omega (
+      arith,
+      length-load (a .d) (a .n) (a .s .now),
+      p .before .before .if1 .taken,
+    ))))
 
 returns-2 : tie.Need-returns-2
 returns-2 c =
@@ -30,7 +34,8 @@ returns-2 c =
     let a = p .before .before .before .before .before .args in
     let all : a .stores - 0 ≡ a .stores = omega arith in
     p .load-part2 .ensures
-    ∙ ap (λ (k : ℕ). partOutcome (take k (loadStores (a .d) (a .n) (a .s .now))) (a .card .now) (a .d) (a .n) (a .s .now)) all
+    ∙ ap (λ (k : ℕ). partOutcome (take k (loadStores (a .d) (a .n) (a .s .now))) (a .card .now) (a .d) (a .n)
+    (a .s .now)) all
 
 pub load-cut-spec : {M : Type 1} → statement M
 load-cut-spec =

@@ -16,8 +16,10 @@ returns : tie.Need-returns
 returns c =
     let p = c .before .before in
     let a = p .before .before .before .before .before .args in
-    let none = drop-of-length-le (loadStores (a .d) (a .n) (a .s .now)) {i = a .which} (omega (arith, length-load (a .d) (a .n) (a .s .now), p .before .before .if1 .taken)) in
-    p .load-part .ensures ∙ ap (λ (ts : List Store). partOutcome (take 1 ts) (a .card .now) (a .d) (a .n) (a .s .now)) (sym none)
+    let none = drop-of-length-le (loadStores (a .d) (a .n) (a .s .now)) {i = a .which}
+    (omega (arith, length-load (a .d) (a .n) (a .s .now), p .before .before .if1 .taken)) in
+    p .load-part .ensures ∙ ap (λ (ts : List Store). partOutcome (take 1 ts) (a .card .now) (a .d) (a .n) (a .s .now))
+    (sym none)
 
 returns-2 : tie.Need-returns-2
 returns-2 c =
@@ -25,7 +27,8 @@ returns-2 c =
     let a = p .before .before .before .before .before .args in
     let one : a .which + 1 - a .which ≡ 1 = omega arith in
     p .load-part2 .ensures
-    ∙ ap (λ (k : ℕ). partOutcome (take k (drop (a .which) (loadStores (a .d) (a .n) (a .s .now)))) (a .card .now) (a .d) (a .n) (a .s .now)) one
+    ∙ ap (λ (k : ℕ). partOutcome (take k (drop (a .which) (loadStores (a .d) (a .n) (a .s .now)))) (a .card .now) (a .d)
+    (a .n) (a .s .now)) one
 
 pub load-store-spec : {M : Type 1} → statement M
 load-store-spec =

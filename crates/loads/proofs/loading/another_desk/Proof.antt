@@ -13,12 +13,14 @@ use Rattle.loads.proofs.loading.another_desk.Tie as tie
 returns : tie.Need-returns
 returns c =
     let a = c .before .args in
-    sym (ap (λ (t : Bool). t && not (eqb (getD (a .s .now) 7 0) (a .d))) (lt-leb recordSize (length (a .s .now)) (c .if1 .taken)))
+    sym (ap (λ (t : Bool). t && not (eqb (getD (a .s .now) 7 0) (a .d)))
+    (lt-leb recordSize (length (a .s .now)) (c .if1 .taken)))
 
 returns-2 : tie.Need-returns-2
 returns-2 c =
     let a = c .before .before .args in
-    sym (ap (λ (t : Bool). t && not (eqb (getD (a .s .now) 7 0) (a .d))) (le-leb recordSize (length (a .s .now)) (omega arith)))
+    sym (ap (λ (t : Bool). t && not (eqb (getD (a .s .now) 7 0) (a .d)))
+    (le-leb recordSize (length (a .s .now)) (omega arith)))
 
 pub another-desk-spec : {M : Type 1} → statement M
 another-desk-spec =

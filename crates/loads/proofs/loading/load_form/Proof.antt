@@ -17,14 +17,16 @@ use Rattle.loads.proofs.loading.load_form.Tie as tie
 returns : tie.Need-returns
 returns c =
     let a = c .before .before .before .before .args in
-    c .refuse .ensures ∙ decides (loadLines (a .card .now) (a .d) (a .n) (a .s .now)) (here (ap not (ne-eqb (length (a .card .now)) cardBytes (c .before .if1 .taken))))
+    c .refuse .ensures ∙ decides (loadLines (a .card .now) (a .d) (a .n) (a .s .now))
+    (here (ap not (ne-eqb (length (a .card .now)) cardBytes (c .before .if1 .taken))))
 
 returns-2 : tie.Need-returns-2
 returns-2 c =
     let o = c .before .before in
     let a = o .before .before .before .before .args in
     c .refuse2 .ensures
-    ∙ decides (loadLines (a .card .now) (a .d) (a .n) (a .s .now)) (later (ap not (eq-eqb (length (a .card .now)) cardBytes (o .before .if1 .left)))
+    ∙ decides (loadLines (a .card .now) (a .d) (a .n) (a .s .now))
+    (later (ap not (eq-eqb (length (a .card .now)) cardBytes (o .before .if1 .left)))
     (here (ap (λ (t : Bool). t || anotherDesk (a .d) (a .s .now)) (sym (o .outside .ensures) ∙ c .before .if2 .taken))))
 
 returns-3 : tie.Need-returns-3
@@ -33,13 +35,19 @@ returns-3 c =
     let o = m .before .before in
     let a = o .before .before .before .before .args in
     c .refuse3 .ensures
-    ∙ decides (loadLines (a .card .now) (a .d) (a .n) (a .s .now)) (later (ap not (eq-eqb (length (a .card .now)) cardBytes (o .before .if1 .left)))
-    (here (ap₂ _||_ (sym (o .outside .ensures) ∙ m .before .if2 .left) (sym (m .another-desk .ensures) ∙ c .before .if3 .taken))))
+    ∙ decides (loadLines (a .card .now) (a .d) (a .n) (a .s .now))
+    (later (ap not (eq-eqb (length (a .card .now)) cardBytes (o .before .if1 .left)))
+    (here (ap₂ _||_ (sym (o .outside .ensures) ∙ m .before .if2 .left)
+    (sym (m .another-desk .ensures) ∙ c .before .if3 .taken))))
 
 cast-filed : tie.Need-cast-filed
 cast-filed c =
     let o = c .before .before .before in
-    omega (arith, inside 1 (o .before .before .before .before .args .d) desks (sym (o .outside .ensures) ∙ c .before .before .if2 .left))
+    omega (
+      arith,
+      inside 1 (o .before .before .before .before .args .d) desks
+          (sym (o .outside .ensures) ∙ c .before .before .if2 .left),
+    )
 
 returns-4 : tie.Need-returns-4
 returns-4 c =
@@ -49,7 +57,11 @@ returns-4 c =
     c .filed .ensures
     ∙ sym (passes (badCard (a .card .now) ∷ badLoad (a .d) (a .s .now) ∷ []) (filedLines (a .d) (a .n) (a .s .now)) (
       ap not (eq-eqb (length (a .card .now)) cardBytes (o .before .if1 .left)),
-      (ap₂ _||_ (sym (o .outside .ensures) ∙ m .before .if2 .left) (sym (m .another-desk .ensures) ∙ c .before .if3 .left), tt),
+      (
+        ap₂ _||_ (sym (o .outside .ensures) ∙ m .before .if2 .left)
+            (sym (m .another-desk .ensures) ∙ c .before .if3 .left),
+        tt,
+      ),
     ))
 
 pub load-form-spec : {M : Type 1} → statement M

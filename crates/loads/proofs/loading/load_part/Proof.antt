@@ -21,7 +21,8 @@ use Rattle.loads.proofs.loading.load_part.Tie as tie
 
 -- the stores that are asked for
 part : tie.Start → List Store
-part s = take (s .args .end - s .args .first) (drop (s .args .first) (loadStores (s .args .d) (s .args .n) (s .args .s .now)))
+part s = take (s .args .end - s .args .first)
+    (drop (s .args .first) (loadStores (s .args .d) (s .args .n) (s .args .s .now)))
 
 returns : tie.Need-returns
 unfolding partOutcome part
@@ -30,7 +31,8 @@ returns c =
     let s = f .before .before .before .before in
     let e = c .enum-told2 .given .1 in
     ap (λ (v : Verdict). record { verdict = v; card = s .args .card .now }) e
-    ∙ ap (λ (v : Verdict). reply v (loadDone (part s) (s .args .card .now)) (loadNot (s .args .card .now))) (sym e ∙ f .load-form .ensures)
+    ∙ ap (λ (v : Verdict). reply v (loadDone (part s) (s .args .card .now)) (loadNot (s .args .card .now)))
+    (sym e ∙ f .load-form .ensures)
 
 -- where the lines are in order
 module _ (c : tie.After-make-stores-arg) where

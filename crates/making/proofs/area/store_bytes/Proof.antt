@@ -36,16 +36,19 @@ module _ (c : tie.In-loop Inv-loop μ-loop) where
   same = filled-front (c .before .loop .inv)
 
   whole : length (take half (c .before .loop .work)) ≡ half
-  whole = length-take-le half (c .before .loop .work) (omega (arith, c .before .before .before .before .pre .2, c .before .loop .inv .long))
+  whole = length-take-le half (c .before .loop .work)
+      (omega (arith, c .before .before .before .before .pre .2, c .before .loop .inv .long))
 
 slice-reshare-prefix-h-byte : tie.Need-slice-reshare-prefix-h-byte Inv-loop μ-loop
-slice-reshare-prefix-h-byte c = let g = c .before .before .before .before in omega (arith, g .pre .2, c .before .loop .inv .long)
+slice-reshare-prefix-h-byte c = let g = c .before .before .before .before
+    in omega (arith, g .pre .2, c .before .loop .inv .long)
 
 slice-aggregate-h-byte : tie.Need-slice-aggregate-h-byte Inv-loop μ-loop
 slice-aggregate-h-byte c = sym (whole (c .before))
 
 cast-h-byte : tie.Need-cast-h-byte Inv-loop μ-loop
-cast-h-byte c = let g = c .before .before .before .before .before in omega (arith, g .pre .1, c .before .loop-test .taken)
+cast-h-byte c = let g = c .before .before .before .before .before
+    in omega (arith, g .pre .1, c .before .loop-test .taken)
 
 h-byte-requires : tie.Need-h-byte-requires Inv-loop μ-loop
 h-byte-requires c κs =
@@ -55,13 +58,15 @@ h-byte-requires c κs =
       g .pre .0,
       omega (arith, whole i, pow-mono {i = g .args .s .n} {j = 16} (g .pre .0 .most)),
       subst (λ (m : ℕ). Chart (g .args .s) (tableBit (take half (i .before .loop .work))) m (g .args .seen .now)) e
-          (subst (λ (l : List ℕ). Chart (g .args .s) (tableBit l) (2 ^ g .args .r) (g .args .seen .now)) (sym (same i)) (g .pre .3)),
+          (subst (λ (l : List ℕ). Chart (g .args .s) (tableBit l) (2 ^ g .args .r) (g .args .seen .now)) (sym (same i))
+          (g .pre .3)),
       omega (arith, e, pow-mono {i = g .args .r} {j = mostFirst} (g .pre .4)),
       omega (arith, g .pre .1, i .loop-test .taken),
     )
 
 add-at : tie.Need-add-at Inv-loop μ-loop
-add-at c = let g = c .before .before .before .before .before .before in omega (arith, g .pre .1, c .before .before .loop-test .taken)
+add-at c = let g = c .before .before .before .before .before .before
+    in omega (arith, g .pre .1, c .before .before .loop-test .taken)
 
 slice-write-work : tie.Need-slice-write-work Inv-loop μ-loop
 slice-write-work c =
@@ -76,11 +81,13 @@ loop-again c =
     let r = g .args .r in
     filled-more (i .before .loop .inv) (i .loop-test .taken) refl
     (c .h-byte .ensures r (sym (power (g .pre .4)))
-    ∙ ap (λ (t : List ℕ). byteOf (inputsH (s .n) (tableBit t) (bit (s .own)) (bit (s .shared)) r) (bitH (s .n) (tableBit t) (bit (s .own)) (bit (s .shared)))
+    ∙ ap (λ (t : List ℕ). byteOf (inputsH (s .n) (tableBit t) (bit (s .own)) (bit (s .shared)) r)
+    (bitH (s .n) (tableBit t) (bit (s .own)) (bit (s .shared)))
     (i .before .loop .i)) (same i))
 
 returns : tie.Need-returns Inv-loop μ-loop
-returns c = let q = c .before .loop in record { long = q .inv .long; same = filled-front (q .inv); bytes = λ k l. q .inv .new k (omega arith) }
+returns c = let q = c .before .loop in record
+    { long = q .inv .long; same = filled-front (q .inv); bytes = λ k l. q .inv .new k (omega arith) }
 
 pub store-bytes-spec : {M : Type 1} → statement M
 store-bytes-spec =

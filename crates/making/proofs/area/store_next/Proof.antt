@@ -11,8 +11,14 @@ store-words-requires : tie.Need-store-words-requires
 store-words-requires c κs =
     let b = c .before .before in
     let i = b .before in
-    let p = i .before .before .before .before .pre in
-    ((p .0, p .1, p .2, p .3, p .4), (omega (arith, i .if1 .taken), omega (arith, c .before .if2 .taken, b .parts .ensures .0)))
+    let p = i .before .before .before .before .pre in (
+      (p .0, p .1, p .2, p .3, p .4),
+      (
+        omega (arith, i .if1 .taken),
+        omega
+            (arith, c .before .if2 .taken, b .parts .ensures .0),
+      ),
+    )
 
 pub store-next-spec : {M : Type 1} → statement M
 store-next-spec =

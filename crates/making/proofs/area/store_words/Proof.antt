@@ -72,21 +72,30 @@ loop-again c =
     let w : c .before .if1 .w ≡ number 64 (λ j. F (64 * (i / 8) + j)) =
     ⊎-elim (λ u.
     u .3 ∙ u .2 .ensures (a .r) (sym (power (g l .pre .0 .4)))
-    ∙ ap (λ (t : List ℕ). gateWord (inputsH (s .n) (tableBit t) (bit (s .own)) (bit (s .shared)) (a .r)) (bitH (s .n) (tableBit t) (bit (s .own)) (bit (s .shared))) (i / 8)) (same l))
+    ∙ ap (λ (t : List ℕ). gateWord (inputsH (s .n) (tableBit t) (bit (s .own)) (bit (s .shared)) (a .r))
+    (bitH (s .n) (tableBit t) (bit (s .own)) (bit (s .shared))) (i / 8)) (same l))
     (λ u. u .1 ∙ q .inv .1 (u .0 .left)) (c .before .if1 .came) in (
       filled-more (q .inv .0) (l .loop-test .taken) refl (c .byte-in .ensures F w),
       λ h. let e : i / 8 ≡ (i + 1) / 8 = omega arith in w ∙ ap (λ (k : ℕ). number 64 (λ j. F (64 * k + j))) e,
     )
 
 returns : tie.Need-returns Inv-loop μ-loop
-returns c = let q = c .before .loop in record { long = q .inv .0 .long; same = filled-front (q .inv .0); bytes = λ k l. q .inv .0 .new k (omega arith) }
+returns c = let q = c .before .loop in record
+    { long = q .inv .0 .long; same = filled-front (q .inv .0); bytes = λ k l. q .inv .0 .new k (omega arith) }
 
 pub store-words-spec : {M : Type 1} → statement M
 store-words-spec =
     tie.close (tie.spec Inv-loop μ-loop (λ c. search needs)
     (λ c. let p = c .before .before .pre .0 in (filled-none (omega (arith, p .1, p .2)), λ h. absurd (h refl)))
-    (λ c. let i = c .before in omega (arith, g i .pre .0 .2, i .before .loop .inv .0 .long)) (λ c. sym (whole (c .before .before)))
+    (λ c. let i = c .before in omega (arith, g i .pre .0 .2, i .before .loop .inv .0 .long))
+    (λ c. sym (whole (c .before .before)))
     (λ c. let i = c .before .before in omega (arith, g i .pre .0 .1, i .loop-test .taken)) h-word-requires
     (λ c. let i = c .before in omega (arith, g i .pre .0 .1, i .loop-test .taken)) (λ c κs. search needs)
-    (λ c. let i = c .before .before in omega (arith, g i .pre .0 .1, g i .pre .0 .2, i .loop-test .taken, i .before .loop .inv .0 .long))
+    (λ c. let i = c .before .before in omega (
+      arith,
+      g i .pre .0 .1,
+      g i .pre .0 .2,
+      i .loop-test .taken,
+      i .before .loop .inv .0 .long,
+    ))
     (λ c. search needs) (λ c. search needs) loop-again (λ c. c .before .loop .inv .0 .long) returns)

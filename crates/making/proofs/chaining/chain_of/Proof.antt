@@ -15,7 +15,8 @@ returns : tie.Need-returns
 returns c =
     let g = c .before .before .before .before .before .before in
     let a = g .args in
-    one-chained (a .n) (a .k) (a .t .now) (a .work .now) _ (c .before .before .chain-upto .result) (g .pre .0) (g .pre .2) (g .pre .1)
+    one-chained (a .n) (a .k) (a .t .now) (a .work .now) _ (c .before .before .chain-upto .result) (g .pre .0)
+    (g .pre .2) (g .pre .1)
     (c .before .before .chain-upto .ensures)
 
 pub chain-of-spec : {M : Type 1} → statement M

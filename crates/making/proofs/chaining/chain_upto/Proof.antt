@@ -22,13 +22,15 @@ set-aside-requires c κs =
     let a = g .args in (
       g .pre .5,
       g .pre .1,
-      subst (λ (m : ℕ). m < 2 ^ a .n) (sym (c .before .kept-of .ensures)) (kept-lt (a .n) (tableBit (a .t .now)) (g .pre .0)),
+      subst (λ (m : ℕ). m < 2 ^ a .n) (sym (c .before .kept-of .ensures))
+          (kept-lt (a .n) (tableBit (a .t .now)) (g .pre .0)),
       omega (arith, g .pre .5, g .pre .6, half-holds (a .n) (g .pre .1)),
     )
 
 -- the signals are those that are kept
 module _ (c : tie.After-pick) where
-  picked : signalsOf (c .pick .result) ≡ pick (c .before .before .before .before .before .before .before .before .before .args .n)
+  picked : signalsOf (c .pick .result)
+      ≡ pick (c .before .before .before .before .before .before .before .before .before .args .n)
       (bit (c .before .before .before .before .before .before .kept-of .result))
       (inputs (c .before .before .before .before .before .before .before .before .before .args .n))
   picked = let e = c .before .inputs .ensures in
@@ -54,7 +56,8 @@ follow-requires c κs =
 same-length : tie.Need-same-length
 same-length c =
     let f = c .before .before .before .before .before .before in
-    c .before .before .clear .kept .0 ∙ f .follow .kept .1 .1 .1 .1 .0 ∙ f .before .before .before .before .before .before .set-aside .kept .1 .1 .1 .0
+    c .before .before .clear .kept .0 ∙ f .follow .kept .1 .1 .1 .1 .0
+    ∙ f .before .before .before .before .before .before .set-aside .kept .1 .1 .1 .0
 
 returns : tie.Need-returns
 returns c =
@@ -67,10 +70,12 @@ returns c =
     let F = tableBit (a .t .now) in
     record {
       told = subst (Tells (f .follow .result))
-          (kept-chain (a .n) F (k .kept-of .result) (k .kept-of .ensures) (p .pick .result) (picked p) (a .most) (a .k) (s .set-aside .last .1 .1 .1 .0)
+          (kept-chain (a .n) F (k .kept-of .result) (k .kept-of .ensures) (p .pick .result) (picked p) (a .most) (a .k)
+          (s .set-aside .last .1 .1 .1 .0)
           (g .pre .0) (omega (arith, g .pre .3)) (g .pre .1) (s .set-aside .ensures))
           (f .follow .ensures);
-      cleared = c .before .before .clear .ensures ∙ ap (λ (m : ℕ). replicate m 0) (f .follow .kept .1 .1 .1 .1 .0 ∙ s .set-aside .kept .1 .1 .1 .0);
+      cleared = c .before .before .clear .ensures ∙ ap (λ (m : ℕ). replicate m 0)
+          (f .follow .kept .1 .1 .1 .1 .0 ∙ s .set-aside .kept .1 .1 .1 .0);
     }
 
 pub chain-upto-spec : {M : Type 1} → statement M

@@ -1,4 +1,5 @@
--- The signals picked by own + shared are those of A and B, and each table handed back is that of its first cell. Assumes
+-- The signals picked by own + shared are those of A and B, and each table handed back is that of its first cell.
+-- Assumes
 -- nothing.
 use mathlib.Core.Path.{_≡_, ap, ap₂, _∙_}
 use mathlib.Core.Bool.{Bool, cond}
@@ -54,7 +55,8 @@ with-first-requires c κs =
           arith,
           g .pre .0 .6 .most,
           reads-D (s .n) (bit (s .own)) (bit (s .shared)) (h .apart),
-          picked-count (s .n) (s .own + s .shared) S (below-mask s h) (g .args .signals .count) (g .pre .0 .2) (signalsOf (g .args .signals))
+          picked-count (s .n) (s .own + s .shared) S (below-mask s h) (g .args .signals .count) (g .pre .0 .2)
+              (signalsOf (g .args .signals))
               (c .pick .result) (c .pick .ensures .1),
         ),
       ),
@@ -82,13 +84,17 @@ returns c =
     let A = bit (s .own) in
     let B = bit (s .shared) in
     let F = tableBit (a .t .now) in
-    let signals = picked-set (s .n) (s .own + s .shared) (readsD A B) (below-mask s h) (a .signals .count) (g .pre .0 .2) (signalsOf (a .signals))
+    let signals = picked-set (s .n) (s .own + s .shared) (readsD A B) (below-mask s h) (a .signals .count)
+    (g .pre .0 .2) (signalsOf (a .signals))
     (p .pick .result) (p .pick .ensures .1) in
-    grown-same (list-ext (a .r) (λ t. lastCell (signalsOf (p .pick .result)) (tableIn (f .first-cells .result) t)) (dCell s F (signalsOf (a .signals))) (λ t l.
+    grown-same (list-ext (a .r) (λ t. lastCell (signalsOf (p .pick .result)) (tableIn (f .first-cells .result) t))
+    (dCell s F (signalsOf (a .signals))) (λ t l.
     ap₂ (λ (x : List ℕ) (T : ℕ). record { signals = x; table = T }) signals
     (ap (λ (d : FirstCells). tableIn d t) (f .first-cells .ensures)
-    ∙ table-is (s .n) F A B (a .r) (omega (arith, g .pre .0 .6 .most, reads-D (s .n) A B (h .apart))) (g .pre .0 .5) t l)))
+    ∙ table-is (s .n) F A B (a .r) (omega (arith, g .pre .0 .6 .most, reads-D (s .n) A B (h .apart))) (g .pre .0 .5) t
+    l)))
     (c .with-first .ensures)
 
 pub pile-first-spec : {M : Type 1} → statement M
-pile-first-spec = tie.close (tie.spec (λ c κs. search needs) add-pick (λ c κs. search needs) with-first-requires returns)
+pile-first-spec = tie.close (tie.spec (λ c κs. search needs) add-pick (λ c κs. search needs) with-first-requires
+    returns)

@@ -23,7 +23,8 @@ use Rattle.making.proofs.chaining.step.Statement.{statement}
 use Rattle.making.proofs.chaining.step.Tie as tie
 
 slice-aggregate-chart : tie.Need-slice-aggregate-chart
-slice-aggregate-chart c = let g = c .before .before .before .before .before in sym (half-whole (g .args .work .now) (g .pre .0 .3))
+slice-aggregate-chart c = let g = c .before .before .before .before .before
+    in sym (half-whole (g .args .work .now) (g .pre .0 .3))
 
 chart-requires : tie.Need-chart-requires
 chart-requires c κs =
@@ -32,10 +33,16 @@ chart-requires c κs =
     let p = g .pre .0 in
     let b = c .before .before .blank .ensures in
     let e = power (p .5) in (
-      (p .0, omega (arith, e, pow-mono {i = g .args .r} {j = mostFirst} (p .5)), half-bits (g .args .work .now) (p .3) (s .n) (p .0 .most)),
+      (
+        p .0,
+        omega (arith, e, pow-mono {i = g .args .r} {j = mostFirst} (p .5)),
+        half-bits (g .args .work .now) (p .3)
+            (s .n) (p .0 .most),
+      ),
       (
         (omega (arith, b .0, chart-room (p .6) e), b .1),
-        subst (λ (m : ℕ). fewColumns (s .n) (atHand (g .args .work .now)) (bit (s .own)) (bit (s .shared)) m ≡ true) e (g .pre .1 .3),
+        subst (λ (m : ℕ). fewColumns (s .n) (atHand (g .args .work .now)) (bit (s .own)) (bit (s .shared)) m ≡ true) e
+            (g .pre .1 .3),
       ),
     )
 
@@ -63,10 +70,15 @@ add-pick c =
     let g = c .before .before .before .before .before .before .before .before .before .before .before .before in
     let s = g .args .s in
     let h = g .pre .0 .0 in
-    omega (arith, mask-lt (s .n) (readsH (bit (s .own)) (bit (s .shared))) (s .shared + s .free) (beside-mask s h), pow-mono {i = s .n} {j = 16} (h .most))
+    omega (
+      arith,
+      mask-lt (s .n) (readsH (bit (s .own)) (bit (s .shared))) (s .shared + s .free) (beside-mask s h),
+      pow-mono {i = s .n} {j = 16} (h .most),
+    )
 
 pick-requires : tie.Need-pick-requires
-pick-requires c κs = c .before .before .before .before .before .before .before .before .before .before .before .before .pre .0 .1
+pick-requires c κs = c .before .before .before .before .before .before .before .before .before .before .before .before
+    .pre .0 .1
 
 -- the signals that are left, and how many
 module _ (c : tie.After-pick) where
@@ -75,11 +87,17 @@ module _ (c : tie.After-pick) where
 
   left-count : c .pick .result .count ≡ size (g .args .s .n) (readsH (bit (g .args .s .own)) (bit (g .args .s .shared)))
   left-count = let s = g .args .s in
-      picked-count (s .n) (s .shared + s .free) (readsH (bit (s .own)) (bit (s .shared))) (beside-mask s (g .pre .0 .0)) (g .args .stage .signals .count)
+      picked-count (s .n) (s .shared + s .free) (readsH (bit (s .own)) (bit (s .shared))) (beside-mask s (g .pre .0 .0))
+      (g .args .stage .signals .count)
       (g .pre .0 .2) (signalsOf (g .args .stage .signals)) (c .pick .result) (c .pick .ensures .1)
 
   left-few : c .pick .result .count + size (g .args .s .n) (bit (g .args .s .own)) ≡ g .args .s .n
-  left-few = let s = g .args .s in omega (arith, left-count, reads-H (s .n) (bit (s .own)) (bit (s .shared)) (g .pre .0 .0 .apart))
+  left-few = let s = g .args .s in omega (
+    arith,
+    left-count,
+    reads-H (s .n) (bit (s .own)) (bit (s .shared))
+        (g .pre .0 .0 .apart),
+  )
 
 with-next-requires : tie.Need-with-next-requires
 with-next-requires c κs =
@@ -122,7 +140,8 @@ returns c =
       cells = f .pile-first .ensures;
       listed = w .with-next .ensures .0;
       signals = w .with-next .ensures .1 ∙ ap (λ (l : List ℕ). l ++ listOf (g p .args .r) (λ t. g p .args .next + t))
-          (picked-set (s .n) (s .shared + s .free) (readsH (bit (s .own)) (bit (s .shared))) (beside-mask s (g p .pre .0 .0)) (g p .args .stage .signals .count)
+          (picked-set (s .n) (s .shared + s .free) (readsH (bit (s .own)) (bit (s .shared)))
+          (beside-mask s (g p .pre .0 .0)) (g p .args .stage .signals .count)
           (g p .pre .0 .2) (signalsOf (g p .args .stage .signals)) (p .pick .result) (p .pick .ensures .1));
       table = t .next-table .ensures;
     }
@@ -131,5 +150,6 @@ pub step-spec : {M : Type 1} → statement M
 step-spec =
     tie.close (tie.spec (λ c κs. search needs) (λ c. search needs) slice-aggregate-chart (λ c. search needs)
     (λ c. sym (c .before .before .blank .ensures .0)) chart-requires (λ c. search needs) slice-aggregate-pile-first
-    slice-aggregate-pile-first-2 pile-first-requires add-pick pick-requires with-next-requires slice-aggregate-next-table
+    slice-aggregate-pile-first-2 pile-first-requires add-pick pick-requires with-next-requires
+    slice-aggregate-next-table
     cast-next-table next-table-requires same-length returns)

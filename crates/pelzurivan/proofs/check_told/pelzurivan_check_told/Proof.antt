@@ -1,4 +1,5 @@
--- `pelzurivan_check_told` meets its contract: the number and the values are those of the call's outcome. Assumes nothing.
+-- `pelzurivan_check_told` meets its contract: the number and the values are those of the call's outcome. Assumes
+-- nothing.
 use mathlib.Core.Path.{refl}
 use borrow.Author.Needs.{needs}
 use Rattle.pelzurivan.proofs.check_told.pelzurivan_check_told.Statement.{statement}

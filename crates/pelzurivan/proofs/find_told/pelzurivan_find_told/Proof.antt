@@ -1,4 +1,5 @@
--- `pelzurivan_find_told` meets its contract: the number and the values are those of the call's outcome. Assumes nothing.
+-- `pelzurivan_find_told` meets its contract: the number and the values are those of the call's outcome. Assumes
+-- nothing.
 use mathlib.Core.Path.{refl}
 use borrow.Author.Needs.{needs}
 use Rattle.pelzurivan.proofs.find_told.pelzurivan_find_told.Statement.{statement}

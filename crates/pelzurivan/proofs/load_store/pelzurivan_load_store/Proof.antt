@@ -1,4 +1,5 @@
--- `pelzurivan_load_store` meets its contract: the number and the values are those of the call's outcome. Assumes nothing.
+-- `pelzurivan_load_store` meets its contract: the number and the values are those of the call's outcome. Assumes
+-- nothing.
 use mathlib.Core.Path.{refl}
 use borrow.Author.Needs.{needs}
 use Rattle.pelzurivan.proofs.load_store.pelzurivan_load_store.Statement.{statement}

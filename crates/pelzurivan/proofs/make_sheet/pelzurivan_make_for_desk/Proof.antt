@@ -1,4 +1,5 @@
--- `pelzurivan_make_for_desk` meets its contract: the number and the values are those of the call's outcome. Assumes nothing.
+-- `pelzurivan_make_for_desk` meets its contract: the number and the values are those of the call's outcome. Assumes
+-- nothing.
 use mathlib.Core.Path.{refl}
 use borrow.Author.Needs.{needs}
 use Rattle.pelzurivan.proofs.make_sheet.pelzurivan_make_for_desk.Statement.{statement}

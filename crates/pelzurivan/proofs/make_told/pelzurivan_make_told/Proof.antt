@@ -1,4 +1,5 @@
--- `pelzurivan_make_told` meets its contract: the number and the values are those of the call's outcome. Assumes nothing.
+-- `pelzurivan_make_told` meets its contract: the number and the values are those of the call's outcome. Assumes
+-- nothing.
 use mathlib.Core.Path.{refl}
 use borrow.Author.Needs.{needs}
 use Rattle.pelzurivan.proofs.make_told.pelzurivan_make_told.Statement.{statement}

@@ -1,4 +1,5 @@
--- `pelzurivan_read_formula` meets its contract: the number and the values are those of the call's outcome. Assumes nothing.
+-- `pelzurivan_read_formula` meets its contract: the number and the values are those of the call's outcome. Assumes
+-- nothing.
 use mathlib.Core.Path.{refl}
 use borrow.Author.Needs.{needs}
 use Rattle.pelzurivan.proofs.read_formula.pelzurivan_read_formula.Statement.{statement}

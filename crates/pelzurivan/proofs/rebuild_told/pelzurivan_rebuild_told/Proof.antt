@@ -1,4 +1,5 @@
--- `pelzurivan_rebuild_told` meets its contract: the number and the values are those of the call's outcome. Assumes nothing.
+-- `pelzurivan_rebuild_told` meets its contract: the number and the values are those of the call's outcome. Assumes
+-- nothing.
 use mathlib.Core.Path.{refl}
 use borrow.Author.Needs.{needs}
 use Rattle.pelzurivan.proofs.rebuild_told.pelzurivan_rebuild_told.Statement.{statement}

@@ -15,7 +15,8 @@ returns c =
     let i = s .before in
     let a = i .before .before .args in
     rw (c .before .number-of .ensures, c .place-of .ensures) (ap settledC (s .settle .ensures))
-    ∙ ap (λ (ts : List InputTime). settledC (settleOwn firstEdition (a .n) (a .s .now) (a .delay) ts)) (i .input-times .ensures)
+    ∙ ap (λ (ts : List InputTime). settledC (settleOwn firstEdition (a .n) (a .s .now) (a .delay) ts))
+    (i .input-times .ensures)
 
 pub pelzurivan-settle-spec : {M : Type 1} → statement M
 pelzurivan-settle-spec =

@@ -1,4 +1,5 @@
--- `pelzurivan_shorter` meets its contract: which, the part's length and the number are those of the call's outcome. Assumes nothing.
+-- `pelzurivan_shorter` meets its contract: which, the part's length and the number are those of the call's outcome.
+-- Assumes nothing.
 use mathlib.Core.Path.{refl}
 use borrow.Author.Needs.{needs}
 use Rattle.pelzurivan.proofs.shorter.pelzurivan_shorter.Statement.{statement}

@@ -12,7 +12,8 @@ use Rattle.pelzurivan.specs.Slack.{slackC}
 use Rattle.pelzurivan.proofs.slack.pelzurivan_slack.Statement.{statement}
 use Rattle.pelzurivan.proofs.slack.pelzurivan_slack.Tie as tie
 
-same : (a b : SlackAnswer) (n i : ℕ) (z : ℤ) → n ≡ numberOf (a .verdict) → i ≡ placeOf (a .verdict) → z ≡ a .slack → a ≡ b → record { number = n; index = i; slack = z } ≡ slackC b
+same : (a b : SlackAnswer) (n i : ℕ) (z : ℤ) → n ≡ numberOf (a .verdict) → i ≡ placeOf (a .verdict) → z ≡ a .slack → a
+    ≡ b → record { number = n; index = i; slack = z } ≡ slackC b
 same a b n i z p q r e = rw (p, q, r) (ap slackC e)
 
 returns : tie.Need-returns
@@ -22,8 +23,10 @@ returns c =
     let i = s .before in
     let t = i .before .before in
     let a = t .args in
-    same (s .slack .result) _ _ _ _ (p .before .number-of .ensures) (p .place-of .ensures) (toZ-ofZ (record { sfits = c .struct-told .given .1 .0 .1 }))
-    (s .slack .ensures ∙ ap₂ (slackOwn firstEdition (a .n) (a .s .now) (a .delay)) (i .input-times .ensures) (toZ-ofZ (t .fits .deadline)))
+    same (s .slack .result) _ _ _ _ (p .before .number-of .ensures) (p .place-of .ensures)
+    (toZ-ofZ (record { sfits = c .struct-told .given .1 .0 .1 }))
+    (s .slack .ensures ∙ ap₂ (slackOwn firstEdition (a .n) (a .s .now) (a .delay)) (i .input-times .ensures)
+    (toZ-ofZ (t .fits .deadline)))
 
 pub pelzurivan-slack-spec : {M : Type 1} → statement M
 pelzurivan-slack-spec =

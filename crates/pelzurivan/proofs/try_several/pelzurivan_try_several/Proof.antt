@@ -1,4 +1,5 @@
--- `pelzurivan_try_several` meets its contract: the number and the values are those of the call's outcome. Assumes nothing.
+-- `pelzurivan_try_several` meets its contract: the number and the values are those of the call's outcome. Assumes
+-- nothing.
 use mathlib.Core.Path.{refl}
 use borrow.Author.Needs.{needs}
 use Rattle.pelzurivan.proofs.try_several.pelzurivan_try_several.Statement.{statement}

@@ -7,7 +7,13 @@ use Rattle.pelzurivan.proofs.try_split.pelzurivan_try.Tie as tie
 returns : tie.Need-returns
 returns c =
     let n = c .before .before in
-    rw (n .number-of .ensures, c .before .word .ensures, c .place-of .ensures, ← n .before .before .before .before .try-split .ensures)
+    rw (
+      n .number-of .ensures,
+      c .before .word .ensures,
+      c .place-of .ensures,
+      ←
+          n .before .before .before .before .try-split .ensures,
+    )
     (refl, refl)
 
 pub pelzurivan-try-spec : {M : Type 1} → statement M

@@ -1,4 +1,5 @@
--- `pelzurivan_write_formula` meets its contract: the number and the values are those of the call's outcome. Assumes nothing.
+-- `pelzurivan_write_formula` meets its contract: the number and the values are those of the call's outcome. Assumes
+-- nothing.
 use mathlib.Core.Path.{refl}
 use borrow.Author.Needs.{needs}
 use Rattle.pelzurivan.proofs.write_formula.pelzurivan_write_formula.Statement.{statement}
@@ -6,7 +7,12 @@ use Rattle.pelzurivan.proofs.write_formula.pelzurivan_write_formula.Tie
 
 returns : tie.Need-returns
 returns c =
-    rw (c .before .number-of .ensures, c .place-of .ensures, ← c .before .before .before .before .write-formula .ensures)
+    rw (
+      c .before .number-of .ensures,
+      c .place-of .ensures,
+      ←
+          c .before .before .before .before .write-formula .ensures,
+    )
     (refl, refl)
 
 pub pelzurivan-write-formula-spec : {M : Type 1} → statement M

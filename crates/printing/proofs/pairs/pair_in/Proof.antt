@@ -13,7 +13,9 @@ returns-2 c =
 
 pub pair-in-spec : {M : Type 1} → statement M
 pair-in-spec =
-    tie.close (tie.spec (λ c. search needs) (λ c. search needs) (λ c. omega (arith, c .shared-slice-known2 .given 1)) (λ c. search needs)
+    tie.close (tie.spec (λ c. search needs) (λ c. search needs) (λ c. omega (arith, c .shared-slice-known2 .given 1))
+    (λ c. search needs)
     (λ c. omega (arith, c .shared-slice-known3 .given 2))
-    (λ c. start-within (c .before .before .before .before .args .b .now) (c .before .before .before .before .pre .0) (c .before .before .before .before .pre .1)) (λ c. search needs)
+    (λ c. start-within (c .before .before .before .before .args .b .now) (c .before .before .before .before .pre .0)
+    (c .before .before .before .before .pre .1)) (λ c. search needs)
     (λ c. (sym (one-cell _ _ (c .if1 .taken)), omega arith)) (λ c. search needs) returns-2)

@@ -14,8 +14,12 @@ pair-in-requires : tie.Need-pair-in-requires
 pair-in-requires c κs =
     let t = c .before .before in
     let a = t .args in
-    let r = c .record-of .ensures in
-    (t .pre .0, ap length r ∙ record-length (a .e) (a .s .now) (a .i) (t .pre .2), subst (λ (l : List ℕ). Plain (cellOf (a .e) (byteAt l))) (sym r) (t .pre .3))
+    let r = c .record-of .ensures in (
+      t .pre .0,
+      ap length r ∙ record-length (a .e) (a .s .now) (a .i) (t .pre .2),
+      subst
+          (λ (l : List ℕ). Plain (cellOf (a .e) (byteAt l))) (sym r) (t .pre .3),
+    )
 
 returns : tie.Need-returns
 returns c =

@@ -27,16 +27,24 @@ loop-holds c = let a = c .before .args in (omega arith, ap allPlain (cells-all (
 record-of-requires : tie.Need-record-of-requires Inv-loop μ-loop
 record-of-requires c κs =
     let t = c .before .before .before in
-    let a = t .args in
-    (t .pre .0, omega (arith, t .pre .1), record-within (a .e .size) (c .before .loop .i) (a .m) (length (a .s .now)) (omega arith) (t .pre .2))
+    let a = t .args in (
+      t .pre .0,
+      omega (arith, t .pre .1),
+      record-within (a .e .size) (c .before .loop .i) (a .m) (length (a .s .now))
+          (omega arith) (t .pre .2),
+    )
 
 plain-requires : tie.Need-plain-requires Inv-loop μ-loop
 plain-requires c κs =
     let q = c .before .before in
     let t = q .before .before in
     let a = t .args in
-    let i = q .loop .i in
-    (t .pre .0, ap length (c .record-of .ensures) ∙ record-length (a .e) (a .s .now) i (record-within (a .e .size) i (a .m) (length (a .s .now)) (omega arith) (t .pre .2)))
+    let i = q .loop .i in (
+      t .pre .0,
+      ap length (c .record-of .ensures)
+          ∙ record-length (a .e) (a .s .now) i (record-within (a .e .size) i (a .m) (length (a .s .now)) (omega arith)
+          (t .pre .2)),
+    )
 
 returns : tie.Need-returns Inv-loop μ-loop
 returns c =
@@ -45,7 +53,8 @@ returns c =
     let a = q .before .before .args in
     let bad : p .plain .result ≡ false = not-true _ (c .if1 .taken) in
     plain-stops (a .e) (a .s .now) (q .loop .i) (a .m) _ (q .loop .inv .1) (omega arith)
-    (sym (p .plain .ensures ∙ ap (λ (r : List ℕ). plainCell (cellOf (a .e) (byteAt r))) (p .before .record-of .ensures)) ∙ bad)
+    (sym (p .plain .ensures ∙ ap (λ (r : List ℕ). plainCell (cellOf (a .e) (byteAt r))) (p .before .record-of .ensures))
+    ∙ bad)
 
 loop-again : tie.Need-loop-again Inv-loop μ-loop
 loop-again c =
@@ -55,7 +64,8 @@ loop-again c =
     let is : p .plain .result ≡ true = not-false _ (c .if1 .left) in (
       omega arith,
       plain-goes (a .e) (a .s .now) (q .loop .i) (a .m) _ (q .loop .inv .1) (omega arith)
-          (sym (p .plain .ensures ∙ ap (λ (r : List ℕ). plainCell (cellOf (a .e) (byteAt r))) (p .before .record-of .ensures)) ∙ is),
+          (sym (p .plain .ensures ∙ ap (λ (r : List ℕ). plainCell (cellOf (a .e) (byteAt r)))
+          (p .before .record-of .ensures)) ∙ is),
     )
 
 returns-2 : tie.Need-returns-2 Inv-loop μ-loop

@@ -37,8 +37,10 @@ returns c =
     let q = c .before .before .before in
     let a = q .before .before .args in
     let cs = sheetCells (a .e) (a .s .now) (a .m) in
-    sym (every-stop (length cs - 1) (once (a .e) (a .n) (a .s .now) (a .m)) (q .loop .i) (omega (arith, cells-length (a .e) (a .s .now) 0 (a .m), q .loop .inv .1))
-    (ap (λ (k : ℕ). eqb k 1) (sym (c .before .reads-in .ensures)) ∙ ne-eqb (c .before .reads-in .result) 1 (c .if1 .taken)))
+    sym (every-stop (length cs - 1) (once (a .e) (a .n) (a .s .now) (a .m)) (q .loop .i)
+    (omega (arith, cells-length (a .e) (a .s .now) 0 (a .m), q .loop .inv .1))
+    (ap (λ (k : ℕ). eqb k 1) (sym (c .before .reads-in .ensures))
+    ∙ ne-eqb (c .before .reads-in .result) 1 (c .if1 .taken)))
 
 loop-again : tie.Need-loop-again Inv-loop μ-loop
 loop-again c =
@@ -47,14 +49,16 @@ loop-again c =
       omega arith,
       q .loop .inv .1,
       every-more (q .loop .i) (once (a .e) (a .n) (a .s .now) (a .m)) (q .loop .inv .2)
-          (ap (λ (k : ℕ). eqb k 1) (sym (c .before .reads-in .ensures)) ∙ eq-eqb (c .before .reads-in .result) 1 (c .if1 .left)),
+          (ap (λ (k : ℕ). eqb k 1) (sym (c .before .reads-in .ensures))
+          ∙ eq-eqb (c .before .reads-in .result) 1 (c .if1 .left)),
     )
 
 returns-2 : tie.Need-returns-2 Inv-loop μ-loop
 returns-2 c =
     let q = c .before in
     let a = q .before .before .args in
-    let e : q .loop .i ≡ length (sheetCells (a .e) (a .s .now) (a .m)) - 1 = omega (arith, cells-length (a .e) (a .s .now) 0 (a .m), q .loop .inv .1) in
+    let e : q .loop .i ≡ length (sheetCells (a .e) (a .s .now) (a .m)) - 1 = omega
+    (arith, cells-length (a .e) (a .s .now) 0 (a .m), q .loop .inv .1) in
     sym (q .loop .inv .2) ∙ ap (λ (k : ℕ). every k (once (a .e) (a .n) (a .s .now) (a .m))) e
 
 pub once-read-spec : {M : Type 1} → statement M

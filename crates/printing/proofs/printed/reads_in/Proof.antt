@@ -1,4 +1,5 @@
--- `reads_in` meets its contract. The loop's invariant: what is counted, and what the records from i on read, make all. Assumes nothing.
+-- `reads_in` meets its contract. The loop's invariant: what is counted, and what the records from i on read, make all.
+-- Assumes nothing.
 use mathlib.Core.Path.{_≡_, ap, _∙_}
 use Prim.Native.Nat.{_+_, _-_, _*_, _≤_}
 use native.Mathlib.Omega.{arith}
@@ -13,7 +14,8 @@ use Rattle.printing.proofs.printed.reads_in.Statement.{statement}
 use Rattle.printing.proofs.printed.reads_in.Tie as tie
 
 abbrev Inv-loop : tie.InvT-loop
-Inv-loop e s m x c₀ i₀ c i = (i ≤ m) × (c + reads x (cellsFrom e s i (m - i)) ≡ reads x (sheetCells e s m)) × (c ≤ 2 * i)
+Inv-loop e s m x c₀ i₀ c i = (i ≤ m) × (c + reads x (cellsFrom e s i (m - i)) ≡ reads x (sheetCells e s m))
+    × (c ≤ 2 * i)
 
 abbrev μ-loop : tie.MeasureT-loop
 μ-loop e s m x c₀ i₀ c i = m - i

@@ -2,7 +2,8 @@
 use mathlib.Core.Path.{refl}
 use native.Mathlib.Omega.{arith}
 use borrow.Author.Needs.{needs}
-use Rattle.printing.proofs.Staging.{next, has-room, has-one, all-put, put-length, flip-fits, letter-parts, pair-ready, two-parts, digit-parts, same-parts, low-room, high-room}
+use Rattle.printing.proofs.Staging.{next, has-room, has-one, all-put, put-length, flip-fits, letter-parts}
+use Rattle.printing.proofs.Staging.{pair-ready, two-parts, digit-parts, same-parts, low-room, high-room}
 use Prim.Native.Nat.{ℕ, _<_}
 use borrow.Fn.Kinds.{In}
 use borrow.Fn.PlainCycle.{Measures, is, falls, and}
@@ -50,10 +51,12 @@ write-put-flip-requires : (t : ℕ) → write-lts.Need-put-flip-requires (beside
 write-put-flip-requires t c κs = flip-fits (c .before .before .before .pre .1)
 
 write-cast-put : (t : ℕ) → write-lts.Need-cast-put (beside t) (write-at t) write.Post
-write-cast-put t c = omega (arith, c .before .before .before .before .before .before .before .before .pre .1 .sheet .inputs)
+write-cast-put t c = omega
+    (arith, c .before .before .before .before .before .before .before .before .pre .1 .sheet .inputs)
 
 write-add-put : (t : ℕ) → write-lts.Need-add-put (beside t) (write-at t) write.Post
-write-add-put t c = omega (arith, c .before .before .before .before .before .before .before .before .pre .1 .sheet .inputs)
+write-add-put t c = omega
+    (arith, c .before .before .before .before .before .before .before .before .pre .1 .sheet .inputs)
 
 write-put-requires : (t : ℕ) → write-lts.Need-put-requires (beside t) (write-at t) write.Post
 write-put-requires t c κs =
@@ -83,7 +86,8 @@ write-put-requires-2 t c κs =
     let i = k .before in
     let f = i .before .before .before in
     let s = f .before .before .before .before in
-    let p = two-parts (s .pre .1) (k .pair-of .result) (i .if1 .left) (k .pair-of .ensures .0) (j .if2 .taken) refl refl refl (f .put-flip .ensures) in
+    let p = two-parts (s .pre .1) (k .pair-of .result) (i .if1 .left) (k .pair-of .ensures .0) (j .if2 .taken) refl refl
+    refl (f .put-flip .ensures) in
     has-one p
 
 write-flips-low-requires : (t : ℕ) → write-lts.Need-flips-low-requires (beside t) (write-at t) write.Post
@@ -98,11 +102,14 @@ write-write-requires t c κs =
     let i = k .before in
     let f = i .before .before .before in
     let s = f .before .before .before .before in
-    let p = two-parts (s .pre .1) (k .pair-of .result) (i .if1 .left) (k .pair-of .ensures .0) (j .if2 .taken) (fl .flips-low .ensures) refl refl (f .put-flip .ensures) in
-    low-room (s .pre .1) (k .pair-of .result) (i .if1 .left) (k .pair-of .ensures .0) (s .pre .0) (has-room (next p (a .put2 .ensures)))
+    let p = two-parts (s .pre .1) (k .pair-of .result) (i .if1 .left) (k .pair-of .ensures .0) (j .if2 .taken)
+    (fl .flips-low .ensures) refl refl (f .put-flip .ensures) in
+    low-room (s .pre .1) (k .pair-of .result) (i .if1 .left) (k .pair-of .ensures .0) (s .pre .0)
+    (has-room (next p (a .put2 .ensures)))
 
 write-mark-requires : (t : ℕ) → write-lts.Need-mark-requires (beside t) (write-at t) write.Post
-write-mark-requires t c κs = c .before .before .before .before .before .before .before .before .before .before .before .pair-of .ensures .1
+write-mark-requires t c κs =
+    c .before .before .before .before .before .before .before .before .before .before .before .pair-of .ensures .1
 
 write-put-requires-3 : (t : ℕ) → write-lts.Need-put-requires-3 (beside t) (write-at t) write.Post
 write-put-requires-3 t c κs =
@@ -115,11 +122,14 @@ write-put-requires-3 t c κs =
     let i = k .before in
     let f = i .before .before .before in
     let s = f .before .before .before .before in
-    let p = two-parts (s .pre .1) (k .pair-of .result) (i .if1 .left) (k .pair-of .ensures .0) (j .if2 .taken) (fl .flips-low .ensures) (mk .mark .ensures) refl (f .put-flip .ensures) in
+    let p = two-parts (s .pre .1) (k .pair-of .result) (i .if1 .left) (k .pair-of .ensures .0) (j .if2 .taken)
+    (fl .flips-low .ensures) (mk .mark .ensures) refl (f .put-flip .ensures) in
     has-one (next (next p (a .put2 .ensures)) (b .write .ensures))
 
 write-flips-high-requires : (t : ℕ) → write-lts.Need-flips-high-requires (beside t) (write-at t) write.Post
-write-flips-high-requires t c κs = c .before .before .before .before .before .before .before .before .before .before .before .before .before .before .before .pair-of .ensures .1
+write-flips-high-requires t c κs =
+    c .before .before .before .before .before .before .before .before .before .before .before .before .before .before
+    .before .pair-of .ensures .1
 
 write-write-requires-2 : (t : ℕ) → write-lts.Need-write-requires-2 (beside t) (write-at t) write.Post
 write-write-requires-2 t c κs =
@@ -134,7 +144,8 @@ write-write-requires-2 t c κs =
     let i = k .before in
     let f = i .before .before .before in
     let s = f .before .before .before .before in
-    let p = two-parts (s .pre .1) (k .pair-of .result) (i .if1 .left) (k .pair-of .ensures .0) (j .if2 .taken) (fl .flips-low .ensures) (mk .mark .ensures) (fh .flips-high .ensures) (f .put-flip .ensures) in
+    let p = two-parts (s .pre .1) (k .pair-of .result) (i .if1 .left) (k .pair-of .ensures .0) (j .if2 .taken)
+    (fl .flips-low .ensures) (mk .mark .ensures) (fh .flips-high .ensures) (f .put-flip .ensures) in
     high-room (s .pre .1) (k .pair-of .result) (i .if1 .left) (k .pair-of .ensures .0) (j .if2 .taken) (s .pre .0)
     (has-room (next (next (next p (a .put2 .ensures)) (b .write .ensures)) (d .put3 .ensures)))
 
@@ -152,7 +163,8 @@ write-put-requires-4 t c κs =
     let i = k .before in
     let f = i .before .before .before in
     let s = f .before .before .before .before in
-    let p = two-parts (s .pre .1) (k .pair-of .result) (i .if1 .left) (k .pair-of .ensures .0) (j .if2 .taken) (fl .flips-low .ensures) (mk .mark .ensures) (fh .flips-high .ensures) (f .put-flip .ensures) in
+    let p = two-parts (s .pre .1) (k .pair-of .result) (i .if1 .left) (k .pair-of .ensures .0) (j .if2 .taken)
+    (fl .flips-low .ensures) (mk .mark .ensures) (fh .flips-high .ensures) (f .put-flip .ensures) in
     has-one (next (next (next (next p (a .put2 .ensures)) (b .write .ensures)) (d .put3 .ensures)) (e .write2 .ensures))
 
 write-same-length-2 : (t : ℕ) → write-lts.Need-same-length-2 (beside t) (write-at t) write.Post
@@ -170,8 +182,10 @@ write-same-length-2 t c =
     let i = k .before in
     let f = i .before .before .before in
     let s = f .before .before .before .before in
-    let p = two-parts (s .pre .1) (k .pair-of .result) (i .if1 .left) (k .pair-of .ensures .0) (j .if2 .taken) (fl .flips-low .ensures) (mk .mark .ensures) (fh .flips-high .ensures) (f .put-flip .ensures) in
-    put-length (all-put (next (next (next (next (next p (a .put2 .ensures)) (b .write .ensures)) (d .put3 .ensures)) (e .write2 .ensures)) (g .put4 .ensures)))
+    let p = two-parts (s .pre .1) (k .pair-of .result) (i .if1 .left) (k .pair-of .ensures .0) (j .if2 .taken)
+    (fl .flips-low .ensures) (mk .mark .ensures) (fh .flips-high .ensures) (f .put-flip .ensures) in
+    put-length (all-put (next (next (next (next (next p (a .put2 .ensures)) (b .write .ensures)) (d .put3 .ensures))
+    (e .write2 .ensures)) (g .put4 .ensures)))
 
 write-returns-2 : (t : ℕ) → write-lts.Need-returns-2 (beside t) (write-at t) write.Post
 write-returns-2 t c =
@@ -188,8 +202,10 @@ write-returns-2 t c =
     let i = k .before in
     let f = i .before .before .before in
     let s = f .before .before .before .before in
-    let p = two-parts (s .pre .1) (k .pair-of .result) (i .if1 .left) (k .pair-of .ensures .0) (j .if2 .taken) (fl .flips-low .ensures) (mk .mark .ensures) (fh .flips-high .ensures) (f .put-flip .ensures) in
-    all-put (next (next (next (next (next p (a .put2 .ensures)) (b .write .ensures)) (d .put3 .ensures)) (e .write2 .ensures)) (g .put4 .ensures))
+    let p = two-parts (s .pre .1) (k .pair-of .result) (i .if1 .left) (k .pair-of .ensures .0) (j .if2 .taken)
+    (fl .flips-low .ensures) (mk .mark .ensures) (fh .flips-high .ensures) (f .put-flip .ensures) in
+    all-put (next (next (next (next (next p (a .put2 .ensures)) (b .write .ensures)) (d .put3 .ensures))
+    (e .write2 .ensures)) (g .put4 .ensures))
 
 write-put-requires-5 : (t : ℕ) → write-lts.Need-put-requires-5 (beside t) (write-at t) write.Post
 write-put-requires-5 t c κs =
@@ -199,7 +215,8 @@ write-put-requires-5 t c κs =
     let i = k .before in
     let f = i .before .before .before in
     let s = f .before .before .before .before in
-    let p = digit-parts (s .pre .1) (k .pair-of .result) (i .if1 .left) (k .pair-of .ensures .0) 48 0 refl (j .if2 .left) (z .if3 .taken) (f .put-flip .ensures) in
+    let p = digit-parts (s .pre .1) (k .pair-of .result) (i .if1 .left) (k .pair-of .ensures .0) 48 0 refl
+    (j .if2 .left) (z .if3 .taken) (f .put-flip .ensures) in
     has-one p
 
 write-returns-3 : (t : ℕ) → write-lts.Need-returns-3 (beside t) (write-at t) write.Post
@@ -211,7 +228,8 @@ write-returns-3 t c =
     let i = k .before in
     let f = i .before .before .before in
     let s = f .before .before .before .before in
-    let p = digit-parts (s .pre .1) (k .pair-of .result) (i .if1 .left) (k .pair-of .ensures .0) 48 0 refl (j .if2 .left) (z .if3 .taken) (f .put-flip .ensures) in
+    let p = digit-parts (s .pre .1) (k .pair-of .result) (i .if1 .left) (k .pair-of .ensures .0) 48 0 refl
+    (j .if2 .left) (z .if3 .taken) (f .put-flip .ensures) in
     all-put (next p (a .put5 .ensures))
 
 write-put-requires-6 : (t : ℕ) → write-lts.Need-put-requires-6 (beside t) (write-at t) write.Post
@@ -222,7 +240,8 @@ write-put-requires-6 t c κs =
     let i = k .before in
     let f = i .before .before .before in
     let s = f .before .before .before .before in
-    let p = digit-parts (s .pre .1) (k .pair-of .result) (i .if1 .left) (k .pair-of .ensures .0) 49 3 refl (j .if2 .left) (o .if4 .taken) (f .put-flip .ensures) in
+    let p = digit-parts (s .pre .1) (k .pair-of .result) (i .if1 .left) (k .pair-of .ensures .0) 49 3 refl
+    (j .if2 .left) (o .if4 .taken) (f .put-flip .ensures) in
     has-one p
 
 write-returns-4 : (t : ℕ) → write-lts.Need-returns-4 (beside t) (write-at t) write.Post
@@ -234,7 +253,8 @@ write-returns-4 t c =
     let i = k .before in
     let f = i .before .before .before in
     let s = f .before .before .before .before in
-    let p = digit-parts (s .pre .1) (k .pair-of .result) (i .if1 .left) (k .pair-of .ensures .0) 49 3 refl (j .if2 .left) (o .if4 .taken) (f .put-flip .ensures) in
+    let p = digit-parts (s .pre .1) (k .pair-of .result) (i .if1 .left) (k .pair-of .ensures .0) 49 3 refl
+    (j .if2 .left) (o .if4 .taken) (f .put-flip .ensures) in
     all-put (next p (a .put6 .ensures))
 
 write-write-requires-3 : (t : ℕ) → write-lts.Need-write-requires-3 (beside t) (write-at t) write.Post
@@ -246,7 +266,8 @@ write-write-requires-3 t c κs =
     let i = k .before in
     let f = i .before .before .before in
     let s = f .before .before .before .before in
-    let p = same-parts (s .pre .1) (k .pair-of .result) (i .if1 .left) (k .pair-of .ensures .0) (j .if2 .left) (z .if3 .left) (o .if4 .left) (f .put-flip .ensures) in
+    let p = same-parts (s .pre .1) (k .pair-of .result) (i .if1 .left) (k .pair-of .ensures .0) (j .if2 .left)
+    (z .if3 .left) (o .if4 .left) (f .put-flip .ensures) in
     low-room (s .pre .1) (k .pair-of .result) (i .if1 .left) (k .pair-of .ensures .0) (s .pre .0) (has-room p)
 
 write-returns-5 : (t : ℕ) → write-lts.Need-returns-5 (beside t) (write-at t) write.Post
@@ -259,7 +280,8 @@ write-returns-5 t c =
     let i = k .before in
     let f = i .before .before .before in
     let s = f .before .before .before .before in
-    let p = same-parts (s .pre .1) (k .pair-of .result) (i .if1 .left) (k .pair-of .ensures .0) (j .if2 .left) (z .if3 .left) (o .if4 .left) (f .put-flip .ensures) in
+    let p = same-parts (s .pre .1) (k .pair-of .result) (i .if1 .left) (k .pair-of .ensures .0) (j .if2 .left)
+    (z .if3 .left) (o .if4 .left) (f .put-flip .ensures) in
     all-put (next p (b .write3 .ensures))
 
 pub +write-spec : {M : Type 1} → statement M

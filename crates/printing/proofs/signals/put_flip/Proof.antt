@@ -6,5 +6,7 @@ use Rattle.printing.proofs.signals.put_flip.Tie as tie
 
 pub put-flip-spec : {M : Type 1} → statement M
 put-flip-spec =
-    tie.close (tie.spec (λ c κs. flip-room _ _ _ (c .before .if1 .taken) (c .before .before .before .pre)) (λ c. search needs)
-    (λ c. flip-yes (c .before .before .before .before .if1 .taken) (c .before .before .put .ensures)) (λ c. flip-no (c .if1 .left)))
+    tie.close (tie.spec (λ c κs. flip-room _ _ _ (c .before .if1 .taken) (c .before .before .before .pre))
+    (λ c. search needs)
+    (λ c. flip-yes (c .before .before .before .before .if1 .taken) (c .before .before .put .ensures))
+    (λ c. flip-no (c .if1 .left)))

@@ -24,20 +24,26 @@ returns : tie.Need-returns
 returns c =
     let i = c .before in
     let a = i .before .before .before .before .args in
-    c .refuse .ensures ∙ decides (writeLines (a .e) (a .d) (a .n) (a .s .now) (a .room .now)) (here (sym (i .before .bad-inputs .ensures) ∙ i .if1 .taken))
+    c .refuse .ensures ∙ decides (writeLines (a .e) (a .d) (a .n) (a .s .now) (a .room .now))
+    (here (sym (i .before .bad-inputs .ensures) ∙ i .if1 .taken))
 
 returns-2 : tie.Need-returns-2
 returns-2 c =
     let i = c .before .before in
     let a = i .before .before .before .before .args in
-    let ms = shortText (a .room .now) ∷ (sheetLines (a .e) (a .d) (a .n) (a .s .now) ++ (notPrinted (a .e) (a .n) (a .s .now) ∷ [])) in
+    let ms = shortText (a .room .now) ∷ (sheetLines (a .e) (a .d) (a .n) (a .s .now)
+    ++ (notPrinted (a .e) (a .n) (a .s .now) ∷ [])) in
     c .refuse2 .ensures ∙ decides ms (here (lt-ltb (length (a .room .now)) mostText (c .before .if2 .taken)))
     ∙ sym (passes (badInputs (a .n) ∷ []) ms (sym (i .before .bad-inputs .ensures) ∙ i .if1 .left, tt))
 
 cast-inputs : tie.Need-cast-inputs
 cast-inputs c =
     let i = c .before in
-    omega (arith, inside 1 (i .before .before .before .before .args .n) mostInputs (sym (i .before .bad-inputs .ensures) ∙ i .if1 .left))
+    omega (
+      arith,
+      inside 1 (i .before .before .before .before .args .n) mostInputs
+          (sym (i .before .bad-inputs .ensures) ∙ i .if1 .left),
+    )
 
 sheet-requires : tie.Need-sheet-requires
 sheet-requires c κs =
@@ -54,8 +60,12 @@ returns-3 c =
     let e = c .enum-told2 .given .1 in
     let ls = sheetLines (a .e) (a .d) (a .n) (a .s .now) in
     let ms = notPrinted (a .e) (a .n) (a .s .now) ∷ [] in
-    let front : InOrder (badInputs (a .n) ∷ shortText (a .room .now) ∷ []) = (sym (i .before .bad-inputs .ensures) ∙ i .if1 .left, (le-ltb (length (a .room .now)) mostText (r .if2 .left), tt)) in
-    e ∙ sym (passes (badInputs (a .n) ∷ shortText (a .room .now) ∷ []) (ls ++ ms) front ∙ stops ls ms (c .enum-told2 .given .0 .0) (sym (l .sheet .ensures) ∙ e))
+    let front : InOrder (badInputs (a .n) ∷ shortText (a .room .now) ∷ []) = (
+      sym (i .before .bad-inputs .ensures) ∙ i .if1 .left,
+      (le-ltb (length (a .room .now)) mostText (r .if2 .left), tt),
+    ) in
+    e ∙ sym (passes (badInputs (a .n) ∷ shortText (a .room .now) ∷ []) (ls ++ ms) front
+    ∙ stops ls ms (c .enum-told2 .given .0 .0) (sym (l .sheet .ensures) ∙ e))
 
 is-printed-requires : tie.Need-is-printed-requires
 is-printed-requires c κs =
@@ -63,9 +73,17 @@ is-printed-requires c κs =
     let i = l .before .before in
     let s = i .before .before .before .before in
     let a = s .args in
-    let g = good-sheet (a .e) (a .d) (a .n) (a .s .now) (s .pre) (in-order (sheetLines (a .e) (a .d) (a .n) (a .s .now)) (sym (l .sheet .ensures) ∙ c .before .enum-told .given .1)) in
-    let long : a .e .size * records (a .e) (a .s .now) ≤ length (a .s .now) = omega (arith, g .whole) in
-    (s .pre, g .most, long, g .some, inside 1 (a .n) mostInputs (sym (i .before .bad-inputs .ensures) ∙ i .if1 .left) .1)
+    let g = good-sheet (a .e) (a .d) (a .n) (a .s .now) (s .pre)
+    (in-order (sheetLines (a .e) (a .d) (a .n) (a .s .now))
+    (sym (l .sheet .ensures) ∙ c .before .enum-told .given .1)) in
+    let long : a .e .size * records (a .e) (a .s .now) ≤ length (a .s .now) = omega (arith, g .whole) in (
+      s .pre,
+      g .most,
+      long,
+      g .some,
+      inside 1 (a .n) mostInputs
+          (sym (i .before .bad-inputs .ensures) ∙ i .if1 .left) .1,
+    )
 
 returns-4 : tie.Need-returns-4
 returns-4 c =
@@ -76,10 +94,14 @@ returns-4 c =
     let a = i .before .before .before .before .args in
     let ls = sheetLines (a .e) (a .d) (a .n) (a .s .now) in
     let ms = notPrinted (a .e) (a .n) (a .s .now) ∷ [] in
-    let front : InOrder (badInputs (a .n) ∷ shortText (a .room .now) ∷ []) = (sym (i .before .bad-inputs .ensures) ∙ i .if1 .left, (le-ltb (length (a .room .now)) mostText (r .if2 .left), tt)) in
+    let front : InOrder (badInputs (a .n) ∷ shortText (a .room .now) ∷ []) = (
+      sym (i .before .bad-inputs .ensures) ∙ i .if1 .left,
+      (le-ltb (length (a .room .now)) mostText (r .if2 .left), tt),
+    ) in
     let bad : p .is-printed .result ≡ false = not-true _ (c .before .if3 .taken) in
     c .refuse3 .ensures ∙ decides ms (here (ap not (sym (p .is-printed .ensures) ∙ bad)))
-    ∙ sym (passes (badInputs (a .n) ∷ shortText (a .room .now) ∷ []) (ls ++ ms) front ∙ passes ls ms (in-order ls (sym (l .sheet .ensures) ∙ p .before .before .enum-told .given .1)))
+    ∙ sym (passes (badInputs (a .n) ∷ shortText (a .room .now) ∷ []) (ls ++ ms) front
+    ∙ passes ls ms (in-order ls (sym (l .sheet .ensures) ∙ p .before .before .enum-told .given .1)))
 
 returns-5 : tie.Need-returns-5
 returns-5 c =
@@ -90,12 +112,18 @@ returns-5 c =
     let a = i .before .before .before .before .args in
     let ls = sheetLines (a .e) (a .d) (a .n) (a .s .now) in
     let ms = notPrinted (a .e) (a .n) (a .s .now) ∷ [] in
-    let front : InOrder (badInputs (a .n) ∷ shortText (a .room .now) ∷ []) = (sym (i .before .bad-inputs .ensures) ∙ i .if1 .left, (le-ltb (length (a .room .now)) mostText (r .if2 .left), tt)) in
+    let front : InOrder (badInputs (a .n) ∷ shortText (a .room .now) ∷ []) = (
+      sym (i .before .bad-inputs .ensures) ∙ i .if1 .left,
+      (le-ltb (length (a .room .now)) mostText (r .if2 .left), tt),
+    ) in
     let fine : p .is-printed .result ≡ true = not-false _ (c .if3 .left) in
-    sym (passes (badInputs (a .n) ∷ shortText (a .room .now) ∷ []) (ls ++ ms) front ∙ passes ls ms (in-order ls (sym (l .sheet .ensures) ∙ p .before .before .enum-told .given .1))
+    sym (passes (badInputs (a .n) ∷ shortText (a .room .now) ∷ []) (ls ++ ms) front
+    ∙ passes ls ms (in-order ls (sym (l .sheet .ensures) ∙ p .before .before .enum-told .given .1))
     ∙ passes ms [] (ap not (sym (p .is-printed .ensures) ∙ fine), tt))
 
 pub write-form-spec : {M : Type 1} → statement M
 write-form-spec =
-    tie.close (tie.spec (λ c κs. search needs) (λ c κs. search needs) returns (λ c κs. search needs) returns-2 cast-inputs sheet-requires
-    (λ c. search needs) (λ c. search needs) returns-3 (λ c. search needs) is-printed-requires (λ c κs. search needs) returns-4 returns-5)
+    tie.close (tie.spec (λ c κs. search needs) (λ c κs. search needs) returns (λ c κs. search needs) returns-2
+    cast-inputs sheet-requires
+    (λ c. search needs) (λ c. search needs) returns-3 (λ c. search needs) is-printed-requires (λ c κs. search needs)
+    returns-4 returns-5)

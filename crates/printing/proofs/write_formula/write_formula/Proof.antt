@@ -1,4 +1,5 @@
--- `write_formula` meets its contract: the edition handed down is the first, and the desk the sheet's own. Assumes nothing.
+-- `write_formula` meets its contract: the edition handed down is the first, and the desk the sheet's own. Assumes
+-- nothing.
 use mathlib.Core.Path.{sym, ap, _∙_, subst}
 use Prim.Native.Nat.{ℕ}
 use borrow.Author.Needs.{needs}

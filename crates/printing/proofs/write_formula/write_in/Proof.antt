@@ -1,4 +1,5 @@
--- `write_in` meets its contract: a refusal is its lines' verdict, and where these are in order the last record has room. Assumes nothing.
+-- `write_in` meets its contract: a refusal is its lines' verdict, and where these are in order the last record has
+-- room. Assumes nothing.
 use mathlib.Core.Path.{sym, ap, _∙_}
 use native.Mathlib.Omega.{arith}
 use borrow.Author.Needs.{needs}
@@ -17,14 +18,17 @@ returns c =
     let a = f .before .before .before .before .args in
     let e = c .enum-told2 .given .1 in
     ap (λ (v : Verdict). record { answer = record { verdict = v; length = 0 }; room = a .room .now }) e
-    ∙ ap (λ (v : Verdict). reply v (writeDone (a .e) (a .n) (a .s .now) (a .room .now)) (writeNot (a .room .now))) (sym e ∙ f .write-form .ensures)
+    ∙ ap (λ (v : Verdict). reply v (writeDone (a .e) (a .n) (a .s .now) (a .room .now)) (writeNot (a .room .now)))
+    (sym e ∙ f .write-form .ensures)
 
 sub-last : tie.Need-sub-last
 sub-last c =
     let f = c .before .before .before in
     let s = f .before .before .before .before in
     let a = s .args in
-    let k = sound (a .e) (a .d) (a .n) (a .s .now) (a .room .now) (s .pre) (in-order (writeLines (a .e) (a .d) (a .n) (a .s .now) (a .room .now)) (sym (f .write-form .ensures) ∙ c .before .enum-told .given .1)) in
+    let k = sound (a .e) (a .d) (a .n) (a .s .now) (a .room .now) (s .pre)
+    (in-order (writeLines (a .e) (a .d) (a .n) (a .s .now) (a .room .now))
+    (sym (f .write-form .ensures) ∙ c .before .enum-told .given .1)) in
     k .good .some
 
 add-write : tie.Need-add-write
@@ -32,7 +36,9 @@ add-write c =
     let f = c .before .before .before in
     let s = f .before .before .before .before in
     let a = s .args in
-    let k = sound (a .e) (a .d) (a .n) (a .s .now) (a .room .now) (s .pre) (in-order (writeLines (a .e) (a .d) (a .n) (a .s .now) (a .room .now)) (sym (f .write-form .ensures) ∙ c .before .enum-told .given .1)) in
+    let k = sound (a .e) (a .d) (a .n) (a .s .now) (a .room .now) (s .pre)
+    (in-order (writeLines (a .e) (a .d) (a .n) (a .s .now) (a .room .now))
+    (sym (f .write-form .ensures) ∙ c .before .enum-told .given .1)) in
     omega (arith, k .inputs, k .good .most)
 
 write-requires : tie.Need-write-requires
@@ -41,7 +47,8 @@ write-requires c κs =
     let s = f .before .before .before .before in
     let a = s .args in
     ready (sound (a .e) (a .d) (a .n) (a .s .now) (a .room .now) (s .pre)
-    (in-order (writeLines (a .e) (a .d) (a .n) (a .s .now) (a .room .now)) (sym (f .write-form .ensures) ∙ c .before .before .enum-told .given .1)))
+    (in-order (writeLines (a .e) (a .d) (a .n) (a .s .now) (a .room .now))
+    (sym (f .write-form .ensures) ∙ c .before .before .enum-told .given .1)))
 
 returns-2 : tie.Need-returns-2
 unfolding writeOutcome
@@ -52,11 +59,14 @@ returns-2 c =
     let s = f .before .before .before .before in
     let a = s .args in
     let v = sym (f .write-form .ensures) ∙ t .enum-told .given .1 in
-    let k = sound (a .e) (a .d) (a .n) (a .s .now) (a .room .now) (s .pre) (in-order (writeLines (a .e) (a .d) (a .n) (a .s .now) (a .room .now)) v) in
+    let k = sound (a .e) (a .d) (a .n) (a .s .now) (a .room .now) (s .pre)
+    (in-order (writeLines (a .e) (a .d) (a .n) (a .s .now) (a .room .now)) v) in
     written k (w .write .ensures)
-    ∙ ap (λ (v : Verdict). reply v (writeDone (a .e) (a .n) (a .s .now) (a .room .now)) (writeNot (a .room .now))) (sym v)
+    ∙ ap (λ (v : Verdict). reply v (writeDone (a .e) (a .n) (a .s .now) (a .room .now)) (writeNot (a .room .now)))
+    (sym v)
 
 pub write-in-spec : {M : Type 1} → statement M
 write-in-spec =
-    tie.close (tie.spec (λ c κs. search needs) (λ c. search needs) (λ c. search needs) (λ c. search needs) returns (λ c. search needs) sub-last
+    tie.close (tie.spec (λ c κs. search needs) (λ c. search needs) (λ c. search needs) (λ c. search needs) returns
+    (λ c. search needs) sub-last
     add-write write-requires (λ c. search needs) returns-2)

@@ -50,14 +50,18 @@ pub +write-decimal-spec : {M : Type 1} → statement M
     (λ c. search needs)
     (λ c. let w = c .before .before in
     let s = w .before .before .before .before in
-    inside (s .args .x) (s .args .out .now) _ _ (omega (arith, w .before .before .if1 .left)) (s .pre .1) (w .write-decimal .ensures))
+    inside (s .args .x) (s .args .out .now) _ _ (omega (arith, w .before .before .if1 .left)) (s .pre .1)
+    (w .write-decimal .ensures))
     (λ c. let w = c .before .before in
     let s = w .before .before .before .before in
-    let d = next-digit (s .args .x) (s .args .out .now) _ _ (omega (arith, w .before .before .if1 .left)) (s .pre .1) (w .write-decimal .ensures) in
+    let d = next-digit (s .args .x) (s .args .out .now) _ _ (omega (arith, w .before .before .if1 .left)) (s .pre .1)
+    (w .write-decimal .ensures) in
     omega (arith, d .0, s .pre .1))
     (λ c. let w = c .before .before in
     let s = w .before .before .before .before in
-    same-length (s .args .x) (s .args .out .now) _ _ (omega (arith, w .before .before .if1 .left)) (s .pre .1) (w .write-decimal .ensures) _)
+    same-length (s .args .x) (s .args .out .now) _ _ (omega (arith, w .before .before .if1 .left)) (s .pre .1)
+    (w .write-decimal .ensures) _)
     (λ c. let w = c .before .before in
     let s = w .before .before .before .before in
-    next-digit (s .args .x) (s .args .out .now) _ _ (omega (arith, w .before .before .if1 .left)) (s .pre .1) (w .write-decimal .ensures))
+    next-digit (s .args .x) (s .args .out .now) _ _ (omega (arith, w .before .before .if1 .left)) (s .pre .1)
+    (w .write-decimal .ensures))

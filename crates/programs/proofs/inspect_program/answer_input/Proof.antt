@@ -1,4 +1,5 @@
--- `answer_input` meets its contract: the number, a space and the place are written over a cleared room. Assumes nothing.
+-- `answer_input` meets its contract: the number, a space and the place are written over a cleared room. Assumes
+-- nothing.
 use mathlib.Core.Path.{_≡_, sym, ap, _∙_}
 use Prim.Native.Nat.{ℕ, _+_, _-_, _^_, _<_, _≤_}
 use native.Mathlib.Omega.{arith}
@@ -25,11 +26,13 @@ write-decimal-requires c κs =
     let o = n .before .before .before .before in
     number-fits (o .clear .last .0) (n .number-of .result) (ap length (cleared o)) (small n)
 
-behind : (c : tie.After-write-decimal) → (c .write-decimal .result ≤ 3) × (length (c .write-decimal .last .1 .0) ≡ mostWritten)
+behind : (c : tie.After-write-decimal) → (c .write-decimal .result ≤ 3)
+    × (length (c .write-decimal .last .1 .0) ≡ mostWritten)
 behind c =
     let n = c .before .before in
     let o = n .before .before .before .before in
-    behind-number (o .clear .last .0) (n .number-of .result) (ap length (cleared o)) (small n) _ _ (c .write-decimal .ensures)
+    behind-number (o .clear .last .0) (n .number-of .result) (ap length (cleared o)) (small n) _ _
+    (c .write-decimal .ensures)
 
 slice-write-out : tie.Need-slice-write-out
 slice-write-out c = let b = behind (c .before .before) in omega (arith, b .0, b .1)
@@ -46,14 +49,21 @@ write-decimal-requires-2 c κs =
     let w = p .before .before .before in
     let n = w .before .before in
     let o = n .before .before .before .before in
-    place-fits (o .clear .last .0) (n .number-of .result) (ap length (cleared o)) (small n) (w .write-decimal .last .1 .0)
+    place-fits (o .clear .last .0) (n .number-of .result) (ap length (cleared o)) (small n)
+    (w .write-decimal .last .1 .0)
     (w .write-decimal .result) (w .write-decimal .ensures) (p .place-of .result) (wide p)
 
 add-result-2 : tie.Need-add-result-2
 add-result-2 c =
     let q = c .before .before in
     let p = q .before .before in
-    omega (arith, behind (p .before .before .before) .0, q .write-decimal2 .ensures .0, at-most 19 (p .place-of .result) (omega (arith, wide p)))
+    omega (
+      arith,
+      behind (p .before .before .before) .0,
+      q .write-decimal2 .ensures .0,
+      at-most 19 (p .place-of .result)
+          (omega (arith, wide p)),
+    )
 
 same-length : tie.Need-same-length
 same-length c =
@@ -75,8 +85,10 @@ returns c =
     let o = v .before .before .before in
     let s = o .before .before .before .before in
     answered (o .clear .last .0) (n .number-of .result) (ap length (cleared o)) (small n) (w .write-decimal .last .1 .0)
-    (w .write-decimal .result) (w .write-decimal .ensures) (s .args .input .now) (v .inspect .result) (p .place-of .result)
-    (q .write-decimal2 .result) (q .write-decimal2 .last .1 .0) (cleared o) (v .inspect .ensures) (n .number-of .ensures)
+    (w .write-decimal .result) (w .write-decimal .ensures) (s .args .input .now) (v .inspect .result)
+    (p .place-of .result)
+    (q .write-decimal2 .result) (q .write-decimal2 .last .1 .0) (cleared o) (v .inspect .ensures)
+    (n .number-of .ensures)
     (p .place-of .ensures) (q .write-decimal2 .ensures)
 
 pub answer-input-spec : {M : Type 1} → statement M

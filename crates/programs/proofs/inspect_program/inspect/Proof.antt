@@ -13,7 +13,8 @@ returns c =
     let s = b .before .before in
     let n = s .before in
     c .check-sheet .ensures
-    ∙ parted (n .before .before .args .input .now) (n .byte-or-zero .result) (s .cut-at .result) (b .table-bytes .result)
+    ∙ parted (n .before .before .args .input .now) (n .byte-or-zero .result) (s .cut-at .result)
+    (b .table-bytes .result)
     (e .cut-at2 .result) (n .byte-or-zero .ensures) (s .cut-at .ensures .2)
     (b .table-bytes .ensures) (e .cut-at2 .ensures .1) (e .cut-at2 .ensures .2)
 

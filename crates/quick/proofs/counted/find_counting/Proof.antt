@@ -26,7 +26,8 @@ module _ (c : tie.After-members) where
   within : c .before .support-of .result < 2 ^ c .before .before .before .before .args .n
   unfolding support
   within = let a = c .before .before .before .before .args in
-      subst (λ (m : ℕ). m < 2 ^ a .n) (sym (c .before .support-of .ensures)) (number-lt (a .n) (counts (a .n) (tableBit (a .t .now))))
+      subst (λ (m : ℕ). m < 2 ^ a .n) (sym (c .before .support-of .ensures))
+      (number-lt (a .n) (counts (a .n) (tableBit (a .t .now))))
 
   many : c .members .result ≡ size (c .before .before .before .before .args .n) (bit (c .before .support-of .result))
   many = c .members .ensures (c .before .before .before .before .args .n) within
@@ -36,15 +37,18 @@ module _ (c : tie.After-members) where
 
   -- as many as the support has
   all : c .members .result ≡ size (c .before .before .before .before .args .n)
-      (bit (support (c .before .before .before .before .args .n) (tableBit (c .before .before .before .before .args .t .now))))
-  all = many ∙ ap (λ (m : ℕ). size (c .before .before .before .before .args .n) (bit m)) (c .before .support-of .ensures)
+      (bit (support (c .before .before .before .before .args .n)
+      (tableBit (c .before .before .before .before .args .t .now))))
+  all = many ∙ ap (λ (m : ℕ). size (c .before .before .before .before .args .n) (bit m))
+      (c .before .support-of .ensures)
 
 returns : tie.Need-returns
 returns c =
     let m = c .before in
     let a = m .before .before .before .before .args in
     record {
-      few = sym (le-leb (size (a .n) (bit (support (a .n) (tableBit (a .t .now))))) (a .k) (omega (arith, all m, c .if1 .taken)));
+      few = sym (le-leb (size (a .n) (bit (support (a .n) (tableBit (a .t .now))))) (a .k)
+          (omega (arith, all m, c .if1 .taken)));
       answer = refl;
       left = refl;
     }
@@ -62,10 +66,18 @@ length-for-requires c κs =
 
 -- the table over them is no longer than the whole
 module _ (c : tie.After-length-for) where
-  short : c .length-for .result ≤ length (c .before .before .before .before .before .before .before .before .before .before .args .work .now)
+  short : c .length-for .result
+      ≤ length (c .before .before .before .before .before .before .before .before .before .before .args .work .now)
   short = let m = c .before .before .before .before .before .before in
       let g = m .before .before .before .before in
-      omega (arith, c .length-for .ensures, g .pre .0, g .pre .4, pow-mono {i = m .members .result - 3} {j = g .args .n - 3} (omega (arith, few m)))
+      omega (
+        arith,
+        c .length-for .ensures,
+        g .pre .0,
+        g .pre .4,
+        pow-mono {i = m .members .result - 3}
+            {j = g .args .n - 3} (omega (arith, few m)),
+      )
 
   -- and it lies in the work area
   fits : c .length-for .result ≤ length (c .before .before .before .set-aside .last .1 .1 .1 .0)
@@ -75,7 +87,8 @@ slice-reshare-prefix-find-with : tie.Need-slice-reshare-prefix-find-with
 slice-reshare-prefix-find-with c = fits c
 
 slice-aggregate-find-with : tie.Need-slice-aggregate-find-with
-slice-aggregate-find-with c = let l = c .before in sym (length-take-le (l .length-for .result) (l .before .before .before .set-aside .last .1 .1 .1 .0) (fits l))
+slice-aggregate-find-with c = let l = c .before
+    in sym (length-take-le (l .length-for .result) (l .before .before .before .set-aside .last .1 .1 .1 .0) (fits l))
 
 find-with-requires : tie.Need-find-with-requires
 find-with-requires c κs =
@@ -113,7 +126,8 @@ returns-2 c =
     record {
       few = not-few ∙ sym (lt-leb (size (a .n) (bit (support (a .n) F))) (a .k) (omega (arith, all m, i .if1 .left)));
       answer = c .spread-back .ensures .1 ∙ ap (spreadAnswer (a .n) (bit S)) (f .find-with .ensures)
-          ∙ counting-found (a .n) (a .r) (a .k) S F (s .set-aside .last .1 .1 .1 .0) (m .members .result) (l .length-for .result) (m .before .support-of .ensures)
+          ∙ counting-found (a .n) (a .r) (a .k) S F (s .set-aside .last .1 .1 .1 .0) (m .members .result)
+          (l .length-for .result) (m .before .support-of .ensures)
           (many m)
           (omega (arith, l .length-for .ensures, length-holds (m .members .result))) (s .set-aside .ensures)
           ∙ ap (λ (t : Bool). cond t none (bestCounting (a .n) (a .r) F (a .k))) (sym not-few);
@@ -124,5 +138,6 @@ returns-2 c =
 pub find-counting-spec : {M : Type 1} → statement M
 find-counting-spec =
     tie.close (tie.spec (λ c κs. search needs) (λ c κs. search needs) returns set-aside-requires length-for-requires
-    slice-reshare-prefix-find-with slice-aggregate-find-with find-with-requires (λ c κs. search needs) (λ c κs. search needs)
+    slice-reshare-prefix-find-with slice-aggregate-find-with find-with-requires (λ c κs. search needs)
+    (λ c κs. search needs)
     same-length returns-2)

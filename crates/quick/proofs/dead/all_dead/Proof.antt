@@ -22,11 +22,16 @@ returns : tie.Need-returns Inv-loop μ-loop
 returns c = said-no
 
 loop-again : tie.Need-loop-again Inv-loop μ-loop
-loop-again c = (omega arith, below-more _ _ (c .before .before .before .loop .inv .1) (c .before .dead-at .ensures (not-false _ (c .if1 .left))))
+loop-again c = (
+  omega arith,
+  below-more _ _ (c .before .before .before .loop .inv .1)
+      (c .before .dead-at .ensures (not-false _ (c .if1 .left))),
+)
 
 returns-2 : tie.Need-returns-2 Inv-loop μ-loop
 returns-2 c e m l = c .before .loop .inv .1 m (omega (arith, c .loop-test .left))
 
 pub all-dead-spec : {M : Type 1} → statement M
 all-dead-spec =
-    tie.close (tie.spec Inv-loop μ-loop loop-holds (λ c κs. search needs) returns (λ c. search needs) (λ c. search needs) loop-again returns-2)
+    tie.close (tie.spec Inv-loop μ-loop loop-holds (λ c κs. search needs) returns (λ c. search needs)
+    (λ c. search needs) loop-again returns-2)

@@ -22,14 +22,26 @@ but i = 65535 - 1 * 2 ^ i % 2 ^ 16
 add-result : tie.Need-add-result
 add-result c =
     let a = c .before .args in
-    omega (arith, c .members .ensures 16 (small (a .mask) (but (a .i)) (but (a .j)) (omega arith)), size-le 16 (bit (bitAnd (bitAnd (a .mask) (but (a .i))) (but (a .j)))))
+    omega (
+      arith,
+      c .members .ensures 16 (small (a .mask) (but (a .i)) (but (a .j)) (omega arith)),
+      size-le 16
+          (bit (bitAnd (bitAnd (a .mask) (but (a .i))) (but (a .j)))),
+    )
 
 returns : tie.Need-returns
 returns c e =
     let s = c .before in
     let a = s .args in
-    dead-code (a .mask) (a .i) (a .j) (a .k) _ _ (s .pre .0) (s .pre .1) (shl-one 16 (a .i) (s .pre .0)) (shl-one 16 (a .j) (s .pre .1))
-    (omega (arith, c .members .ensures 16 (small (a .mask) (but (a .i)) (but (a .j)) (omega arith)), ltb-true (a .k) (2 + c .members .result) e))
+    dead-code (a .mask) (a .i) (a .j) (a .k) _ _ (s .pre .0) (s .pre .1) (shl-one 16 (a .i) (s .pre .0))
+    (shl-one 16 (a .j) (s .pre .1))
+    (omega (
+      arith,
+      c .members .ensures 16 (small (a .mask) (but (a .i)) (but (a .j)) (omega arith)),
+      ltb-true (a .k)
+          (2 + c .members .result) e,
+    ))
 
 pub dead-spec : {M : Type 1} → statement M
-dead-spec = tie.close (tie.spec (λ c. search needs) (λ c. search needs) (λ c. search needs) (λ c. search needs) (λ c κs. search needs) add-result returns)
+dead-spec = tie.close (tie.spec (λ c. search needs) (λ c. search needs) (λ c. search needs) (λ c. search needs)
+    (λ c κs. search needs) add-result returns)

@@ -27,12 +27,18 @@ abbrev none-owns-below : ℕ → In 1 none-owns-kinds.ps
 none-owns-below t = and 1 none-owns-kinds.ps (falls 1 none-owns-kinds.ps _<_ μ-none-owns t) none-owns.Pre
 
 -- the position that is left out or taken in
-module _ {t : ℕ} (c : none-owns-lts.Else2 (dead-own-reads.Asked, dead-own-reads.Learnt, none-owns-below t, none-owns.Post) (none-owns-at t) none-owns.Post) where
+module _ {t : ℕ} (c : none-owns-lts.Else2 (
+  dead-own-reads.Asked,
+  dead-own-reads.Learnt,
+  none-owns-below t,
+  none-owns.Post,
+) (none-owns-at t) none-owns.Post) where
   falls-by : 0 < c .before .before .before .args .p
   falls-by = omega (arith, c .before .if1 .left, c .if2 .left)
 
   one : 1 * 2 ^ (c .before .before .before .args .p - 1) % 65536 ≡ 2 ^ (c .before .before .before .args .p - 1)
-  one = let h = c .before .before .before .pre .1 in shl-one 16 (c .before .before .before .args .p - 1) (omega (arith, falls-by, h .0, h .5))
+  one = let h = c .before .before .before .pre .1
+      in shl-one 16 (c .before .before .before .args .p - 1) (omega (arith, falls-by, h .0, h .5))
 
 pub +none-owns-spec : {M : Type 1} → statement M
 +none-owns-spec = close μ-none-owns λ t. none-owns-lts.spec (
@@ -63,7 +69,20 @@ pub +none-owns-spec : {M : Type 1} → statement M
     let h = s .pre .1 in
     let d = falls-by (c .before .before) in (
       omega (arith, s .pre .0, d),
-      (h .0, h .1, h .2, h .3, or-lt (s .args .n) (s .args .acc) _ (h .4) (omega (arith, one (c .before .before), pow-lt {i = s .args .p - 1} {j = s .args .n} (omega (arith, d, h .5)))), omega (arith, h .5)),
+      (
+        h .0,
+        h .1,
+        h .2,
+        h .3,
+        or-lt (s .args .n) (s .args .acc) _ (h .4)
+            (omega (
+              arith,
+              one (c .before .before),
+              pow-lt {i = s .args .p - 1} {j = s .args .n}
+                  (omega (arith, d, h .5)),
+            )),
+        omega (arith, h .5),
+      ),
     ))
     (λ c e. let s = c .before .before .before .before .before .before in
     owns-next (s .args .p - 1) (s .args .p) (s .args .left) _ (omega (arith, falls-by (c .before .before .before)))

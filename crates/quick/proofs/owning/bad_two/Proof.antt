@@ -17,7 +17,8 @@ returns-2 : tie.Need-returns-2
 returns-2 c h =
     let s = c .before .before .before in
     let a = s .args in record {
-      rules = subst (λ (m : ℕ). RulesOut (a .n) (tableBit (a .t .now)) m (bit (a .own)) (bit (bitOr (a .e) (a .f)))) (shl-one 32 (a .r) (omega (arith, s .pre .1)))
+      rules = subst (λ (m : ℕ). RulesOut (a .n) (tableBit (a .t .now)) m (bit (a .own)) (bit (bitOr (a .e) (a .f))))
+          (shl-one 32 (a .r) (omega (arith, s .pre .1)))
           (c .many-somewhere .ensures h);
       unused = λ j. and-off (a .used) (bitOr (a .e) (a .f)) j (omega (arith, c .before .if1 .left));
     }

@@ -29,10 +29,12 @@ by-pairs-requires c κs =
 returns-2 : tie.Need-returns-2
 returns-2 c =
     let a = c .before .before .before .before .before .args in
-    c .by-pairs .ensures ∙ ap (λ (r : ℕ). above (a .n) (a .low) (best (a .n) r (tableBit (a .t .now)) (a .k))) (sym (c .before .if3 .taken))
+    c .by-pairs .ensures ∙ ap (λ (r : ℕ). above (a .n) (a .low) (best (a .n) r (tableBit (a .t .now)) (a .k)))
+    (sym (c .before .if3 .taken))
 
 none-owns-requires : tie.Need-none-owns-requires
-none-owns-requires c κs = let s = c .before .before .before in (s .pre .0, s .pre .1, s .pre .2, s .pre .3, pow-pos (s .args .n), omega arith)
+none-owns-requires c κs = let s = c .before .before .before
+    in (s .pre .0, s .pre .1, s .pre .2, s .pre .3, pow-pos (s .args .n), omega arith)
 
 returns-3 : tie.Need-returns-3
 returns-3 c =

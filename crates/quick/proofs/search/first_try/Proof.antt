@@ -26,7 +26,13 @@ module _ (c : tie.Else2) where
 
   own-lt : 1 * 2 ^ k % 4294967296 - 1 < 2 ^ c .before .before .before .args .n
   unfolding k
-  own-lt = omega (arith, all, pow-pos k, pow-mono {i = k} {j = c .before .before .before .args .n} (omega (arith, c .if2 .left)))
+  own-lt = omega (
+    arith,
+    all,
+    pow-pos k,
+    pow-mono {i = k} {j = c .before .before .before .args .n}
+        (omega (arith, c .if2 .left)),
+  )
 
 sub-attempt : tie.Need-sub-attempt
 unfolding k
@@ -34,7 +40,14 @@ sub-attempt c = omega (arith, all c, pow-pos (k c))
 
 cast-attempt : tie.Need-cast-attempt
 unfolding k
-cast-attempt c = record { fits = omega (arith, own-lt c, pow-mono {i = c .before .before .before .args .n} {j = 16} (c .before .before .before .pre .0)) }
+cast-attempt c = record {
+  fits = omega (
+    arith,
+    own-lt c,
+    pow-mono {i = c .before .before .before .args .n} {j = 16}
+        (c .before .before .before .pre .0),
+  );
+}
 
 attempt-requires : tie.Need-attempt-requires
 unfolding k
@@ -48,8 +61,10 @@ returns-3 c A B e =
     let s = c .before .before .before .before in
     let a = s .args in
     let F = tableBit (a .t .now) in
-    first-best (a .n) (a .k) (omega (arith, c .before .if2 .left)) (a .r) F (omega (arith, c .before .before .if1 .left)) (size (a .n) (bit 0)) A B
-    (ap (λ (m : ℕ). tryB (a .n) (a .r) F (size (a .n) (bit 0)) (m - 1) 0) (sym (all (c .before))) ∙ sym (c .attempt .ensures) ∙ e)
+    first-best (a .n) (a .k) (omega (arith, c .before .if2 .left)) (a .r) F
+    (omega (arith, c .before .before .if1 .left)) (size (a .n) (bit 0)) A B
+    (ap (λ (m : ℕ). tryB (a .n) (a .r) F (size (a .n) (bit 0)) (m - 1) 0) (sym (all (c .before)))
+    ∙ sym (c .attempt .ensures) ∙ e)
 
 pub first-try-spec : {M : Type 1} → statement M
 first-try-spec =

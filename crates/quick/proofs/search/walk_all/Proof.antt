@@ -13,7 +13,8 @@ use Rattle.quick.proofs.search.walk_all.Statement.{statement}
 use Rattle.quick.proofs.search.walk_all.Tie as tie
 
 abbrev Inv-loop : tie.InvT-loop
-Inv-loop t n r pairs k low notes₀ i₀ notes i = NoneYet (k - low) (λ j. first (j + 1) (ofSizes n r (tableBit t) (k - j))) i × Known n r t notes
+Inv-loop t n r pairs k low notes₀ i₀ notes i = NoneYet (k - low) (λ j. first (j + 1) (ofSizes n r (tableBit t) (k - j)))
+    i × Known n r t notes
 
 abbrev μ-loop : tie.MeasureT-loop
 μ-loop t n r pairs k low notes₀ i₀ notes i = k - low - i
@@ -39,13 +40,15 @@ returns : tie.Need-returns Inv-loop μ-loop
 returns c =
     let s = c .before .before .before .before .before .before .before .before .before .before .before in
     let a = s .args in
-    yet-stops (c .before .before .before .before .before .before .before .loop .inv .0) (omega (arith, c .before .before .before .before .before .before .loop-test .taken))
+    yet-stops (c .before .before .before .before .before .before .before .loop .inv .0)
+    (omega (arith, c .before .before .before .before .before .before .loop-test .taken))
     (sym (c .before .before .before .before .with-own .ensures .0) ∙ ap answerOf (c .before .found .given .1))
     ∙ above-best (a .n) (a .r) (tableBit (a .t .now)) (a .k) (a .low) (s .pre .0 .4)
 
 loop-again : tie.Need-loop-again Inv-loop μ-loop
 loop-again c = (
-  yet-goes (c .before .before .before .before .before .before .loop .inv .0) (omega (arith, c .before .before .before .before .before .loop-test .taken))
+  yet-goes (c .before .before .before .before .before .before .loop .inv .0)
+      (omega (arith, c .before .before .before .before .before .loop-test .taken))
       (sym (c .before .before .before .with-own .ensures .0) ∙ ap answerOf (c .enum-told .given .1)),
   c .before .before .before .with-own .ensures .1,
 )
@@ -60,5 +63,7 @@ returns-2 c =
 pub walk-all-spec : {M : Type 1} → statement M
 walk-all-spec =
     tie.close (tie.spec Inv-loop μ-loop (λ c κs. search needs) loop-holds
-    (λ c. let s = c .before .before .before .before in omega (arith, s .pre .0 .1, s .pre .0 .3, c .loop .inv .0 .upto)) (λ c. search needs) (λ c. search needs)
-    with-own-requires (λ c. search needs) returns (λ c. search needs) (λ c. search needs) (λ c. search needs) loop-again returns-2)
+    (λ c. let s = c .before .before .before .before in omega (arith, s .pre .0 .1, s .pre .0 .3, c .loop .inv .0 .upto))
+    (λ c. search needs) (λ c. search needs)
+    with-own-requires (λ c. search needs) returns (λ c. search needs) (λ c. search needs) (λ c. search needs) loop-again
+    returns-2)

@@ -23,34 +23,54 @@ abbrev μ-loop : tie.MeasureT-loop
 walk-own-requires : tie.Need-walk-own-requires Inv-loop μ-loop
 walk-own-requires c κs =
     let s = c .before .before .before .before .before .before in
-    let l = c .before .before .loop in
-    ((l .inv .1, s .pre .1), (start (s .args .n) (s .pre .0 .most), needs-none (bit 0), omega (arith, s .pre .2, c .before .loop-test .taken)))
+    let l = c .before .before .loop in (
+      (l .inv .1, s .pre .1),
+      (
+        start (s .args .n) (s .pre .0 .most),
+        needs-none (bit 0),
+        omega
+            (arith, s .pre .2, c .before .loop-test .taken),
+      ),
+    )
 
 -- what the walk answers
 told : (c : tie.After-walk-own Inv-loop μ-loop)
-    → let a = c .before .before .before .before .before .before .before .args in ofSizes (a .n) (a .r) (tableBit (a .t .now)) (a .p) (c .before .before .before .loop .q) ≡ answerOf (c .walk-own .result)
+    → let a = c .before .before .before .before .before .before .before .args
+    in ofSizes (a .n) (a .r) (tableBit (a .t .now)) (a .p) (c .before .before .before .loop .q)
+    ≡ answerOf (c .walk-own .result)
 told c =
     let a = c .before .before .before .before .before .before .before .args in
-    sym (start-whole (a .n) (a .p) (λ p. tryA (a .n) (a .r) (tableBit (a .t .now)) p (c .before .before .before .loop .q))) ∙ sym (c .walk-own .ensures .0)
+    sym (start-whole (a .n) (a .p) (λ p. tryA (a .n) (a .r) (tableBit (a .t .now)) p
+    (c .before .before .before .loop .q))) ∙ sym (c .walk-own .ensures .0)
 
 same-length : tie.Need-same-length Inv-loop μ-loop
-same-length c = c .before .before .before .before .before .walk-own .ensures .1 .learned .long ∙ sym (c .before .before .before .before .before .before .before .before .before .before .before .before .pre .0 .learned .long)
+same-length c = c .before .before .before .before .before .walk-own .ensures .1 .learned .long
+    ∙ sym (c .before .before .before .before .before .before .before .before .before .before .before .before .pre .0
+    .learned .long)
 
 returns : tie.Need-returns Inv-loop μ-loop
 returns c =
-    let w = c .before .before .before .before .before in
-    (yet-stops (c .before .before .before .before .before .before .before .before .loop .inv .0) (omega arith) (told w ∙ ap answerOf (c .before .found .given .1)), w .walk-own .ensures .1)
+    let w = c .before .before .before .before .before in (
+      yet-stops (c .before .before .before .before .before .before .before .before .loop .inv .0) (omega arith)
+          (told w ∙ ap answerOf (c .before .found .given .1)),
+      w .walk-own .ensures .1,
+    )
 
 loop-again : tie.Need-loop-again Inv-loop μ-loop
 loop-again c =
-    let w = c .before .before .before .before in
-    (yet-goes (c .before .before .before .before .before .before .before .loop .inv .0) (omega arith) (told w ∙ ap answerOf (c .enum-told .given .1)), w .walk-own .ensures .1)
+    let w = c .before .before .before .before in (
+      yet-goes (c .before .before .before .before .before .before .before .loop .inv .0) (omega arith)
+          (told w ∙ ap answerOf (c .enum-told .given .1)),
+      w .walk-own .ensures .1,
+    )
 
 same-length-2 : tie.Need-same-length-2 Inv-loop μ-loop
-same-length-2 c = c .before .loop .inv .1 .learned .long ∙ sym (c .before .before .before .before .before .pre .0 .learned .long)
+same-length-2 c = c .before .loop .inv .1 .learned .long
+    ∙ sym (c .before .before .before .before .before .pre .0 .learned .long)
 
 pub with-own-spec : {M : Type 1} → statement M
 with-own-spec =
-    tie.close (tie.spec Inv-loop μ-loop (λ c. (yet-starts, c .before .before .before .pre .0)) walk-own-requires (λ c. search needs)
+    tie.close (tie.spec Inv-loop μ-loop (λ c. (yet-starts, c .before .before .before .pre .0)) walk-own-requires
+    (λ c. search needs)
     same-length returns (λ c. search needs) (λ c. search needs) (λ c. search needs) loop-again same-length-2
     (λ c. let l = c .before .loop in (yet-ends (l .inv .0) (omega arith), l .inv .1)))

@@ -15,13 +15,19 @@ returns : tie.Need-returns
 returns c =
     let i = c .before in
     let a = i .before .before .before .before .args in
-    c .refuse .ensures ∙ decides (rebuildLines (a .e) (a .d) (a .n) (a .s .now) (a .table .now)) (here (sym (i .before .bad-inputs .ensures) ∙ i .if1 .taken))
+    c .refuse .ensures ∙ decides (rebuildLines (a .e) (a .d) (a .n) (a .s .now) (a .table .now))
+    (here (sym (i .before .bad-inputs .ensures) ∙ i .if1 .taken))
 
 cast-inputs : tie.Need-cast-inputs
-cast-inputs c = omega (arith, inside 1 (c .before .before .before .before .args .n) mostInputs (sym (c .before .bad-inputs .ensures) ∙ c .if1 .left))
+cast-inputs c = omega (
+  arith,
+  inside 1 (c .before .before .before .before .args .n) mostInputs
+      (sym (c .before .bad-inputs .ensures) ∙ c .if1 .left),
+)
 
 bad-table-requires : tie.Need-bad-table-requires
-bad-table-requires c κs = inside 1 (c .before .before .before .before .args .n) mostInputs (sym (c .before .bad-inputs .ensures) ∙ c .if1 .left) .1
+bad-table-requires c κs = inside 1 (c .before .before .before .before .args .n) mostInputs
+    (sym (c .before .bad-inputs .ensures) ∙ c .if1 .left) .1
 
 returns-2 : tie.Need-returns-2
 returns-2 c =
@@ -29,7 +35,9 @@ returns-2 c =
     let i = b .before .before in
     let a = i .before .before .before .before .args in
     c .refuse2 .ensures
-    ∙ decides (rebuildLines (a .e) (a .d) (a .n) (a .s .now) (a .table .now)) (later (sym (i .before .bad-inputs .ensures) ∙ i .if1 .left) (here (sym (b .before .bad-table .ensures) ∙ b .if2 .taken)))
+    ∙ decides (rebuildLines (a .e) (a .d) (a .n) (a .s .now) (a .table .now))
+    (later (sym (i .before .bad-inputs .ensures) ∙ i .if1 .left)
+    (here (sym (b .before .bad-table .ensures) ∙ b .if2 .taken)))
 
 read-sheet-requires : tie.Need-read-sheet-requires
 read-sheet-requires c κs =

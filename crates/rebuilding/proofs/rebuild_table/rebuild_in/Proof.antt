@@ -1,4 +1,5 @@
--- `rebuild_in` meets its contract: a refusal is its lines' verdict, and where these are in order the sheet is good and can be run. Assumes nothing.
+-- `rebuild_in` meets its contract: a refusal is its lines' verdict, and where these are in order the sheet is good and
+-- can be run. Assumes nothing.
 use mathlib.Core.Path.{sym, ap, _∙_}
 use mathlib.Core.List.{List}
 use Prim.Native.Nat.{ℕ}
@@ -23,16 +24,19 @@ returns c =
     let a = f .before .before .before .before .args in
     let e = c .enum-told2 .given .1 in
     ap (λ (v : Verdict). record { verdict = v; table = a .table .now }) e
-    ∙ ap (λ (v : Verdict). reply v (rebuildDone (a .e) (a .n) (a .s .now)) (rebuildNot (a .table .now))) (sym e ∙ f .rebuild-form .ensures)
+    ∙ ap (λ (v : Verdict). reply v (rebuildDone (a .e) (a .n) (a .s .now)) (rebuildNot (a .table .now)))
+    (sym e ∙ f .rebuild-form .ensures)
 
 div-m : tie.Need-div-m
-div-m c = let s = c .before .before .before .before .before .before .before in omega (arith, s .pre .ends, s .pre .order)
+div-m c = let s = c .before .before .before .before .before .before .before
+    in omega (arith, s .pre .ends, s .pre .order)
 
 cast-rebuild : tie.Need-cast-rebuild
 cast-rebuild c =
     let f = c .before .before .before in
     let a = f .before .before .before .before .args in
-    let w = in-order (rebuildLines (a .e) (a .d) (a .n) (a .s .now) (a .table .now)) (sym (f .rebuild-form .ensures) ∙ c .before .enum-told .given .1) in
+    let w = in-order (rebuildLines (a .e) (a .d) (a .n) (a .s .now) (a .table .now))
+    (sym (f .rebuild-form .ensures) ∙ c .before .enum-told .given .1) in
     omega (arith, inside 1 (a .n) mostInputs (w .0))
 
 rebuild-requires : tie.Need-rebuild-requires
@@ -40,8 +44,10 @@ rebuild-requires c κs =
     let f = c .before .before .before .before in
     let s = f .before .before .before .before in
     let a = s .args in
-    let w = in-order (rebuildLines (a .e) (a .d) (a .n) (a .s .now) (a .table .now)) (sym (f .rebuild-form .ensures) ∙ c .before .before .enum-told .given .1) in (
-      runnable (a .e) (a .d) (a .n) (a .s .now) (s .pre) (records (a .e) (a .s .now)) (inside 1 (a .n) mostInputs (w .0) .1)
+    let w = in-order (rebuildLines (a .e) (a .d) (a .n) (a .s .now) (a .table .now))
+    (sym (f .rebuild-form .ensures) ∙ c .before .before .enum-told .given .1) in (
+      runnable (a .e) (a .d) (a .n) (a .s .now) (s .pre) (records (a .e) (a .s .now))
+          (inside 1 (a .n) mostInputs (w .0) .1)
           (good-sheet (a .e) (a .d) (a .n) (a .s .now) (s .pre) (w .1 .1 .0, (w .1 .1 .1 .0, tt))),
       right-table (a .n) (a .table .now) (w .1 .0),
     )

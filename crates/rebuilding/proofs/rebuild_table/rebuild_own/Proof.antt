@@ -11,7 +11,8 @@ returns c =
     let r = c .before .before in
     let o = r .before .before in
     let a = o .before .before .before .args in
-    r .rebuild-in .ensures ∙ ap (λ (d : ℕ). rebuildOutcome (a .e) d (a .n) (a .s .now) (a .table .now)) (o .desk-of .ensures)
+    r .rebuild-in .ensures ∙ ap (λ (d : ℕ). rebuildOutcome (a .e) d (a .n) (a .s .now) (a .table .now))
+    (o .desk-of .ensures)
 
 pub rebuild-own-spec : {M : Type 1} → statement M
 rebuild-own-spec =

@@ -1,4 +1,5 @@
--- `rebuild_told` meets its contract: n and the edition refuse, or the edition handed down is the one with that number. Assumes nothing.
+-- `rebuild_told` meets its contract: n and the edition refuse, or the edition handed down is the one with that number.
+-- Assumes nothing.
 use mathlib.Core.Path.{sym, ap, _∙_, subst}
 use borrow.Author.Needs.{needs}
 use Rattle.sheets.specs.declared.kinds.Edition.{Edition}
@@ -19,7 +20,8 @@ returns c =
     let e = editionOf (a .w) in
     let q = c .enum-told2 .given .1 in
     ap (λ (v : Verdict). record { verdict = v; table = a .table .now }) q
-    ∙ refused-by (toldForm (a .w) (a .n)) (rebuildLines e (deskOf e (a .s .now)) (a .n) (a .s .now) (a .table .now)) (rebuildDone e (a .n) (a .s .now))
+    ∙ refused-by (toldForm (a .w) (a .n)) (rebuildLines e (deskOf e (a .s .now)) (a .n) (a .s .now) (a .table .now))
+    (rebuildDone e (a .n) (a .s .now))
     (rebuildNot (a .table .now)) (f .told .result) (c .enum-told2 .given .0 .0) (f .told .ensures) q
 
 returns-2 : tie.Need-returns-2
@@ -33,7 +35,8 @@ returns-2 c =
     let e = editionOf (a .w) in
     r .rebuild-own .ensures
     ∙ ap (λ (e : Edition). rebuildOwn e (a .n) (a .s .now) (a .table .now)) (o .numbered .ensures)
-    ∙ left-to (toldForm (a .w) (a .n)) (rebuildLines e (deskOf e (a .s .now)) (a .n) (a .s .now) (a .table .now)) (rebuildDone e (a .n) (a .s .now))
+    ∙ left-to (toldForm (a .w) (a .n)) (rebuildLines e (deskOf e (a .s .now)) (a .n) (a .s .now) (a .table .now))
+    (rebuildDone e (a .n) (a .s .now))
     (rebuildNot (a .table .now)) (f .told .result) (f .told .ensures) (g .enum-told .given .1)
 
 pub rebuild-told-spec : {M : Type 1} → statement M

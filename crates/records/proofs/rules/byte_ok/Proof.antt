@@ -16,29 +16,37 @@ use Rattle.records.proofs.rules.byte_ok.Tie as tie
 returns : tie.Need-returns
 returns c =
     let a = c .before .before .before .before .args in
-    sym (signal-byte (a .e) (a .d) (a .top) (a .k) (a .j) (a .p) (a .x) (c .before .before .if1 .taken) (c .before .if2 .taken)
+    sym (signal-byte (a .e) (a .d) (a .top) (a .k) (a .j) (a .p) (a .x) (c .before .before .if1 .taken)
+    (c .before .if2 .taken)
     ∙ ap (λ (t : Bool). t && (eqb (a .j) 0 || ltb (a .p) (a .x))) (le-ltb (a .x) (a .top) (omega arith)))
 
 returns-2 : tie.Need-returns-2
 returns-2 c =
     let a = c .before .before .before .before .before .args in
-    sym (signal-byte (a .e) (a .d) (a .top) (a .k) (a .j) (a .p) (a .x) (c .before .before .before .if1 .taken) (c .before .before .if2 .taken)
-    ∙ ap₂ (λ (t u : Bool). t && (u || ltb (a .p) (a .x))) (lt-ltb (a .x) (a .top) (omega arith)) (eq-eqb (a .j) 0 (c .if4 .taken)))
+    sym (signal-byte (a .e) (a .d) (a .top) (a .k) (a .j) (a .p) (a .x) (c .before .before .before .if1 .taken)
+    (c .before .before .if2 .taken)
+    ∙ ap₂ (λ (t u : Bool). t && (u || ltb (a .p) (a .x))) (lt-ltb (a .x) (a .top) (omega arith))
+    (eq-eqb (a .j) 0 (c .if4 .taken)))
 
 returns-3 : tie.Need-returns-3
 returns-3 c =
     let a = c .before .before .before .before .before .args in
-    sym (signal-byte (a .e) (a .d) (a .top) (a .k) (a .j) (a .p) (a .x) (c .before .before .before .if1 .taken) (c .before .before .if2 .taken)
-    ∙ ap₂ (λ (t u : Bool). t && (u || ltb (a .p) (a .x))) (lt-ltb (a .x) (a .top) (omega arith)) (ne-eqb (a .j) 0 (c .if4 .left)))
+    sym (signal-byte (a .e) (a .d) (a .top) (a .k) (a .j) (a .p) (a .x) (c .before .before .before .if1 .taken)
+    (c .before .before .if2 .taken)
+    ∙ ap₂ (λ (t u : Bool). t && (u || ltb (a .p) (a .x))) (lt-ltb (a .x) (a .top) (omega arith))
+    (ne-eqb (a .j) 0 (c .if4 .left)))
 
 returns-4 : tie.Need-returns-4
-returns-4 c = let a = c .before .before .before .args in sym (unused-byte (a .e) (a .d) (a .top) (a .k) (a .j) (a .p) (a .x) (c .before .if1 .taken) (c .if2 .left))
+returns-4 c = let a = c .before .before .before .args
+    in sym (unused-byte (a .e) (a .d) (a .top) (a .k) (a .j) (a .p) (a .x) (c .before .if1 .taken) (c .if2 .left))
 
 returns-5 : tie.Need-returns-5
-returns-5 c = let a = c .before .before .before .before .args in sym (desk-byte (a .e) (a .d) (a .top) (a .k) (a .j) (a .p) (a .x) (c .if5 .taken))
+returns-5 c = let a = c .before .before .before .before .args
+    in sym (desk-byte (a .e) (a .d) (a .top) (a .k) (a .j) (a .p) (a .x) (c .if5 .taken))
 
 returns-6 : tie.Need-returns-6
-returns-6 c = let a = c .before .before .before .before .before .before .args in sym (zero-byte (a .e) (a .d) (a .top) (a .k) (a .j) (a .p) (a .x) (omega arith) (c .if6 .taken))
+returns-6 c = let a = c .before .before .before .before .before .before .args
+    in sym (zero-byte (a .e) (a .d) (a .top) (a .k) (a .j) (a .p) (a .x) (omega arith) (c .if6 .taken))
 
 spare-ok-requires : tie.Need-spare-ok-requires
 spare-ok-requires c κs =
@@ -51,7 +59,8 @@ returns-7 : tie.Need-returns-7
 returns-7 c =
     let t = c .before .before .before .before .before .before .before .before in
     let a = t .args in
-    c .spare-ok .ensures ∙ ap (λ (w : ℕ). spareOk w (a .j + 1 - a .e .start) (a .x)) (shl-one 64 (a .k) (omega (arith, t .pre .0 .eight)))
+    c .spare-ok .ensures ∙ ap (λ (w : ℕ). spareOk w (a .j + 1 - a .e .start) (a .x))
+    (shl-one 64 (a .k) (omega (arith, t .pre .0 .eight)))
     ∙ sym (table-byte (a .e) (a .d) (a .top) (a .k) (a .j) (a .p) (a .x) (omega arith) (omega arith))
 
 pub byte-ok-spec : {M : Type 1} → statement M

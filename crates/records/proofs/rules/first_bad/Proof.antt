@@ -27,8 +27,12 @@ loop-holds c = (omega arith, refl)
 record-of-requires : tie.Need-record-of-requires Inv-loop μ-loop
 record-of-requires c κs =
     let t = c .before .before .before in
-    let a = t .args in
-    (search needs, search needs, record-within (a .e .size) (c .before .loop .i) (a .m) (length (a .s .now)) (omega arith) (t .pre .3))
+    let a = t .args in (
+      search needs,
+      search needs,
+      record-within (a .e .size) (c .before .loop .i) (a .m) (length (a .s .now))
+          (omega arith) (t .pre .3),
+    )
 
 record-ok-requires : tie.Need-record-ok-requires Inv-loop μ-loop
 record-ok-requires c κs =
@@ -37,7 +41,8 @@ record-ok-requires c κs =
     let i = c .before .before .loop .i in (
       t .pre .0,
       ap length (c .record-of .ensures)
-          ∙ record-length (a .e) (a .s .now) i (record-within (a .e .size) i (a .m) (length (a .s .now)) (omega arith) (t .pre .3)),
+          ∙ record-length (a .e) (a .s .now) i (record-within (a .e .size) i (a .m) (length (a .s .now)) (omega arith)
+          (t .pre .3)),
     )
 
 returns : tie.Need-returns Inv-loop μ-loop
@@ -45,15 +50,18 @@ returns c =
     let q = c .before .before .before .before in
     let a = q .before .before .args in
     let i = q .loop .i in
-    let y = ap not (c .before .record-ok .ensures ∙ ap (λ (b : List ℕ). keeps (a .e) (a .d) (a .n + i) (byteAt b)) (c .before .before .record-of .ensures)) in
-    sym (least-stop i (a .m) (bad (a .e) (a .d) (a .n) (a .s .now)) (q .loop .inv .1) (sym y ∙ c .if1 .taken) (omega arith))
+    let y = ap not (c .before .record-ok .ensures
+    ∙ ap (λ (b : List ℕ). keeps (a .e) (a .d) (a .n + i) (byteAt b)) (c .before .before .record-of .ensures)) in
+    sym (least-stop i (a .m) (bad (a .e) (a .d) (a .n) (a .s .now)) (q .loop .inv .1) (sym y ∙ c .if1 .taken)
+    (omega arith))
 
 loop-again : tie.Need-loop-again Inv-loop μ-loop
 loop-again c =
     let q = c .before .before .before .before in
     let a = q .before .before .args in
     let i = q .loop .i in
-    let y = ap not (c .before .record-ok .ensures ∙ ap (λ (b : List ℕ). keeps (a .e) (a .d) (a .n + i) (byteAt b)) (c .before .before .record-of .ensures)) in
+    let y = ap not (c .before .record-ok .ensures
+    ∙ ap (λ (b : List ℕ). keeps (a .e) (a .d) (a .n + i) (byteAt b)) (c .before .before .record-of .ensures)) in
     (omega arith, least-more i (bad (a .e) (a .d) (a .n) (a .s .now)) (q .loop .inv .1) (sym y ∙ c .if1 .left))
 
 returns-2 : tie.Need-returns-2 Inv-loop μ-loop

@@ -16,7 +16,8 @@ returns-2 : tie.Need-returns-2
 returns-2 c = let a = c .before .before .before .before .args in bad-odd (a .e) (a .s .now) (c .if2 .taken)
 
 returns-3 : tie.Need-returns-3
-returns-3 c = let a = c .before .before .before .before .before .before .args in bad-long (a .e) (a .s .now) (c .if3 .taken)
+returns-3 c = let a = c .before .before .before .before .before .before .args
+    in bad-long (a .e) (a .s .now) (c .if3 .taken)
 
 first-bad-requires : tie.Need-first-bad-requires
 first-bad-requires c κs =
@@ -28,7 +29,8 @@ first-bad-requires c κs =
 returns-4 : tie.Need-returns-4
 returns-4 c =
     let a = c .before .before .before .before .before .before .before .before .before .args in (
-      right-length (a .e) (a .s .now) (c .before .before .before .before .before .before .before .if1 .left) (c .before .before .before .before .before .if2 .left) (c .before .before .before .if3 .left),
+      right-length (a .e) (a .s .now) (c .before .before .before .before .before .before .before .if1 .left)
+          (c .before .before .before .before .before .if2 .left) (c .before .before .before .if3 .left),
       sym (c .before .first-bad .ensures),
       c .if4 .taken,
     )
@@ -38,8 +40,13 @@ returns-5 c =
     let a = c .before .before .before .before .before .before .before .before .before .args in
     let m = records (a .e) (a .s .now) in
     let q : c .before .first-bad .result ≡ m =
-    le-antisymm (omega (arith, is-least m (bad (a .e) (a .d) (a .n) (a .s .now)) .within, c .before .first-bad .ensures)) (c .if4 .left) in (
-      right-length (a .e) (a .s .now) (c .before .before .before .before .before .before .before .if1 .left) (c .before .before .before .before .before .if2 .left) (c .before .before .before .if3 .left),
+    le-antisymm (omega (
+      arith,
+      is-least m (bad (a .e) (a .d) (a .n) (a .s .now)) .within,
+      c .before .first-bad .ensures,
+    )) (c .if4 .left) in (
+      right-length (a .e) (a .s .now) (c .before .before .before .before .before .before .before .if1 .left)
+          (c .before .before .before .before .before .if2 .left) (c .before .before .before .if3 .left),
       sym (c .before .first-bad .ensures) ∙ q,
       refl,
     )

@@ -24,10 +24,12 @@ abbrev μ-loop : tie.MeasureT-loop
 μ-loop e d top b end k j₀ j = e .size - 1 - j
 
 returns : tie.Need-returns Inv-loop μ-loop
-returns c = let a = c .before .before .before .before .args in sym (keeps-none (a .e) (a .d) (a .top) (byteAt (a .b .now)) (c .if1 .taken))
+returns c = let a = c .before .before .before .before .args
+    in sym (keeps-none (a .e) (a .d) (a .top) (byteAt (a .b .now)) (c .if1 .taken))
 
 returns-2 : tie.Need-returns-2 Inv-loop μ-loop
-returns-2 c = let a = c .before .before .before .before .before .before .args in sym (keeps-many (a .e) (a .d) (a .top) (byteAt (a .b .now)) (omega arith) (omega arith))
+returns-2 c = let a = c .before .before .before .before .before .before .args
+    in sym (keeps-many (a .e) (a .d) (a .top) (byteAt (a .b .now)) (omega arith) (omega arith))
 
 returns-3 : tie.Need-returns-3 Inv-loop μ-loop
 returns-3 c =

@@ -30,7 +30,8 @@ returns c =
     let f = c .before .before in
     let a = f .before .before .before .args in
     let m = records (a .e) (a .s .now) in
-    let near : firstUnread (a .e) (a .n) (a .s .now) m < m - 1 = omega (arith, f .first-unread .ensures, c .before .if1 .taken) in
+    let near : firstUnread (a .e) (a .n) (a .s .now) m
+    < m - 1 = omega (arith, f .first-unread .ensures, c .before .if1 .taken) in
     c .refuse-at .ensures ∙ ap (λ (i : ℕ). Refused (refusal 15 i)) (f .first-unread .ensures)
     ∙ decides (unreadRecord (a .e) (a .n) (a .s .now) ∷ []) (here (lt-ltb _ (m - 1) near))
 

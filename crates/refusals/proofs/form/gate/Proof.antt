@@ -14,7 +14,8 @@ returns : tie.Need-returns
 returns c =
     let i = c .before in
     let a = i .before .before .before .args in
-    c .refuse .ensures ∙ decides (gateLines (a .e) (a .n) (a .k) (a .t .now)) (here (sym (i .before .bad-inputs .ensures) ∙ i .if1 .taken))
+    c .refuse .ensures ∙ decides (gateLines (a .e) (a .n) (a .k) (a .t .now))
+    (here (sym (i .before .bad-inputs .ensures) ∙ i .if1 .taken))
 
 returns-2 : tie.Need-returns-2
 returns-2 c =
@@ -22,13 +23,20 @@ returns-2 c =
     let i = k .before .before in
     let a = i .before .before .before .args in
     c .refuse2 .ensures
-    ∙ decides (gateLines (a .e) (a .n) (a .k) (a .t .now)) (later (sym (i .before .bad-inputs .ensures) ∙ i .if1 .left) (here (sym (k .before .bad-cell .ensures) ∙ k .if2 .taken)))
+    ∙ decides (gateLines (a .e) (a .n) (a .k) (a .t .now))
+    (later (sym (i .before .bad-inputs .ensures) ∙ i .if1 .left)
+    (here (sym (k .before .bad-cell .ensures) ∙ k .if2 .taken)))
 
 cast-inputs : tie.Need-cast-inputs
-cast-inputs c = let i = c .before .before in omega (arith, inside 1 (i .before .before .before .args .n) mostInputs (sym (i .before .bad-inputs .ensures) ∙ i .if1 .left))
+cast-inputs c = let i = c .before .before in omega (
+  arith,
+  inside 1 (i .before .before .before .args .n) mostInputs
+      (sym (i .before .bad-inputs .ensures) ∙ i .if1 .left),
+)
 
 bad-table-requires : tie.Need-bad-table-requires
-bad-table-requires c κs = let i = c .before .before in inside 1 (i .before .before .before .args .n) mostInputs (sym (i .before .bad-inputs .ensures) ∙ i .if1 .left) .1
+bad-table-requires c κs = let i = c .before .before
+    in inside 1 (i .before .before .before .args .n) mostInputs (sym (i .before .bad-inputs .ensures) ∙ i .if1 .left) .1
 
 returns-3 : tie.Need-returns-3
 returns-3 c =
@@ -38,13 +46,17 @@ returns-3 c =
     let a = i .before .before .before .args in
     c .refuse3 .ensures
     ∙ decides (gateLines (a .e) (a .n) (a .k) (a .t .now)) (later (sym (i .before .bad-inputs .ensures) ∙ i .if1 .left)
-    (later (sym (k .before .bad-cell .ensures) ∙ k .if2 .left) (here (sym (l .before .bad-table .ensures) ∙ l .if3 .taken))))
+    (later (sym (k .before .bad-cell .ensures) ∙ k .if2 .left)
+    (here (sym (l .before .bad-table .ensures) ∙ l .if3 .taken))))
 
 spare-clear-requires : tie.Need-spare-clear-requires
 spare-clear-requires c κs =
     let i = c .before .before .before .before in
-    let a = i .before .before .before .args in
-    (inside 1 (a .n) mostInputs (sym (i .before .bad-inputs .ensures) ∙ i .if1 .left) .1, right-table (a .n) (a .t .now) (sym (c .before .bad-table .ensures) ∙ c .if3 .left))
+    let a = i .before .before .before .args in (
+      inside 1 (a .n) mostInputs (sym (i .before .bad-inputs .ensures) ∙ i .if1 .left) .1,
+      right-table (a .n) (a .t .now)
+          (sym (c .before .bad-table .ensures) ∙ c .if3 .left),
+    )
 
 returns-4 : tie.Need-returns-4
 returns-4 c =
@@ -55,7 +67,8 @@ returns-4 c =
     let a = i .before .before .before .args in
     c .refuse4 .ensures
     ∙ decides (gateLines (a .e) (a .n) (a .k) (a .t .now)) (later (sym (i .before .bad-inputs .ensures) ∙ i .if1 .left)
-    (later (sym (k .before .bad-cell .ensures) ∙ k .if2 .left) (later (sym (l .before .bad-table .ensures) ∙ l .if3 .left)
+    (later (sym (k .before .bad-cell .ensures) ∙ k .if2 .left)
+    (later (sym (l .before .bad-table .ensures) ∙ l .if3 .left)
     (here (spare-line (a .n) (a .t .now) ∙ ap not (sym (s .before .spare-clear .ensures)) ∙ s .if4 .taken)))))
 
 returns-5 : tie.Need-returns-5
@@ -65,7 +78,8 @@ returns-5 c =
     let i = k .before .before in
     let a = i .before .before .before .args in
     decides (gateLines (a .e) (a .n) (a .k) (a .t .now)) (later (sym (i .before .bad-inputs .ensures) ∙ i .if1 .left)
-    (later (sym (k .before .bad-cell .ensures) ∙ k .if2 .left) (later (sym (l .before .bad-table .ensures) ∙ l .if3 .left)
+    (later (sym (k .before .bad-cell .ensures) ∙ k .if2 .left)
+    (later (sym (l .before .bad-table .ensures) ∙ l .if3 .left)
     (later (spare-line (a .n) (a .t .now) ∙ ap not (sym (c .before .spare-clear .ensures)) ∙ c .if4 .left) fine))))
 
 pub gate-spec : {M : Type 1} → statement M

@@ -11,23 +11,30 @@ returns : tie.Need-returns
 returns c =
     let l = c .before .before in
     let a = l .before .before .args in
-    stopped (sheetLines (a .e) (a .d) (a .n) (a .s .now)) (unreadRecord (a .e) (a .n) (a .s .now) ∷ []) _ (l .sheet .ensures)
+    stopped (sheetLines (a .e) (a .d) (a .n) (a .s .now)) (unreadRecord (a .e) (a .n) (a .s .now) ∷ []) _
+    (l .sheet .ensures)
     (c .enum-told2 .given .0 .0) (c .enum-told2 .given .1)
 
 all-read-requires : tie.Need-all-read-requires
 all-read-requires c κs =
     let l = c .before .before in
     let s = l .before .before in
-    let a = s .args in
-    (s .pre .0, s .pre .1, in-order (sheetLines (a .e) (a .d) (a .n) (a .s .now)) (sym (l .sheet .ensures) ∙ c .enum-told .given .1))
+    let a = s .args in (
+      s .pre .0,
+      s .pre .1,
+      in-order (sheetLines (a .e) (a .d) (a .n) (a .s .now))
+          (sym (l .sheet .ensures) ∙ c .enum-told .given .1),
+    )
 
 returns-2 : tie.Need-returns-2
 returns-2 c =
     let l = c .before .before .before in
     let a = l .before .before .args in
     let ls = sheetLines (a .e) (a .d) (a .n) (a .s .now) in
-    c .all-read .ensures ∙ sym (passes ls (unreadRecord (a .e) (a .n) (a .s .now) ∷ []) (in-order ls (sym (l .sheet .ensures) ∙ c .before .enum-told .given .1)))
+    c .all-read .ensures ∙ sym (passes ls (unreadRecord (a .e) (a .n) (a .s .now) ∷ [])
+    (in-order ls (sym (l .sheet .ensures) ∙ c .before .enum-told .given .1)))
 
 pub read-sheet-spec : {M : Type 1} → statement M
 read-sheet-spec =
-    tie.close (tie.spec (λ c κs. search needs) (λ c. search needs) (λ c. search needs) returns all-read-requires returns-2)
+    tie.close (tie.spec (λ c κs. search needs) (λ c. search needs) (λ c. search needs) returns all-read-requires
+    returns-2)

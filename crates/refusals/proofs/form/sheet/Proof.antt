@@ -1,4 +1,5 @@
--- `sheet` meets its contract: what the look saw is the first of lines 9 and 10 that holds, or that none does. Assumes nothing.
+-- `sheet` meets its contract: what the look saw is the first of lines 9 and 10 that holds, or that none does. Assumes
+-- nothing.
 use mathlib.Core.Path.{sym, ap, _∙_, subst}
 use Prim.Native.Nat.{ℕ}
 use borrow.Author.Needs.{needs}
@@ -16,7 +17,8 @@ returns : tie.Need-returns
 returns c =
     let l = c .before .before .before in
     let a = l .before .before .args in
-    let w = subst (λ (r : Looked). Saw (a .e) (a .d) (a .n) (a .s .now) r) (c .before .enum-told .given .1) (l .look .ensures) in
+    let w = subst (λ (r : Looked). Saw (a .e) (a .d) (a .n) (a .s .now) r) (c .before .enum-told .given .1)
+    (l .look .ensures) in
     c .refuse .ensures ∙ decides (sheetLines (a .e) (a .d) (a .n) (a .s .now)) (here w)
 
 returns-2 : tie.Need-returns-2
@@ -26,14 +28,17 @@ returns-2 c =
     let a = l .before .before .args in
     let w = subst (λ (r : Looked). Saw (a .e) (a .d) (a .n) (a .s .now) r) (i .seen .given .1) (l .look .ensures) in
     c .refuse-at .ensures ∙ ap (λ (j : ℕ). Refused (refusal 10 j)) (sym (w .1))
-    ∙ decides (sheetLines (a .e) (a .d) (a .n) (a .s .now)) (later (w .0) (here (record-bad (a .e) (a .d) (a .n) (a .s .now) (i .seen .given .0 .0) w)))
+    ∙ decides (sheetLines (a .e) (a .d) (a .n) (a .s .now))
+    (later (w .0) (here (record-bad (a .e) (a .d) (a .n) (a .s .now) (i .seen .given .0 .0) w)))
 
 returns-3 : tie.Need-returns-3
 returns-3 c =
     let l = c .before .before in
     let a = l .before .before .args in
-    let w = subst (λ (r : Looked). Saw (a .e) (a .d) (a .n) (a .s .now) r) (c .enum-told2 .given .1) (l .look .ensures) in
-    decides (sheetLines (a .e) (a .d) (a .n) (a .s .now)) (later (w .0) (later (records-fine (a .e) (a .d) (a .n) (a .s .now) (c .enum-told2 .given .0 .0) w) fine))
+    let w = subst (λ (r : Looked). Saw (a .e) (a .d) (a .n) (a .s .now) r) (c .enum-told2 .given .1) (l .look .ensures)
+    in
+    decides (sheetLines (a .e) (a .d) (a .n) (a .s .now))
+    (later (w .0) (later (records-fine (a .e) (a .d) (a .n) (a .s .now) (c .enum-told2 .given .0 .0) w) fine))
 
 pub sheet-spec : {M : Type 1} → statement M
 sheet-spec =

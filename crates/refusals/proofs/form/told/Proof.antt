@@ -18,13 +18,15 @@ returns-2 c =
     let i = k .before .before in
     let a = i .before .before .args in
     c .refuse2 .ensures
-    ∙ decides (toldForm (a .w) (a .n)) (later (sym (i .before .bad-inputs .ensures) ∙ i .if1 .left) (here (sym (k .before .bad-edition .ensures) ∙ k .if2 .taken)))
+    ∙ decides (toldForm (a .w) (a .n)) (later (sym (i .before .bad-inputs .ensures) ∙ i .if1 .left)
+    (here (sym (k .before .bad-edition .ensures) ∙ k .if2 .taken)))
 
 returns-3 : tie.Need-returns-3
 returns-3 c =
     let i = c .before .before in
     let a = i .before .before .args in
-    decides (toldForm (a .w) (a .n)) (later (sym (i .before .bad-inputs .ensures) ∙ i .if1 .left) (later (sym (c .before .bad-edition .ensures) ∙ c .if2 .left) fine))
+    decides (toldForm (a .w) (a .n)) (later (sym (i .before .bad-inputs .ensures) ∙ i .if1 .left)
+    (later (sym (c .before .bad-edition .ensures) ∙ c .if2 .left) fine))
 
 pub told-spec : {M : Type 1} → statement M
 told-spec =

@@ -15,14 +15,26 @@ first-of-requires c κs =
     let e = t .args .e in
     let b = t .args .b .now in
     let r = t .pre in
-    let few = r .readable .few in
-    (omega (arith, few, r .sound .eight), omega (arith, pow-mono {i = byteAt b 0} {j = e .most} few, table-bits e (r .sound), part-length e b, r .long))
+    let few = r .readable .few in (
+      omega (arith, few, r .sound .eight),
+      omega (
+        arith,
+        pow-mono {i = byteAt b 0} {j = e .most} few,
+        table-bits e
+            (r .sound),
+        part-length e b,
+        r .long,
+      ),
+    )
 
 returns : tie.Need-returns
 returns c =
     let t = c .before .before .before .before .before in
-    let a = t .args in
-    (t .pre .readable .few, held-cell (a .e) (a .b .now) (t .pre) (c .before .before .signals-of .result) (c .first-of .result) (c .before .before .signals-of .ensures) (c .first-of .ensures))
+    let a = t .args in (
+      t .pre .readable .few,
+      held-cell (a .e) (a .b .now) (t .pre) (c .before .before .signals-of .result)
+          (c .first-of .result) (c .before .before .signals-of .ensures) (c .first-of .ensures),
+    )
 
 pub cell-of-spec : {M : Type 1} → statement M
 cell-of-spec =

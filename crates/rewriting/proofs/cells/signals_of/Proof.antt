@@ -27,5 +27,6 @@ returns c j h =
 
 pub signals-of-spec : {M : Type 1} → statement M
 signals-of-spec =
-    tie.close (tie.spec Inv-loop μ-loop (λ c. search needs) (λ c. search needs) (λ c. filled-none (omega arith)) (λ c. search needs)
+    tie.close (tie.spec Inv-loop μ-loop (λ c. search needs) (λ c. search needs) (λ c. filled-none (omega arith))
+    (λ c. search needs)
     (λ c. search needs) (λ c. search needs) (λ c. search needs) loop-again returns)

@@ -1,4 +1,5 @@
--- `rewrite` meets its contract: the editions handed down are the first and the second, and the desk the sheet's own. Assumes nothing.
+-- `rewrite` meets its contract: the editions handed down are the first and the second, and the desk the sheet's own.
+-- Assumes nothing.
 use mathlib.Core.Path.{sym, ap, ap₂, _∙_, subst}
 use Prim.Native.Nat.{ℕ}
 use native.Mathlib.Omega.{arith}
@@ -27,10 +28,12 @@ returns c =
     let f = s .before in
     let a = f .before .before .before .args in
     r .rewrite-in .ensures
-    ∙ ap (λ (d : ℕ). rewriteOutcome (f .first .result) (s .second .result) d (a .n) (a .s .now) (a .room .now)) (o .desk-of .ensures)
+    ∙ ap (λ (d : ℕ). rewriteOutcome (f .first .result) (s .second .result) d (a .n) (a .s .now) (a .room .now))
+    (o .desk-of .ensures)
     ∙ ap₂ (λ (e f : Edition). rewriteOwn e f (a .n) (a .s .now) (a .room .now)) (f .first .ensures) (s .second .ensures)
 
 pub rewrite-spec : {M : Type 1} → statement M
 rewrite-spec =
     tie.close (tie.spec (λ c κs. search needs) (λ c κs. search needs)
-    (λ c κs. subst IsEdition (sym (c .before .first .ensures)) first-edition) rewrite-in-requires (λ c. search needs) returns)
+    (λ c κs. subst IsEdition (sym (c .before .first .ensures)) first-edition) rewrite-in-requires (λ c. search needs)
+    returns)

@@ -19,7 +19,8 @@ returns : tie.Need-returns
 returns c =
     let i = c .before in
     let a = i .before .before .before .before .args in
-    c .refuse .ensures ∙ decides (rewriteLines (a .e) (a .f) (a .d) (a .n) (a .s .now) (a .room .now)) (here (sym (i .before .bad-inputs .ensures) ∙ i .if1 .taken))
+    c .refuse .ensures ∙ decides (rewriteLines (a .e) (a .f) (a .d) (a .n) (a .s .now) (a .room .now))
+    (here (sym (i .before .bad-inputs .ensures) ∙ i .if1 .taken))
 
 returns-2 : tie.Need-returns-2
 returns-2 c =
@@ -27,13 +28,18 @@ returns-2 c =
     let i = b .before .before in
     let a = i .before .before .before .before .args in
     c .refuse2 .ensures
-    ∙ decides (rewriteLines (a .e) (a .f) (a .d) (a .n) (a .s .now) (a .room .now)) (later (sym (i .before .bad-inputs .ensures) ∙ i .if1 .left)
+    ∙ decides (rewriteLines (a .e) (a .f) (a .d) (a .n) (a .s .now) (a .room .now))
+    (later (sym (i .before .bad-inputs .ensures) ∙ i .if1 .left)
     (here (lt-ltb (length (a .room .now)) (a .f .size * mostRecords) (b .if2 .taken))))
 
 cast-read-sheet : tie.Need-cast-read-sheet
 cast-read-sheet c =
     let i = c .before .before in
-    omega (arith, inside 1 (i .before .before .before .before .args .n) mostInputs (sym (i .before .bad-inputs .ensures) ∙ i .if1 .left))
+    omega (
+      arith,
+      inside 1 (i .before .before .before .before .args .n) mostInputs
+          (sym (i .before .bad-inputs .ensures) ∙ i .if1 .left),
+    )
 
 read-sheet-requires : tie.Need-read-sheet-requires
 read-sheet-requires c κs =
@@ -47,8 +53,11 @@ returns-3 c =
     let i = b .before .before in
     let a = i .before .before .before .before .args in
     c .read-sheet .ensures
-    ∙ sym (passes (badInputs (a .n) ∷ shortRecords (a .f) (a .room .now) ∷ []) (readLines (a .e) (a .d) (a .n) (a .s .now))
-    (sym (i .before .bad-inputs .ensures) ∙ i .if1 .left, (le-ltb (length (a .room .now)) (a .f .size * mostRecords) (b .if2 .left), tt)))
+    ∙ sym (passes (badInputs (a .n) ∷ shortRecords (a .f) (a .room .now) ∷ [])
+    (readLines (a .e) (a .d) (a .n) (a .s .now)) (
+      sym (i .before .bad-inputs .ensures) ∙ i .if1 .left,
+      (le-ltb (length (a .room .now)) (a .f .size * mostRecords) (b .if2 .left), tt),
+    ))
 
 pub rewrite-form-spec : {M : Type 1} → statement M
 rewrite-form-spec =

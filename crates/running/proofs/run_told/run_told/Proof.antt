@@ -1,4 +1,5 @@
--- `run_told` meets its contract: n and the edition refuse, or the edition handed down is the one with that number. Assumes nothing.
+-- `run_told` meets its contract: n and the edition refuse, or the edition handed down is the one with that number.
+-- Assumes nothing.
 use mathlib.Core.Path.{sym, ap, _∙_, subst}
 use mathlib.Core.Bool.{false}
 use borrow.Author.Needs.{needs}
@@ -20,7 +21,8 @@ returns c =
     let e = editionOf (a .w) in
     let q = c .enum-told2 .given .1 in
     ap (λ (v : Verdict). record { verdict = v; bit = false }) q
-    ∙ refused-by (toldForm (a .w) (a .n)) (runLines e (deskOf e (a .s .now)) (a .n) (a .s .now) (a .x)) (runDone e (a .n) (a .s .now) (a .x)) runNot
+    ∙ refused-by (toldForm (a .w) (a .n)) (runLines e (deskOf e (a .s .now)) (a .n) (a .s .now) (a .x))
+    (runDone e (a .n) (a .s .now) (a .x)) runNot
     (f .told .result) (c .enum-told2 .given .0 .0) (f .told .ensures) q
 
 returns-2 : tie.Need-returns-2
@@ -32,7 +34,8 @@ returns-2 c =
     let e = editionOf (a .w) in
     c .run-own .ensures
     ∙ ap (λ (e : Edition). runOwn e (a .n) (a .s .now) (a .x)) (c .before .numbered .ensures)
-    ∙ left-to (toldForm (a .w) (a .n)) (runLines e (deskOf e (a .s .now)) (a .n) (a .s .now) (a .x)) (runDone e (a .n) (a .s .now) (a .x)) runNot
+    ∙ left-to (toldForm (a .w) (a .n)) (runLines e (deskOf e (a .s .now)) (a .n) (a .s .now) (a .x))
+    (runDone e (a .n) (a .s .now) (a .x)) runNot
     (f .told .result) (f .told .ensures) (g .enum-told .given .1)
 
 pub run-told-spec : {M : Type 1} → statement M

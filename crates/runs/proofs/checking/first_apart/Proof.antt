@@ -25,15 +25,23 @@ returns c =
     let l = c .before .before .before .before in
     let a = l .before .args in
     let i = l .loop .i in
-    let same = ap₂ (λ (u v : Bool). not (Bool·beq u v)) (sym (c .before .before .word-bit .ensures)) (sym (c .before .word-bit2 .ensures)) in
-    (sym (least-stop i 64 (apart (a .a) (a .b)) (l .loop .inv .1) (same ∙ c .if1 .taken) (c .before .before .before .loop-test .taken)), omega arith)
+    let same = ap₂ (λ (u v : Bool). not (Bool·beq u v)) (sym (c .before .before .word-bit .ensures))
+    (sym (c .before .word-bit2 .ensures)) in (
+      sym (least-stop i 64 (apart (a .a) (a .b)) (l .loop .inv .1) (same ∙ c .if1 .taken)
+          (c .before .before .before .loop-test .taken)),
+      omega arith,
+    )
 
 loop-again : tie.Need-loop-again Inv-loop μ-loop
 loop-again c =
     let l = c .before .before .before .before in
     let a = l .before .args in
-    let same = ap₂ (λ (u v : Bool). not (Bool·beq u v)) (sym (c .before .before .word-bit .ensures)) (sym (c .before .word-bit2 .ensures)) in
-    (omega (arith, c .before .before .before .loop-test .taken), least-more (l .loop .i) (apart (a .a) (a .b)) (l .loop .inv .1) (same ∙ c .if1 .left))
+    let same = ap₂ (λ (u v : Bool). not (Bool·beq u v)) (sym (c .before .before .word-bit .ensures))
+    (sym (c .before .word-bit2 .ensures)) in (
+      omega (arith, c .before .before .before .loop-test .taken),
+      least-more (l .loop .i) (apart (a .a) (a .b))
+          (l .loop .inv .1) (same ∙ c .if1 .left),
+    )
 
 returns-2 : tie.Need-returns-2 Inv-loop μ-loop
 returns-2 c =

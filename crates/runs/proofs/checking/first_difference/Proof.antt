@@ -17,7 +17,8 @@ use Rattle.runs.proofs.checking.first_difference.Tie as tie
 
 abbrev Inv-loop : tie.InvT-loop
 Inv-loop e n s m t all from₀ from =
-    (all ≡ 2 ^ n) × (all ≤ 65536) × (from % 64 ≡ 0) × (from ≤ all + 63) × ((x : ℕ) → x < from → x < 2 ^ n → differs e n s m t x ≡ false)
+    (all ≡ 2 ^ n) × (all ≤ 65536) × (from % 64 ≡ 0) × (from ≤ all + 63)
+    × ((x : ℕ) → x < from → x < 2 ^ n → differs e n s m t x ≡ false)
 
 abbrev μ-loop : tie.MeasureT-loop
 μ-loop e n s m t all from₀ from = all + 64 - from
@@ -25,8 +26,14 @@ abbrev μ-loop : tie.MeasureT-loop
 loop-holds : tie.Need-loop-holds Inv-loop μ-loop
 loop-holds c =
     let s = c .before .before in
-    let p = shl-one 32 (s .args .n) (omega (arith, s .pre .0 .2)) in
-    (p, omega (arith, p, pow-mono {i = s .args .n} {j = mostInputs} (s .pre .0 .2)), omega arith, omega arith, λ x h l. absurd (not-suc-le-zero h))
+    let p = shl-one 32 (s .args .n) (omega (arith, s .pre .0 .2)) in (
+      p,
+      omega (arith, p, pow-mono {i = s .args .n} {j = mostInputs} (s .pre .0 .2)),
+      omega arith,
+      omega arith,
+      λ x h l.
+          absurd (not-suc-le-zero h),
+    )
 
 word-of-requires : tie.Need-word-of-requires Inv-loop μ-loop
 word-of-requires c κs =
@@ -38,10 +45,12 @@ bits-from-requires : tie.Need-bits-from-requires Inv-loop μ-loop
 bits-from-requires c κs =
     let q = c .before .before .loop in
     let s = c .before .before .before .before .before in
-    word-there (s .args .n) (s .args .t .now) (s .pre .1 .0) (q .from) (q .inv .2) (omega (arith, q .inv .0, c .before .loop-test .taken))
+    word-there (s .args .n) (s .args .t .now) (s .pre .1 .0) (q .from) (q .inv .2)
+    (omega (arith, q .inv .0, c .before .loop-test .taken))
 
 add-result : tie.Need-add-result Inv-loop μ-loop
-add-result c = let q = c .before .before .before .before .before .loop in omega (arith, q .inv .1, q .inv .3, c .first-apart .ensures .1)
+add-result c = let q = c .before .before .before .before .before .loop
+    in omega (arith, q .inv .1, q .inv .3, c .first-apart .ensures .1)
 
 returns : tie.Need-returns Inv-loop μ-loop
 returns c =
@@ -51,7 +60,8 @@ returns c =
     let s = w .before .before .before .before .before in
     let a = s .args in
     ap (λ (i : ℕ). q .from + i) (c .first-apart .ensures .0)
-    ∙ apart-word (a .e) (a .n) (a .s .now) (a .m) (a .t .now) (s .pre .1 .0) (s .pre .1 .1) (q .from) (w .word-of .result) (b .bits-from .result) (q .inv .2)
+    ∙ apart-word (a .e) (a .n) (a .s .now) (a .m) (a .t .now) (s .pre .1 .0) (s .pre .1 .1) (q .from)
+    (w .word-of .result) (b .bits-from .result) (q .inv .2)
     (w .word-of .ensures) (b .bits-from .ensures) (c .before .if1 .taken) (omega arith) (q .inv .4)
 
 loop-again : tie.Need-loop-again Inv-loop μ-loop
@@ -61,7 +71,8 @@ loop-again c =
     let q = w .before .before .loop in
     let s = w .before .before .before .before .before in
     let a = s .args in
-    let same = same-word (a .e) (a .n) (a .s .now) (a .m) (a .t .now) (s .pre .1 .0) (s .pre .1 .1) (q .from) (w .word-of .result) (b .bits-from .result) (q .inv .2)
+    let same = same-word (a .e) (a .n) (a .s .now) (a .m) (a .t .now) (s .pre .1 .0) (s .pre .1 .1) (q .from)
+    (w .word-of .result) (b .bits-from .result) (q .inv .2)
     (w .word-of .ensures) (b .bits-from .ensures) (c .if1 .left) in (
       q .inv .0,
       q .inv .1,

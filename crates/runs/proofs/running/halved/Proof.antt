@@ -18,7 +18,12 @@ abbrev μ-loop : tie.MeasureT-loop
 μ-loop e b w t left₀ j₀ left j = 6 - j
 
 loop-holds : tie.Need-loop-holds Inv-loop μ-loop
-loop-holds c = let a = c .before .args in (omega arith, omega arith, halved-none 6 (inputAt (byteAt (a .b .now)) (bit (a .w))) (a .t))
+loop-holds c = let a = c .before .args in (
+  omega arith,
+  omega arith,
+  halved-none 6
+      (inputAt (byteAt (a .b .now)) (bit (a .w))) (a .t),
+)
 
 loop-again : tie.Need-loop-again Inv-loop μ-loop
 loop-again c =
@@ -29,7 +34,8 @@ loop-again c =
       omega arith,
       omega arith,
       halved-more 6 v (a .t) (q .loop .left) (c .half .result) j
-          (λ x l. c .half .ensures x l ∙ ap (λ (s : Bool). bit (q .loop .left) x && Bool·beq (bit x j) s) (c .before .value .ensures)) (q .loop .inv .2),
+          (λ x l. c .half .ensures x l ∙ ap (λ (s : Bool). bit (q .loop .left) x && Bool·beq (bit x j) s)
+          (c .before .value .ensures)) (q .loop .inv .2),
     )
 
 returns : tie.Need-returns Inv-loop μ-loop
@@ -38,7 +44,8 @@ returns c =
     let a = q .before .before .args in
     let v = inputAt (byteAt (a .b .now)) (bit (a .w)) in
     let z : q .loop .j ≡ 6 = omega arith in
-    halved-all 6 v (a .t) (q .loop .left) (q .loop .inv .1) (subst (Halved 6 v (a .t) (q .loop .left)) z (q .loop .inv .2))
+    halved-all 6 v (a .t) (q .loop .left) (q .loop .inv .1)
+    (subst (Halved 6 v (a .t) (q .loop .left)) z (q .loop .inv .2))
 
 pub halved-spec : {M : Type 1} → statement M
 halved-spec =

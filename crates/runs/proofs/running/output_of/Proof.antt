@@ -1,4 +1,5 @@
--- `output_of` meets its contract: inputs 6 and 7 make the number of a word, and the word's bit is the cell's. Assumes nothing.
+-- `output_of` meets its contract: inputs 6 and 7 make the number of a word, and the word's bit is the cell's. Assumes
+-- nothing.
 use mathlib.Core.Path.{_≡_, _∙_}
 use Prim.Native.Nat.{_+_, _*_, _<_}
 use native.Mathlib.Omega.{arith}
@@ -15,12 +16,14 @@ use Rattle.runs.proofs.running.output_of.Tie as tie
 
 -- the number of a word
 high : (c : tie.After-value2) → let a = c .before .before .before .args in
-    boolByte (c .before .value .result) + 2 * boolByte (c .value2 .result) ≡ number 2 (λ j. inputAt (byteAt (a .b .now)) (bit (a .w)) (6 + j))
+    boolByte (c .before .value .result) + 2 * boolByte (c .value2 .result)
+    ≡ number 2 (λ j. inputAt (byteAt (a .b .now)) (bit (a .w)) (6 + j))
 unfolding number
 high c = omega (arith, bool-digit (c .before .value .ensures), bool-digit (c .value2 .ensures))
 
 few : (c : tie.After-value2) → boolByte (c .before .value .result) + 2 * boolByte (c .value2 .result) < 4
-few c = let a = c .before .before .before .args in omega (arith, high c, number-lt 2 (λ j. inputAt (byteAt (a .b .now)) (bit (a .w)) (6 + j)))
+few c = let a = c .before .before .before .args
+    in omega (arith, high c, number-lt 2 (λ j. inputAt (byteAt (a .b .now)) (bit (a .w)) (6 + j)))
 
 bits-from-requires : tie.Need-bits-from-requires
 bits-from-requires c κs =

@@ -1,4 +1,5 @@
--- `rebuild` meets its contract. The loop's invariant: the bytes passed are the table's, and within a word o is that word. Assumes nothing.
+-- `rebuild` meets its contract. The loop's invariant: the bytes passed are the table's, and within a word o is that
+-- word. Assumes nothing.
 use mathlib.Core.Path.{_≡_, refl, ap, _∙_}
 use mathlib.Core.Logic.{⊎-elim}
 use mathlib.Core.Bool.{Bool, _&&_}
@@ -25,7 +26,8 @@ bits e n s m x = ltb x (2 ^ n) && sheetBit e n s m x
 
 abbrev Inv-loop : tie.InvT-loop
 Inv-loop e n s m out₀ o₀ i₀ out o i =
-    Filled 0 (length out₀) (λ k. number 8 (λ j. bits e n s m (k * 8 + j))) out₀ out i × ((i % 8 ≡ 0 → ⊥) → o ≡ sheetWord e n s m (i / 8))
+    Filled 0 (length out₀) (λ k. number 8 (λ j. bits e n s m (k * 8 + j))) out₀ out i
+    × ((i % 8 ≡ 0 → ⊥) → o ≡ sheetWord e n s m (i / 8))
 
 abbrev μ-loop : tie.MeasureT-loop
 μ-loop e n s m out₀ o₀ i₀ out o i = length out₀ - i
@@ -59,7 +61,8 @@ returns c =
     let q = c .before in
     let t = q .before .before .before in
     let a = t .args in
-    filled-whole (q .loop .inv .0) (omega arith) (omega arith) ∙ ap (λ (k : ℕ). bytesOf k (bits (a .e) (a .n) (a .s .now) (a .m))) (t .pre .1)
+    filled-whole (q .loop .inv .0) (omega arith) (omega arith)
+    ∙ ap (λ (k : ℕ). bytesOf k (bits (a .e) (a .n) (a .s .now) (a .m))) (t .pre .1)
 
 pub rebuild-spec : {M : Type 1} → statement M
 rebuild-spec =

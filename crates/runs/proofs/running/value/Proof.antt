@@ -21,7 +21,8 @@ returns-2 : tie.Need-returns-2
 returns-2 c =
     let a = c .before .before .before .args in
     let b = byteAt (a .b .now) in
-    test-bit (a .w) (b (a .j + 1)) ∙ sym (ap (λ (t : Bool). t && bit (a .w) (b (a .j + 1))) (lt-ltb (a .j) (b 0) (omega arith)))
+    test-bit (a .w) (b (a .j + 1)) ∙ sym (ap (λ (t : Bool). t && bit (a .w) (b (a .j + 1)))
+    (lt-ltb (a .j) (b 0) (omega arith)))
 
 pub value-spec : {M : Type 1} → statement M
 value-spec =

@@ -14,7 +14,8 @@ use Rattle.runs.proofs.words.cell_word.Statement.{statement}
 use Rattle.runs.proofs.words.cell_word.Tie as tie
 
 abbrev Inv-loop : tie.InvT-loop
-Inv-loop e b words v₀ j₀ v j = (j ≤ byteAt b 0 - 1) × (length v ≡ length v₀) × Left e (byteAt b) words (byteAt b 0 - 1) v j
+Inv-loop e b words v₀ j₀ v j = (j ≤ byteAt b 0 - 1) × (length v ≡ length v₀)
+    × Left e (byteAt b) words (byteAt b 0 - 1) v j
 
 abbrev μ-loop : tie.MeasureT-loop
 μ-loop e b words v₀ j₀ v j = j
@@ -29,7 +30,8 @@ loop-holds c =
       refl,
       λ h i l g.
           f .first-half .ensures .1 h i l g
-          ∙ sym (ap (λ (j : ℕ). left (cellBit (a .e) b) (inputAt b (lane (a .words .now) i)) (b 0 - 1) j h) n ∙ left-none (cellBit (a .e) b) (inputAt b (lane (a .words .now) i)) (b 0 - 1) h),
+          ∙ sym (ap (λ (j : ℕ). left (cellBit (a .e) b) (inputAt b (lane (a .words .now) i)) (b 0 - 1) j h) n
+          ∙ left-none (cellBit (a .e) b) (inputAt b (lane (a .words .now) i)) (b 0 - 1) h),
     )
 
 shl-halve : tie.Need-shl-halve Inv-loop μ-loop
@@ -44,7 +46,14 @@ halve-requires c κs =
     let p = f .before .before .before .before .before .pre in
     let j = q .loop .j in
     let few : j ≤ 7 = omega (arith, p .0 .sound .eight, p .0 .readable .few) in
-    omega (arith, shl-one 64 (j - 1) (omega arith), pow-mono {i = j - 1} {j = 6} (omega arith), q .loop .inv .1, f .first-half .kept .1 .1 .1 .0, p .2)
+    omega (
+      arith,
+      shl-one 64 (j - 1) (omega arith),
+      pow-mono {i = j - 1} {j = 6} (omega arith),
+      q .loop .inv .1,
+      f .first-half .kept .1 .1 .1 .0,
+      p .2,
+    )
 
 loop-again : tie.Need-loop-again Inv-loop μ-loop
 loop-again c =
@@ -58,8 +67,10 @@ loop-again c =
     let half = 1 * 2 ^ (j - 1) % 2 ^ 64 in (
       omega arith,
       h .kept .1 .1 .0 ∙ q .loop .inv .1,
-      left-halved (a .e) b (a .words .now) (b 0 - 1) (q .loop .v) (h .last .1 .1 .0) (i .result) half j (omega arith) (omega arith)
-          (shl-one 64 (j - 1) (omega (arith, t .pre .0 .sound .eight, t .pre .0 .readable .few))) (i .ensures) (h .ensures) (q .loop .inv .2),
+      left-halved (a .e) b (a .words .now) (b 0 - 1) (q .loop .v) (h .last .1 .1 .0) (i .result) half j (omega arith)
+          (omega arith)
+          (shl-one 64 (j - 1) (omega (arith, t .pre .0 .sound .eight, t .pre .0 .readable .few))) (i .ensures)
+          (h .ensures) (q .loop .inv .2),
     )
 
 slice-read-result : tie.Need-slice-read-result Inv-loop μ-loop
@@ -77,7 +88,8 @@ returns c =
     let a = q .before .before .before .before .before .before .before .before .args in
     let b = byteAt (a .b .now) in
     let z : q .loop .j ≡ 0 = omega arith in
-    left-output (a .e) b (a .words .now) (b 0 - 1) (q .loop .v) (omega arith) (subst (Left (a .e) b (a .words .now) (b 0 - 1) (q .loop .v)) z (q .loop .inv .2))
+    left-output (a .e) b (a .words .now) (b 0 - 1) (q .loop .v) (omega arith)
+    (subst (Left (a .e) b (a .words .now) (b 0 - 1) (q .loop .v)) z (q .loop .inv .2))
 
 pub cell-word-spec : {M : Type 1} → statement M
 cell-word-spec =

@@ -1,4 +1,5 @@
--- `first_bits` meets its contract: what is left of a division by 2 ^ (2 ^ n), where a word has more bits. Assumes nothing.
+-- `first_bits` meets its contract: what is left of a division by 2 ^ (2 ^ n), where a word has more bits. Assumes
+-- nothing.
 use mathlib.Core.Path.{_≡_, ap, _∙_}
 use Prim.Native.Nat.{ℕ, _*_, _%_, _^_, _<_}
 use native.Mathlib.Omega.{arith}
@@ -16,7 +17,8 @@ end : (n : ℕ) → n < 6 → 1 * 2 ^ (1 * 2 ^ n % 2 ^ 64) % 2 ^ 64 ≡ 2 ^ (2 ^
 end n h = shl-one 64 (1 * 2 ^ n % 2 ^ 64) (many n h) ∙ ap (λ (k : ℕ). 2 ^ k) (shl-one 64 n (omega arith))
 
 returns : tie.Need-returns
-returns c = let a = c .before .args in ap (λ (k : ℕ). a .o % k) (end (a .n) (c .if1 .taken)) ∙ first-short (a .n) (a .o) (c .if1 .taken)
+returns c = let a = c .before .args in ap (λ (k : ℕ). a .o % k) (end (a .n) (c .if1 .taken))
+    ∙ first-short (a .n) (a .o) (c .if1 .taken)
 
 returns-2 : tie.Need-returns-2
 returns-2 c = let a = c .before .args in first-whole (a .n) (a .o) (omega arith) (omega arith)

@@ -1,4 +1,5 @@
--- `first_half` meets its contract: the pairs are read in the record's last bytes, which are the cell's table. Assumes nothing.
+-- `first_half` meets its contract: the pairs are read in the record's last bytes, which are the cell's table. Assumes
+-- nothing.
 use mathlib.Core.Path.{ap, _∙_}
 use mathlib.Core.Bool.{Bool}
 use Prim.Native.Nat.{_+_, _*_, _<_}
@@ -20,8 +21,10 @@ pairs-requires c κs =
     let a = t .args in
     let n = r .one-less .result in
     let few : n < a .e .most = omega (arith, t .pre .0 .sound .three, t .pre .0 .readable .few) in
-    let one = shl-one 64 n (omega (arith, t .pre .0 .sound .eight)) in
-    (omega (arith, one, pairs-room (a .e) (t .pre .0 .sound) n few, part-length (a .e) (a .b .now), t .pre .0 .long), omega (arith, one, pow-mono {i = n} {j = 7} (omega (arith, t .pre .0 .sound .eight))))
+    let one = shl-one 64 n (omega (arith, t .pre .0 .sound .eight)) in (
+      omega (arith, one, pairs-room (a .e) (t .pre .0 .sound) n few, part-length (a .e) (a .b .now), t .pre .0 .long),
+      omega (arith, one, pow-mono {i = n} {j = 7} (omega (arith, t .pre .0 .sound .eight))),
+    )
 
 returns : tie.Need-returns
 returns c =
@@ -37,7 +40,13 @@ returns c =
       λ h j l g.
           let x = 2 * h + val (bit (i .cell-input .result) j) in
           p .pairs .ensures h j (omega (arith, one)) g
-          ∙ table-part (a .e) (a .b .now) x (omega (arith, pairs-room (a .e) (t .pre .0 .sound) n few, val-lt (bit (i .cell-input .result) j), t .pre .0 .long))
+          ∙ table-part (a .e) (a .b .now) x (omega (
+            arith,
+            pairs-room (a .e) (t .pre .0 .sound) n few,
+            val-lt
+                (bit (i .cell-input .result) j),
+            t .pre .0 .long,
+          ))
           ∙ ap (λ (b : Bool). cellBit (a .e) (byteAt (a .b .now)) (2 * h + val b)) (i .cell-input .ensures j),
     )
 

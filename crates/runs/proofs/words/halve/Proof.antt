@@ -1,4 +1,5 @@
--- `halve` meets its contract. The loop's invariant: the places passed hold what was chosen, the others what they held. Assumes nothing.
+-- `halve` meets its contract. The loop's invariant: the places passed hold what was chosen, the others what they held.
+-- Assumes nothing.
 use mathlib.Core.Path.{ap₂, _∙_}
 use Prim.Native.Nat.{_+_, _-_}
 use native.Mathlib.Omega.{arith}
@@ -29,7 +30,8 @@ loop-again c =
 returns : tie.Need-returns Inv-loop μ-loop
 returns c = λ h i l g.
     let a = c .before .before .before .args in
-    lane-filled (c .before .loop .inv) i h (omega arith) ∙ chosen-bit (a .s) (getD (a .v .now) h 0) (getD (a .v .now) (a .half + h) 0) i g
+    lane-filled (c .before .loop .inv) i h (omega arith)
+    ∙ chosen-bit (a .s) (getD (a .v .now) h 0) (getD (a .v .now) (a .half + h) 0) i g
 
 pub halve-spec : {M : Type 1} → statement M
 halve-spec =

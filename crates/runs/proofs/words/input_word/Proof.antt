@@ -15,10 +15,17 @@ returns : tie.Need-returns
 returns c = let a = c .before .before .args in c .of-input .ensures ∙ input-low (a .j) (a .w) (omega arith)
 
 returns-2 : tie.Need-returns-2
-returns-2 c = let a = c .before .before .args in omega (arith, input-high (a .j) (a .w) true (omega arith) (bit-set (a .w) (a .j - 6) (c .if2 .taken)), all-ones 64)
+returns-2 c = let a = c .before .before .args
+    in omega (
+      arith,
+      input-high (a .j) (a .w) true (omega arith) (bit-set (a .w) (a .j - 6) (c .if2 .taken)),
+      all-ones
+          64,
+    )
 
 returns-3 : tie.Need-returns-3
-returns-3 c = let a = c .before .before .args in sym (input-high (a .j) (a .w) false (omega arith) (bit-clear (a .w) (a .j - 6) (c .if2 .left)) ∙ none-zero 64)
+returns-3 c = let a = c .before .before .args
+    in sym (input-high (a .j) (a .w) false (omega arith) (bit-clear (a .w) (a .j - 6) (c .if2 .left)) ∙ none-zero 64)
 
 pub input-word-spec : {M : Type 1} → statement M
 input-word-spec = tie.close (tie.spec (λ c κs. search needs) returns (λ c. search needs) returns-2 returns-3)

@@ -1,4 +1,5 @@
--- `inputs` meets its contract. The loop's invariant: the words of the inputs passed, and zeros behind them. Assumes nothing.
+-- `inputs` meets its contract. The loop's invariant: the words of the inputs passed, and zeros behind them. Assumes
+-- nothing.
 use mathlib.Core.Path.{_≡_, sym, ap, _∙_}
 use Prim.Native.Nat.{ℕ, _+_, _-_, _*_}
 use native.Mathlib.Decide.{decLt}
@@ -37,7 +38,8 @@ returns c = (
       let f = c .before .loop .inv in
       elim (decLt s (a .n)) [
         | yes g ↦ lane-filled f i s (omega arith) ∙ bit-number 64 (λ i. bit (64 * a .w + i) s) i l
-        | no g ↦ ap (λ (x : ℕ). bit x i) (f .high s (omega arith) ∙ zeros s) ∙ bit-zero i ∙ sym (bit-high (64 * a .w + i) (a .n) s h (omega arith))
+        | no g ↦ ap (λ (x : ℕ). bit x i) (f .high s (omega arith) ∙ zeros s) ∙ bit-zero i
+            ∙ sym (bit-high (64 * a .w + i) (a .n) s h (omega arith))
       ],
 )
 

@@ -1,4 +1,5 @@
--- `input_sound` meets its contract: what is said is sound, and then a time is given or no cell reads the input. Assumes nothing.
+-- `input_sound` meets its contract: what is said is sound, and then a time is given or no cell reads the input. Assumes
+-- nothing.
 use mathlib.Core.Path.{sym, ap, ap₂, _∙_}
 use mathlib.Core.Bool.{Bool, _&&_, _||_}
 use borrow.Author.Needs.{needs}
@@ -19,7 +20,8 @@ returns-2 c =
     let q = c .before .before in
     let a = q .before .before .before .before .args in
     sym (ap₂ (λ (t u : Bool). t && (u || unread (a .e) (a .s .now) (a .m) (a .j)))
-    (sym (q .before .sound-time .ensures) ∙ not-false _ (q .if1 .left)) (sym (c .before .is-given .ensures) ∙ c .if2 .taken))
+    (sym (q .before .sound-time .ensures) ∙ not-false _ (q .if1 .left))
+    (sym (c .before .is-given .ensures) ∙ c .if2 .taken))
 
 returns-3 : tie.Need-returns-3
 returns-3 c =
@@ -28,7 +30,8 @@ returns-3 c =
     let a = q .before .before .before .before .args in
     c .no-cell-reads .ensures
     ∙ sym (ap₂ (λ (t u : Bool). t && (u || unread (a .e) (a .s .now) (a .m) (a .j)))
-    (sym (q .before .sound-time .ensures) ∙ not-false _ (q .if1 .left)) (sym (g .before .is-given .ensures) ∙ g .if2 .left))
+    (sym (q .before .sound-time .ensures) ∙ not-false _ (q .if1 .left))
+    (sym (g .before .is-given .ensures) ∙ g .if2 .left))
 
 pub input-sound-spec : {M : Type 1} → statement M
 input-sound-spec =

@@ -30,27 +30,38 @@ abbrev μ-loop : tie.MeasureT-loop
 record-of-requires : tie.Need-record-of-requires Inv-loop μ-loop
 record-of-requires c κs =
     let t = c .before .before .before in
-    let a = t .args in
-    (t .pre .sound, omega (arith, t .pre .most), record-within (a .e .size) (c .before .loop .i) (a .m) (length (a .s .now)) (omega arith) (t .pre .long))
+    let a = t .args in (
+      t .pre .sound,
+      omega (arith, t .pre .most),
+      record-within (a .e .size) (c .before .loop .i) (a .m)
+          (length (a .s .now)) (omega arith) (t .pre .long),
+    )
 
 passes-over-requires : tie.Need-passes-over-requires Inv-loop μ-loop
 passes-over-requires c κs =
     let t = c .before .before .before .before in
-    subst (λ (r : List ℕ). Reads (t .args .e) r) (sym (c .record-of .ensures)) (t .pre .reads (c .before .before .loop .i) (omega arith))
+    subst (λ (r : List ℕ). Reads (t .args .e) r) (sym (c .record-of .ensures))
+    (t .pre .reads (c .before .before .loop .i) (omega arith))
 
 returns : tie.Need-returns Inv-loop μ-loop
 returns c =
     let q = c .before .before .before .before in
     let a = q .before .before .args in
-    let y = c .before .passes-over .ensures ∙ ap (λ (b : List ℕ). passesOver (byteAt b) (a .t)) (c .before .before .record-of .ensures) in
-    sym (every-stop (a .m) (over (a .e) (a .s .now) (a .t)) (q .loop .i) (omega arith) (sym y ∙ not-true _ (c .if1 .taken)))
+    let y = c .before .passes-over .ensures ∙ ap (λ (b : List ℕ). passesOver (byteAt b) (a .t))
+    (c .before .before .record-of .ensures) in
+    sym (every-stop (a .m) (over (a .e) (a .s .now) (a .t)) (q .loop .i) (omega arith)
+    (sym y ∙ not-true _ (c .if1 .taken)))
 
 loop-again : tie.Need-loop-again Inv-loop μ-loop
 loop-again c =
     let q = c .before .before .before .before in
     let a = q .before .before .args in
-    let y = c .before .passes-over .ensures ∙ ap (λ (b : List ℕ). passesOver (byteAt b) (a .t)) (c .before .before .record-of .ensures) in
-    (omega arith, every-more (q .loop .i) (over (a .e) (a .s .now) (a .t)) (q .loop .inv .1) (sym y ∙ not-false _ (c .if1 .left)))
+    let y = c .before .passes-over .ensures ∙ ap (λ (b : List ℕ). passesOver (byteAt b) (a .t))
+    (c .before .before .record-of .ensures) in (
+      omega arith,
+      every-more (q .loop .i) (over (a .e) (a .s .now) (a .t)) (q .loop .inv .1)
+          (sym y ∙ not-false _ (c .if1 .left)),
+    )
 
 returns-2 : tie.Need-returns-2 Inv-loop μ-loop
 returns-2 c =

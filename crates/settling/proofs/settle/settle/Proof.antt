@@ -14,7 +14,8 @@ returns c =
     let f = c .before .before in
     let a = f .before .before .args in
     c .settle-in .ensures
-    ∙ ap (λ (d : ℕ). settleOutcome (f .first .result) d (a .n) (a .s .now) (a .delay) (a .times)) (c .before .desk-of .ensures)
+    ∙ ap (λ (d : ℕ). settleOutcome (f .first .result) d (a .n) (a .s .now) (a .delay) (a .times))
+    (c .before .desk-of .ensures)
     ∙ ap (λ (e : Edition). settleOwn e (a .n) (a .s .now) (a .delay) (a .times)) (f .first .ensures)
 
 pub settle-spec : {M : Type 1} → statement M

@@ -14,7 +14,8 @@ div-m : tie.Need-div-m
 div-m c = let t = c .before .before .before in omega (arith, t .pre .0 .sound .ends, t .pre .0 .sound .order)
 
 output-time-requires : tie.Need-output-time-requires
-output-time-requires c κs = let t = c .before .before .before .before in (t .pre .0, t .pre .1, c .before .before .times-of-inputs .ensures .0)
+output-time-requires c κs = let t = c .before .before .before .before
+    in (t .pre .0, t .pre .1, c .before .before .times-of-inputs .ensures .0)
 
 returns : tie.Need-returns
 unfolding settled
@@ -22,7 +23,8 @@ returns c =
     let i = c .before .before .before in
     let a = i .before .before .args in
     c .output-time .ensures
-    ∙ ap₂ (λ (d : Float) (v : ℕ → Float). outputTime (keeping (a .late)) (delayed d) zeroTime (a .n) (sheetCells (a .e) (a .s .now) (records (a .e) (a .s .now))) v)
+    ∙ ap₂ (λ (d : Float) (v : ℕ → Float). outputTime (keeping (a .late)) (delayed d) zeroTime (a .n)
+    (sheetCells (a .e) (a .s .now) (records (a .e) (a .s .now))) v)
     (c .before .plain-zero .ensures) (fun-ext (i .times-of-inputs .ensures .1))
 
 pub settle-at-spec : {M : Type 1} → statement M

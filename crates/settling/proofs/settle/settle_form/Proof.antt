@@ -30,7 +30,8 @@ module _ (e : Edition) (d n : ℕ) (s : List ℕ) (delay : Float) (ts : List Inp
       → First (badTimes e n s delay ts ∷ []) w → w ≡ verdict (settleLines e d n s delay ts)
   by-times h v p q w f =
       decides (badTimes e n s delay ts ∷ []) f
-      ∙ sym (passes (badInputs n ∷ sheetLines e d n s) (badTimes e n s delay ts ∷ []) (h, in-order (sheetLines e d n s) (sym p ∙ q)))
+      ∙ sym (passes (badInputs n ∷ sheetLines e d n s) (badTimes e n s delay ts ∷ [])
+      (h, in-order (sheetLines e d n s) (sym p ∙ q)))
 
 -- line 13, test by test
 unsound : {p : Bool} (q : Bool) → p ≡ false → not (p && q) ≡ true
@@ -43,14 +44,23 @@ returns : tie.Need-returns
 returns c =
     let i = c .before in
     let a = i .before .before .before .args in
-    c .refuse .ensures ∙ decides (settleLines (a .e) (a .d) (a .n) (a .s .now) (a .delay) (a .times)) (here (sym (i .before .bad-inputs .ensures) ∙ i .if1 .taken))
+    c .refuse .ensures ∙ decides (settleLines (a .e) (a .d) (a .n) (a .s .now) (a .delay) (a .times))
+    (here (sym (i .before .bad-inputs .ensures) ∙ i .if1 .taken))
 
 cast-inputs : tie.Need-cast-inputs
-cast-inputs c = omega (arith, inside 1 (c .before .before .before .args .n) mostInputs (sym (c .before .bad-inputs .ensures) ∙ c .if1 .left))
+cast-inputs c = omega (
+  arith,
+  inside 1 (c .before .before .before .args .n) mostInputs
+      (sym (c .before .bad-inputs .ensures) ∙ c .if1 .left),
+)
 
 sheet-requires : tie.Need-sheet-requires
 sheet-requires c κs =
-    let s = c .before .before .before in (s .pre, inside 1 (s .args .n) mostInputs (sym (c .before .bad-inputs .ensures) ∙ c .if1 .left) .1)
+    let s = c .before .before .before in (
+      s .pre,
+      inside 1 (s .args .n) mostInputs
+          (sym (c .before .bad-inputs .ensures) ∙ c .if1 .left) .1,
+    )
 
 returns-2 : tie.Need-returns-2
 returns-2 c =
@@ -60,7 +70,8 @@ returns-2 c =
     let e = c .enum-told2 .given .1 in
     let ls = sheetLines (a .e) (a .d) (a .n) (a .s .now) in
     let ms = badTimes (a .e) (a .n) (a .s .now) (a .delay) (a .times) ∷ [] in
-    e ∙ sym (passes (badInputs (a .n) ∷ []) (ls ++ ms) (sym (i .before .bad-inputs .ensures) ∙ i .if1 .left, tt) ∙ stops ls ms (c .enum-told2 .given .0 .0) (sym (l .sheet .ensures) ∙ e))
+    e ∙ sym (passes (badInputs (a .n) ∷ []) (ls ++ ms) (sym (i .before .bad-inputs .ensures) ∙ i .if1 .left, tt)
+    ∙ stops ls ms (c .enum-told2 .given .0 .0) (sym (l .sheet .ensures) ∙ e))
 
 returns-3 : tie.Need-returns-3
 returns-3 c =
@@ -70,11 +81,13 @@ returns-3 c =
     let i = l .before in
     let a = i .before .before .before .args in
     c .refuse2 .ensures
-    ∙ by-times (a .e) (a .d) (a .n) (a .s .now) (a .delay) (a .times) (sym (i .before .bad-inputs .ensures) ∙ i .if1 .left) _ (l .sheet .ensures) (f .enum-told .given .1) _
+    ∙ by-times (a .e) (a .d) (a .n) (a .s .now) (a .delay) (a .times)
+    (sym (i .before .bad-inputs .ensures) ∙ i .if1 .left) _ (l .sheet .ensures) (f .enum-told .given .1) _
     (here (unsound _ (sym (g .before .in-range .ensures) ∙ not-true _ (g .if2 .taken))))
 
 div-m : tie.Need-div-m
-div-m c = let p = c .before .before .before .before .before .before .before .before .before .pre in omega (arith, p .ends, p .order)
+div-m c = let p = c .before .before .before .before .before .before .before .before .before .pre
+    in omega (arith, p .ends, p .order)
 
 inputs-sound-requires : tie.Need-inputs-sound-requires
 inputs-sound-requires c κs =
@@ -85,7 +98,9 @@ inputs-sound-requires c κs =
     let a = t .args in
     let r = inside 1 (a .n) mostInputs (sym (i .before .bad-inputs .ensures) ∙ i .if1 .left) .1 in (
       good-timed (a .e) (t .pre) (a .d) (a .n) (a .s .now) (records (a .e) (a .s .now)) r
-          (good-sheet (a .e) (a .d) (a .n) (a .s .now) (t .pre) (in-order (sheetLines (a .e) (a .d) (a .n) (a .s .now)) (sym (l .sheet .ensures) ∙ f .enum-told .given .1))),
+          (good-sheet (a .e) (a .d) (a .n) (a .s .now) (t .pre)
+          (in-order (sheetLines (a .e) (a .d) (a .n) (a .s .now))
+          (sym (l .sheet .ensures) ∙ f .enum-told .given .1))),
       r,
     )
 
@@ -98,8 +113,10 @@ returns-4 c =
     let i = l .before in
     let a = i .before .before .before .args in
     c .refuse3 .ensures
-    ∙ by-times (a .e) (a .d) (a .n) (a .s .now) (a .delay) (a .times) (sym (i .before .bad-inputs .ensures) ∙ i .if1 .left) _ (l .sheet .ensures) (f .enum-told .given .1) _
-    (here (both (sym (g .before .in-range .ensures) ∙ not-false _ (g .if2 .left)) (sym (h .before .inputs-sound .ensures) ∙ not-true _ (h .if3 .taken))))
+    ∙ by-times (a .e) (a .d) (a .n) (a .s .now) (a .delay) (a .times)
+    (sym (i .before .bad-inputs .ensures) ∙ i .if1 .left) _ (l .sheet .ensures) (f .enum-told .given .1) _
+    (here (both (sym (g .before .in-range .ensures) ∙ not-false _ (g .if2 .left))
+    (sym (h .before .inputs-sound .ensures) ∙ not-true _ (h .if3 .taken))))
 
 returns-5 : tie.Need-returns-5
 returns-5 c =
@@ -108,8 +125,10 @@ returns-5 c =
     let l = f .before .before in
     let i = l .before in
     let a = i .before .before .before .args in
-    by-times (a .e) (a .d) (a .n) (a .s .now) (a .delay) (a .times) (sym (i .before .bad-inputs .ensures) ∙ i .if1 .left) _ (l .sheet .ensures) (f .enum-told .given .1) _
-    (later (both (sym (g .before .in-range .ensures) ∙ not-false _ (g .if2 .left)) (sym (c .before .inputs-sound .ensures) ∙ not-false _ (c .if3 .left))) fine)
+    by-times (a .e) (a .d) (a .n) (a .s .now) (a .delay) (a .times)
+    (sym (i .before .bad-inputs .ensures) ∙ i .if1 .left) _ (l .sheet .ensures) (f .enum-told .given .1) _
+    (later (both (sym (g .before .in-range .ensures) ∙ not-false _ (g .if2 .left))
+    (sym (c .before .inputs-sound .ensures) ∙ not-false _ (c .if3 .left))) fine)
 
 pub settle-form-spec : {M : Type 1} → statement M
 settle-form-spec =

@@ -1,4 +1,5 @@
--- `settle_in` meets its contract: a refusal is its lines' verdict, and where these are in order the sheet is good and its times can be found. Assumes nothing.
+-- `settle_in` meets its contract: a refusal is its lines' verdict, and where these are in order the sheet is good and
+-- its times can be found. Assumes nothing.
 use mathlib.Core.Path.{sym, ap, ap₂, _∙_}
 use native.Mathlib.Omega.{arith}
 use lib.Ieee.{Float, ofBits}
@@ -21,16 +22,19 @@ returns c =
     let a = f .before .before .args in
     let e = c .enum-told2 .given .1 in
     ap (λ (v : Verdict). record { verdict = v; earliest = zeroTime; latest = zeroTime }) e
-    ∙ ap (λ (v : Verdict). reply v (settleDone (a .e) (a .n) (a .s .now) (a .delay) (a .times)) settleNot) (sym e ∙ f .settle-form .ensures)
+    ∙ ap (λ (v : Verdict). reply v (settleDone (a .e) (a .n) (a .s .now) (a .delay) (a .times)) settleNot)
+    (sym e ∙ f .settle-form .ensures)
 
 -- what the lines leave
-left : (c : tie.After-enum-told) → let a = c .before .before .before .before .args in Leaves (a .e) (a .d) (a .n) (a .s .now) (a .delay) (a .times)
+left : (c : tie.After-enum-told) → let a = c .before .before .before .before .args
+    in Leaves (a .e) (a .d) (a .n) (a .s .now) (a .delay) (a .times)
 left c =
     let f = c .before .before in
     let t = f .before .before in
     let a = t .args in
     leaves (a .e) (t .pre) (a .d) (a .n) (a .s .now) (a .delay) (a .times)
-    (in-order (settleLines (a .e) (a .d) (a .n) (a .s .now) (a .delay) (a .times)) (sym (f .settle-form .ensures) ∙ c .enum-told .given .1))
+    (in-order (settleLines (a .e) (a .d) (a .n) (a .s .now) (a .delay) (a .times))
+    (sym (f .settle-form .ensures) ∙ c .enum-told .given .1))
 
 cast-inputs : tie.Need-cast-inputs
 cast-inputs c = omega (arith, left c .inputs)
@@ -51,8 +55,10 @@ returns-2 c =
     let m = c .before .before in
     let f = m .before .before in
     let a = f .before .before .args in
-    ap₂ (λ (x y : Float). record { verdict = Fine; earliest = x; latest = y }) (c .before .settle-at .ensures) (c .settle-at2 .ensures)
-    ∙ ap (λ (v : Verdict). reply v (settleDone (a .e) (a .n) (a .s .now) (a .delay) (a .times)) settleNot) (sym (m .enum-told .given .1) ∙ f .settle-form .ensures)
+    ap₂ (λ (x y : Float). record { verdict = Fine; earliest = x; latest = y }) (c .before .settle-at .ensures)
+    (c .settle-at2 .ensures)
+    ∙ ap (λ (v : Verdict). reply v (settleDone (a .e) (a .n) (a .s .now) (a .delay) (a .times)) settleNot)
+    (sym (m .enum-told .given .1) ∙ f .settle-form .ensures)
 
 pub settle-in-spec : {M : Type 1} → statement M
 settle-in-spec =

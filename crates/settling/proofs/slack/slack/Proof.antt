@@ -17,7 +17,8 @@ returns c =
     let s = f .before .before in
     let a = s .args in
     c .slack-in .ensures
-    ∙ ap₂ (λ (d : ℕ) (z : ℤ). slackOutcome (f .first .result) d (a .n) (a .s .now) (a .delay) (a .times) z) (c .before .desk-of .ensures) (toZ-ofZ (s .fits .deadline))
+    ∙ ap₂ (λ (d : ℕ) (z : ℤ). slackOutcome (f .first .result) d (a .n) (a .s .now) (a .delay) (a .times) z)
+    (c .before .desk-of .ensures) (toZ-ofZ (s .fits .deadline))
     ∙ ap (λ (e : Edition). slackOwn e (a .n) (a .s .now) (a .delay) (a .times) (a .deadline)) (f .first .ensures)
 
 pub slack-spec : {M : Type 1} → statement M

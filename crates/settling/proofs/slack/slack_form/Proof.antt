@@ -24,7 +24,8 @@ given : Bool → Verdict
 given t = cond (not t) (Refused (refusal 14 0)) Fine
 
 module _ (n : ℕ) (delay : Float) (ts : List InputTime) (deadline : ℤ) where
-  by : (p q r : Bool) → inSixteenths delay ≡ p → every n (λ j. timeInSixteenths (timeAt ts j)) ≡ q → deadlineOk deadline ≡ r
+  by : (p q r : Bool) → inSixteenths delay ≡ p → every n (λ j. timeInSixteenths (timeAt ts j)) ≡ q → deadlineOk deadline
+      ≡ r
       → given (p && (q && r)) ≡ verdict (badSlack n delay ts deadline ∷ [])
   unfolding given
   by p q r h k l =
@@ -36,7 +37,8 @@ unfolding given
 returns c =
     let i = c .before in
     let a = i .before .before .args in
-    c .refuse .ensures ∙ by (a .n) (a .delay) (a .times) (a .deadline) _ _ _ (sym (i .before .in-sixteenths .ensures) ∙ not-true _ (i .if1 .taken)) refl refl
+    c .refuse .ensures ∙ by (a .n) (a .delay) (a .times) (a .deadline) _ _ _
+    (sym (i .before .in-sixteenths .ensures) ∙ not-true _ (i .if1 .taken)) refl refl
 
 returns-2 : tie.Need-returns-2
 unfolding given
@@ -45,7 +47,8 @@ returns-2 c =
     let i = j .before .before in
     let a = i .before .before .args in
     c .refuse2 .ensures
-    ∙ by (a .n) (a .delay) (a .times) (a .deadline) _ _ _ (sym (i .before .in-sixteenths .ensures) ∙ not-false _ (i .if1 .left))
+    ∙ by (a .n) (a .delay) (a .times) (a .deadline) _ _ _
+    (sym (i .before .in-sixteenths .ensures) ∙ not-false _ (i .if1 .left))
     (sym (j .before .inputs-in-sixteenths .ensures) ∙ not-true _ (j .if2 .taken)) refl
 
 returns-3 : tie.Need-returns-3
@@ -56,8 +59,11 @@ returns-3 c =
     let i = j .before .before in
     let a = i .before .before .args in
     c .refuse3 .ensures
-    ∙ by (a .n) (a .delay) (a .times) (a .deadline) _ _ _ (sym (i .before .in-sixteenths .ensures) ∙ not-false _ (i .if1 .left))
-    (sym (j .before .inputs-in-sixteenths .ensures) ∙ not-false _ (j .if2 .left)) (ap deadlineOk (sym (toZ-ofZ (i .before .before .fits .deadline))) ∙ sym (k .before .deadline-ok .ensures) ∙ not-true _ (k .if3 .taken))
+    ∙ by (a .n) (a .delay) (a .times) (a .deadline) _ _ _
+    (sym (i .before .in-sixteenths .ensures) ∙ not-false _ (i .if1 .left))
+    (sym (j .before .inputs-in-sixteenths .ensures) ∙ not-false _ (j .if2 .left))
+    (ap deadlineOk (sym (toZ-ofZ (i .before .before .fits .deadline))) ∙ sym (k .before .deadline-ok .ensures)
+    ∙ not-true _ (k .if3 .taken))
 
 returns-4 : tie.Need-returns-4
 unfolding given
@@ -65,11 +71,15 @@ returns-4 c =
     let j = c .before .before in
     let i = j .before .before in
     let a = i .before .before .args in
-    by (a .n) (a .delay) (a .times) (a .deadline) _ _ _ (sym (i .before .in-sixteenths .ensures) ∙ not-false _ (i .if1 .left))
-    (sym (j .before .inputs-in-sixteenths .ensures) ∙ not-false _ (j .if2 .left)) (ap deadlineOk (sym (toZ-ofZ (i .before .before .fits .deadline))) ∙ sym (c .before .deadline-ok .ensures) ∙ not-false _ (c .if3 .left))
+    by (a .n) (a .delay) (a .times) (a .deadline) _ _ _
+    (sym (i .before .in-sixteenths .ensures) ∙ not-false _ (i .if1 .left))
+    (sym (j .before .inputs-in-sixteenths .ensures) ∙ not-false _ (j .if2 .left))
+    (ap deadlineOk (sym (toZ-ofZ (i .before .before .fits .deadline))) ∙ sym (c .before .deadline-ok .ensures)
+    ∙ not-false _ (c .if3 .left))
 
 pub slack-form-spec : {M : Type 1} → statement M
 slack-form-spec =
     tie.close (tie.spec (λ c κs. c .pre .1) (λ c κs. search needs) returns
-    (λ c κs. (c .before .before .pre .0, c .before .before .pre .2)) (λ c κs. search needs) returns-2 (λ c κs. search needs)
+    (λ c κs. (c .before .before .pre .0, c .before .before .pre .2)) (λ c κs. search needs) returns-2
+    (λ c κs. search needs)
     (λ c κs. search needs) returns-3 returns-4)

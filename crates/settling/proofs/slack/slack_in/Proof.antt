@@ -1,4 +1,5 @@
--- `slack_in` meets its contract: a refusal is its lines' verdict, and where these are in order the latest time is a whole number of sixteenths. Assumes nothing.
+-- `slack_in` meets its contract: a refusal is its lines' verdict, and where these are in order the latest time is a
+-- whole number of sixteenths. Assumes nothing.
 use mathlib.Core.Path.{_≡_, refl, sym, ap, ap₂, subst, _∙_}
 use mathlib.Core.Bool.{true, false}
 use mathlib.Core.List.{List, [], _∷_}
@@ -41,52 +42,68 @@ module _ (e : Edition) (d n : ℕ) (s : List ℕ) (delay : Float) (ts : List Inp
       go Fine = refl
       go (Refused r) = refl
 
-  its-latest : settleOutcome e d n s delay ts .verdict ≡ Fine → settleOutcome e d n s delay ts .latest ≡ settled true e n s delay ts
+  its-latest : settleOutcome e d n s delay ts .verdict ≡ Fine → settleOutcome e d n s delay ts .latest
+      ≡ settled true e n s delay ts
   unfolding settleOutcome
   its-latest h = go (verdict (settleLines e d n s delay ts)) h
     where
-      go : (v : Verdict) → reply v (settleDone e n s delay ts) settleNot .verdict ≡ Fine → reply v (settleDone e n s delay ts) settleNot .latest ≡ settled true e n s delay ts
+      go : (v : Verdict) → reply v (settleDone e n s delay ts) settleNot .verdict ≡ Fine
+          → reply v (settleDone e n s delay ts) settleNot .latest ≡ settled true e n s delay ts
       go Fine q = refl
       go (Refused r) q = absurd (not-fine r (sym q))
 
   -- settle's lines are in order
-  passed : IsEdition e → (a : SettleAnswer) → a ≡ settleOutcome e d n s delay ts → a .verdict ≡ Fine → Leaves e d n s delay ts × (a .latest ≡ settled true e n s delay ts)
+  passed : IsEdition e → (a : SettleAnswer) → a ≡ settleOutcome e d n s delay ts → a .verdict ≡ Fine
+      → Leaves e d n s delay ts × (a .latest ≡ settled true e n s delay ts)
   passed ok a p q =
-      let v = ap (λ (x : SettleAnswer). x .verdict) (sym p) ∙ q in
-      (leaves e ok d n s delay ts (in-order (settleLines e d n s delay ts) (sym its-verdict ∙ v)), ap (λ (x : SettleAnswer). x .latest) p ∙ its-latest v)
+      let v = ap (λ (x : SettleAnswer). x .verdict) (sym p) ∙ q in (
+        leaves e ok d n s delay ts (in-order (settleLines e d n s delay ts) (sym its-verdict ∙ v)),
+        ap
+            (λ (x : SettleAnswer). x .latest) p ∙ its-latest v,
+      )
 
 -- the outcome, by the verdict of settle's lines and then of line 14
-module _ (e : Edition) (d n : ℕ) (s : List ℕ) (delay : Float) (ts : List InputTime) (deadline : ℤ) (a : SettleAnswer) (p : a ≡ settleOutcome e d n s delay ts) where
+module _ (e : Edition) (d n : ℕ) (s : List ℕ) (delay : Float) (ts : List InputTime) (deadline : ℤ) (a : SettleAnswer)
+    (p : a ≡ settleOutcome e d n s delay ts) where
   by-lines : a .verdict ≡ verdict (settleLines e d n s delay ts)
   by-lines = ap (λ (x : SettleAnswer). x .verdict) p ∙ its-verdict e d n s delay ts
 
-  refused-first : (r : Refusal) → a .verdict ≡ Refused r → record { verdict = a .verdict; slack = pos 0 } ≡ slackOutcome e d n s delay ts deadline
+  refused-first : (r : Refusal) → a .verdict ≡ Refused r → record { verdict = a .verdict; slack = pos 0 }
+      ≡ slackOutcome e d n s delay ts deadline
   unfolding slackOutcome
   refused-first r q =
       ap (λ (v : Verdict). record { verdict = v; slack = pos 0 }) q
-      ∙ refused-by (settleLines e d n s delay ts) (badSlack n delay ts deadline ∷ []) (slackDone e n s delay ts deadline) slackNot (a .verdict) r by-lines q
+      ∙ refused-by (settleLines e d n s delay ts) (badSlack n delay ts deadline ∷ [])
+      (slackDone e n s delay ts deadline) slackNot (a .verdict) r by-lines q
 
-  module _ (q : a .verdict ≡ Fine) (z : ℤ) (k : z ≡ deadline) (v : Verdict) (f : v ≡ verdict (badSlack n delay ts z ∷ [])) where
+  module _ (q : a .verdict ≡ Fine) (z : ℤ) (k : z ≡ deadline) (v : Verdict)
+      (f : v ≡ verdict (badSlack n delay ts z ∷ [])) where
     by-slack : reply v (slackDone e n s delay ts deadline) slackNot ≡ slackOutcome e d n s delay ts deadline
     unfolding slackOutcome
     by-slack =
-        ap (λ (u : Verdict). reply u (slackDone e n s delay ts deadline) slackNot) (f ∙ ap (λ (x : ℤ). verdict (badSlack n delay ts x ∷ [])) k)
-        ∙ left-to (settleLines e d n s delay ts) (badSlack n delay ts deadline ∷ []) (slackDone e n s delay ts deadline) slackNot (a .verdict) by-lines q
+        ap (λ (u : Verdict). reply u (slackDone e n s delay ts deadline) slackNot)
+        (f ∙ ap (λ (x : ℤ). verdict (badSlack n delay ts x ∷ [])) k)
+        ∙ left-to (settleLines e d n s delay ts) (badSlack n delay ts deadline ∷ []) (slackDone e n s delay ts deadline)
+        slackNot (a .verdict) by-lines q
 
-    refused-then : (r : Refusal) → v ≡ Refused r → record { verdict = v; slack = pos 0 } ≡ slackOutcome e d n s delay ts deadline
+    refused-then : (r : Refusal) → v ≡ Refused r → record { verdict = v; slack = pos 0 }
+        ≡ slackOutcome e d n s delay ts deadline
     refused-then r h =
-        ap (λ (u : Verdict). record { verdict = u; slack = pos 0 }) h ∙ ap (λ (u : Verdict). reply u (slackDone e n s delay ts deadline) slackNot) (sym h) ∙ by-slack
+        ap (λ (u : Verdict). record { verdict = u; slack = pos 0 }) h
+        ∙ ap (λ (u : Verdict). reply u (slackDone e n s delay ts deadline) slackNot) (sym h) ∙ by-slack
 
     module _ (ok : IsEdition e) (h : v ≡ Fine) where
       whole : InWhole n delay ts deadline
-      whole = in-whole n delay ts deadline (in-order (badSlack n delay ts deadline ∷ []) (ap (λ (x : ℤ). verdict (badSlack n delay ts x ∷ [])) (sym k) ∙ sym f ∙ h))
+      whole = in-whole n delay ts deadline (in-order (badSlack n delay ts deadline ∷ [])
+          (ap (λ (x : ℤ). verdict (badSlack n delay ts x ∷ [])) (sym k) ∙ sym f ∙ h))
 
       latest : HasValue (a .latest) false (sixteenthsOf (a .latest)) 16 × (sixteenthsOf (a .latest) ≤ 1048576)
       latest =
           let w = passed e d n s delay ts ok a p q in
           let x = settled-exact e d n s delay ts (w .0) (whole .whole) (whole .wholes) true in
           subst (λ (y : Float). HasValue y false (sixteenthsOf y) 16 × (sixteenthsOf y ≤ 1048576)) (sym (w .1))
-          (subst (λ (i : ℕ). HasValue (settled true e n s delay ts) false i 16 × (i ≤ 1048576)) (sym (counted e d n s delay ts (w .0) (whole .whole) (whole .wholes) true)) x)
+          (subst (λ (i : ℕ). HasValue (settled true e n s delay ts) false i 16 × (i ≤ 1048576))
+          (sym (counted e d n s delay ts (w .0) (whole .whole) (whole .wholes) true)) x)
 
       module _ (i : ℕ) (c : i ≡ sixteenthsOf (a .latest)) where
         few : i ≤ 1048576
@@ -98,25 +115,30 @@ module _ (e : Edition) (d n : ℕ) (s : List ℕ) (delay : Float) (ts : List Inp
         fits-less : SFits w64 (z -ℤ toZ w64 i)
         fits-less = subst (λ (x : ℤ). SFits w64 x) (sym less) (record { sfits = small deadline i (whole .within) few })
 
-        done : record { verdict = Fine; slack = toZ w64 (ofZ w64 (z -ℤ toZ w64 i)) } ≡ slackOutcome e d n s delay ts deadline
+        done : record { verdict = Fine; slack = toZ w64 (ofZ w64 (z -ℤ toZ w64 i)) }
+            ≡ slackOutcome e d n s delay ts deadline
         done =
             ap (λ (x : ℤ). record { verdict = Fine; slack = x })
-            (toZ-ofZ fits-less ∙ less ∙ ap (λ (j : ℕ). deadline -ℤ pos j) (c ∙ ap sixteenthsOf (passed e d n s delay ts ok a p q .1)))
+            (toZ-ofZ fits-less ∙ less ∙ ap (λ (j : ℕ). deadline -ℤ pos j)
+            (c ∙ ap sixteenthsOf (passed e d n s delay ts ok a p q .1)))
             ∙ ap (λ (u : Verdict). reply u (slackDone e n s delay ts deadline) slackNot) (sym h) ∙ by-slack
 
 returns : tie.Need-returns
 returns c =
     let f = c .before .before in
     let a = f .before .before .args in
-    refused-first (a .e) (a .d) (a .n) (a .s .now) (a .delay) (a .times) (a .deadline) (f .settle-in .result) (f .settle-in .ensures) (c .enum-told2 .given .0 .0) (c .enum-told2 .given .1)
+    refused-first (a .e) (a .d) (a .n) (a .s .now) (a .delay) (a .times) (a .deadline) (f .settle-in .result)
+    (f .settle-in .ensures) (c .enum-told2 .given .0 .0) (c .enum-told2 .given .1)
 
 -- what settle's lines leave
-left : (c : tie.After-enum-told) → let a = c .before .before .before .before .args in Leaves (a .e) (a .d) (a .n) (a .s .now) (a .delay) (a .times)
+left : (c : tie.After-enum-told) → let a = c .before .before .before .before .args
+    in Leaves (a .e) (a .d) (a .n) (a .s .now) (a .delay) (a .times)
 left c =
     let f = c .before .before in
     let t = f .before .before in
     let a = t .args in
-    passed (a .e) (a .d) (a .n) (a .s .now) (a .delay) (a .times) (t .pre) (f .settle-in .result) (f .settle-in .ensures) (c .enum-told .given .1) .0
+    passed (a .e) (a .d) (a .n) (a .s .now) (a .delay) (a .times) (t .pre) (f .settle-in .result)
+    (f .settle-in .ensures) (c .enum-told .given .1) .0
 
 cast-slack-form : tie.Need-cast-slack-form
 cast-slack-form c = omega (arith, left c .inputs)
@@ -133,8 +155,10 @@ returns-2 c =
     let f = g .before .before .before in
     let t = f .before .before in
     let a = t .args in
-    refused-then (a .e) (a .d) (a .n) (a .s .now) (a .delay) (a .times) (a .deadline) (f .settle-in .result) (f .settle-in .ensures) (g .before .enum-told .given .1) _
-    (toZ-ofZ (t .fits .deadline)) (g .slack-form .result) (g .slack-form .ensures) (c .enum-told4 .given .0 .0) (c .enum-told4 .given .1)
+    refused-then (a .e) (a .d) (a .n) (a .s .now) (a .delay) (a .times) (a .deadline) (f .settle-in .result)
+    (f .settle-in .ensures) (g .before .enum-told .given .1) _
+    (toZ-ofZ (t .fits .deadline)) (g .slack-form .result) (g .slack-form .ensures) (c .enum-told4 .given .0 .0)
+    (c .enum-told4 .given .1)
 
 count-of-requires : tie.Need-count-of-requires
 count-of-requires c κs =
@@ -142,7 +166,8 @@ count-of-requires c κs =
     let f = g .before .before .before in
     let t = f .before .before in
     let a = t .args in
-    latest (a .e) (a .d) (a .n) (a .s .now) (a .delay) (a .times) (a .deadline) (f .settle-in .result) (f .settle-in .ensures) (g .before .enum-told .given .1) _
+    latest (a .e) (a .d) (a .n) (a .s .now) (a .delay) (a .times) (a .deadline) (f .settle-in .result)
+    (f .settle-in .ensures) (g .before .enum-told .given .1) _
     (toZ-ofZ (t .fits .deadline)) (g .slack-form .result) (g .slack-form .ensures) (t .pre) (c .enum-told3 .given .1)
 
 cast-t14 : tie.Need-cast-t14
@@ -155,8 +180,10 @@ cast-t14 c =
     record {
       sfits = omega (
         arith,
-        few (a .e) (a .d) (a .n) (a .s .now) (a .delay) (a .times) (a .deadline) (f .settle-in .result) (f .settle-in .ensures) (g .before .enum-told .given .1) _
-            (toZ-ofZ (t .fits .deadline)) (g .slack-form .result) (g .slack-form .ensures) (t .pre) (m .enum-told3 .given .1) (c .count-of .result) (c .count-of .ensures),
+        few (a .e) (a .d) (a .n) (a .s .now) (a .delay) (a .times) (a .deadline) (f .settle-in .result)
+            (f .settle-in .ensures) (g .before .enum-told .given .1) _
+            (toZ-ofZ (t .fits .deadline)) (g .slack-form .result) (g .slack-form .ensures) (t .pre)
+            (m .enum-told3 .given .1) (c .count-of .result) (c .count-of .ensures),
       );
     }
 
@@ -167,8 +194,10 @@ sub-t15 c =
     let f = g .before .before .before in
     let t = f .before .before in
     let a = t .args in
-    fits-less (a .e) (a .d) (a .n) (a .s .now) (a .delay) (a .times) (a .deadline) (f .settle-in .result) (f .settle-in .ensures) (g .before .enum-told .given .1) _
-    (toZ-ofZ (t .fits .deadline)) (g .slack-form .result) (g .slack-form .ensures) (t .pre) (m .enum-told3 .given .1) (c .count-of .result) (c .count-of .ensures)
+    fits-less (a .e) (a .d) (a .n) (a .s .now) (a .delay) (a .times) (a .deadline) (f .settle-in .result)
+    (f .settle-in .ensures) (g .before .enum-told .given .1) _
+    (toZ-ofZ (t .fits .deadline)) (g .slack-form .result) (g .slack-form .ensures) (t .pre) (m .enum-told3 .given .1)
+    (c .count-of .result) (c .count-of .ensures)
 
 returns-3 : tie.Need-returns-3
 returns-3 c =
@@ -177,8 +206,10 @@ returns-3 c =
     let f = g .before .before .before in
     let t = f .before .before in
     let a = t .args in
-    done (a .e) (a .d) (a .n) (a .s .now) (a .delay) (a .times) (a .deadline) (f .settle-in .result) (f .settle-in .ensures) (g .before .enum-told .given .1) _
-    (toZ-ofZ (t .fits .deadline)) (g .slack-form .result) (g .slack-form .ensures) (t .pre) (m .enum-told3 .given .1) (c .count-of .result) (c .count-of .ensures)
+    done (a .e) (a .d) (a .n) (a .s .now) (a .delay) (a .times) (a .deadline) (f .settle-in .result)
+    (f .settle-in .ensures) (g .before .enum-told .given .1) _
+    (toZ-ofZ (t .fits .deadline)) (g .slack-form .result) (g .slack-form .ensures) (t .pre) (m .enum-told3 .given .1)
+    (c .count-of .result) (c .count-of .ensures)
 
 pub slack-in-spec : {M : Type 1} → statement M
 slack-in-spec =

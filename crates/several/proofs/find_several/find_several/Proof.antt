@@ -33,11 +33,13 @@ module _ (c : tie.After-find-form) where
   told : c .find-form .result ≡ verdict ls
   told =
       c .find-form .ensures
-      ∙ ap (λ (e : Edition). verdict (findForm e (g .args .n) (g .args .k) (g .args .t .now) (g .args .work .now))) (c .before .before .first .ensures)
+      ∙ ap (λ (e : Edition). verdict (findForm e (g .args .n) (g .args .k) (g .args .t .now) (g .args .work .now)))
+      (c .before .before .first .ensures)
 
   module _ (fine : c .find-form .result ≡ Fine) where
     gate : Sound firstEdition (g .args .n) (g .args .k) (g .args .t .now)
-    gate = sound-before firstEdition (g .args .n) (g .args .k) (g .args .t .now) (shortWork (g .args .work .now) ∷ []) _ told fine
+    gate = sound-before firstEdition (g .args .n) (g .args .k) (g .args .t .now) (shortWork (g .args .work .now) ∷ []) _
+        told fine
 
 returns : tie.Need-returns
 unfolding findSeveralOutcome
@@ -51,7 +53,8 @@ returns c =
     (c .without .ensures ∙ ap (λ (v : Verdict). record { verdict = v; first = 0; own = 0; shared = 0 }) e)
     ∙ ap (λ (l : List ℕ). record { answer = record { verdict = Refused r; first = 0; own = 0; shared = 0 }; work = l })
     (sym (form-leaves (ls f) r refl (sym (told f) ∙ e) (a .work .now)))
-    ∙ refused-by (ls f) (severalSays (a .n) (a .k) (a .t .now)) (severalDone (bestSeveral (a .n) (a .k) (a .t .now)) (a .work .now)) (severalNot (a .work .now))
+    ∙ refused-by (ls f) (severalSays (a .n) (a .k) (a .t .now))
+    (severalDone (bestSeveral (a .n) (a .k) (a .t .now)) (a .work .now)) (severalNot (a .work .now))
     (f .find-form .result) r (told f) e
 
 search-requires : tie.Need-search-requires
@@ -71,7 +74,8 @@ returns-2 c =
     let f = o .before .before in
     let a = g f .args in
     r .search .ensures
-    ∙ left-to (ls f) (severalSays (a .n) (a .k) (a .t .now)) (severalDone (bestSeveral (a .n) (a .k) (a .t .now)) (a .work .now)) (severalNot (a .work .now))
+    ∙ left-to (ls f) (severalSays (a .n) (a .k) (a .t .now))
+    (severalDone (bestSeveral (a .n) (a .k) (a .t .now)) (a .work .now)) (severalNot (a .work .now))
     (f .find-form .result) (told f) (o .enum-told .given .1)
 
 pub find-several-spec : {M : Type 1} → statement M

@@ -40,18 +40,22 @@ module _ (c : tie.After-members) where
 
   within : c .before .support-of .result < 2 ^ g .args .n
   unfolding support
-  within = subst (λ (m : ℕ). m < 2 ^ g .args .n) (sym (c .before .support-of .ensures)) (number-lt (g .args .n) (counts (g .args .n) (tableBit (g .args .t .now))))
+  within = subst (λ (m : ℕ). m < 2 ^ g .args .n) (sym (c .before .support-of .ensures))
+      (number-lt (g .args .n) (counts (g .args .n) (tableBit (g .args .t .now))))
 
   all : c .members .result ≡ count
-  all = c .members .ensures (g .args .n) within ∙ ap (λ (m : ℕ). size (g .args .n) (bit m)) (c .before .support-of .ensures)
+  all = c .members .ensures (g .args .n) within
+      ∙ ap (λ (m : ℕ). size (g .args .n) (bit m)) (c .before .support-of .ensures)
 
 returns : tie.Need-returns
 returns c =
     let i = c .before .before in
     let m = i .before in
     let a = g m .args in
-    ap (λ (x : FindSeveralAnswer). record { answer = x; work = a .work .now }) (c .without .ensures ∙ ap refused (c .before .refuse .ensures))
-    ∙ ap (λ (few : Bool). answered (a .work .now) few (bestSeveral (a .n) (a .k) (a .t .now))) (sym (le-leb (count m) (a .k) (omega (arith, all m, i .if1 .taken))))
+    ap (λ (x : FindSeveralAnswer). record { answer = x; work = a .work .now })
+    (c .without .ensures ∙ ap refused (c .before .refuse .ensures))
+    ∙ ap (λ (few : Bool). answered (a .work .now) few (bestSeveral (a .n) (a .k) (a .t .now)))
+    (sym (le-leb (count m) (a .k) (omega (arith, all m, i .if1 .taken))))
 
 find-over-requires : tie.Need-find-over-requires
 find-over-requires c κs =
@@ -66,7 +70,8 @@ returns-2 c =
     let i = f .before .before in
     let m = i .before in
     let a = g m .args in
-    ap₂ (λ (x : FindSeveralAnswer) (l : List ℕ). record { answer = x; work = l }) (c .without2 .ensures ∙ ap refused (c .before .refuse2 .ensures)) (f .find-over .ensures .1)
+    ap₂ (λ (x : FindSeveralAnswer) (l : List ℕ). record { answer = x; work = l })
+    (c .without2 .ensures ∙ ap refused (c .before .refuse2 .ensures)) (f .find-over .ensures .1)
     ∙ ap₂ (answered (a .work .now)) (sym (lt-leb (count m) (a .k) (omega (arith, all m, i .if1 .left))))
     (sym (is-nothing (f .find-over .result) (c .before .before .if2 .taken)) ∙ f .find-over .ensures .0)
 
@@ -77,7 +82,10 @@ returns-3 c =
     let m = i .before in
     let a = g m .args in
     let r = f .find-over .result in
-    ap (λ (l : List ℕ). record { answer = record { verdict = Fine; first = r .first; own = r .own; shared = r .shared }; work = l }) (f .find-over .ensures .1)
+    ap (λ (l : List ℕ). record {
+      answer = record { verdict = Fine; first = r .first; own = r .own; shared = r .shared };
+      work = l;
+    }) (f .find-over .ensures .1)
     ∙ ap₂ (answered (a .work .now)) (sym (lt-leb (count m) (a .k) (omega (arith, all m, i .if1 .left))))
     (sym (is-choice r (c .if2 .left)) ∙ f .find-over .ensures .0)
 

@@ -16,7 +16,8 @@ returns c =
     let r = c .before .before in
     let f = r .before .before in
     let a = f .before .before .before .args in
-    r .try-in .ensures ∙ ap (λ (e : Edition). tryOutcome e (a .n) (a .k) (a .r) (a .own) (a .shared) (a .t .now) (a .room .now)) (f .first .ensures)
+    r .try-in .ensures ∙ ap (λ (e : Edition). tryOutcome e (a .n) (a .k) (a .r) (a .own) (a .shared) (a .t .now)
+    (a .room .now)) (f .first .ensures)
 
 pub try-several-spec : {M : Type 1} → statement M
 try-several-spec = tie.close (tie.spec (λ c κs. search needs) try-in-requires (λ c. search needs) returns)

@@ -22,7 +22,8 @@ chart-requires c κs =
       (p .0, omega (arith, e, pow-mono {i = g .args .r} {j = mostFirst} (p .3)), p .1),
       (
         (omega (arith, b .0, chart-room (p .2) e), b .1),
-        subst (λ (m : ℕ). fewColumns (s .n) (tableBit (g .args .t .now)) (bit (s .own)) (bit (s .shared)) m ≡ true) e (g .pre .1 .1),
+        subst (λ (m : ℕ). fewColumns (s .n) (tableBit (g .args .t .now)) (bit (s .own)) (bit (s .shared)) m ≡ true) e
+            (g .pre .1 .1),
       ),
     )
 

@@ -23,10 +23,12 @@ use Rattle.splitting.proofs.filling.store_h.Tie as tie
 -- H's bits, spare bits zero
 abbrev bits : List ℕ → Split → ℕ → ℕ → Bool
 bits t s r x =
-    ltb x (2 ^ inputsH (s .n) (tableBit t) (bit (s .own)) (bit (s .shared)) r) && bitH (s .n) (tableBit t) (bit (s .own)) (bit (s .shared)) x
+    ltb x (2 ^ inputsH (s .n) (tableBit t) (bit (s .own)) (bit (s .shared)) r)
+    && bitH (s .n) (tableBit t) (bit (s .own)) (bit (s .shared)) x
 
 abbrev Inv-loop : tie.InvT-loop
-Inv-loop t s r seen end room₀ limit i₀ room i = (i ≤ end) × (length room ≡ length room₀) × (room ≡ bytesOf i (bits t s r) ++ drop i room₀)
+Inv-loop t s r seen end room₀ limit i₀ room i = (i ≤ end) × (length room ≡ length room₀)
+    × (room ≡ bytesOf i (bits t s r) ++ drop i room₀)
 
 abbrev μ-loop : tie.MeasureT-loop
 μ-loop t s r seen end room₀ limit i₀ room i = end - i
@@ -54,7 +56,8 @@ loop-again c =
     let a = g .args in (
       omega arith,
       length-set (q .room) (q .i) (c .h-byte .result) ∙ q .inv .1,
-      written-more (q .i) (bits (a .t .now) (a .s) (a .r)) (q .room) (a .room .now) (c .h-byte .result) (omega arith) (q .inv .2) (c .h-byte .ensures (a .r) (sym (power (g .pre .0 .3)))),
+      written-more (q .i) (bits (a .t .now) (a .s) (a .r)) (q .room) (a .room .now) (c .h-byte .result) (omega arith)
+          (q .inv .2) (c .h-byte .ensures (a .r) (sym (power (g .pre .0 .3)))),
     )
 
 returns : tie.Need-returns Inv-loop μ-loop
@@ -65,9 +68,11 @@ returns c =
     let a = t .args in
     let f = bits (a .t .now) (a .s) (a .r) in
     let e : q .i ≡ a .end = omega arith in
-    let l = length-bytes (tableLength (inputsH (a .s .n) (tableBit (a .t .now)) (bit (a .s .own)) (bit (a .s .shared)) (a .r))) f in
+    let l = length-bytes (tableLength (inputsH (a .s .n) (tableBit (a .t .now)) (bit (a .s .own)) (bit (a .s .shared))
+    (a .r))) f in
     q .inv .2 ∙ ap (λ (m : ℕ). bytesOf m f ++ drop m (a .room .now)) (e ∙ t .pre .1)
-    ∙ ap (λ (m : ℕ). bytesOf (tableLength (inputsH (a .s .n) (tableBit (a .t .now)) (bit (a .s .own)) (bit (a .s .shared)) (a .r))) f ++ drop m (a .room .now)) (sym l)
+    ∙ ap (λ (m : ℕ). bytesOf (tableLength (inputsH (a .s .n) (tableBit (a .t .now)) (bit (a .s .own))
+    (bit (a .s .shared)) (a .r))) f ++ drop m (a .room .now)) (sym l)
 
 pub store-h-spec : {M : Type 1} → statement M
 store-h-spec =

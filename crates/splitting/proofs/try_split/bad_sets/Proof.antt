@@ -23,21 +23,24 @@ returns c =
     sym (bad-first (a .n) (a .k) (a .r) (a .own) (a .shared) (sym (c .before .outside .ensures) ∙ c .if1 .taken))
 
 -- r is 1 to 3
-good-first : (c : tie.Else1) → not (leb 1 (c .before .before .args .r) && leb (c .before .before .args .r) mostFirst) ≡ false
+good-first : (c : tie.Else1) → not (leb 1 (c .before .before .args .r) && leb (c .before .before .args .r) mostFirst)
+    ≡ false
 good-first c = sym (c .before .outside .ensures) ∙ c .if1 .left
 
 returns-2 : tie.Need-returns-2
 returns-2 c =
     let i = c .before in
     let a = i .before .before .args in
-    sym (high-own (a .n) (a .k) (a .r) (a .own) (a .shared) (good-first i) (omega (arith, c .if2 .taken, shl-one 64 (a .n) (omega arith))))
+    sym (high-own (a .n) (a .k) (a .r) (a .own) (a .shared) (good-first i)
+    (omega (arith, c .if2 .taken, shl-one 64 (a .n) (omega arith))))
 
 returns-3 : tie.Need-returns-3
 returns-3 c =
     let i = c .before .before in
     let a = i .before .before .args in
     let p = shl-one 64 (a .n) (omega arith) in
-    sym (high-shared (a .n) (a .k) (a .r) (a .own) (a .shared) (good-first i) (omega arith) (omega (arith, c .if3 .taken)))
+    sym (high-shared (a .n) (a .k) (a .r) (a .own) (a .shared) (good-first i) (omega arith)
+    (omega (arith, c .if3 .taken)))
 
 returns-4 : tie.Need-returns-4
 returns-4 c =
@@ -45,7 +48,8 @@ returns-4 c =
     let a = i .before .before .args in
     let p = shl-one 64 (a .n) (omega arith) in
     let l : a .own < 2 ^ a .n = omega arith in
-    sym (overlap (a .n) (a .k) (a .r) (a .own) (a .shared) (good-first i) l (omega arith) (disjoint-and (a .n) (a .own) (a .shared) l ∙ ne-eqb _ 0 (c .if4 .taken)))
+    sym (overlap (a .n) (a .k) (a .r) (a .own) (a .shared) (good-first i) l (omega arith)
+    (disjoint-and (a .n) (a .own) (a .shared) l ∙ ne-eqb _ 0 (c .if4 .taken)))
 
 cast-members : tie.Need-cast-members
 cast-members c =
@@ -60,7 +64,8 @@ returns-5 c =
     let a = i .before .before .args in
     let p = shl-one 64 (a .n) (omega arith) in
     let l : a .own < 2 ^ a .n = omega arith in
-    sym (few-own (a .n) (a .k) (a .r) (a .own) (a .shared) (good-first i) l (omega arith) (disjoint-and (a .n) (a .own) (a .shared) l ∙ eq-eqb _ 0 (o .if4 .left))
+    sym (few-own (a .n) (a .k) (a .r) (a .own) (a .shared) (good-first i) l (omega arith)
+    (disjoint-and (a .n) (a .own) (a .shared) l ∙ eq-eqb _ 0 (o .if4 .left))
     (omega (arith, c .before .members .ensures (a .n) l, c .if5 .taken)))
 
 cast-members-2 : tie.Need-cast-members-2
@@ -92,7 +97,8 @@ returns-6 c =
     let l : a .own < 2 ^ a .n = omega arith in
     let h : a .shared < 2 ^ a .n = omega arith in
     ap₂ (λ (i j : ℕ). ltb (a .k) (i + j)) (m .ensures (a .n) l) (c .members2 .ensures (a .n) h)
-    ∙ sym (by-sizes (a .n) (a .k) (a .r) (a .own) (a .shared) (good-first i) l h (disjoint-and (a .n) (a .own) (a .shared) l ∙ eq-eqb _ 0 (o .if4 .left))
+    ∙ sym (by-sizes (a .n) (a .k) (a .r) (a .own) (a .shared) (good-first i) l h
+    (disjoint-and (a .n) (a .own) (a .shared) l ∙ eq-eqb _ 0 (o .if4 .left))
     (omega (arith, m .ensures (a .n) l, c .before .if5 .left)))
 
 pub bad-sets-spec : {M : Type 1} → statement M

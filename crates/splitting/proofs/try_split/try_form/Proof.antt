@@ -30,7 +30,8 @@ returns : tie.Need-returns
 returns c =
     let g = c .before .before in
     let a = g .before .before .before .args in
-    stopped (gateLines (a .e) (a .n) (a .k) (a .t .now)) (rest (a .n) (a .k) (a .r) (a .own) (a .shared) (a .t .now) (a .room .now)) _ (g .gate .ensures)
+    stopped (gateLines (a .e) (a .n) (a .k) (a .t .now))
+    (rest (a .n) (a .k) (a .r) (a .own) (a .shared) (a .t .now) (a .room .now)) _ (g .gate .ensures)
     (c .enum-told2 .given .0 .0) (c .enum-told2 .given .1)
 
 bad-sets-requires : tie.Need-bad-sets-requires
@@ -47,7 +48,11 @@ cast-bad-sets c =
     let g = c .before .before in
     let s = g .before .before .before in
     let a = s .args in
-    omega (arith, looked (a .e) (a .n) (a .k) (a .t .now) _ (g .gate .ensures) (c .enum-told .given .1) .largest, s .pre .eight)
+    omega (
+      arith,
+      looked (a .e) (a .n) (a .k) (a .t .now) _ (g .gate .ensures) (c .enum-told .given .1) .largest,
+      s .pre .eight,
+    )
 
 returns-2 : tie.Need-returns-2
 returns-2 c =
@@ -56,7 +61,9 @@ returns-2 c =
     let g = f .before .before in
     let a = g .before .before .before .args in
     c .refuse .ensures
-    ∙ decided (gateLines (a .e) (a .n) (a .k) (a .t .now)) (rest (a .n) (a .k) (a .r) (a .own) (a .shared) (a .t .now) (a .room .now)) _ (g .gate .ensures) (f .enum-told .given .1)
+    ∙ decided (gateLines (a .e) (a .n) (a .k) (a .t .now))
+    (rest (a .n) (a .k) (a .r) (a .own) (a .shared) (a .t .now) (a .room .now)) _ (g .gate .ensures)
+    (f .enum-told .given .1)
     (here (sym (b .before .bad-sets .ensures) ∙ b .if1 .taken))
 
 bytes-of-h-requires : tie.Need-bytes-of-h-requires
@@ -85,11 +92,16 @@ returns-3 c =
     let f = b .before .before in
     let g = f .before .before in
     let a = g .before .before .before .args in
-    let s = candidate (a .n) (a .k) (a .r) (a .own) (a .shared) (sym (b .before .bad-sets .ensures) ∙ b .if1 .left) (a .k) (omega arith) in
+    let s = candidate (a .n) (a .k) (a .r) (a .own) (a .shared) (sym (b .before .bad-sets .ensures) ∙ b .if1 .left)
+    (a .k) (omega arith) in
     let l = h .bytes-of-h .ensures .0 ∙ bytes-H s (tableBit (a .t .now)) in
     c .refuse2 .ensures
-    ∙ decided (gateLines (a .e) (a .n) (a .k) (a .t .now)) (rest (a .n) (a .k) (a .r) (a .own) (a .shared) (a .t .now) (a .room .now)) _ (g .gate .ensures) (f .enum-told .given .1)
-    (later (sym (b .before .bad-sets .ensures) ∙ b .if1 .left) (here (lt-ltb (length (a .room .now)) _ (subst (λ (m : ℕ). length (a .room .now) < m) l (c .before .if2 .taken)))))
+    ∙ decided (gateLines (a .e) (a .n) (a .k) (a .t .now))
+    (rest (a .n) (a .k) (a .r) (a .own) (a .shared) (a .t .now) (a .room .now)) _ (g .gate .ensures)
+    (f .enum-told .given .1)
+    (later (sym (b .before .bad-sets .ensures) ∙ b .if1 .left)
+    (here (lt-ltb (length (a .room .now)) _ (subst (λ (m : ℕ). length (a .room .now) < m) l
+    (c .before .if2 .taken)))))
 
 returns-4 : tie.Need-returns-4
 returns-4 c =
@@ -98,10 +110,14 @@ returns-4 c =
     let f = b .before .before in
     let g = f .before .before in
     let a = g .before .before .before .args in
-    let s = candidate (a .n) (a .k) (a .r) (a .own) (a .shared) (sym (b .before .bad-sets .ensures) ∙ b .if1 .left) (a .k) (omega arith) in
+    let s = candidate (a .n) (a .k) (a .r) (a .own) (a .shared) (sym (b .before .bad-sets .ensures) ∙ b .if1 .left)
+    (a .k) (omega arith) in
     let l = h .bytes-of-h .ensures .0 ∙ bytes-H s (tableBit (a .t .now)) in
-    decided (gateLines (a .e) (a .n) (a .k) (a .t .now)) (rest (a .n) (a .k) (a .r) (a .own) (a .shared) (a .t .now) (a .room .now)) _ (g .gate .ensures) (f .enum-told .given .1)
-    (later (sym (b .before .bad-sets .ensures) ∙ b .if1 .left) (later (le-ltb (length (a .room .now)) _ (subst (λ (m : ℕ). m ≤ length (a .room .now)) l (c .if2 .left))) fine))
+    decided (gateLines (a .e) (a .n) (a .k) (a .t .now))
+    (rest (a .n) (a .k) (a .r) (a .own) (a .shared) (a .t .now) (a .room .now)) _ (g .gate .ensures)
+    (f .enum-told .given .1)
+    (later (sym (b .before .bad-sets .ensures) ∙ b .if1 .left)
+    (later (le-ltb (length (a .room .now)) _ (subst (λ (m : ℕ). m ≤ length (a .room .now)) l (c .if2 .left))) fine))
 
 pub try-form-spec : {M : Type 1} → statement M
 try-form-spec =

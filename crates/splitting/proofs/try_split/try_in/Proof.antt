@@ -34,12 +34,18 @@ record Through (e : Edition) (n K r A B : ℕ) (t room : List ℕ) : Type 0 wher
   most : r ≤ mostFirst
   long : tableLength (n + r - size n (bit A)) ≤ length room
 
-through : (e : Edition) (n K r A B : ℕ) (t room : List ℕ) → e .most ≤ largestCell → verdict (tryForm e n K r A B t room) ≡ Fine → Through e n K r A B t room
+through : (e : Edition) (n K r A B : ℕ) (t room : List ℕ) → e .most ≤ largestCell → verdict (tryForm e n K r A B t room)
+    ≡ Fine → Through e n K r A B t room
 through e n K r A B t room most h =
     let w = in-order (tryForm e n K r A B t room) h .1 .1 .1 .1 in
     let g = sound-before e n K t (badSets n K r A B ∷ shortRoom n r A B t room ∷ []) _ (sym h) refl in
     let s = candidate n K r A B (w .0) largestCell (omega (arith, g .largest)) in
-    record { gate = g; sets = s; most = most-first n K r A B (w .0); long = subst (λ (m : ℕ). m ≤ length room) (sym (bytes-H s (tableBit t))) (ltb-false (length room) _ (w .1 .0)) }
+    record {
+      gate = g;
+      sets = s;
+      most = most-first n K r A B (w .0);
+      long = subst (λ (m : ℕ). m ≤ length room) (sym (bytes-H s (tableBit t))) (ltb-false (length room) _ (w .1 .0));
+    }
 
 returns : tie.Need-returns
 unfolding tryOutcome
@@ -48,26 +54,33 @@ returns c =
     let a = f .before .before .before .before .args in
     let r = c .before .enum-told2 .given .0 .0 in
     let e = c .before .enum-told2 .given .1 in
-    ap₂ (λ (v : Verdict) (d : FirstCells). record { answer = record { verdict = v; d = d; columns = 0 }; room = a .room .now }) e (c .none .ensures)
+    ap₂ (λ (v : Verdict) (d : FirstCells). record
+    { answer = record { verdict = v; d = d; columns = 0 }; room = a .room .now }) e (c .none .ensures)
     ∙ ap (λ (k : ℕ). record { answer = record { verdict = Refused r; d = noCells; columns = k }; room = a .room .now })
-    (sym (no-columns (tryForm (a .e) (a .n) (a .k) (a .r) (a .own) (a .shared) (a .t .now) (a .room .now)) refl (a .n) (a .own) (a .shared) (a .t .now) r
+    (sym (no-columns (tryForm (a .e) (a .n) (a .k) (a .r) (a .own) (a .shared) (a .t .now) (a .room .now)) refl (a .n)
+    (a .own) (a .shared) (a .t .now) r
     (sym (f .try-form .ensures) ∙ e)))
-    ∙ refused-by (tryForm (a .e) (a .n) (a .k) (a .r) (a .own) (a .shared) (a .t .now) (a .room .now)) (notPossible (a .n) (a .r) (a .own) (a .shared) (a .t .now) ∷ [])
-    (tryDone (a .n) (a .r) (a .own) (a .shared) (a .t .now) (a .room .now)) (tryNot (a .n) (a .own) (a .shared) (a .t .now) (a .room .now)) (f .try-form .result) r (f .try-form .ensures) e
+    ∙ refused-by (tryForm (a .e) (a .n) (a .k) (a .r) (a .own) (a .shared) (a .t .now) (a .room .now))
+    (notPossible (a .n) (a .r) (a .own) (a .shared) (a .t .now) ∷ [])
+    (tryDone (a .n) (a .r) (a .own) (a .shared) (a .t .now) (a .room .now))
+    (tryNot (a .n) (a .own) (a .shared) (a .t .now) (a .room .now)) (f .try-form .result) r (f .try-form .ensures) e
 
 of-requires : tie.Need-of-requires
 of-requires c κs =
     let f = c .before .before in
     let s = f .before .before .before .before in
     let a = s .args in
-    let w = through (a .e) (a .n) (a .k) (a .r) (a .own) (a .shared) (a .t .now) (a .room .now) (s .pre .eight) (sym (f .try-form .ensures) ∙ c .enum-told .given .1) in
+    let w = through (a .e) (a .n) (a .k) (a .r) (a .own) (a .shared) (a .t .now) (a .room .now) (s .pre .eight)
+    (sym (f .try-form .ensures) ∙ c .enum-told .given .1) in
     (w .gate .most, w .sets .belowA, w .sets .belowB, w .sets .apart)
 
 cast-of-2 : tie.Need-cast-of-2
-cast-of-2 c = let w = of-requires c _ in omega (arith, w .1, pow-mono {i = c .before .before .before .before .before .before .args .n} {j = mostInputs} (w .0))
+cast-of-2 c = let w = of-requires c _ in omega
+    (arith, w .1, pow-mono {i = c .before .before .before .before .before .before .args .n} {j = mostInputs} (w .0))
 
 cast-of-3 : tie.Need-cast-of-3
-cast-of-3 c = let w = of-requires c _ in omega (arith, w .2, pow-mono {i = c .before .before .before .before .before .before .args .n} {j = mostInputs} (w .0))
+cast-of-3 c = let w = of-requires c _ in omega
+    (arith, w .2, pow-mono {i = c .before .before .before .before .before .before .args .n} {j = mostInputs} (w .0))
 
 cast-pair-of : tie.Need-cast-pair-of
 cast-pair-of c =
@@ -75,7 +88,11 @@ cast-pair-of c =
     let f = i .before .before in
     let s = f .before .before .before .before in
     let a = s .args in
-    omega (arith, through (a .e) (a .n) (a .k) (a .r) (a .own) (a .shared) (a .t .now) (a .room .now) (s .pre .eight) (sym (f .try-form .ensures) ∙ i .enum-told .given .1) .most)
+    omega (
+      arith,
+      through (a .e) (a .n) (a .k) (a .r) (a .own) (a .shared) (a .t .now) (a .room .now) (s .pre .eight)
+          (sym (f .try-form .ensures) ∙ i .enum-told .given .1) .most,
+    )
 
 pair-of-requires : tie.Need-pair-of-requires
 pair-of-requires c κs =
@@ -84,9 +101,17 @@ pair-of-requires c κs =
     let f = i .before .before in
     let s = f .before .before .before .before in
     let a = s .args in
-    let w = through (a .e) (a .n) (a .k) (a .r) (a .own) (a .shared) (a .t .now) (a .room .now) (s .pre .eight) (sym (f .try-form .ensures) ∙ i .enum-told .given .1) in (
-      (o .0, carried (λ (n A B : ℕ). Candidate n largestCell (a .r) A B) (sym (o .1)) (sym (o .2)) (sym (o .3)) (w .sets), w .gate .long ∙ ap tableLength (sym (o .1)), w .most),
-      carried (λ (n A B : ℕ). tableLength (n + a .r - size n (bit A)) ≤ length (a .room .now)) (sym (o .1)) (sym (o .2)) (sym (o .3)) (w .long),
+    let w = through (a .e) (a .n) (a .k) (a .r) (a .own) (a .shared) (a .t .now) (a .room .now) (s .pre .eight)
+    (sym (f .try-form .ensures) ∙ i .enum-told .given .1) in (
+      (
+        o .0,
+        carried (λ (n A B : ℕ). Candidate n largestCell (a .r) A B) (sym (o .1)) (sym (o .2)) (sym (o .3))
+            (w .sets),
+        w .gate .long ∙ ap tableLength (sym (o .1)),
+        w .most,
+      ),
+      carried (λ (n A B : ℕ). tableLength (n + a .r - size n (bit A)) ≤ length (a .room .now)) (sym (o .1)) (sym (o .2))
+          (sym (o .3)) (w .long),
     )
 
 returns-2 : tie.Need-returns-2
@@ -100,10 +125,14 @@ returns-2 c =
     carried
     (λ (n A B : ℕ).
     record { answer = r .pair-of .result; room = r .pair-of .last .1 .1 .1 .0 }
-    ≡ reply (verdict (notPossible n (a .r) A B (a .t .now) ∷ [])) (tryDone n (a .r) A B (a .t .now) (a .room .now)) (tryNot n A B (a .t .now) (a .room .now)))
+    ≡ reply (verdict (notPossible n (a .r) A B (a .t .now) ∷ [])) (tryDone n (a .r) A B (a .t .now) (a .room .now))
+    (tryNot n A B (a .t .now) (a .room .now)))
     (o .1) (o .2) (o .3) (r .pair-of .ensures)
-    ∙ left-to (tryForm (a .e) (a .n) (a .k) (a .r) (a .own) (a .shared) (a .t .now) (a .room .now)) (notPossible (a .n) (a .r) (a .own) (a .shared) (a .t .now) ∷ [])
-    (tryDone (a .n) (a .r) (a .own) (a .shared) (a .t .now) (a .room .now)) (tryNot (a .n) (a .own) (a .shared) (a .t .now) (a .room .now)) (f .try-form .result) (f .try-form .ensures) (i .enum-told .given .1)
+    ∙ left-to (tryForm (a .e) (a .n) (a .k) (a .r) (a .own) (a .shared) (a .t .now) (a .room .now))
+    (notPossible (a .n) (a .r) (a .own) (a .shared) (a .t .now) ∷ [])
+    (tryDone (a .n) (a .r) (a .own) (a .shared) (a .t .now) (a .room .now))
+    (tryNot (a .n) (a .own) (a .shared) (a .t .now) (a .room .now)) (f .try-form .result) (f .try-form .ensures)
+    (i .enum-told .given .1)
 
 pub try-in-spec : {M : Type 1} → statement M
 try-in-spec =

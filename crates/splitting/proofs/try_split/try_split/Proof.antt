@@ -16,7 +16,8 @@ returns c =
     let r = c .before .before in
     let f = r .before .before in
     let a = f .before .before .before .args in
-    r .try-in .ensures ∙ ap (λ (e : Edition). tryOutcome e (a .n) (a .k) 1 (a .own) (a .shared) (a .t .now) (a .room .now)) (f .first .ensures)
+    r .try-in .ensures ∙ ap (λ (e : Edition). tryOutcome e (a .n) (a .k) 1 (a .own) (a .shared) (a .t .now)
+    (a .room .now)) (f .first .ensures)
 
 pub try-split-spec : {M : Type 1} → statement M
 try-split-spec = tie.close (tie.spec (λ c κs. search needs) try-in-requires (λ c. search needs) returns)

@@ -22,11 +22,15 @@ returns c =
     let a = f .before .before .before .args in
     let r = c .before .enum-told2 .given .0 .0 in
     let e = c .before .enum-told2 .given .1 in
-    ap₂ (λ (v : Verdict) (d : FirstCells). record { answer = record { verdict = v; d = d; columns = 0 }; room = a .room .now }) e (c .none .ensures)
+    ap₂ (λ (v : Verdict) (d : FirstCells). record
+    { answer = record { verdict = v; d = d; columns = 0 }; room = a .room .now }) e (c .none .ensures)
     ∙ ap (λ (k : ℕ). record { answer = record { verdict = Refused r; d = noCells; columns = k }; room = a .room .now })
-    (sym (no-columns (toldForm (a .w) (a .n)) refl (a .n) (a .own) (a .shared) (a .t .now) r (sym (f .told .ensures) ∙ e)))
-    ∙ refused-by (toldForm (a .w) (a .n)) (tryLines (editionOf (a .w)) (a .n) (a .k) 1 (a .own) (a .shared) (a .t .now) (a .room .now))
-    (tryDone (a .n) 1 (a .own) (a .shared) (a .t .now) (a .room .now)) (tryNot (a .n) (a .own) (a .shared) (a .t .now) (a .room .now)) (f .told .result) r (f .told .ensures) e
+    (sym (no-columns (toldForm (a .w) (a .n)) refl (a .n) (a .own) (a .shared) (a .t .now) r
+    (sym (f .told .ensures) ∙ e)))
+    ∙ refused-by (toldForm (a .w) (a .n)) (tryLines (editionOf (a .w)) (a .n) (a .k) 1 (a .own) (a .shared) (a .t .now)
+    (a .room .now))
+    (tryDone (a .n) 1 (a .own) (a .shared) (a .t .now) (a .room .now))
+    (tryNot (a .n) (a .own) (a .shared) (a .t .now) (a .room .now)) (f .told .result) r (f .told .ensures) e
 
 try-in-requires : tie.Need-try-in-requires
 try-in-requires c κs = subst IsEdition (sym (c .before .numbered .ensures)) (is-edition _)
@@ -39,9 +43,13 @@ returns-2 c =
     let i = e .before in
     let f = i .before .before in
     let a = f .before .before .before .args in
-    r .try-in .ensures ∙ ap (λ (e : Edition). tryOutcome e (a .n) (a .k) 1 (a .own) (a .shared) (a .t .now) (a .room .now)) (e .numbered .ensures)
-    ∙ left-to (toldForm (a .w) (a .n)) (tryLines (editionOf (a .w)) (a .n) (a .k) 1 (a .own) (a .shared) (a .t .now) (a .room .now))
-    (tryDone (a .n) 1 (a .own) (a .shared) (a .t .now) (a .room .now)) (tryNot (a .n) (a .own) (a .shared) (a .t .now) (a .room .now)) (f .told .result) (f .told .ensures) (i .enum-told .given .1)
+    r .try-in .ensures ∙ ap (λ (e : Edition). tryOutcome e (a .n) (a .k) 1 (a .own) (a .shared) (a .t .now)
+    (a .room .now)) (e .numbered .ensures)
+    ∙ left-to (toldForm (a .w) (a .n)) (tryLines (editionOf (a .w)) (a .n) (a .k) 1 (a .own) (a .shared) (a .t .now)
+    (a .room .now))
+    (tryDone (a .n) 1 (a .own) (a .shared) (a .t .now) (a .room .now))
+    (tryNot (a .n) (a .own) (a .shared) (a .t .now) (a .room .now)) (f .told .result) (f .told .ensures)
+    (i .enum-told .given .1)
 
 pub try-told-spec : {M : Type 1} → statement M
 try-told-spec =

@@ -21,7 +21,8 @@ returns c =
     let a = c .before .before .args in
     let t = a .t .now in
     filled-list (c .before .loop .inv) (omega arith)
-    ∙ ap (λ (l : List _). l ++ drop (length t) (a .room .now)) (list-of (length t) (λ k. getD t k 0) t 0 refl (λ j h. refl))
+    ∙ ap (λ (l : List _). l ++ drop (length t) (a .room .now))
+    (list-of (length t) (λ k. getD t k 0) t 0 refl (λ j h. refl))
 
 pub copy-spec : {M : Type 1} → statement M
 copy-spec =

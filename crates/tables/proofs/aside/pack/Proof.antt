@@ -30,8 +30,15 @@ abbrev μ-loop : tie.MeasureT-loop
 
 word-over-requires : tie.Need-word-over-requires Inv-loop μ-loop
 word-over-requires c κs =
-    let s = c .before .before .before .before .before in
-    (s .pre .0, s .pre .1, s .pre .2, pow-pos (s .args .n), λ j l e. bit-zero j, omega (arith, s .pre .3, c .before .loop-test .taken))
+    let s = c .before .before .before .before .before in (
+      s .pre .0,
+      s .pre .1,
+      s .pre .2,
+      pow-pos (s .args .n),
+      λ j l e. bit-zero j,
+      omega
+          (arith, s .pre .3, c .before .loop-test .taken),
+    )
 
 loop-again : tie.Need-loop-again Inv-loop μ-loop
 loop-again c =
@@ -40,7 +47,8 @@ loop-again c =
     let i = q .loop .i in
     let F : ℕ → Bool = over (a .t .now) (a .n) (a .mask) in
     let w : c .before .if1 .w ≡ number 64 (λ j. F (64 * (i / 8) + j)) =
-    ⊎-elim (λ u. u .2 ∙ u .1 .ensures ∙ number-ext 64 _ (λ j. F (64 * (i / 8) + j)) (λ j l. ap (tableBit (a .t .now)) (zero-add (spread (a .n) (bit (a .mask)) (64 * (i / 8) + j)))))
+    ⊎-elim (λ u. u .2 ∙ u .1 .ensures ∙ number-ext 64 _ (λ j. F (64 * (i / 8) + j))
+    (λ j l. ap (tableBit (a .t .now)) (zero-add (spread (a .n) (bit (a .mask)) (64 * (i / 8) + j)))))
     (λ u. u .1 ∙ q .loop .inv .1 (u .0 .left)) (c .before .if1 .came) in (
       filled-more (q .loop .inv .0) (omega arith) (omega arith) (c .byte-in .ensures F w),
       λ h. let e : i / 8 ≡ (i + 1) / 8 = omega arith in w ∙ ap (λ (k : ℕ). number 64 (λ j. F (64 * k + j))) e,
@@ -48,7 +56,9 @@ loop-again c =
 
 pub pack-spec : {M : Type 1} → statement M
 pack-spec =
-    tie.close (tie.spec Inv-loop μ-loop (λ c. (filled-none (omega arith), λ h. absurd (h refl))) (λ c. omega (arith, c .before .before .before .before .before .pre .3))
-    word-over-requires (λ c κs. search needs) (λ c. omega (arith, c .before .before .before .loop .inv .0 .long, c .before .before .before .loop .inv .0 .room))
+    tie.close (tie.spec Inv-loop μ-loop (λ c. (filled-none (omega arith), λ h. absurd (h refl)))
+    (λ c. omega (arith, c .before .before .before .before .before .pre .3))
+    word-over-requires (λ c κs. search needs) (λ c. omega
+    (arith, c .before .before .before .loop .inv .0 .long, c .before .before .before .loop .inv .0 .room))
     (λ c. search needs) (λ c. search needs) loop-again (λ c. c .before .loop .inv .0 .long)
     (λ c. filled-list (c .before .loop .inv .0) (omega arith)))

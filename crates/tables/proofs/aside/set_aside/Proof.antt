@@ -17,7 +17,8 @@ use Rattle.tables.proofs.aside.set_aside.Statement.{statement}
 use Rattle.tables.proofs.aside.set_aside.Tie as tie
 
 sub-all : tie.Need-sub-all
-sub-all c = let g = c .before .before in omega (arith, shl-one 32 (g .args .n) (omega (arith, g .pre .1)), pow-pos (g .args .n))
+sub-all c = let g = c .before .before in omega
+    (arith, shl-one 32 (g .args .n) (omega (arith, g .pre .1)), pow-pos (g .args .n))
 
 returns : tie.Need-returns
 returns c =
@@ -26,13 +27,19 @@ returns c =
     let g = i .before .before .before in
     let a = g .args in
     let t = a .t .now in
-    let full : a .mask + 1 ≡ 2 ^ a .n = omega (arith, i .if1 .taken, shl-one 32 (a .n) (omega (arith, g .pre .1)), pow-pos (a .n)) in
+    let full : a .mask + 1 ≡ 2 ^ a .n = omega (
+      arith,
+      i .if1 .taken,
+      shl-one 32 (a .n) (omega (arith, g .pre .1)),
+      pow-pos (a .n),
+    ) in
     ap (λ (r : List ℕ). number (2 ^ size (a .n) (bit (a .mask))) (tableBit r)) (b .copy .ensures)
     ∙ whole-over (a .n) (a .mask) t (drop (length t) (a .room .now)) full (g .pre .0)
 
 -- as many bytes as the table over the inputs has
 module _ (c : tie.After-members) where
-  count : c .members .result ≡ size (c .before .before .before .before .args .n) (bit (c .before .before .before .before .args .mask))
+  count : c .members .result ≡ size (c .before .before .before .before .args .n)
+      (bit (c .before .before .before .before .args .mask))
   count = let g = c .before .before .before .before in c .members .ensures (g .args .n) (g .pre .2)
 
   few : c .members .result ≤ c .before .before .before .before .args .n
@@ -50,7 +57,12 @@ pack-requires c κs =
       omega (arith, g .pre .0, length-holds (g .args .n)),
       g .pre .1,
       g .pre .2,
-      omega (arith, len, pow-mono {i = l .before .members .result - 3} {j = 16} (omega (arith, few (l .before), g .pre .1))),
+      omega (
+        arith,
+        len,
+        pow-mono {i = l .before .members .result - 3} {j = 16}
+            (omega (arith, few (l .before), g .pre .1)),
+      ),
       omega (arith, len, short, g .pre .0, g .pre .3),
     )
 
@@ -62,7 +74,8 @@ returns-2 c =
     let a = g .args in
     let len = l .length-for .ensures ∙ ap tableLength (count (l .before)) in
     ap (λ (r : List ℕ). number (2 ^ size (a .n) (bit (a .mask))) (tableBit r))
-    (b .pack .ensures ∙ ap (λ (k : ℕ). bytesOf k (λ v. tableBit (a .t .now) (spread (a .n) (bit (a .mask)) v)) ++ drop k (a .room .now)) len)
+    (b .pack .ensures ∙ ap (λ (k : ℕ). bytesOf k (λ v. tableBit (a .t .now) (spread (a .n) (bit (a .mask)) v))
+    ++ drop k (a .room .now)) len)
     ∙ packed-over (a .n) (a .mask) (a .t .now) (drop (tableLength (size (a .n) (bit (a .mask)))) (a .room .now))
 
 pub set-aside-spec : {M : Type 1} → statement M

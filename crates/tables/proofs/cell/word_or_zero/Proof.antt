@@ -27,4 +27,5 @@ word-of-requires c κs =
 
 pub word-or-zero-spec : {M : Type 1} → statement M
 word-or-zero-spec =
-    tie.close (tie.spec (λ c κs. search needs) (λ c. search needs) (λ c. search needs) returns word-of-requires (λ c. search needs))
+    tie.close (tie.spec (λ c κs. search needs) (λ c. search needs) (λ c. search needs) returns word-of-requires
+    (λ c. search needs))

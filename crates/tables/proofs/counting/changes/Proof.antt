@@ -19,16 +19,19 @@ word-of-requires : tie.Need-word-of-requires
 word-of-requires c κs = let g = c .before in (omega (arith, g .pre .0, length-holds (g .args .n)), g .pre .4 .below)
 
 shr-result : tie.Need-shr-result
-shr-result c = let j = c .before .before .before .args .j in omega (arith, shl-one 32 j (omega arith), pow-mono {i = j} {j = 5} (omega arith))
+shr-result c = let j = c .before .before .before .args .j
+    in omega (arith, shl-one 32 j (omega arith), pow-mono {i = j} {j = 5} (omega arith))
 
 returns : tie.Need-returns
 returns c =
     let g = c .before .before .before in
     let a = g .args in
     let F = tableBit (a .t .now) in
-    subst₂ (λ (o k : ℕ). Compared (a .n) F (a .j) (a .w) (not (eqb (bitAnd (o / 2 ^ k) (a .half)) (bitAnd o (a .half))))) (sym (c .before .word-of .ensures))
+    subst₂ (λ (o k : ℕ). Compared (a .n) F (a .j) (a .w)
+    (not (eqb (bitAnd (o / 2 ^ k) (a .half)) (bitAnd o (a .half))))) (sym (c .before .word-of .ensures))
     (sym (shl-one 32 (a .j) (omega arith)))
-    (compared (a .n) F (a .j) (g .pre .2) (a .w) (bitAnd (gateWord (a .n) F (a .w) / 2 ^ (2 ^ a .j)) (a .half)) (bitAnd (gateWord (a .n) F (a .w)) (a .half))
+    (compared (a .n) F (a .j) (g .pre .2) (a .w) (bitAnd (gateWord (a .n) F (a .w) / 2 ^ (2 ^ a .j)) (a .half))
+    (bitAnd (gateWord (a .n) F (a .w)) (a .half))
     (halves-same (a .n) F (a .j) (g .pre .2) (a .w) (c .if1 .taken) (a .half) (g .pre .3))
     (halves-steady (a .n) F (a .j) (g .pre .2) (a .w) (c .if1 .taken) (a .half) (g .pre .3)))
 
@@ -37,7 +40,8 @@ module _ (c : tie.Else1) where
   shifted : 1 * 2 ^ (c .before .before .before .args .j - 6) % 2 ^ 64 ≡ 2 ^ (c .before .before .before .args .j - 6)
   shifted = let g = c .before .before .before in shl-one 64 (g .args .j - 6) (omega (arith, g .pre .1, g .pre .2))
 
-  other : c .before .before .before .args .w + 2 ^ (c .before .before .before .args .j - 6) < 2 ^ (c .before .before .before .args .n - 6)
+  other : c .before .before .before .args .w + 2 ^ (c .before .before .before .args .j - 6)
+      < 2 ^ (c .before .before .before .args .n - 6)
   other = let g = c .before .before .before in
       let a = g .args in
       other-lt (a .n) (tableBit (a .t .now)) (a .j) (g .pre .2) (a .w) (omega arith) (g .pre .4)
@@ -47,7 +51,8 @@ add-word-of c = let g = c .before .before .before in
     omega (arith, shifted c, other c, g .pre .1, pow-mono {i = g .args .n - 6} {j = 10} (omega (arith, g .pre .1)))
 
 word-of-requires-2 : tie.Need-word-of-requires-2
-word-of-requires-2 c κs = let g = c .before .before .before in (omega (arith, g .pre .0, length-holds (g .args .n)), omega (arith, shifted c, other c))
+word-of-requires-2 c κs = let g = c .before .before .before
+    in (omega (arith, g .pre .0, length-holds (g .args .n)), omega (arith, shifted c, other c))
 
 returns-2 : tie.Need-returns-2
 returns-2 c =
@@ -59,7 +64,8 @@ returns-2 c =
     subst₂ (λ (o p : ℕ). Compared (a .n) F (a .j) (a .w) (not (eqb o p))) (sym (e .before .word-of .ensures))
     (sym (c .word-of2 .ensures ∙ ap (λ (k : ℕ). gateWord (a .n) F (a .w + k)) (shifted e)))
     (compared (a .n) F (a .j) (g .pre .2) (a .w) (gateWord (a .n) F (a .w)) (gateWord (a .n) F (a .w + 2 ^ (a .j - 6)))
-    (words-same (a .n) F (a .j) (g .pre .2) (a .w) more (g .pre .4)) (words-steady (a .n) F (a .j) (g .pre .2) (a .w) more (g .pre .4)))
+    (words-same (a .n) F (a .j) (g .pre .2) (a .w) more (g .pre .4))
+    (words-steady (a .n) F (a .j) (g .pre .2) (a .w) more (g .pre .4)))
 
 pub changes-spec : {M : Type 1} → statement M
 changes-spec =

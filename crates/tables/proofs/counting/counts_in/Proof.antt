@@ -29,15 +29,19 @@ parts-requires : tie.Need-parts-requires Inv-loop μ-loop
 parts-requires c κs =
     let g = c .before .before .before in
     let a = g .args in
-    let e = c .above-words .ensures in
-    (omega (arith, e, g .pre .1), others-are (a .n) (a .live) (a .j) (c .above-words .result) (g .pre .1) (g .pre .3 .below) (g .pre .2) e .below)
+    let e = c .above-words .ensures in (
+      omega (arith, e, g .pre .1),
+      others-are (a .n) (a .live) (a .j) (c .above-words .result) (g .pre .1)
+          (g .pre .3 .below) (g .pre .2) e .below,
+    )
 
 loop-holds : tie.Need-loop-holds Inv-loop μ-loop
 loop-holds c =
     let b = c .before in
     let g = b .before .before .before in
     let a = g .args in (
-      others-are (a .n) (a .live) (a .j) (b .above-words .result) (g .pre .1) (g .pre .3 .below) (g .pre .2) (b .above-words .ensures),
+      others-are (a .n) (a .live) (a .j) (b .above-words .result) (g .pre .1) (g .pre .3 .below) (g .pre .2)
+          (b .above-words .ensures),
       walked-none (omega (arith, b .above-words .ensures, g .pre .1)) (c .parts .ensures .0),
       λ u h. absurd (not-suc-le-zero h),
     )
@@ -46,7 +50,12 @@ cast-changes : tie.Need-cast-changes Inv-loop μ-loop
 cast-changes c =
     let q = c .before .loop in
     let g = c .before .before .before .before .before .before in
-    omega (arith, walked-lt (q .inv .1), pow-mono {i = c .before .before .before .above-words .result} {j = 16} (omega (arith, q .inv .0 .at, g .pre .1)))
+    omega (
+      arith,
+      walked-lt (q .inv .1),
+      pow-mono {i = c .before .before .before .above-words .result} {j = 16}
+          (omega (arith, q .inv .0 .at, g .pre .1)),
+    )
 
 changes-requires : tie.Need-changes-requires Inv-loop μ-loop
 changes-requires c κs =
@@ -80,7 +89,8 @@ loop-again c =
       q .inv .0,
       walked-more (q .inv .1) l (c .next .ensures .1),
       λ u h i g. ⊎-elim (λ old. q .inv .2 u old i g)
-          (λ e. subst (λ (w : ℕ). Steady (a .n) (tableBit (a .t .now)) (a .j) (64 * w + i)) (q .inv .1 .at ∙ ap (spread _ (bit _)) (sym e))
+          (λ e. subst (λ (w : ℕ). Steady (a .n) (tableBit (a .t .now)) (a .j) (64 * w + i))
+          (q .inv .1 .at ∙ ap (spread _ (bit _)) (sym e))
           (d .changes .ensures .steady (c .before .if1 .left) i g))
           (below-suc {j = u} {n = q .v} (omega arith)),
     )

@@ -16,7 +16,8 @@ use Rattle.tables.proofs.fixed.squeeze.Statement.{statement}
 use Rattle.tables.proofs.fixed.squeeze.Tie as tie
 
 abbrev Inv-loop : tie.InvT-loop
-Inv-loop word mask m w₀ k₀ j₀ w k j = (j ≤ wordPositions) × (k ≤ j) × (k ≡ size j (bit mask)) × (w < 2 ^ 64) × Squeezed word mask w j
+Inv-loop word mask m w₀ k₀ j₀ w k j = (j ≤ wordPositions) × (k ≤ j) × (k ≡ size j (bit mask)) × (w < 2 ^ 64)
+    × Squeezed word mask w j
 
 abbrev μ-loop : tie.MeasureT-loop
 μ-loop word mask m w₀ k₀ j₀ w k j = wordPositions - j
@@ -55,11 +56,14 @@ loop-again c =
       omega (arith, b .before .loop-test .taken),
       count-most (mask b) (s .j) (s .inv .2),
       count-more (mask b) (s .j) (s .inv .2),
-      or-lt 64 (c .lower .result) (b .upper .result * member / 2 ^ by) (omega arith) (lt-of-le-of-lt (div-le-self (b .upper .result * member) (2 ^ by)) (omega (arith, kept-le (b .upper .result) (mask b) (s .j)))),
+      or-lt 64 (c .lower .result) (b .upper .result * member / 2 ^ by) (omega arith)
+          (lt-of-le-of-lt (div-le-self (b .upper .result * member) (2 ^ by))
+          (omega (arith, kept-le (b .upper .result) (mask b) (s .j)))),
       subst (λ (y : ℕ). Squeezed (a .word) (mask b) (bitOr (c .lower .result) y) (s .j + 1))
           (sym (ap₂ (λ (d i : ℕ). b .upper .result * d / 2 ^ i) (bit-digit (mask b) (s .j))
           (ap₂ _-_ (to b) (from b ∙ ap (λ (i : ℕ). 2 ^ i) (s .inv .2)))))
-          (squeezed-more (a .word) (mask b) (s .w) (c .lower .result) (b .upper .result) (s .j) (s .inv .4) (b .before .loop-test .taken)
+          (squeezed-more (a .word) (mask b) (s .w) (c .lower .result) (b .upper .result) (s .j) (s .inv .4)
+          (b .before .loop-test .taken)
           (s .inv .3) (omega arith) (c .lower .ensures) (b .upper .ensures)),
     )
 
@@ -68,12 +72,15 @@ returns c =
     let s = c .before .loop in
     let a = c .before .before .args in
     let e : s .j ≡ wordPositions = omega arith in
-    squeezed-all (a .word) (a .mask) (s .w) (s .inv .3) (subst (λ (i : ℕ). Squeezed (a .word) (a .mask) (s .w) i) e (s .inv .4))
+    squeezed-all (a .word) (a .mask) (s .w) (s .inv .3)
+    (subst (λ (i : ℕ). Squeezed (a .word) (a .mask) (s .w) i) e (s .inv .4))
 
 pub squeeze-spec : {M : Type 1} → statement M
 squeeze-spec =
     tie.close (tie.spec Inv-loop μ-loop loop-holds (λ c. search needs) (λ c. search needs) (λ c κs. search needs)
-    (λ c. omega (arith, kept-le (c .upper .result) (mask c) (q c .loop .j))) (λ c. search needs) (λ c. search needs) (λ c. search needs)
+    (λ c. omega (arith, kept-le (c .upper .result) (mask c) (q c .loop .j))) (λ c. search needs) (λ c. search needs)
+    (λ c. search needs)
     (λ c. omega (arith, to c, from c, down c)) (λ c. omega (arith, to c, from c, most c)) (λ c κs. search needs)
-    (λ c. let b = c .before in omega (arith, count-most (mask b) (q b .loop .j) (q b .loop .inv .2))) (λ c. search needs)
+    (λ c. let b = c .before in omega (arith, count-most (mask b) (q b .loop .j) (q b .loop .inv .2)))
+    (λ c. search needs)
     (λ c. search needs) loop-again returns)

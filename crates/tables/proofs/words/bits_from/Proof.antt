@@ -8,7 +8,8 @@ use Rattle.tables.proofs.words.bits_from.Tie as tie
 returns : tie.Need-returns
 returns c =
     let g = c .before .before .before in
-    λ k h. stretch-short (g .args .t .now) (g .args .p) (c .joined .result) k (g .pre .short (omega arith)) (c .joined .ensures) h
+    λ k h. stretch-short (g .args .t .now) (g .args .p) (c .joined .result) k (g .pre .short (omega arith))
+    (c .joined .ensures) h
 
 returns-2 : tie.Need-returns-2
 returns-2 c =

@@ -35,13 +35,22 @@ returns : tie.Need-returns Inv-loop μ-loop
 returns c =
     let q = c .before .loop in
     let e : q .i ≡ c .before .before .args .count = omega arith in
-    q .inv .1 ∙ ap (λ (i : ℕ). number (8 * i) (λ k. tableBit (c .before .before .args .t .now) (8 * c .before .before .args .from + k))) e
+    q .inv .1 ∙ ap (λ (i : ℕ). number (8 * i) (λ k. tableBit (c .before .before .args .t .now)
+    (8 * c .before .before .args .from + k))) e
 
 pub joined-spec : {M : Type 1} → statement M
 joined-spec =
     tie.close (tie.spec Inv-loop μ-loop loop-holds (λ c. search needs) (λ c. search needs)
     (λ c. omega (arith, small c)) (λ c. search needs) (λ c. search needs)
-    (λ c. omega (arith, byte-fits (a c .args .t .now) (a c .args .from) (i c) (omega arith) (small c) (c .before .before .loop .inv .1)))
+    (λ c. omega (
+      arith,
+      byte-fits (a c .args .t .now) (a c .args .from) (i c) (omega arith) (small c)
+          (c .before .before .loop .inv .1),
+    ))
     (λ c. search needs) (λ c. search needs)
-    (λ c. (omega arith, byte-joined (a c .args .t .now) (a c .args .from) (i c) (omega arith) (small c) (c .before .before .loop .inv .1)))
+    (λ c. (
+      omega arith,
+      byte-joined (a c .args .t .now) (a c .args .from) (i c) (omega arith) (small c)
+          (c .before .before .loop .inv .1),
+    ))
     returns)

@@ -17,15 +17,20 @@ use Rattle.tables.proofs.words.short_word.Statement.{statement}
 use Rattle.tables.proofs.words.short_word.Tie as tie
 
 -- the bytes that hold 2 ^ k bits, joined
-whole : (t : List ℕ) (len k r : ℕ) → len ≡ tableLength k → r ≡ number (8 * len) (λ i. tableBit t (8 * 0 + i)) → r ≡ number (8 * tableLength k) (tableBit t)
+whole : (t : List ℕ) (len k r : ℕ) → len ≡ tableLength k → r ≡ number (8 * len) (λ i. tableBit t (8 * 0 + i)) → r
+    ≡ number (8 * tableLength k) (tableBit t)
 whole t len k r e is =
-    is ∙ number-ext (8 * len) (λ i. tableBit t (8 * 0 + i)) (tableBit t) (λ i _. ap (tableBit t) (zero-add i)) ∙ ap (λ (m : ℕ). number (8 * m) (tableBit t)) e
+    is ∙ number-ext (8 * len) (λ i. tableBit t (8 * 0 + i)) (tableBit t) (λ i _. ap (tableBit t) (zero-add i))
+    ∙ ap (λ (m : ℕ). number (8 * m) (tableBit t)) e
 
 joined-requires : tie.Need-joined-requires
 joined-requires c κs =
     let g = c .before .before in
-    let e = c .length-for .ensures in
-    (omega (arith, e, length-fits (g .args .k) (length (g .args .t .now)) (g .pre .1)), omega (arith, e, length-fits (g .args .k) 8 (pow-mono {i = g .args .k} {j = 6} (omega arith))))
+    let e = c .length-for .ensures in (
+      omega (arith, e, length-fits (g .args .k) (length (g .args .t .now)) (g .pre .1)),
+      omega
+          (arith, e, length-fits (g .args .k) 8 (pow-mono {i = g .args .k} {j = 6} (omega arith))),
+    )
 
 -- the number of bits, and 2 to that
 many : (k : ℕ) → k < 6 → 1 * 2 ^ k % 2 ^ 64 < 64
@@ -43,9 +48,11 @@ rem-result c = let k = c .before .before .before .args .k in omega (arith, end k
 returns : tie.Need-returns
 returns c =
     let a = c .before .before .before .args in
-    ap₂ (λ (x y : ℕ). x % y) (whole (a .t .now) _ (a .k) _ (c .before .length-for .ensures) (c .joined .ensures)) (end (a .k) (omega arith))
+    ap₂ (λ (x y : ℕ). x % y) (whole (a .t .now) _ (a .k) _ (c .before .length-for .ensures) (c .joined .ensures))
+    (end (a .k) (omega arith))
     ∙ first-bits (2 ^ a .k) (8 * tableLength (a .k)) (tableBit (a .t .now)) (length-holds (a .k))
 
 pub short-word-spec : {M : Type 1} → statement M
 short-word-spec =
-    tie.close (tie.spec (λ c. search needs) (λ c κs. search needs) joined-requires (λ c. search needs) shl-end rem-result returns)
+    tie.close (tie.spec (λ c. search needs) (λ c κs. search needs) joined-requires (λ c. search needs) shl-end
+    rem-result returns)

@@ -11,23 +11,27 @@ use Rattle.times.proofs.input_time.sound_time.Statement.{statement}
 use Rattle.times.proofs.input_time.sound_time.Tie as tie
 
 -- the answer for an earliest and a latest
-at : {t : InputTime} {x y : Float} {p r : Bool} → t ≡ Between x y → inRange x ≡ p → (p && (inRange y && le x y)) ≡ r → r ≡ soundTime t
+at : {t : InputTime} {x y : Float} {p r : Bool} → t ≡ Between x y → inRange x ≡ p → (p && (inRange y && le x y)) ≡ r → r
+    ≡ soundTime t
 at {x = x} {y = y} e h k = sym (ap soundTime e ∙ ap (λ (q : Bool). q && (inRange y && le x y)) h ∙ k)
 
 returns : tie.Need-returns
-returns c = at (c .before .before .before .t2 .given .1) (sym (c .before .in-range2 .ensures) ∙ not-true _ (c .if1 .taken)) refl
+returns c = at (c .before .before .before .t2 .given .1)
+    (sym (c .before .in-range2 .ensures) ∙ not-true _ (c .if1 .taken)) refl
 
 returns-2 : tie.Need-returns-2
 returns-2 c =
     let t = c .before .before .before .before .before .t2 .given in
     at (t .1) (sym (c .before .before .before .in-range2 .ensures) ∙ not-false _ (c .before .before .if1 .left))
-    (ap (λ (q : Bool). q && le (t .0 .0) (t .0 .1 .0)) (sym (c .before .in-range3 .ensures) ∙ not-true _ (c .if2 .taken)))
+    (ap (λ (q : Bool). q && le (t .0 .0) (t .0 .1 .0))
+    (sym (c .before .in-range3 .ensures) ∙ not-true _ (c .if2 .taken)))
 
 returns-5 : tie.Need-returns-5
 returns-5 c =
     let t = c .before .before .before .before .before .t2 .given in
     at (t .1) (sym (c .before .before .before .in-range2 .ensures) ∙ not-false _ (c .before .before .if1 .left))
-    (ap (λ (q : Bool). q && le (t .0 .0) (t .0 .1 .0)) (sym (c .before .in-range3 .ensures) ∙ not-false _ (c .if2 .left)))
+    (ap (λ (q : Bool). q && le (t .0 .0) (t .0 .1 .0))
+    (sym (c .before .in-range3 .ensures) ∙ not-false _ (c .if2 .left)))
 
 pub sound-time-spec : {M : Type 1} → statement M
 sound-time-spec =

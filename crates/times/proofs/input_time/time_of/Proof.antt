@@ -14,10 +14,12 @@ unfolding ofBits
 returns-2 c = sym (ap (timeOf (c .before .before .args .late)) (c .enum-told .given .1))
 
 returns-3 : tie.Need-returns-3
-returns-3 c = c .plain-zero .ensures ∙ sym (ap (timeOf (c .before .before .before .before .args .late)) (c .before .before .t .given .1))
+returns-3 c = c .plain-zero .ensures ∙ sym (ap (timeOf (c .before .before .before .before .args .late))
+    (c .before .before .t .given .1))
 
 returns-4 : tie.Need-returns-4
-returns-4 c = c .plain-zero3 .ensures ∙ sym (ap₂ timeOf (c .before .if1 .left) (c .before .before .before .t2 .given .1))
+returns-4 c = c .plain-zero3 .ensures ∙ sym (ap₂ timeOf (c .before .if1 .left)
+    (c .before .before .before .t2 .given .1))
 
 pub time-of-spec : {M : Type 1} → statement M
 time-of-spec =

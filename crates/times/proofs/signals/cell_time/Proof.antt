@@ -29,7 +29,8 @@ shared-slice-read-k : tie.Need-shared-slice-read-k Inv-loop μ-loop
 shared-slice-read-k c = let r = c .before .before .pre .0 in omega (arith, r .long, r .sound .ends, r .sound .order)
 
 shared-slice-read-first : tie.Need-shared-slice-read-first Inv-loop μ-loop
-shared-slice-read-first c = let r = c .before .before .before .pre .0 in omega (arith, r .long, r .sound .ends, r .sound .order)
+shared-slice-read-first c = let r = c .before .before .before .pre .0
+    in omega (arith, r .long, r .sound .ends, r .sound .order)
 
 mul-time : tie.Need-mul-time Inv-loop μ-loop
 mul-time c = let r = c .before .before .before .pre .0 in omega (arith, r .known 0 (r .some))
@@ -49,7 +50,8 @@ cast-first : tie.Need-cast-first Inv-loop μ-loop
 cast-first c = let r = c .before .before .before .pre .0 in omega (arith, r .known 0 (r .some))
 
 cast-t : tie.Need-cast-t Inv-loop μ-loop
-cast-t c = let r = c .before .before .before .before .before .before .before .pre .0 in omega (arith, r .known (c .before .before .loop .j) (omega arith))
+cast-t c = let r = c .before .before .before .before .before .before .before .pre .0
+    in omega (arith, r .known (c .before .before .loop .j) (omega arith))
 
 add-at : tie.Need-add-at Inv-loop μ-loop
 add-at c = omega arith
@@ -60,10 +62,12 @@ shared-slice-read-t c =
     omega (arith, r .long, r .few, r .sound .ends, r .sound .order)
 
 mul-keep : tie.Need-mul-keep Inv-loop μ-loop
-mul-keep c = let r = c .before .before .before .before .before .before .before .pre .0 in omega (arith, r .known (c .before .before .loop .j) (omega arith))
+mul-keep c = let r = c .before .before .before .before .before .before .before .pre .0
+    in omega (arith, r .known (c .before .before .loop .j) (omega arith))
 
 element-copy-out-keep : tie.Need-element-copy-out-keep Inv-loop μ-loop
-element-copy-out-keep c = let r = c .before .before .before .before .before .before .before .pre .0 in r .known (c .before .before .loop .j) (omega arith)
+element-copy-out-keep c = let r = c .before .before .before .before .before .before .before .pre .0
+    in r .known (c .before .before .loop .j) (omega arith)
 
 loop-again : tie.Need-loop-again Inv-loop μ-loop
 loop-again c =
@@ -76,7 +80,8 @@ loop-again c =
     let here = default l (byteAt b (j + 1)) nan zeroTime (rw (t .pre .1) (r .known j (omega arith))) in (
       omega arith,
       omega arith,
-      c .keep .ensures ∙ ap₂ (keeping (t .args .late)) (q .loop .inv .2) here ∙ kept-more (keeping (t .args .late)) j (timeHere l b) (q .loop .inv .0),
+      c .keep .ensures ∙ ap₂ (keeping (t .args .late)) (q .loop .inv .2) here
+          ∙ kept-more (keeping (t .args .late)) j (timeHere l b) (q .loop .inv .0),
     )
 
 returns : tie.Need-returns Inv-loop μ-loop
@@ -86,8 +91,10 @@ returns c =
     let l = t .args .t5 .times in
     let b = t .args .b .now in
     let z : q .loop .j ≡ byteAt b 0 = omega arith in
-    ap (delayed (t .args .delay)) (q .loop .inv .2 ∙ ap (λ (k : ℕ). kept (keeping (t .args .late)) (timeHere l b) (k - 1)) z)
-    ∙ sym (cell-at (keeping (t .args .late)) (delayed (t .args .delay)) (t .args .e) (byteAt b) (λ h. getD l h zeroTime) (t .pre .0 .some))
+    ap (delayed (t .args .delay)) (q .loop .inv .2
+    ∙ ap (λ (k : ℕ). kept (keeping (t .args .late)) (timeHere l b) (k - 1)) z)
+    ∙ sym (cell-at (keeping (t .args .late)) (delayed (t .args .delay)) (t .args .e) (byteAt b) (λ h. getD l h zeroTime)
+    (t .pre .0 .some))
 
 pub cell-time-spec : {M : Type 1} → statement M
 cell-time-spec =

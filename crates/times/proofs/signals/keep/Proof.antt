@@ -16,5 +16,6 @@ lesser x y h k = sym (ap (λ (l : Bool). keeping l x y) h ∙ ap (λ (t : Bool).
 
 pub keep-spec : {M : Type 1} → statement M
 keep-spec =
-    tie.close (tie.spec (λ c. greater _ _ (c .before .if1 .taken) (c .if2 .taken)) (λ c. greater _ _ (c .before .if1 .taken) (c .if2 .left))
+    tie.close (tie.spec (λ c. greater _ _ (c .before .if1 .taken) (c .if2 .taken))
+    (λ c. greater _ _ (c .before .if1 .taken) (c .if2 .left))
     (λ c. lesser _ _ (c .before .if1 .left) (c .if3 .taken)) (λ c. lesser _ _ (c .before .if1 .left) (c .if3 .left)))

@@ -32,20 +32,28 @@ loop-holds c =
     let a = c .before .args in (
       omega arith,
       c .before .pre .2,
-      passed-none (keeping (a .late)) (delayed (a .delay)) (a .e) (a .s .now) (a .m) (a .n) zeroTime (λ t. getD (a .inputs .times) t zeroTime),
+      passed-none (keeping (a .late)) (delayed (a .delay)) (a .e) (a .s .now) (a .m) (a .n) zeroTime
+          (λ t. getD (a .inputs .times) t zeroTime),
     )
 
 record-of-requires : tie.Need-record-of-requires Inv-loop μ-loop
 record-of-requires c κs =
     let t = c .before .before .before in
-    let a = t .args in
-    (t .pre .0 .sound, omega (arith, t .pre .0 .most), record-within (a .e .size) (c .before .loop .i) (a .m) (length (a .s .now)) (omega arith) (t .pre .0 .long))
+    let a = t .args in (
+      t .pre .0 .sound,
+      omega (arith, t .pre .0 .most),
+      record-within (a .e .size) (c .before .loop .i) (a .m)
+          (length (a .s .now)) (omega arith) (t .pre .0 .long),
+    )
 
 cell-time-requires : tie.Need-cell-time-requires Inv-loop μ-loop
 cell-time-requires c κs =
     let t = c .before .before .before .before in
-    let q = c .before .before in
-    (subst (λ (r : List ℕ). Reads (t .args .e) r) (sym (c .record-of .ensures)) (t .pre .0 .reads (q .loop .i) (omega arith)), q .loop .inv .1)
+    let q = c .before .before in (
+      subst (λ (r : List ℕ). Reads (t .args .e) r) (sym (c .record-of .ensures))
+          (t .pre .0 .reads (q .loop .i) (omega arith)),
+      q .loop .inv .1,
+    )
 
 add-top : tie.Need-add-top Inv-loop μ-loop
 add-top c = let t = c .before .before .before .before .before in omega (arith, t .pre .0 .most, t .pre .1)
@@ -67,16 +75,20 @@ loop-again c =
     let d = delayed (a .delay) in (
       omega arith,
       length-set l (a .n + q .loop .i) o ∙ q .loop .inv .1,
-      passed-more k d (a .e) (a .s .now) (a .m) _ (a .n) (q .loop .i) (q .loop .time) o (λ h. getD l h zeroTime) (λ h. getD (set l (a .n + q .loop .i) o) h zeroTime) (omega arith)
-          (c .cell-time .ensures ∙ ap (λ (b : List ℕ). cellTime k d (cellOf (a .e) (byteAt b)) (λ h. getD l h zeroTime)) (c .before .record-of .ensures))
-          (λ h. written-at l (a .n + q .loop .i) o zeroTime h (omega (arith, q .loop .inv .1, t .pre .0 .most, t .pre .1))) (q .loop .inv .2),
+      passed-more k d (a .e) (a .s .now) (a .m) _ (a .n) (q .loop .i) (q .loop .time) o (λ h. getD l h zeroTime)
+          (λ h. getD (set l (a .n + q .loop .i) o) h zeroTime) (omega arith)
+          (c .cell-time .ensures ∙ ap (λ (b : List ℕ). cellTime k d (cellOf (a .e) (byteAt b)) (λ h. getD l h zeroTime))
+          (c .before .record-of .ensures))
+          (λ h. written-at l (a .n + q .loop .i) o zeroTime h
+          (omega (arith, q .loop .inv .1, t .pre .0 .most, t .pre .1))) (q .loop .inv .2),
     )
 
 returns : tie.Need-returns Inv-loop μ-loop
 returns c =
     let q = c .before in
     let a = q .before .before .args in
-    sym (passed-all (keeping (a .late)) (delayed (a .delay)) (a .e) (a .s .now) (a .m) _ (a .n) (q .loop .i) (q .loop .time) (λ h. getD (q .loop .signals .times) h zeroTime) (omega arith) (q .loop .inv .2))
+    sym (passed-all (keeping (a .late)) (delayed (a .delay)) (a .e) (a .s .now) (a .m) _ (a .n) (q .loop .i)
+    (q .loop .time) (λ h. getD (q .loop .signals .times) h zeroTime) (omega arith) (q .loop .inv .2))
 
 pub output-time-spec : {M : Type 1} → statement M
 output-time-spec =

@@ -1,4 +1,5 @@
--- `times_of_inputs` meets its contract. The loop's invariant: the inputs passed have their times, and what follows is zero. Assumes nothing.
+-- `times_of_inputs` meets its contract. The loop's invariant: the inputs passed have their times, and what follows is
+-- zero. Assumes nothing.
 use mathlib.Core.Path.{_≡_, ap, _∙_}
 use Prim.Native.Nat.{ℕ, _-_, _≤_}
 use native.Mathlib.Omega.{arith}
@@ -12,7 +13,8 @@ use Rattle.times.proofs.signals.times_of_inputs.Tie as tie
 
 abbrev Inv-loop : tie.InvT-loop
 Inv-loop late n said inputs signals₀ j₀ signals j =
-    (j ≤ n) × (length (signals .times) ≡ mostSignals) × ((h : ℕ) → getD (signals .times) h zeroTime ≡ inputTimes late j said h)
+    (j ≤ n) × (length (signals .times) ≡ mostSignals)
+    × ((h : ℕ) → getD (signals .times) h zeroTime ≡ inputTimes late j said h)
 
 abbrev μ-loop : tie.MeasureT-loop
 μ-loop late n said inputs signals₀ j₀ signals j = n - j
@@ -20,8 +22,12 @@ abbrev μ-loop : tie.MeasureT-loop
 loop-holds : tie.Need-loop-holds Inv-loop μ-loop
 loop-holds c =
     let a = c .before .args in
-    let z = c .zeros .ensures in
-    (omega arith, ap length z ∙ length-replicate mostSignals zeroTime, λ h. no-inputs (a .late) (a .t3) _ mostSignals h z)
+    let z = c .zeros .ensures in (
+      omega arith,
+      ap length z ∙ length-replicate mostSignals zeroTime,
+      λ h. no-inputs (a .late) (a .t3) _ mostSignals h
+          z,
+    )
 
 array-copy-out-time-of : tie.Need-array-copy-out-time-of Inv-loop μ-loop
 array-copy-out-time-of c = omega (arith, c .before .before .before .pre)
@@ -37,7 +43,8 @@ loop-again c =
     let v = q .loop .inv in (
       omega arith,
       length-set (q .loop .signals .times) (q .loop .j) (c .time-of .result) ∙ v .1,
-      one-input (a .late) (a .t3) (q .loop .signals .times) (q .loop .j) (c .time-of .result) (omega (arith, v .1, t .pre)) (c .time-of .ensures) (v .2),
+      one-input (a .late) (a .t3) (q .loop .signals .times) (q .loop .j) (c .time-of .result)
+          (omega (arith, v .1, t .pre)) (c .time-of .ensures) (v .2),
     )
 
 returns : tie.Need-returns Inv-loop μ-loop

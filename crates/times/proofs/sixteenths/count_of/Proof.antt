@@ -22,7 +22,8 @@ returns : tie.Need-returns
 unfolding ofBits
 returns c =
     let s = c .before in
-    c .truncating-f64-to-u64 .ensures ∙ ap (toUnsigned 64) (mul16 (s .args .x) (sixteenthsOf (s .args .x)) (s .pre .0)) ∙ read-back (sixteenthsOf (s .args .x)) (s .pre .1)
+    c .truncating-f64-to-u64 .ensures ∙ ap (toUnsigned 64) (mul16 (s .args .x) (sixteenthsOf (s .args .x)) (s .pre .0))
+    ∙ read-back (sixteenthsOf (s .args .x)) (s .pre .1)
 
 pub count-of-spec : {M : Type 1} → statement M
 count-of-spec = tie.close (tie.spec truncating-f64-to-u64-requires returns)

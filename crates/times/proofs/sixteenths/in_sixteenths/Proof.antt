@@ -22,7 +22,8 @@ returns : tie.Need-returns
 unfolding ofBits
 returns c =
     let p = c .before .before in
-    test-is (p .plain-zero .result) (plain-time p) (c .before .truncating-f64-to-u64 .result) (c .nearest-u64-to-f64 .result)
+    test-is (p .plain-zero .result) (plain-time p) (c .before .truncating-f64-to-u64 .result)
+    (c .nearest-u64-to-f64 .result)
     (c .before .truncating-f64-to-u64 .ensures) (c .nearest-u64-to-f64 .ensures)
     ∙ ap inSixteenths (p .plain-zero .ensures) ∙ same-sixteenths (p .before .args .x)
 

@@ -36,13 +36,17 @@ returns : tie.Need-returns Inv-loop μ-loop
 returns c =
     let q = c .before .before .before .before in
     let a = q .before .args in
-    sym (every-stop (a .n) (whole (a .t2)) (q .loop .j) (omega arith) (sym (c .before .time-in-sixteenths .ensures) ∙ not-true _ (c .if1 .taken)))
+    sym (every-stop (a .n) (whole (a .t2)) (q .loop .j) (omega arith)
+    (sym (c .before .time-in-sixteenths .ensures) ∙ not-true _ (c .if1 .taken)))
 
 loop-again : tie.Need-loop-again Inv-loop μ-loop
 loop-again c =
     let q = c .before .before .before .before in
-    let a = q .before .args in
-    (omega arith, every-more (q .loop .j) (whole (a .t2)) (q .loop .inv .1) (sym (c .before .time-in-sixteenths .ensures) ∙ not-false _ (c .if1 .left)))
+    let a = q .before .args in (
+      omega arith,
+      every-more (q .loop .j) (whole (a .t2)) (q .loop .inv .1)
+          (sym (c .before .time-in-sixteenths .ensures) ∙ not-false _ (c .if1 .left)),
+    )
 
 returns-2 : tie.Need-returns-2 Inv-loop μ-loop
 returns-2 c =

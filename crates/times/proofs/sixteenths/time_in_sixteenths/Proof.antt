@@ -17,11 +17,15 @@ one h e = sym (ap soundTime e) ∙ h
 
 two : {t : InputTime} {x y : Float} → soundTime t ≡ true → t ≡ Between x y → (inRange x ≡ true) × (inRange y ≡ true)
 two {x = x} {y = y} h e =
-    let w : soundTime (Between x y) ≡ true = sym (ap soundTime e) ∙ h in
-    (and-left (inRange x) (inRange y && le x y) w, and-left (inRange y) (le x y) (and-right (inRange x) (inRange y && le x y) w))
+    let w : soundTime (Between x y) ≡ true = sym (ap soundTime e) ∙ h in (
+      and-left (inRange x) (inRange y && le x y) w,
+      and-left (inRange y) (le x y)
+          (and-right (inRange x) (inRange y && le x y) w),
+    )
 
 -- the answer for an earliest and a latest
-at : {t : InputTime} {x y : Float} {p r : Bool} → t ≡ Between x y → inSixteenths x ≡ p → (p && inSixteenths y) ≡ r → r ≡ timeInSixteenths t
+at : {t : InputTime} {x y : Float} {p r : Bool} → t ≡ Between x y → inSixteenths x ≡ p → (p && inSixteenths y) ≡ r → r
+    ≡ timeInSixteenths t
 at {x = x} {y = y} e h k = sym (ap timeInSixteenths e ∙ ap (λ (q : Bool). q && inSixteenths y) h ∙ k)
 
 in-sixteenths-requires : tie.Need-in-sixteenths-requires
@@ -31,13 +35,17 @@ in-sixteenths-requires-2 : tie.Need-in-sixteenths-requires-2
 in-sixteenths-requires-2 c κs = two (c .before .before .before .pre) (c .before .t2 .given .1) .0
 
 returns : tie.Need-returns
-returns c = at (c .before .before .before .t2 .given .1) (sym (c .before .in-sixteenths2 .ensures) ∙ not-true _ (c .if1 .taken)) refl
+returns c = at (c .before .before .before .t2 .given .1)
+    (sym (c .before .in-sixteenths2 .ensures) ∙ not-true _ (c .if1 .taken)) refl
 
 in-sixteenths-requires-3 : tie.Need-in-sixteenths-requires-3
-in-sixteenths-requires-3 c κs = two (c .before .before .before .before .before .pre) (c .before .before .before .t2 .given .1) .1
+in-sixteenths-requires-3 c κs = two (c .before .before .before .before .before .pre)
+    (c .before .before .before .t2 .given .1) .1
 
 returns-4 : tie.Need-returns-4
-returns-4 c = at (c .before .before .before .before .t2 .given .1) (sym (c .before .before .in-sixteenths2 .ensures) ∙ not-false _ (c .before .if1 .left)) (sym (c .in-sixteenths3 .ensures))
+returns-4 c = at (c .before .before .before .before .t2 .given .1)
+    (sym (c .before .before .in-sixteenths2 .ensures) ∙ not-false _ (c .before .if1 .left))
+    (sym (c .in-sixteenths3 .ensures))
 
 pub time-in-sixteenths-spec : {M : Type 1} → statement M
 time-in-sixteenths-spec =

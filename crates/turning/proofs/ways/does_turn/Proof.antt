@@ -71,4 +71,5 @@ returns-2 c =
 pub does-turn-spec : {M : Type 1} → statement M
 does-turn-spec =
     tie.close (tie.spec Inv-loop μ-loop (λ c. (omega arith, refl)) (λ c κs. search needs) bit-of-requires
-    (λ c κs. search needs) (λ c κs. search needs) (λ c κs. search needs) returns (λ c. search needs) (λ c. search needs) loop-again returns-2)
+    (λ c κs. search needs) (λ c κs. search needs) (λ c κs. search needs) returns (λ c. search needs) (λ c. search needs)
+    loop-again returns-2)

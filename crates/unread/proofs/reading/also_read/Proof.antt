@@ -27,8 +27,11 @@ loop-again c =
     let q = c .before .before in
     let t = q .before .before in
     let b = byteAt (t .args .b .now) in
-    let below = t .pre .1 (q .loop .j) (omega arith) in
-    (omega arith, ap₂ bitOr (q .loop .inv .1) (shl-one 32 (b (q .loop .j + 1)) below) ∙ named-more b (t .args .w) (q .loop .j) below)
+    let below = t .pre .1 (q .loop .j) (omega arith) in (
+      omega arith,
+      ap₂ bitOr (q .loop .inv .1) (shl-one 32 (b (q .loop .j + 1)) below)
+          ∙ named-more b (t .args .w) (q .loop .j) below,
+    )
 
 returns : tie.Need-returns Inv-loop μ-loop
 returns c =

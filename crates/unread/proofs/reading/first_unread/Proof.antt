@@ -26,21 +26,27 @@ abbrev μ-loop : tie.MeasureT-loop
 record-of-requires : tie.Need-record-of-requires Inv-loop μ-loop
 record-of-requires c κs =
     let t = c .before in
-    let a = t .args in
-    (t .pre .0 .0, omega arith, record-within (a .e .size) (a .m - 1) (a .m) (length (a .s .now)) (omega arith) (t .pre .0 .3))
+    let a = t .args in (
+      t .pre .0 .0,
+      omega arith,
+      record-within (a .e .size) (a .m - 1) (a .m) (length (a .s .now)) (omega arith)
+          (t .pre .0 .3),
+    )
 
 also-read-requires : tie.Need-also-read-requires Inv-loop μ-loop
 also-read-requires c κs =
     let t = c .before .before in
     let a = t .args in
-    record-named (a .e) (t .pre .0 .0) (a .s .now) (a .m) (a .m - 1) (c .record-of .result .now) (omega arith) (t .pre .0 .3) (t .pre .0 .4) (c .record-of .ensures)
+    record-named (a .e) (t .pre .0 .0) (a .s .now) (a .m) (a .m - 1) (c .record-of .result .now) (omega arith)
+    (t .pre .0 .3) (t .pre .0 .4) (c .record-of .ensures)
 
 loop-holds : tie.Need-loop-holds Inv-loop μ-loop
 loop-holds c =
     let r = c .before in
     let a = r .before .before .args in (
       omega arith,
-      c .also-read .ensures ∙ ap (λ (b : List ℕ). alsoRead (byteAt b) 0) (r .record-of .ensures) ∙ mask-last (a .e) (a .s .now) (a .m) (omega arith),
+      c .also-read .ensures ∙ ap (λ (b : List ℕ). alsoRead (byteAt b) 0) (r .record-of .ensures)
+          ∙ mask-last (a .e) (a .s .now) (a .m) (omega arith),
       from-end (a .m - 1) (unread (a .e) (a .n) (a .s .now) (a .m)),
     )
 
@@ -48,15 +54,20 @@ record-of-requires-2 : tie.Need-record-of-requires-2 Inv-loop μ-loop
 record-of-requires-2 c κs =
     let q = c .before .before in
     let t = q .before .before .before .before in
-    let a = t .args in
-    (t .pre .0 .0, omega arith, record-within (a .e .size) (q .loop .i - 1) (a .m) (length (a .s .now)) (omega arith) (t .pre .0 .3))
+    let a = t .args in (
+      t .pre .0 .0,
+      omega arith,
+      record-within (a .e .size) (q .loop .i - 1) (a .m) (length (a .s .now)) (omega arith)
+          (t .pre .0 .3),
+    )
 
 also-read-requires-2 : tie.Need-also-read-requires-2 Inv-loop μ-loop
 also-read-requires-2 c κs =
     let q = c .before .before .before in
     let t = q .before .before .before .before in
     let a = t .args in
-    record-named (a .e) (t .pre .0 .0) (a .s .now) (a .m) (q .loop .i - 1) (c .record-of2 .result .now) (omega arith) (t .pre .0 .3) (t .pre .0 .4) (c .record-of2 .ensures)
+    record-named (a .e) (t .pre .0 .0) (a .s .now) (a .m) (q .loop .i - 1) (c .record-of2 .result .now) (omega arith)
+    (t .pre .0 .3) (t .pre .0 .4) (c .record-of2 .ensures)
 
 loop-again : tie.Need-loop-again Inv-loop μ-loop
 loop-again c =
@@ -72,9 +83,11 @@ loop-again c =
           ∙ mask-more (a .e) (a .s .now) i (a .m) w (omega arith) (omega arith) (q .loop .inv .1),
       ⊎-elim
           (λ u. subst (λ (g : ℕ). LeastFrom (i - 1) (a .m - 1) p g) (sym (u .1))
-          (found-here (a .e) (a .s .now) (a .n) (a .m) i w (q .loop .first) (omega arith) (omega arith) (omega arith) (q .loop .inv .1) (u .0 .taken)))
+          (found-here (a .e) (a .s .now) (a .n) (a .m) i w (q .loop .first) (omega arith) (omega arith) (omega arith)
+          (q .loop .inv .1) (u .0 .taken)))
           (λ u. subst (λ (g : ℕ). LeastFrom (i - 1) (a .m - 1) p g) (sym (u .1))
-          (found-later (a .e) (a .s .now) (a .n) (a .m) i w (q .loop .first) (omega arith) (omega arith) (omega arith) (q .loop .inv .1) (u .0 .left) (q .loop .inv .2)))
+          (found-later (a .e) (a .s .now) (a .n) (a .m) i w (q .loop .first) (omega arith) (omega arith) (omega arith)
+          (q .loop .inv .1) (u .0 .left) (q .loop .inv .2)))
           (f .if1 .came),
     )
 
@@ -84,7 +97,8 @@ returns c =
     let a = q .before .before .before .before .args in
     let z : q .loop .i ≡ 0 = omega arith in
     from-all (a .m - 1) (unread (a .e) (a .n) (a .s .now) (a .m)) (q .loop .first)
-    (subst (λ (i : ℕ). LeastFrom i (a .m - 1) (unread (a .e) (a .n) (a .s .now) (a .m)) (q .loop .first)) z (q .loop .inv .2))
+    (subst (λ (i : ℕ). LeastFrom i (a .m - 1) (unread (a .e) (a .n) (a .s .now) (a .m)) (q .loop .first)) z
+    (q .loop .inv .2))
 
 pub first-unread-spec : {M : Type 1} → statement M
 first-unread-spec =

@@ -1,4 +1,5 @@
--- `of_input` meets its contract: an input below 8 changes within a stretch, the others number the stretches. Assumes nothing.
+-- `of_input` meets its contract: an input below 8 changes within a stretch, the others number the stretches. Assumes
+-- nothing.
 use mathlib.Core.Path.{_≡_, _∙_}
 use Prim.Native.Nat.{ℕ, _+_, _*_}
 use borrow.Author.Needs.{needs}
@@ -11,8 +12,10 @@ returns : tie.Need-returns
 returns c =
     let t = c .before .before .before .before in
     let a = t .before .args in
-    let low : (i : ℕ) → inputWord (a .j) i ≡ inputWord (a .j) (4 * a .w + i) = λ i. input-within (a .j) (a .w) i (t .if1 .taken) in
-    four-of (inputWord (a .j)) (a .w) (c .before .before .before .input-word .ensures ∙ low 0) (c .before .before .input-word2 .ensures ∙ low 1)
+    let low : (i : ℕ) → inputWord (a .j) i ≡ inputWord (a .j) (4 * a .w + i) = λ i. input-within (a .j) (a .w) i
+    (t .if1 .taken) in
+    four-of (inputWord (a .j)) (a .w) (c .before .before .before .input-word .ensures ∙ low 0)
+    (c .before .before .input-word2 .ensures ∙ low 1)
     (c .before .input-word3 .ensures ∙ low 2) (c .input-word4 .ensures ∙ low 3)
 
 returns-2 : tie.Need-returns-2
@@ -22,5 +25,6 @@ returns-2 c =
 
 pub of-input-spec : {M : Type 1} → statement M
 of-input-spec =
-    tie.close (tie.spec (λ c κs. search needs) (λ c κs. search needs) (λ c κs. search needs) (λ c κs. search needs) returns
+    tie.close (tie.spec (λ c κs. search needs) (λ c κs. search needs) (λ c κs. search needs) (λ c κs. search needs)
+    returns
     (λ c. search needs) (λ c κs. search needs) (λ c κs. search needs) returns-2)

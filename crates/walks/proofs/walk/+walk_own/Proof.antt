@@ -1,4 +1,5 @@
--- The cycle of calls {walk_own}, whose position falls. Each way out is one law of a walk, at what `tryA` answers. Assumes nothing.
+-- The cycle of calls {walk_own}, whose position falls. Each way out is one law of a walk, at what `tryA` answers.
+-- Assumes nothing.
 use mathlib.Core.Path.{refl, sym, ap, _∙_}
 use Prim.Native.Nat.{ℕ, _<_}
 use native.Mathlib.Omega.{arith}
@@ -51,7 +52,8 @@ pub +walk-own-spec : {M : Type 1} → statement M
     let w = s .pre .1 .1 .0 in
     (sym (walk-big (ownTries (a .n) (a .r) (tableBit (a .t .now)) (a .q)) w (a .k) (c .if1 .taken)), s .pre .1 .0 .0))
     -- the needed positions do not fit
-    (λ c. let s = c .before .before .before .before in omega (arith, s .pre .1 .1 .2, s .pre .1 .1 .0 .within, s .pre .1 .1 .0 .most, c .if1 .left))
+    (λ c. let s = c .before .before .before .before
+    in omega (arith, s .pre .1 .1 .2, s .pre .1 .1 .0 .within, s .pre .1 .1 .0 .most, c .if1 .left))
     (λ c κs. search needs)
     (λ c. let s = c .before .before .before .before .before .before in
     let a = s .args in
@@ -63,14 +65,24 @@ pub +walk-own-spec : {M : Type 1} → statement M
     -- k is 0: the own mask is made, and the walk over its shared masks begins
     (λ c κs. let s = c .before .before .before .before .before .before .before .before in
     let a = s .args in
-    let h = s .pre .1 .1 in
-    (s .pre .1 .0 .0, (shared-start (h .0), needs-part (bit (a .acc)) (a .need) _ (h .1), left-outside (a .need) (a .acc) (omega arith) (omega arith))))
+    let h = s .pre .1 .1 in (
+      s .pre .1 .0 .0,
+      (
+        shared-start (h .0),
+        needs-part (bit (a .acc)) (a .need) _ (h .1),
+        left-outside (a .need)
+            (a .acc) (omega arith) (omega arith),
+      ),
+    ))
     (λ c. search needs)
     (λ c. let s = c .before .before .before .before .before .before .before .before .before .before .before in
     let a = s .args in
     let w = s .pre .1 .1 .0 in (
-      c .before .before .walk-shared .ensures .0 ∙ start-whole (a .n) (a .q) (λ q. tryB (a .n) (a .r) (tableBit (a .t .now)) q (a .acc))
-          ∙ sym (walk-leaf (ownTries (a .n) (a .r) (tableBit (a .t .now)) (a .q)) w (a .k) (c .before .before .before .before .if3 .taken) ∙ tryA-is (a .n) (a .r) (tableBit (a .t .now)) _ (a .q) (a .acc) refl),
+      c .before .before .walk-shared .ensures .0 ∙ start-whole (a .n) (a .q)
+          (λ q. tryB (a .n) (a .r) (tableBit (a .t .now)) q (a .acc))
+          ∙ sym (walk-leaf (ownTries (a .n) (a .r) (tableBit (a .t .now)) (a .q)) w (a .k)
+          (c .before .before .before .before .if3 .taken)
+          ∙ tryA-is (a .n) (a .r) (tableBit (a .t .now)) _ (a .q) (a .acc) refl),
       c .before .before .walk-shared .ensures .1,
     ))
     -- the numbers of a turn fit
@@ -91,36 +103,67 @@ pub +walk-own-spec : {M : Type 1} → statement M
     (omega (arith, s .pre .0, d .down), (s .pre .1 .0, (d .out, h .1, h .2))))
     (λ c. search needs)
     (λ c. search needs)
-    (λ c. let s = c .before .before .before .before .before .before .before .before .before .before .before .before .before .before in
+    (λ c. let s = c .before .before .before .before .before .before .before .before .before .before .before .before
+    .before .before in
     let a = s .args in
     let w = s .pre .1 .1 .0 in
-    let d = turn (a .k) w (omega (arith, c .before .before .before .before .before .before .before .before .before .before .if1 .left)) (c .before .before .before .before .before .before .before .if3 .left) in (
+    let d = turn (a .k) w
+    (omega (arith, c .before .before .before .before .before .before .before .before .before .before .if1 .left))
+    (c .before .before .before .before .before .before .before .if3 .left) in (
       sym (walk-found (ownTries (a .n) (a .r) (tableBit (a .t .now)) (a .q)) w (a .k) d _ _
-          (sym (c .before .before .before .before .before .walk-own .ensures .0) ∙ ap answerOf (c .before .without .given .1))),
+          (sym (c .before .before .before .before .before .walk-own .ensures .0)
+          ∙ ap answerOf (c .before .without .given .1))),
       c .before .before .before .before .before .walk-own .ensures .1,
     ))
     (λ c. search needs)
     -- the masks with the position, and what it needs
-    (λ c κs. let s = c .before .before .before .before .before .before .before .before .before .before .before .before .before in
-    let h = s .pre .1 .1 in
-    (s .pre .1 .0 .1 .long, omega (arith, h .0 .within, h .0 .most, c .before .before .before .before .before .before .before .before .before .if1 .left, c .before .before .before .before .before .before .if3 .left)))
-    (λ c κs. let s = c .before .before .before .before .before .before .before .before .before .before .before .before .before .before .before in
+    (λ c κs. let s = c .before .before .before .before .before .before .before .before .before .before .before .before
+    .before in
+    let h = s .pre .1 .1 in (
+      s .pre .1 .0 .1 .long,
+      omega (
+        arith,
+        h .0 .within,
+        h .0 .most,
+        c .before .before .before .before .before .before .before .before .before .if1 .left,
+        c .before .before .before .before .before .before .if3 .left,
+      ),
+    ))
+    (λ c κs. let s = c .before .before .before .before .before .before .before .before .before .before .before .before
+    .before .before .before in
     let a = s .args in
     let h = s .pre .1 .1 in
-    let d = turn (a .k) (h .0) (omega (arith, c .before .before .before .before .before .before .before .before .before .before .before .if1 .left)) (c .before .before .before .before .before .before .before .before .if3 .left) in (
+    let d = turn (a .k) (h .0)
+    (omega (
+      arith,
+      c .before .before .before .before .before .before .before .before .before .before .before .if1
+          .left,
+    )) (c .before .before .before .before .before .before .before .before .if3 .left) in (
       omega (arith, s .pre .0, d .down),
       (
         (c .before .before .before .before .before .before .walk-own .ensures .1, s .pre .1 .0 .1),
-        (d .taken, own-more (h .0) d (a .pairs .now) (a .need) _ (s .pre .1 .0 .1) (h .1) (c .before .needed .ensures), h .2),
+        (
+          d .taken,
+          own-more (h .0) d (a .pairs .now) (a .need) _ (s .pre .1 .0 .1) (h .1) (c .before .needed .ensures),
+          h .2,
+        ),
       ),
     ))
     (λ c. search needs)
-    (λ c. let s = c .before .before .before .before .before .before .before .before .before .before .before .before .before .before .before .before .before .before in
+    (λ c. let s = c .before .before .before .before .before .before .before .before .before .before .before .before
+    .before .before .before .before .before .before in
     let a = s .args in
     let w = s .pre .1 .1 .0 in
-    let d = turn (a .k) w (omega (arith, c .before .before .before .before .before .before .before .before .before .before .before .before .before .before .if1 .left)) (c .before .before .before .before .before .before .before .before .before .before .before .if3 .left) in (
+    let d = turn (a .k) w
+    (omega (
+      arith,
+      c .before .before .before .before .before .before .before .before .before .before .before .before
+          .before .before .if1 .left,
+    ))
+    (c .before .before .before .before .before .before .before .before .before .before .before .if3 .left) in (
       c .before .before .walk-own2 .ensures .0
           ∙ sym (walk-next (ownTries (a .n) (a .r) (tableBit (a .t .now)) (a .q)) w (a .k) d
-          (sym (c .before .before .before .before .before .before .before .before .before .walk-own .ensures .0) ∙ ap answerOf (c .before .before .before .before .before .enum-told .given .1))),
+          (sym (c .before .before .before .before .before .before .before .before .before .walk-own .ensures .0)
+          ∙ ap answerOf (c .before .before .before .before .before .enum-told .given .1))),
       c .before .before .walk-own2 .ensures .1,
     ))

@@ -1,4 +1,5 @@
--- The cycle of calls {walk_shared}, whose position falls. Each way out is one law of a walk, at what `tryB` answers. Assumes nothing.
+-- The cycle of calls {walk_shared}, whose position falls. Each way out is one law of a walk, at what `tryB` answers.
+-- Assumes nothing.
 use mathlib.Core.Path.{sym, ap, _∙_}
 use Prim.Native.Nat.{ℕ, _-_, _<_}
 use native.Mathlib.Omega.{arith}
@@ -9,7 +10,8 @@ use borrow.Fn.PlainCycle.{Measures, is, falls, and}
 use Rattle.bits.proofs.Machine.{bit-set, bit-clear}
 use Rattle.tables.specs.Table.{tableBit}
 use Rattle.best.specs.Answers.{answerOf}
-use Rattle.best.proofs.Walks.{sharedTries, turn, walk-big, walk-leaf, walk-found, walk-next, walk-without, shared-out, shared-taken, tryB-own}
+use Rattle.best.proofs.Walks.{sharedTries, turn, walk-big, walk-leaf, walk-found, walk-next, walk-without, shared-out}
+use Rattle.best.proofs.Walks.{shared-taken, tryB-own}
 use Rattle.walks.proofs.Pruning.{left-lt, shared-crowded, shared-passed}
 use Rattle.walks.proofs.walk.walk_shared.Reads as walk-shared
 use Rattle.walks.proofs.walk.walk_shared.Kinds as walk-shared-kinds
@@ -42,8 +44,10 @@ pub +walk-shared-spec : {M : Type 1} → statement M
     -- k is above p
     (λ c. let s = c .before .before .before in
     let a = s .args in
-    let w = s .pre .1 .1 .0 in
-    (sym (walk-big (sharedTries (a .n) (a .r) (tableBit (a .t .now)) (a .own)) (w .range) (a .k) (c .if1 .taken)), s .pre .1 .0))
+    let w = s .pre .1 .1 .0 in (
+      sym (walk-big (sharedTries (a .n) (a .r) (tableBit (a .t .now)) (a .own)) (w .range) (a .k) (c .if1 .taken)),
+      s .pre .1 .0,
+    ))
     -- the needed positions do not fit
     (λ c κs. search needs)
     (λ c. let s = c .before .before .before .before .before in
@@ -53,13 +57,17 @@ pub +walk-shared-spec : {M : Type 1} → statement M
           (c .before .too-many .ensures (c .if2 .taken))),
       s .pre .1 .0,
     ))
-    (λ c. let a = c .before .before .before .before .before .args in record { fits = omega (arith, left-lt (a .need) (a .acc) (omega arith)) })
+    (λ c. let a = c .before .before .before .before .before .args
+    in record { fits = omega (arith, left-lt (a .need) (a .acc) (omega arith)) })
     (λ c. search needs)
     -- one was passed over
     (λ c. let s = c .before .before .before .before .before .before in
     let a = s .args in
-    let h = s .pre .1 .1 in
-    (sym (shared-passed (a .n) (a .r) (tableBit (a .t .now)) (a .own) (a .need) (h .1) (h .2) (h .0) (a .k) (omega arith) (bit-set _ (a .p) (c .if3 .taken))), s .pre .1 .0))
+    let h = s .pre .1 .1 in (
+      sym (shared-passed (a .n) (a .r) (tableBit (a .t .now)) (a .own) (a .need) (h .1) (h .2) (h .0) (a .k)
+          (omega arith) (bit-set _ (a .p) (c .if3 .taken))),
+      s .pre .1 .0,
+    ))
     -- k is 0: the mask is made
     (λ c κs. let s = c .before .before .before .before .before .before .before .before in
     let w = s .pre .1 .1 .0 in
@@ -67,8 +75,12 @@ pub +walk-shared-spec : {M : Type 1} → statement M
     (λ c. search needs)
     (λ c. let s = c .before .before .before .before .before .before .before .before .before .before .before in
     let a = s .args in
-    let w = s .pre .1 .1 .0 in
-    (c .before .before .try-pair .ensures .0 ∙ sym (walk-leaf (sharedTries (a .n) (a .r) (tableBit (a .t .now)) (a .own)) (w .range) (a .k) (c .before .before .before .before .if4 .taken)), c .before .before .try-pair .ensures .1))
+    let w = s .pre .1 .1 .0 in (
+      c .before .before .try-pair .ensures .0 ∙ sym
+          (walk-leaf (sharedTries (a .n) (a .r) (tableBit (a .t .now)) (a .own)) (w .range) (a .k)
+          (c .before .before .before .before .if4 .taken)),
+      c .before .before .try-pair .ensures .1,
+    ))
     -- the numbers of a turn fit
     (λ c. search needs)
     (λ c. search needs)
@@ -83,16 +95,23 @@ pub +walk-shared-spec : {M : Type 1} → statement M
     (λ c κs. let s = c .before .before .before .before .before .before .before .before in
     let a = s .args in
     let h = s .pre .1 .1 in
-    let d = turn (a .k) (h .0 .range) (omega (arith, c .before .before .before .before .before .if1 .left)) (c .before .if4 .left) in
+    let d = turn (a .k) (h .0 .range) (omega (arith, c .before .before .before .before .before .if1 .left))
+    (c .before .if4 .left) in
     (omega (arith, s .pre .0, d .down), (s .pre .1 .0, (shared-out (h .0) d, h .1, h .2))))
     (λ c. search needs)
     (λ c. search needs)
-    (λ c. let s = c .before .before .before .before .before .before .before .before .before .before .before .before .before .before in
+    (λ c. let s = c .before .before .before .before .before .before .before .before .before .before .before .before
+    .before .before in
     let a = s .args in
     let w = s .pre .1 .1 .0 in
-    let d = turn (a .k) (w .range) (omega (arith, c .before .before .before .before .before .before .before .before .before .before .before .if1 .left)) (c .before .before .before .before .before .before .before .if4 .left) in (
+    let d = turn (a .k) (w .range) (omega (
+      arith,
+      c .before .before .before .before .before .before .before .before .before .before .before .if1 .left,
+    ))
+    (c .before .before .before .before .before .before .before .if4 .left) in (
       sym (walk-found (sharedTries (a .n) (a .r) (tableBit (a .t .now)) (a .own)) (w .range) (a .k) d _ _
-          (sym (c .before .before .before .before .before .walk-shared .ensures .0) ∙ ap answerOf (c .before .without .given .1))),
+          (sym (c .before .before .before .before .before .walk-shared .ensures .0)
+          ∙ ap answerOf (c .before .without .given .1))),
       c .before .before .before .before .before .walk-shared .ensures .1,
     ))
     (λ c. search needs)
@@ -100,28 +119,51 @@ pub +walk-shared-spec : {M : Type 1} → statement M
     (λ c. search needs)
     (λ c. search needs)
     (λ c. search needs)
-    (λ c. let s = c .before .before .before .before .before .before .before .before .before .before .before .before .before .before in
+    (λ c. let s = c .before .before .before .before .before .before .before .before .before .before .before .before
+    .before .before in
     let a = s .args in
     let w = s .pre .1 .1 .0 in
-    let d = turn (a .k) (w .range) (omega (arith, c .before .before .before .before .before .before .before .before .before .before .before .if1 .left)) (c .before .before .before .before .before .before .before .if4 .left) in (
+    let d = turn (a .k) (w .range) (omega (
+      arith,
+      c .before .before .before .before .before .before .before .before .before .before .before .if1 .left,
+    ))
+    (c .before .before .before .before .before .before .before .if4 .left) in (
       sym (walk-without (sharedTries (a .n) (a .r) (tableBit (a .t .now)) (a .own)) (w .range) (a .k) d
-          (tryB-own (a .n) (a .r) (tableBit (a .t .now)) _ (a .own) (a .p - 1) (d .inside) (bit-set (a .own) (a .p - 1) (c .if5 .taken)))
-          (sym (c .before .before .before .before .before .walk-shared .ensures .0) ∙ ap answerOf (c .before .enum-told .given .1))),
+          (tryB-own (a .n) (a .r) (tableBit (a .t .now)) _ (a .own) (a .p - 1) (d .inside)
+          (bit-set (a .own) (a .p - 1) (c .if5 .taken)))
+          (sym (c .before .before .before .before .before .walk-shared .ensures .0)
+          ∙ ap answerOf (c .before .enum-told .given .1))),
       c .before .before .before .before .before .walk-shared .ensures .1,
     ))
     -- the masks with the position
-    (λ c κs. let s = c .before .before .before .before .before .before .before .before .before .before .before .before .before .before .before in
+    (λ c κs. let s = c .before .before .before .before .before .before .before .before .before .before .before .before
+    .before .before .before in
     let a = s .args in
     let h = s .pre .1 .1 in
-    let d = turn (a .k) (h .0 .range) (omega (arith, c .before .before .before .before .before .before .before .before .before .before .before .before .if1 .left)) (c .before .before .before .before .before .before .before .before .if4 .left) in
-    (omega (arith, s .pre .0, d .down), (c .before .before .before .before .before .before .walk-shared .ensures .1, (shared-taken (h .0) d (bit-clear (a .own) (a .p - 1) (c .before .if5 .left)), h .1, h .2))))
+    let d = turn (a .k) (h .0 .range) (omega (
+      arith,
+      c .before .before .before .before .before .before .before .before .before .before .before .before .if1 .left,
+    ))
+    (c .before .before .before .before .before .before .before .before .if4 .left) in (
+      omega (arith, s .pre .0, d .down),
+      (
+        c .before .before .before .before .before .before .walk-shared .ensures .1,
+        (shared-taken (h .0) d (bit-clear (a .own) (a .p - 1) (c .before .if5 .left)), h .1, h .2),
+      ),
+    ))
     (λ c. search needs)
-    (λ c. let s = c .before .before .before .before .before .before .before .before .before .before .before .before .before .before .before .before .before .before in
+    (λ c. let s = c .before .before .before .before .before .before .before .before .before .before .before .before
+    .before .before .before .before .before .before in
     let a = s .args in
     let w = s .pre .1 .1 .0 in
-    let d = turn (a .k) (w .range) (omega (arith, c .before .before .before .before .before .before .before .before .before .before .before .before .before .before .before .if1 .left)) (c .before .before .before .before .before .before .before .before .before .before .before .if4 .left) in (
+    let d = turn (a .k) (w .range) (omega (
+      arith,
+      c .before .before .before .before .before .before .before .before .before .before .before .before .before .before
+          .before .if1 .left,
+    )) (c .before .before .before .before .before .before .before .before .before .before .before .if4 .left) in (
       c .before .before .walk-shared2 .ensures .0
           ∙ sym (walk-next (sharedTries (a .n) (a .r) (tableBit (a .t .now)) (a .own)) (w .range) (a .k) d
-          (sym (c .before .before .before .before .before .before .before .before .before .walk-shared .ensures .0) ∙ ap answerOf (c .before .before .before .before .before .enum-told .given .1))),
+          (sym (c .before .before .before .before .before .before .before .before .before .walk-shared .ensures .0)
+          ∙ ap answerOf (c .before .before .before .before .before .enum-told .given .1))),
       c .before .before .walk-shared2 .ensures .1,
     ))

@@ -13,7 +13,8 @@ use Rattle.walks.proofs.walk.learn.Statement.{statement}
 use Rattle.walks.proofs.walk.learn.Tie as tie
 
 -- three columns are more than one first cell allows
-over-first : (n : ℕ) (F : ℕ → Bool) (r p q : ℕ) → r ≡ 1 → RulesOut n F 2 (bit p) (bit q) → RulesOut n F (2 ^ r) (bit p) (bit q)
+over-first : (n : ℕ) (F : ℕ → Bool) (r p q : ℕ) → r ≡ 1 → RulesOut n F 2 (bit p) (bit q)
+    → RulesOut n F (2 ^ r) (bit p) (bit q)
 over-first n F r p q e w = subst (λ (k : ℕ). RulesOut n F (2 ^ k) (bit p) (bit q)) (sym e) w
 
 look-requires : tie.Need-look-requires
@@ -26,11 +27,15 @@ look-requires c κs =
 
 returns-4 : tie.Need-returns-4
 returns-4 c =
-    let s = c .before .before .before .before .before .before .before .before .before .before .before .before .before .before .before .before in
+    let s = c .before .before .before .before .before .before .before .before .before .before .before .before .before
+    .before .before .before in
     let a = s .args in
     let F = tableBit (a .t .now) in
-    let shown = c .before .before .before .before .before .before .shows .ensures (not-false _ (c .before .before .before .before .before .if3 .left)) in
-    let rules = over-first (a .n) F (a .r) _ _ (c .before .before .before .before .before .before .before .before .before .before .before .before .before .if1 .left) shown in (
+    let shown = c .before .before .before .before .before .before .shows .ensures
+    (not-false _ (c .before .before .before .before .before .if3 .left)) in
+    let rules = over-first (a .n) F (a .r) _ _
+    (c .before .before .before .before .before .before .before .before .before .before .before .before .before .if1
+    .left) shown in (
       λ e. meets-fails _ _ (a .own) (a .shared) rules (c .meets .ensures e) (s .pre .1 .2),
       record {
         most = s .pre .0 .most;
@@ -45,7 +50,8 @@ learn-spec =
     tie.close
     (tie.spec
     (λ c κs. c .before .before .before .before .pre)
-    (λ c. c .before .before .learn-many .ensures .1 .learned .long ∙ sym (c .before .before .before .before .before .before .before .pre .0 .learned .long))
+    (λ c. c .before .before .learn-many .ensures .1 .learned .long
+    ∙ sym (c .before .before .before .before .before .before .before .pre .0 .learned .long))
     (λ c. c .before .before .learn-many .ensures)
     (λ c κs. let s = c .before .before .before in (s .pre .0 .most, s .pre .1 .0, s .pre .1 .1, s .pre .1 .2))
     look-requires
@@ -54,7 +60,8 @@ learn-spec =
     (λ c κs. search needs)
     (λ c κs. search needs)
     (λ c. (said-no, c .before .before .before .before .before .before .before .before .before .before .before .pre .0))
-    (λ c κs. c .before .before .before .before .before .before .before .before .before .before .before .before .pre .0 .learned .long)
+    (λ c κs. c .before .before .before .before .before .before .before .before .before .before .before .before .pre .0
+    .learned .long)
     (λ c κs. search needs)
     (λ c. search needs)
     returns-4)

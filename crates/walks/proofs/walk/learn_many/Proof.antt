@@ -23,7 +23,8 @@ returns-3 : tie.Need-returns-3
 returns-3 c = (said-no, c .before .before .before .before .before .before .before .before .pre .0)
 
 -- so many columns are more than r first cells allow
-over-many : (n : ℕ) (F : ℕ → Bool) (r m p q : ℕ) → m ≡ 2 ^ r → RulesOut n F m (bit p) (bit q) → RulesOut n F (2 ^ r) (bit p) (bit q)
+over-many : (n : ℕ) (F : ℕ → Bool) (r m p q : ℕ) → m ≡ 2 ^ r → RulesOut n F m (bit p) (bit q)
+    → RulesOut n F (2 ^ r) (bit p) (bit q)
 over-many n F r m p q e w = subst (λ (k : ℕ). RulesOut n F k (bit p) (bit q)) e w
 
 returns-4 : tie.Need-returns-4
@@ -31,7 +32,8 @@ returns-4 c =
     let s = c .before .before .before .before .before .before .before .before .before .before .before .before .before in
     let a = s .args in
     let F = tableBit (a .t .now) in
-    let shown = c .before .before .before .before .before .before .many-somewhere .ensures (not-false _ (c .before .before .before .before .before .if3 .left)) in
+    let shown = c .before .before .before .before .before .before .many-somewhere .ensures
+    (not-false _ (c .before .before .before .before .before .if3 .left)) in
     let rules = over-many (a .n) F (a .r) _ _ _ (shl-one 32 (a .r) (omega (arith, s .pre .0 .first))) shown in (
       λ e. meets-fails _ _ (a .own) (a .shared) rules (c .meets .ensures e) (s .pre .1 .2),
       record {
@@ -44,5 +46,7 @@ returns-4 c =
 
 pub learn-many-spec : {M : Type 1} → statement M
 learn-many-spec =
-    tie.close (tie.spec returns (λ c. search needs) (λ c κs. search needs) (λ c. search needs) (λ c κs. search needs) returns-2 (λ c. search needs) (λ c. search needs)
-    (λ c κs. search needs) returns-3 (λ c. search needs) (λ c κs. search needs) (λ c. search needs) (λ c κs. search needs) (λ c. search needs) returns-4)
+    tie.close (tie.spec returns (λ c. search needs) (λ c κs. search needs) (λ c. search needs) (λ c κs. search needs)
+    returns-2 (λ c. search needs) (λ c. search needs)
+    (λ c κs. search needs) returns-3 (λ c. search needs) (λ c κs. search needs) (λ c. search needs)
+    (λ c κs. search needs) (λ c. search needs) returns-4)

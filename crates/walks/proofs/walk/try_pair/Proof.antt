@@ -9,7 +9,8 @@ use Rattle.walks.proofs.walk.try_pair.Statement.{statement}
 use Rattle.walks.proofs.walk.try_pair.Tie as tie
 
 -- what was asked of the notes leaves them true
-still-known : (c : tie.After-ruled) → let s = c .before .before .before .before in Known (s .args .n) (s .args .r) (s .args .t .now) (c .ruled .last .0)
+still-known : (c : tie.After-ruled) → let s = c .before .before .before .before
+    in Known (s .args .n) (s .args .r) (s .args .t .now) (c .ruled .last .0)
 still-known c =
     let s = c .before .before .before .before in
     record {
@@ -24,15 +25,18 @@ returns c =
     let s = c .before .before .before .before .before .before .before in
     let a = s .args in (
       sym (tryB-never (a .n) (a .r) (tableBit (a .t .now)) _ (a .own) (a .shared) (λ z apart.
-          skips-fails (a .notes .now) (a .own) (a .shared) (s .pre .0 .learned) (c .before .before .before .ruled .ensures .0 (c .if1 .taken)) apart)),
+          skips-fails (a .notes .now) (a .own) (a .shared) (s .pre .0 .learned)
+          (c .before .before .before .ruled .ensures .0 (c .if1 .taken)) apart)),
       still-known (c .before .before .before),
     )
 
 returns-2 : tie.Need-returns-2
 returns-2 c =
     let a = c .before .before .before .before .before .before .before .before .before .before .before .before .args in
-    let l = c .before .before .before .learn .ensures in
-    (sym (tryB-never (a .n) (a .r) (tableBit (a .t .now)) _ (a .own) (a .shared) (λ z apart. l .0 (c .if2 .taken))), l .1)
+    let l = c .before .before .before .learn .ensures in (
+      sym (tryB-never (a .n) (a .r) (tableBit (a .t .now)) _ (a .own) (a .shared) (λ z apart. l .0 (c .if2 .taken))),
+      l .1,
+    )
 
 attempt-requires : tie.Need-attempt-requires
 attempt-requires c κs =
@@ -44,11 +48,17 @@ try-pair-spec =
     tie.close
     (tie.spec
     (λ c κs. c .before .before .before .pre .0 .learned .long)
-    (λ c. still-known (c .before .before .before) .learned .long ∙ sym (c .before .before .before .before .before .before .before .pre .0 .learned .long))
+    (λ c. still-known (c .before .before .before) .learned .long
+    ∙ sym (c .before .before .before .before .before .before .before .pre .0 .learned .long))
     returns
-    (λ c κs. let s = c .before .before .before .before .before .before .before .before in (still-known (c .before .before .before .before), s .pre .1))
-    (λ c. c .before .before .before .learn .ensures .1 .learned .long ∙ sym (c .before .before .before .before .before .before .before .before .before .before .before .before .pre .0 .learned .long))
+    (λ c κs. let s = c .before .before .before .before .before .before .before .before
+    in (still-known (c .before .before .before .before), s .pre .1))
+    (λ c. c .before .before .before .learn .ensures .1 .learned .long
+    ∙ sym (c .before .before .before .before .before .before .before .before .before .before .before .before .pre .0
+    .learned .long))
     returns-2
     attempt-requires
-    (λ c. c .before .before .before .before .learn .ensures .1 .learned .long ∙ sym (c .before .before .before .before .before .before .before .before .before .before .before .before .before .pre .0 .learned .long))
+    (λ c. c .before .before .before .before .learn .ensures .1 .learned .long
+    ∙ sym (c .before .before .before .before .before .before .before .before .before .before .before .before .before
+    .pre .0 .learned .long))
     (λ c. (c .attempt .ensures, c .before .before .before .before .learn .ensures .1)))

@@ -27,5 +27,6 @@ sub-base c =
 
 pub many-somewhere-spec : {M : Type 1} → statement M
 many-somewhere-spec =
-    tie.close (tie.spec Inv-loop μ-loop (λ c. search needs) (λ c. search needs) shows-many-requires returns (λ c κs. search needs) sub-base (λ c. search needs)
+    tie.close (tie.spec Inv-loop μ-loop (λ c. search needs) (λ c. search needs) shows-many-requires returns
+    (λ c κs. search needs) sub-base (λ c. search needs)
     (λ c. search needs) (λ c. search needs) (λ c. said-no))

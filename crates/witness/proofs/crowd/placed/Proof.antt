@@ -19,4 +19,5 @@ returns-4 c e =
     )
 
 pub placed-spec : {M : Type 1} → statement M
-placed-spec = tie.close (tie.spec (λ c. search needs) (λ c. said-no) (λ c. search needs) (λ c. said-no) (λ c. said-no) returns-4)
+placed-spec = tie.close (tie.spec (λ c. search needs) (λ c. said-no) (λ c. search needs) (λ c. said-no) (λ c. said-no)
+    returns-4)

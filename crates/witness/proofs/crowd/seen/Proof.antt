@@ -23,8 +23,14 @@ loop-holds c = (walked-none (c .before .before .pre .0) (c .parts .ensures .0), 
 
 mark-requires : tie.Need-mark-requires Inv-loop μ-loop
 mark-requires c κs =
-    let s = c .before .before .before .before .before in
-    (s .pre .0, s .pre .1, xor-lt (s .args .n) (s .args .w .base) _ (s .pre .2) (walked-lt (c .before .before .loop .inv .0)), s .pre .4, s .pre .5)
+    let s = c .before .before .before .before .before in (
+      s .pre .0,
+      s .pre .1,
+      xor-lt (s .args .n) (s .args .w .base) _ (s .pre .2)
+          (walked-lt (c .before .before .loop .inv .0)),
+      s .pre .4,
+      s .pre .5,
+    )
 
 next-requires : tie.Need-next-requires Inv-loop μ-loop
 next-requires c κs =
@@ -36,7 +42,8 @@ loop-again c =
     let l = c .before .before .before .before .loop in
     let s = c .before .before .before .before .before .before .before in (
       walked-more (l .inv .0) (c .before .before .before .loop-test .taken) (c .next .ensures .1),
-      seen-more (l .r) (c .before .mark .result) (l .x) (l .v) (l .inv .1) (s .pre .2) (walked-lt (l .inv .0)) (l .inv .0 .at) (c .before .mark .ensures),
+      seen-more (l .r) (c .before .mark .result) (l .x) (l .v) (l .inv .1) (s .pre .2) (walked-lt (l .inv .0))
+          (l .inv .0 .at) (c .before .mark .ensures),
     )
 
 returns : tie.Need-returns Inv-loop μ-loop
@@ -45,4 +52,5 @@ returns c = c .before .loop .inv .1
 pub seen-spec : {M : Type 1} → statement M
 seen-spec =
     tie.close
-    (tie.spec Inv-loop μ-loop parts-requires loop-holds mark-requires next-requires (λ c. search needs) (λ c. search needs) loop-again returns)
+    (tie.spec Inv-loop μ-loop parts-requires loop-holds mark-requires next-requires (λ c. search needs)
+    (λ c. search needs) loop-again returns)

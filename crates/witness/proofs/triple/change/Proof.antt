@@ -10,10 +10,12 @@ use Rattle.witness.proofs.triple.change.Tie as tie
 bits-from-requires : tie.Need-bits-from-requires
 bits-from-requires c κs =
     let s = c .before in
-    word-at (s .args .n) (s .args .t .now) _ (s .pre .0 .long) (or-lt (s .args .n) (s .args .x) (s .args .s) (s .pre .1) (s .pre .2))
+    word-at (s .args .n) (s .args .t .now) _ (s .pre .0 .long)
+    (or-lt (s .args .n) (s .args .x) (s .args .s) (s .pre .1) (s .pre .2))
 
 bits-from-requires-2 : tie.Need-bits-from-requires-2
-bits-from-requires-2 c κs = let s = c .before .before in word-at (s .args .n) (s .args .t .now) _ (s .pre .0 .long) (s .pre .1)
+bits-from-requires-2 c κs = let s = c .before .before
+    in word-at (s .args .n) (s .args .t .now) _ (s .pre .0 .long) (s .pre .1)
 
 returns : tie.Need-returns
 returns c k h h′ = bit-xor _ _ k ∙ ap₂ differ (c .before .bits-from .ensures k h′) (c .bits-from2 .ensures k h)

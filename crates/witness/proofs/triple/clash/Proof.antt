@@ -29,10 +29,13 @@ returns : tie.Need-returns
 returns c k w =
     let s = c .before .before .before .before .before .before .before in
     let a = s .args in
-    corners-rule (a .x) (a .d) (a .p) (a .q) k (s .pre .0 .least) (s .pre .1) (s .pre .2) (s .pre .3) (s .pre .4) w (tableBit (a .t .now)) _ _ _ _ _ _
-    (c .before .before .before .before .before .change .ensures) (c .before .before .before .before .change2 .ensures) (c .before .before .before .change3 .ensures)
+    corners-rule (a .x) (a .d) (a .p) (a .q) k (s .pre .0 .least) (s .pre .1) (s .pre .2) (s .pre .3) (s .pre .4) w
+    (tableBit (a .t .now)) _ _ _ _ _ _
+    (c .before .before .before .before .before .change .ensures) (c .before .before .before .before .change2 .ensures)
+    (c .before .before .before .change3 .ensures)
     (c .before .before .change4 .ensures) (c .before .change5 .ensures) (c .change6 .ensures)
 
 pub clash-spec : {M : Type 1} → statement M
 clash-spec =
-    tie.close (tie.spec (λ c κs. search needs) (λ c κs. search needs) change-requires-3 change-requires-4 change-requires-5 change-requires-6 returns)
+    tie.close (tie.spec (λ c κs. search needs) (λ c κs. search needs) change-requires-3 change-requires-4
+    change-requires-5 change-requires-6 returns)

@@ -11,7 +11,8 @@ cells x y z = record { first = x; second = y; third = z }
 
 returns : tie.Need-returns
 returns c =
-    ap₂ (λ (x y : CellTable). cells x y (c .zero3 .result)) (c .before .before .zero .ensures) (c .before .zero2 .ensures) ∙ ap (cells _ _) (c .zero3 .ensures)
+    ap₂ (λ (x y : CellTable). cells x y (c .zero3 .result)) (c .before .before .zero .ensures)
+    (c .before .zero2 .ensures) ∙ ap (cells _ _) (c .zero3 .ensures)
 
 pub none-spec : {M : Type 1} → statement M
 none-spec = tie.close (tie.spec (λ c κs. search needs) (λ c κs. search needs) (λ c κs. search needs) returns)

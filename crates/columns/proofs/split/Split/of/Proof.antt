@@ -15,18 +15,19 @@ use Rattle.columns.proofs.split.Split.of.Statement.{statement}
 use Rattle.columns.proofs.split.Split.of.Tie as tie
 
 -- 2 ^ n - 1 - own - shared, at a width of 32 bits
-module _ (n own shared : ℕ) (pre : (n ≤ mostInputs) × (own < 2 ^ n) × (shared < 2 ^ n) × Apart n (bit own) (bit shared)) where
-  sum : number n (rest (bit own) (bit shared)) + own + shared + 1 ≡ 1 * 2 ^ n % 4294967296
-  sum = rest-sum n own shared (pre .1) (pre .2) (pre .3) ∙ sym (shl-one 32 n (omega arith))
+module _ (n own shared : ℕ) (pre : (n ≤ mostInputs) × (own < 2 ^ n) × (shared < 2 ^ n) × Apart n (bit own) (bit shared))
+  where
+    sum : number n (rest (bit own) (bit shared)) + own + shared + 1 ≡ 1 * 2 ^ n % 4294967296
+    sum = rest-sum n own shared (pre .1) (pre .2) (pre .3) ∙ sym (shl-one 32 n (omega arith))
 
-  left-is : 1 * 2 ^ n % 4294967296 - 1 - own - shared ≡ number n (rest (bit own) (bit shared))
-  left-is = omega (arith, sum)
+    left-is : 1 * 2 ^ n % 4294967296 - 1 - own - shared ≡ number n (rest (bit own) (bit shared))
+    left-is = omega (arith, sum)
 
-  left-lt : 1 * 2 ^ n % 4294967296 - 1 - own - shared < 2 ^ n
-  left-lt = subst (λ (m : ℕ). m < 2 ^ n) (sym left-is) (number-lt n (rest (bit own) (bit shared)))
+    left-lt : 1 * 2 ^ n % 4294967296 - 1 - own - shared < 2 ^ n
+    left-lt = subst (λ (m : ℕ). m < 2 ^ n) (sym left-is) (number-lt n (rest (bit own) (bit shared)))
 
-  high-lt : highPart (1 * 2 ^ n % 4294967296 - 1 - own - shared) < 2 ^ n
-  high-lt = omega (arith, left-lt)
+    high-lt : highPart (1 * 2 ^ n % 4294967296 - 1 - own - shared) < 2 ^ n
+    high-lt = omega (arith, left-lt)
 
 returns : tie.Need-returns
 unfolding lowPlaces

@@ -33,15 +33,24 @@ returns-2 c =
     let g = w .before .before .before .before .before in
     let a = g .args in
     let h : a .r ≡ 2 = omega (arith, i .if1 .left, c .if2 .taken) in
-    grown-same (firsts-two (cellOf (a .read) (a .d)) (a .r) _ (w .before .cell .ensures .0) _ (v .before .cell2 .ensures .0) h)
+    grown-same (firsts-two (cellOf (a .read) (a .d)) (a .r) _ (w .before .cell .ensures .0) _
+    (v .before .cell2 .ensures .0) h)
     (grown-then (w .with-cell .ensures) (v .with-cell2 .ensures))
 
 with-cell-requires-3 : tie.Need-with-cell-requires-3
 with-cell-requires-3 c κs =
     let v = c .before .before in
     let w = v .before .before .before in
-    let g = w .before .before .before .before .before in
-    (v .with-cell2 .ensures .within, omega (arith, v .with-cell2 .ensures .count, w .with-cell .ensures .count, g .pre .0 .1, c .before .if2 .left))
+    let g = w .before .before .before .before .before in (
+      v .with-cell2 .ensures .within,
+      omega (
+        arith,
+        v .with-cell2 .ensures .count,
+        w .with-cell .ensures .count,
+        g .pre .0 .1,
+        c .before .if2 .left,
+      ),
+    )
 
 returns-3 : tie.Need-returns-3
 returns-3 c =
@@ -53,10 +62,12 @@ returns-3 c =
     let a = g .args in
     let h : a .r ≡ 3 = omega (arith, g .pre .0 .3, j .if2 .left) in
     grown-same
-    (firsts-three (cellOf (a .read) (a .d)) (a .r) _ (w .before .cell .ensures .0) _ (v .before .cell2 .ensures .0) _ (c .before .cell3 .ensures .0) h)
+    (firsts-three (cellOf (a .read) (a .d)) (a .r) _ (w .before .cell .ensures .0) _ (v .before .cell2 .ensures .0) _
+    (c .before .cell3 .ensures .0) h)
     (grown-then (grown-then (w .with-cell .ensures) (v .with-cell2 .ensures)) (c .with-cell3 .ensures))
 
 pub with-first-spec : {M : Type 1} → statement M
 with-first-spec =
-    tie.close (tie.spec (λ c κs. search needs) (λ c κs. search needs) returns (λ c κs. search needs) (λ c κs. search needs)
+    tie.close (tie.spec (λ c κs. search needs) (λ c κs. search needs) returns (λ c κs. search needs)
+    (λ c κs. search needs)
     returns-2 (λ c κs. search needs) with-cell-requires-3 returns-3)

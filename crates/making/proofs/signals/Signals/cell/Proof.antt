@@ -16,7 +16,8 @@ abbrev first : ℕ → List ℕ → List ℕ
 first m l = listOf m (λ j. getD l j 0)
 
 abbrev Inv-loop : tie.InvT-loop
-Inv-loop table from count signals₀ j₀ signals j = (first j signals ≡ first j from) × (j ≤ count) × (count ≤ largestCell) × (length signals ≡ largestCell)
+Inv-loop table from count signals₀ j₀ signals j = (first j signals ≡ first j from) × (j ≤ count) × (count ≤ largestCell)
+    × (length signals ≡ largestCell)
 
 abbrev μ-loop : tie.MeasureT-loop
 μ-loop table from count signals₀ j₀ signals j = count - j
@@ -35,8 +36,10 @@ loop-again : tie.Need-loop-again Inv-loop μ-loop
 loop-again c =
     let q = c .before .loop in
     let from = c .before .before .before .args .self .at in (
-      list-set (λ x. x) (q .signals) (q .j) (getD from (q .j) 0) 0 (omega (arith, q .inv .2, q .inv .3, c .loop-test .taken))
-          ∙ ap (λ (l : List ℕ). l ++ (getD from (q .j) 0 ∷ [])) (q .inv .0) ∙ sym (list-more (q .j) (λ j. getD from j 0)),
+      list-set (λ x. x) (q .signals) (q .j) (getD from (q .j) 0) 0
+          (omega (arith, q .inv .2, q .inv .3, c .loop-test .taken))
+          ∙ ap (λ (l : List ℕ). l ++ (getD from (q .j) 0 ∷ [])) (q .inv .0)
+          ∙ sym (list-more (q .j) (λ j. getD from j 0)),
       omega (arith, c .loop-test .taken),
       q .inv .2,
       length-set (q .signals) (q .j) _ ∙ q .inv .3,

@@ -25,7 +25,9 @@ returns : tie.Need-returns
 unfolding places
 returns c = (
   record { places = refl; few = c .pre },
-  list-ext (c .args .n) (λ j. getD places j 0) (λ j. j) (λ j l. eqb-true (getD places j 0) j (every-at mostInputs (λ j. eqb (getD places j 0) j) rule j (omega (arith, c .pre)))),
+  list-ext (c .args .n) (λ j. getD places j 0) (λ j. j)
+      (λ j l. eqb-true (getD places j 0) j (every-at mostInputs (λ j. eqb (getD places j 0) j) rule j
+      (omega (arith, c .pre)))),
   refl,
 )
 

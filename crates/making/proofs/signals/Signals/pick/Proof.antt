@@ -22,18 +22,23 @@ abbrev first : ℕ → List ℕ → List ℕ
 first m l = listOf m (λ j. getD l j 0)
 
 -- one position more, in or out of the set
-pick-more : (j : ℕ) (s : ℕ → Bool) (l : List ℕ) (t : Bool) → s j ≡ t → pick (j + 1) s l ≡ cond t (pick j s l ++ (getD l j 0 ∷ [])) (pick j s l)
+pick-more : (j : ℕ) (s : ℕ → Bool) (l : List ℕ) (t : Bool) → s j ≡ t → pick (j + 1) s l
+    ≡ cond t (pick j s l ++ (getD l j 0 ∷ [])) (pick j s l)
 unfolding pick
-pick-more j s l t e = ap (λ (m : ℕ). pick m s l) (add-one j) ∙ ap (λ (u : Bool). cond u (pick j s l ++ (getD l j 0 ∷ [])) (pick j s l)) e
+pick-more j s l t e = ap (λ (m : ℕ). pick m s l) (add-one j)
+    ∙ ap (λ (u : Bool). cond u (pick j s l ++ (getD l j 0 ∷ [])) (pick j s l)) e
 
-pick-takes : (j m : ℕ) (s : ℕ → Bool) (from at : List ℕ) (count : ℕ) → j < count → m < length at → s j ≡ true → first m at ≡ pick j s (first count from)
+pick-takes : (j m : ℕ) (s : ℕ → Bool) (from at : List ℕ) (count : ℕ) → j < count → m < length at → s j ≡ true
+    → first m at ≡ pick j s (first count from)
     → first (m + 1) (set at m (getD from j 0)) ≡ pick (j + 1) s (first count from)
 pick-takes j m s from at count l h e ih =
     list-set (λ x. x) at m (getD from j 0) 0 h
-    ∙ ap₂ (λ (y : List ℕ) (x : ℕ). y ++ (x ∷ [])) ih (sym (list-at count (λ i. getD from i 0) j 0 l)) ∙ sym (pick-more j s (first count from) true e)
+    ∙ ap₂ (λ (y : List ℕ) (x : ℕ). y ++ (x ∷ [])) ih (sym (list-at count (λ i. getD from i 0) j 0 l))
+    ∙ sym (pick-more j s (first count from) true e)
 
 abbrev Inv-loop : tie.InvT-loop
-Inv-loop set from count at₀ m₀ j₀ at m j = (first m at ≡ pick j (bit set) (first count from)) × (m ≤ j) × (j ≤ count) × (count ≤ mostInputs)
+Inv-loop set from count at₀ m₀ j₀ at m j = (first m at ≡ pick j (bit set) (first count from)) × (m ≤ j) × (j ≤ count)
+    × (count ≤ mostInputs)
     × (length at ≡ mostInputs) × (length from ≡ mostInputs)
 
 abbrev μ-loop : tie.MeasureT-loop
@@ -58,7 +63,8 @@ loop-again c =
     ⊎-elim
     (λ u. (
       ap₂ first (u .2) (u .1)
-          ∙ pick-takes (q .j) (q .m) (bit (a .set)) (a .self .at) (q .at) (a .self .count) l (omega (arith, q .inv .1, q .inv .3, q .inv .4))
+          ∙ pick-takes (q .j) (q .m) (bit (a .set)) (a .self .at) (q .at) (a .self .count) l
+          (omega (arith, q .inv .1, q .inv .3, q .inv .4))
           (bit-set (a .set) (q .j) (u .0 .taken)) (q .inv .0),
       omega (arith, u .2, q .inv .1),
       omega (arith, l),
@@ -68,7 +74,8 @@ loop-again c =
     ))
     (λ u. (
       ap₂ first (u .2) (u .1) ∙ q .inv .0
-          ∙ sym (pick-more (q .j) (bit (a .set)) (first (a .self .count) (a .self .at)) false (bit-clear (a .set) (q .j) (u .0 .left))),
+          ∙ sym (pick-more (q .j) (bit (a .set)) (first (a .self .count) (a .self .at)) false
+          (bit-clear (a .set) (q .j) (u .0 .left))),
       omega (arith, u .2, q .inv .1),
       omega (arith, l),
       q .inv .3,

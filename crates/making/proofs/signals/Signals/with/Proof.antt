@@ -10,7 +10,10 @@ use Rattle.making.proofs.signals.Signals.with.Tie as tie
 returns : tie.Need-returns
 returns c =
     let s = c .args .t1 in (
-      record { places = length-set (s .at) (s .count) (c .args .signal) ∙ c .pre .0 .places; few = omega (arith, c .pre .1) },
+      record {
+        places = length-set (s .at) (s .count) (c .args .signal) ∙ c .pre .0 .places;
+        few = omega (arith, c .pre .1);
+      },
       list-set (λ x. x) (s .at) (s .count) (c .args .signal) 0 (omega (arith, c .pre .0 .places, c .pre .1)),
       refl,
     )

@@ -10,4 +10,5 @@ returns c = let a = c .before .args in joined-byte cellWords (a .t1 .words) (a .
 
 pub byte-spec : {M : Type 1} → statement M
 byte-spec =
-    tie.close (tie.spec (λ c. search needs) (λ c. search needs) (λ c. search needs) (λ c. search needs) (λ c. search needs) returns)
+    tie.close (tie.spec (λ c. search needs) (λ c. search needs) (λ c. search needs) (λ c. search needs)
+    (λ c. search needs) returns)

@@ -12,8 +12,10 @@ returns c =
     let y = z .before in
     let x = y .before in
     let a = x .before .before .args in
-    four-words (gateWord (a .k) (tableBit (a .t .now))) (x .word-or-zero .ensures) (y .word-or-zero2 .ensures) (z .word-or-zero3 .ensures) (c .word-or-zero4 .ensures)
+    four-words (gateWord (a .k) (tableBit (a .t .now))) (x .word-or-zero .ensures) (y .word-or-zero2 .ensures)
+    (z .word-or-zero3 .ensures) (c .word-or-zero4 .ensures)
 
 pub first-of-spec : {M : Type 1} → statement M
 first-of-spec =
-    tie.close (tie.spec (λ c κs. search needs) (λ c κs. search needs) (λ c κs. search needs) (λ c κs. search needs) returns)
+    tie.close (tie.spec (λ c κs. search needs) (λ c κs. search needs) (λ c κs. search needs) (λ c κs. search needs)
+    returns)
