@@ -1,6 +1,5 @@
 -- Make a sheet for any gate, for a desk: how many cells, and their records in a lent sheet. Where make has a sheet it
--- is
--- that one; else that of the chain with several first cells at a step.
+-- is that one; else that of the chain with several first cells at a step.
 use mathlib.Core.Bool.{Bool, true, false}
 use mathlib.Core.List.{List, [], _∷_, _++_}
 use Prim.Native.Nat.{ℕ, _^_}

@@ -1,6 +1,5 @@
 -- The numbers that have bits at a set's members alone, as a word: with one position more they come twice, without it
--- and, if it is a
--- member, with it. Assumes nothing.
+-- and, if it is a member, with it. Assumes nothing.
 use mathlib.Core.Path.{_≡_, refl, sym, ap, ap₂, _∙_}
 use mathlib.Core.Bool.{Bool, true, false, cond, not, _&&_, _||_}
 use Prim.Native.Nat.{ℕ, suc, _+_, _*_, _/_, _%_, _^_, _<_, _≤_}

@@ -1,6 +1,5 @@
 -- A loop over all the numbers that a mask spreads, in increasing order: at turn v the number at hand is v spread. Its
--- step is
--- that of `next`. Assumes nothing.
+-- step is that of `next`. Assumes nothing.
 use mathlib.Core.Path.{_≡_, sym, ap, _∙_}
 use Prim.Native.Nat.{ℕ, _+_, _^_, _<_, _≤_}
 use native.Mathlib.Omega.{arith}

@@ -1,8 +1,6 @@
 -- What the bound says: no network has fewer cells, and there is one such number only. Where it is 1 or 2 the chain
--- makes
--- so many cells; it reaches the inputs that count; and every sheet of at most three cells, and every one of cells of
--- two
--- inputs, has so many. Assumes nothing.
+-- makes so many cells; it reaches the inputs that count; and every sheet of at most three cells, and every one of cells
+-- of two inputs, has so many. Assumes nothing.
 use mathlib.Core.Path.{_≡_, refl, sym, _∙_, subst}
 use mathlib.Core.Bool.{Bool}
 use mathlib.Core.List.{List, [], _∷_}

@@ -1,6 +1,5 @@
 -- The sheet for any gate: each of its answers in words, and what holds of its cells, which are those of a chain with
--- one
--- first cell at each step or with up to 3. Assumes nothing.
+-- one first cell at each step or with up to 3. Assumes nothing.
 use mathlib.Core.Path.{_≡_, refl, ap, ap₂, _∙_, subst}
 use mathlib.Core.Logic.{_↔_}
 use mathlib.Core.Bool.{Bool, true, false, cond}

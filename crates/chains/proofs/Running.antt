@@ -1,6 +1,5 @@
 -- Cells that read only signals below i, run in turn from signal i on: the signals below i stay, and signal i + t is
--- what
--- cell t gives. Assumes nothing.
+-- what cell t gives. Assumes nothing.
 use mathlib.Core.Path.{_≡_, refl, sym, ap, _∙_}
 use mathlib.Core.Logic.{⊎-elim}
 use mathlib.Core.Bool.{Bool, cond}

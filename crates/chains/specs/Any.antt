@@ -1,6 +1,5 @@
 -- A sheet for any gate: make's where there is one; else the cells of the chain with up to 3 first cells at each step,
--- if
--- a sheet has room for them.
+-- if a sheet has room for them.
 use mathlib.Core.Bool.{cond}
 use mathlib.Core.List.{List}
 use Prim.Native.Nat.{ℕ}

@@ -1,6 +1,5 @@
 -- A lower bound on the cells of a table: what is claimed of it, in a told edition. That no network has fewer cells is
--- said of networks alone, without splits
--- or the search. Assumes nothing.
+-- said of networks alone, without splits or the search. Assumes nothing.
 use mathlib.Core.Path.{_≡_, refl, sym, ap, _∙_, subst}
 use mathlib.Core.Bool.{Bool, true, false, Bool·beq}
 use mathlib.Core.List.{List, [], _∷_}

@@ -1,6 +1,5 @@
 -- Check a sheet of a told edition against a table: what is claimed of it. Told an edition that there is, it is check in
--- that edition: every claim on check
--- (CheckSheet, Desks) holds of it. Assumes nothing.
+-- that edition: every claim on check (CheckSheet, Desks) holds of it. Assumes nothing.
 use mathlib.Core.Path.{_≡_, refl, sym, ap, _∙_}
 use mathlib.Core.Bool.{false}
 use mathlib.Core.List.{List}

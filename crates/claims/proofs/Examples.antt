@@ -1,9 +1,8 @@
 -- The starred examples of documents 01 and 02: one listing, one claim, shown of the definitions by computation. Assumes
--- nothing.
--- An answer is the number; then D, where the split broke, how many columns there are and the room for H (try), A and B
--- (find), the count and the records (make), the bit and the index (run), the index and the table
--- (rebuild), the place and the table (a formula read), or the place and the text (a formula written). Of the bench
--- program it is all that it writes.
+-- nothing. An answer is the number; then D, where the split broke, how many columns there are and the room for H (try),
+-- A and B (find), the count and the records (make), the bit and the index (run), the index and the table (rebuild), the
+-- place and the table (a formula read), or the place and the text (a formula written). Of the bench program it is all
+-- that it writes.
 use mathlib.Core.Path.{_≡_, refl}
 use mathlib.Core.List.{List, [], _∷_}
 use Prim.Native.Nat.{ℕ}

@@ -1,6 +1,5 @@
 -- Find the best split in a told edition: what is claimed of it. Told an edition that there is, it is find in that
--- edition: every claim on find (FindBest)
--- holds of it, with either edition's K. Assumes nothing.
+-- edition: every claim on find (FindBest) holds of it, with either edition's K. Assumes nothing.
 use mathlib.Core.Path.{_≡_, refl, sym, ap, _∙_, subst}
 use mathlib.Core.Logic.{_⊎_}
 use mathlib.Core.Bool.{false}

@@ -167,8 +167,8 @@ module _ (e : Edition) (d n K : ℕ) (t sheet work : List ℕ) where
         (sheet-stuck n K (tableBit t) (g .some) (omega (arith, g .two)) .1 b)
 
     -- where form and room are in order and one or two cells carry the table, wired in any way at all: make is done, the
-    -- network that it wrote gives the
-    -- table with the fewest cells, and its count is that fewest number (`table-fewest`, fewest)
+    -- network that it wrote gives the table with the fewest cells, and its count is that fewest number (`table-fewest`,
+    -- fewest)
     pub made-fewest : IsEdition e → (m : ℕ) → Carries n K m (tableBit t) → m ≤ 2
         → (makeOutcome e d n K t sheet work .answer .verdict ≡ Fine)
         × Fewest n K (tableBit t) (networkOf e (makeOutcome e d n K t sheet work))

@@ -1,6 +1,5 @@
 -- Rebuild a table from a sheet of a told edition: what is claimed of it. Told an edition that there is, it is rebuild
--- in that edition: every claim on rebuild
--- (RebuildTable, Desks) holds of it. Assumes nothing.
+-- in that edition: every claim on rebuild (RebuildTable, Desks) holds of it. Assumes nothing.
 use mathlib.Core.Path.{_≡_, refl, sym, ap, _∙_}
 use mathlib.Core.Bool.{false}
 use mathlib.Core.List.{List}

@@ -1,6 +1,5 @@
 -- Write a first-edition sheet in the second edition: what is claimed of it, over any two editions of which the second
--- has cells as large or larger.
--- Assumes nothing.
+-- has cells as large or larger. Assumes nothing.
 use mathlib.Core.Path.{_≡_, refl, sym, ap, ap₂, _∙_, subst}
 use mathlib.Core.Logic.{_↔_}
 use mathlib.Core.Bool.{false, cond, _||_}

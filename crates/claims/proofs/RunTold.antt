@@ -1,6 +1,5 @@
 -- Run a sheet of a told edition: what is claimed of it. Told an edition that there is, it is run in that edition: every
--- claim on run (RunSheet, Desks) holds of
--- it. Assumes nothing.
+-- claim on run (RunSheet, Desks) holds of it. Assumes nothing.
 use mathlib.Core.Path.{_≡_, refl, sym, ap, _∙_}
 use mathlib.Core.Bool.{false}
 use mathlib.Core.List.{List}

@@ -1,6 +1,5 @@
 -- Laws on tables that the claims need: bytes are the table of their bits, a table's spare bits are zero, and the tables
--- of a split as they are handed
--- back give the table. Assumes nothing.
+-- of a split as they are handed back give the table. Assumes nothing.
 use mathlib.Core.Path.{_≡_, refl, sym, ap, ap₂, _∙_, subst}
 use mathlib.Core.Bool.{Bool, true, false, not, cond, _&&_, _||_}
 use mathlib.Core.List.{List, _++_}

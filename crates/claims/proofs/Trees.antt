@@ -1,6 +1,5 @@
 -- Make with K = 2 finds every tree of two-input nodes, over any edition and desk. That each sheet it then writes has
--- the
--- fewest cells is `made-pairs` (Fewest). Assumes nothing.
+-- the fewest cells is `made-pairs` (Fewest). Assumes nothing.
 use mathlib.Core.Path.{_≡_, ap}
 use mathlib.Core.Logic.{_↔_}
 use mathlib.Core.Bool.{Bool}

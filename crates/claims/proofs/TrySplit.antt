@@ -1,6 +1,5 @@
 -- Try a named split with r first cells: what is claimed of it, over any edition and any r. Document 01's call has one
--- first cell: what that adds stands at
--- the end. Assumes nothing.
+-- first cell: what that adds stands at the end. Assumes nothing.
 use mathlib.Core.Path.{_≡_, refl, sym, ap, _∙_}
 use mathlib.Core.Logic.{_↔_}
 use mathlib.Core.Bool.{Bool, true, false, not, cond}

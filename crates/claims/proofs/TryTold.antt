@@ -1,6 +1,5 @@
 -- Try a named split in a told edition: what is claimed of it. Told an edition that there is, it is try in that edition:
--- every claim on try (TrySplit) holds of
--- it, with either edition's K. Assumes nothing.
+-- every claim on try (TrySplit) holds of it, with either edition's K. Assumes nothing.
 use mathlib.Core.Path.{_≡_, refl, sym, ap, _∙_, subst}
 use mathlib.Core.Logic.{_↔_}
 use mathlib.Core.Bool.{false}

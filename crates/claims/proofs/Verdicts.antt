@@ -1,6 +1,5 @@
 -- What every call's verdict says, once for all calls: it is the verdict of the call's lines, and it settles what is
--- returned and left.
--- Assumes nothing.
+-- returned and left. Assumes nothing.
 use mathlib.Core.Path.{_≡_, refl, sym, ap, _∙_}
 use mathlib.Core.Logic.{_⊎_, inl, inr}
 use mathlib.Core.Bool.{true}

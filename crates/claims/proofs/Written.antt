@@ -1,6 +1,5 @@
 -- What holds of every outcome that wrote the sheet of some cells: the cells fit their records, are few and each read
--- but
--- the last, and their network gives the table. Make's and make_any's done outcomes are such. Assumes nothing.
+-- but the last, and their network gives the table. Make's and make_any's done outcomes are such. Assumes nothing.
 use mathlib.Core.Path.{_≡_, refl, ap, ap₂, _∙_}
 use mathlib.Core.Bool.{Bool}
 use mathlib.Core.List.{List}

@@ -1,6 +1,5 @@
 -- Columns compared word by word: a part of the free inputs is a part of those from position 6 on, which names a word,
--- and a part of those
--- below, which names a place within it. Assumes nothing.
+-- and a part of those below, which names a place within it. Assumes nothing.
 use mathlib.Core.Path.{_≡_, sym, ap, _∙_}
 use mathlib.Core.Bool.{Bool, true, false, _||_}
 use Prim.Native.Nat.{ℕ, _+_, _-_, _*_, _/_, _%_, _^_, _<_, _≤_}

@@ -14,8 +14,7 @@ mark (suc zero) = 94
 mark (suc (suc k)) = 124
 
 -- `Spells c n k d F p q`: the bytes c p, .., c (q - 1) stand for F, with the letters of n inputs and at most d levels
--- of
--- nesting, as a factor (k = 0), a part (1), a term (2) or a sum (3). A factor is a letter, `0`, `1`, `!` before a
+-- of nesting, as a factor (k = 0), a part (1), a term (2) or a sum (3). A factor is a letter, `0`, `1`, `!` before a
 -- factor, or a sum between `(` and `)`; a part is factors joined by `&`, a term parts by `^`, a sum terms by `|`.
 pub data Spells (c : ℕ → ℕ) (n : ℕ) : ℕ → ℕ → Formula → ℕ → ℕ → Type 0 where
   a-letter : {d p : ℕ} (j : ℕ) → j < n → c p ≡ 97 + j → Spells c n 0 d (letter j) p (suc p)

@@ -1,7 +1,6 @@
 -- The output's time is the best along all paths, for any kind of time whose order `pick` and `after` respect. The times
--- of the signals, once all cells
--- are passed, satisfy each cell's equation; along a path they get no better, and from each signal a path leads back to
--- an input. Assumes nothing.
+-- of the signals, once all cells are passed, satisfy each cell's equation; along a path they get no better, and from
+-- each signal a path leads back to an input. Assumes nothing.
 use mathlib.Core.Path.{_≡_, refl, sym, ap, subst, _∙_}
 use mathlib.Core.Logic.{_⊎_, inl, inr}
 use mathlib.Core.Bool.{Bool, true, false, cond}

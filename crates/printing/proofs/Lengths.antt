@@ -1,6 +1,5 @@
 -- What is measured of cells that are each read once: what each cell adds, and what the inputs that are read weigh. So
--- the
--- text is short: five bytes a cell, and a letter for each input that is read. Assumes nothing.
+-- the text is short: five bytes a cell, and a letter for each input that is read. Assumes nothing.
 use mathlib.Core.Path.{_≡_, refl, sym, ap, _∙_}
 use mathlib.Core.Bool.{Bool, true, false, cond}
 use mathlib.Core.List.{List, [], _∷_, _++_}

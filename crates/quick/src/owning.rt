@@ -23,8 +23,7 @@ fn bad_two(t: &[u8], n: u32, r: u32, own: u16, used: u32, e: u32, f: u32) -> boo
 
 // Whether no split has these inputs among its own: of each two others that cannot both be free one is own or shared,
 // and with so many twos apart that is more than k. Twos are taken from the lowest inputs on, whose bits lie in one
-// word;
-// of a two that isn't shown the lower input is passed over.
+// word; of a two that isn't shown the lower input is passed over.
 fn dead_own(t: &[u8], n: u32, r: u32, k: u32, own: u16) -> bool
     requires { ⌜
         (n ≤ mostInputs) × (r ≤ mostFirst) × (2 ^ n ≤ 8 * length (now t)) × (k ≤ mostInputs) × (own < 2 ^ n)

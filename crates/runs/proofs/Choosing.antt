@@ -1,6 +1,5 @@
 -- Words of 64 assignments: an input's word is a pattern or alike in all bits, and a cell's word is found by choosing
--- between the halves of
--- its table, one induction over its inputs. Assumes nothing.
+-- between the halves of its table, one induction over its inputs. Assumes nothing.
 use mathlib.Core.Path.{_≡_, refl, sym, ap, ap₂, _∙_}
 use mathlib.Core.Bool.{Bool, true, false, cond, not, _&&_}
 use mathlib.Core.List.{List, [], _∷_}

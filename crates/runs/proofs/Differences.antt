@@ -1,6 +1,5 @@
 -- Words of a sheet and of a table, place by place: where they are the same no assignment differs, and the lowest place
--- at which they aren't is the
--- least assignment that does. Past the last assignment both are 0. Assumes nothing.
+-- at which they aren't is the least assignment that does. Past the last assignment both are 0. Assumes nothing.
 use mathlib.Core.Path.{_≡_, sym, ap, ap₂, _∙_, subst}
 use mathlib.Core.Bool.{Bool, true, false, not, _&&_, _||_, Bool·beq}
 use mathlib.Core.List.{List}

@@ -1,7 +1,6 @@
 -- A table by halves: clear in it, input by input, the half that the input's value does not pick. After j inputs those
--- bits are left
--- whose places agree with the values below j; after all of them one bit, at the number that the values make. Assumes
--- nothing.
+-- bits are left whose places agree with the values below j; after all of them one bit, at the number that the values
+-- make. Assumes nothing.
 use mathlib.Core.Path.{_≡_, refl, sym, ap, ap₂, _∙_}
 use mathlib.Core.Bool.{Bool, true, false, cond, not, _&&_, and-true, and-false, Bool·beq}
 use Prim.Native.Nat.{ℕ, _+_, _^_, _<_}

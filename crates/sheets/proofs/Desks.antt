@@ -1,6 +1,5 @@
 -- The desk of a sheet: looked over for the desk that its first record says, a sheet breaks the rules exactly where a
--- record doesn't belong,
--- and a sheet that keeps them is for that desk alone. Assumes nothing.
+-- record doesn't belong, and a sheet that keeps them is for that desk alone. Assumes nothing.
 use mathlib.Core.Path.{_≡_, refl, sym, ap, _∙_, subst}
 use mathlib.Core.Bool.{Bool, true, false, cond, not}
 use mathlib.Core.List.{List, [], _∷_}

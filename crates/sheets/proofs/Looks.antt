@@ -1,6 +1,5 @@
 -- What a look over a sheet says: where no record is bad each keeps the rules and can be run, and a sheet of the right
--- length that has
--- no bad record is good. Assumes nothing.
+-- length that has no bad record is good. Assumes nothing.
 use mathlib.Core.Path.{_≡_, refl, sym, ap, subst}
 use mathlib.Core.Bool.{Bool, true, false, not, _||_}
 use mathlib.Core.List.{List}

@@ -1,6 +1,5 @@
 -- Bytes side by side as a number: each adds its bits above those before it, and the bits from some place on are what a
--- shift leaves.
--- Assumes nothing.
+-- shift leaves. Assumes nothing.
 use mathlib.Core.Path.{_≡_, sym, ap, ap₂, _∙_}
 use mathlib.Core.Bool.{Bool, false}
 use mathlib.Core.List.{List}

@@ -1,7 +1,6 @@
 -- In sixteenths nothing is rounded: the output's times as f64 are those over whole numbers. Each step of one reckoning
--- goes with the same step
--- of the other, and after k cells a number is at most k + 1 times 65,536, far below where sums are rounded. Assumes
--- nothing.
+-- goes with the same step of the other, and after k cells a number is at most k + 1 times 65,536, far below where sums
+-- are rounded. Assumes nothing.
 use mathlib.Core.Path.{_≡_, sym, ap, subst, _∙_}
 use mathlib.Core.Bool.{Bool, true, false, cond}
 use mathlib.Core.List.{List, [], _∷_}

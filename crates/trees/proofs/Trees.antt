@@ -1,7 +1,6 @@
 -- With cells of two inputs a sheet is made exactly where the table has a tree. A sheet's cells make a tree, each node
--- put
--- in place of its output; and where there is a tree, three inputs that count have a split, and every split keeps a tree
--- of H, so the chain comes to its end. Assumes nothing.
+-- put in place of its output; and where there is a tree, three inputs that count have a split, and every split keeps a
+-- tree of H, so the chain comes to its end. Assumes nothing.
 use mathlib.Core.Path.{_≡_, refl, sym, _∙_, subst}
 use mathlib.Core.Logic.{_↔_}
 use mathlib.Core.Bool.{Bool}

@@ -1,6 +1,5 @@
 -- Two own positions, one free one: at a place where all three are 0, four points and two offsets make eight bits. Where
--- the
--- words of their changes clash, three of the four points are told apart. Assumes nothing.
+-- the words of their changes clash, three of the four points are told apart. Assumes nothing.
 use mathlib.Core.Path.{_≡_, refl, sym, ap, ap₂, _∙_, subst}
 use mathlib.Core.Bool.{Bool, true, false, not, _&&_, _||_}
 use Prim.Native.Nat.{ℕ, zero, suc, _+_, _-_, _*_, _%_, _^_, _<_, _≤_}

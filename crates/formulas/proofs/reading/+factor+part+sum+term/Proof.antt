@@ -165,9 +165,7 @@ part-returns-5 : (t : ℕ) → part-lts.Need-returns-5 (part-beside t) (part-at 
 part-returns-5 t c = last-end _ _ _ (c .before .before .v .given .1)
     (c .before .before .before .before .factor .ensures) (c .if1 .left)
 
-sum-returns :
-    (t : ℕ) →
-    sum-lts.Need-returns (sum-beside t) (sum-at t) sum.Post
+sum-returns : (t : ℕ) → sum-lts.Need-returns (sum-beside t) (sum-at t) sum.Post
 sum-returns t c = first-bad _ _ _ (c .before .p .given .1) (c .before .before .before .term .ensures)
 
 sum-sum-requires : (t : ℕ) → sum-lts.Need-sum-requires (sum-beside t) (sum-at t) sum.Post
@@ -175,37 +173,27 @@ sum-sum-requires t c κs = let h = ahead (c .before .before .before .before .v .
     (c .before .before .before .before .before .before .term .ensures) (search needs)
     in (omega arith, (omega arith, search needs))
 
-sum-returns-2 :
-    (t : ℕ) →
-    sum-lts.Need-returns-2 (sum-beside t) (sum-at t) sum.Post
+sum-returns-2 : (t : ℕ) → sum-lts.Need-returns-2 (sum-beside t) (sum-at t) sum.Post
 sum-returns-2 t c = next-bad _ _ _ (c .before .before .before .before .before .before .before .before .v .given .1)
     (c .before .before .before .before .before .before .before .before .before .before .term .ensures) (search needs)
     (c .before .before .before .before .if2 .taken) (c .before .p2 .given .1) (c .before .before .before .sum .ensures)
 
-sum-returns-3 :
-    (t : ℕ) →
-    sum-lts.Need-returns-3 (sum-beside t) (sum-at t) sum.Post
+sum-returns-3 : (t : ℕ) → sum-lts.Need-returns-3 (sum-beside t) (sum-at t) sum.Post
 sum-returns-3 t c = next _ _ _ (inBoth bitOr) (λ F G. joined-stretch 2 bitOr (number-or 64) F G _)
     (c .before .before .before .before .before .before .before .before .before .v .given .1)
     (c .before .before .before .before .before .before .before .before .before .before .before .term .ensures)
     (search needs) (c .before .before .before .before .before .if2 .taken) (c .before .before .x .given .1)
     (c .before .before .before .before .sum .ensures) (c .either .ensures)
 
-sum-returns-4 :
-    (t : ℕ) →
-    sum-lts.Need-returns-4 (sum-beside t) (sum-at t) sum.Post
+sum-returns-4 : (t : ℕ) → sum-lts.Need-returns-4 (sum-beside t) (sum-at t) sum.Post
 sum-returns-4 t c = last _ _ _ (c .before .before .before .before .v .given .1)
     (c .before .before .before .before .before .before .term .ensures) (c .if2 .left)
 
-sum-returns-5 :
-    (t : ℕ) →
-    sum-lts.Need-returns-5 (sum-beside t) (sum-at t) sum.Post
+sum-returns-5 : (t : ℕ) → sum-lts.Need-returns-5 (sum-beside t) (sum-at t) sum.Post
 sum-returns-5 t c = last-end _ _ _ (c .before .before .v .given .1) (c .before .before .before .before .term .ensures)
     (c .if1 .left)
 
-term-returns :
-    (t : ℕ) →
-    term-lts.Need-returns (term-beside t) (term-at t) term.Post
+term-returns : (t : ℕ) → term-lts.Need-returns (term-beside t) (term-at t) term.Post
 term-returns t c = first-bad _ _ _ (c .before .p .given .1) (c .before .before .before .part .ensures)
 
 term-term-requires : (t : ℕ) → term-lts.Need-term-requires (term-beside t) (term-at t) term.Post

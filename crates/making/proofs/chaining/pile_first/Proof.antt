@@ -1,6 +1,5 @@
 -- The signals picked by own + shared are those of A and B, and each table handed back is that of its first cell.
--- Assumes
--- nothing.
+-- Assumes nothing.
 use mathlib.Core.Path.{_≡_, ap, ap₂, _∙_}
 use mathlib.Core.Bool.{Bool, cond}
 use mathlib.Core.List.{List}

@@ -60,20 +60,15 @@ write-add-put t c = omega
 
 write-put-requires : (t : ℕ) → write-lts.Need-put-requires (beside t) (write-at t) write.Post
 write-put-requires t c κs =
-    let i = c .before in
-    let f = i .before .before .before in
-    let s = f .before .before .before .before in
-    let p = letter-parts (s .pre .1) (i .if1 .taken) (f .put-flip .ensures) in
-    has-one p
+    let f = c .before .before .before .before in
+    has-one (letter-parts (f .before .before .before .before .pre .1) (c .before .if1 .taken) (f .put-flip .ensures))
 
 write-returns : (t : ℕ) → write-lts.Need-returns (beside t) (write-at t) write.Post
 write-returns t c =
-    let a = c .before .before in
-    let i = a .before .before in
+    let i = c .before .before .before .before in
     let f = i .before .before .before in
-    let s = f .before .before .before .before in
-    let p = letter-parts (s .pre .1) (i .if1 .taken) (f .put-flip .ensures) in
-    all-put (next p (a .put .ensures))
+    let p = letter-parts (f .before .before .before .before .pre .1) (i .if1 .taken) (f .put-flip .ensures) in
+    all-put (next p (c .before .before .put .ensures))
 
 write-pair-of-requires : (t : ℕ) → write-lts.Need-pair-of-requires (beside t) (write-at t) write.Post
 write-pair-of-requires t c κs =
@@ -81,14 +76,12 @@ write-pair-of-requires t c κs =
 
 write-put-requires-2 : (t : ℕ) → write-lts.Need-put-requires-2 (beside t) (write-at t) write.Post
 write-put-requires-2 t c κs =
-    let j = c .before in
-    let k = j .before in
+    let k = c .before .before in
     let i = k .before in
     let f = i .before .before .before in
-    let s = f .before .before .before .before in
-    let p = two-parts (s .pre .1) (k .pair-of .result) (i .if1 .left) (k .pair-of .ensures .0) (j .if2 .taken) refl refl
-    refl (f .put-flip .ensures) in
-    has-one p
+    has-one (two-parts (f .before .before .before .before .pre .1) (k .pair-of .result) (i .if1 .left)
+    (k .pair-of .ensures .0) (c .before .if2 .taken) refl refl
+    refl (f .put-flip .ensures))
 
 write-flips-low-requires : (t : ℕ) → write-lts.Need-flips-low-requires (beside t) (write-at t) write.Post
 write-flips-low-requires t c κs = c .before .before .before .before .before .pair-of .ensures .1
@@ -121,8 +114,8 @@ write-put-requires-3 t c κs =
     let k = j .before in
     let i = k .before in
     let f = i .before .before .before in
-    let s = f .before .before .before .before in
-    let p = two-parts (s .pre .1) (k .pair-of .result) (i .if1 .left) (k .pair-of .ensures .0) (j .if2 .taken)
+    let p = two-parts (f .before .before .before .before .pre .1) (k .pair-of .result) (i .if1 .left)
+    (k .pair-of .ensures .0) (j .if2 .taken)
     (fl .flips-low .ensures) (mk .mark .ensures) refl (f .put-flip .ensures) in
     has-one (next (next p (a .put2 .ensures)) (b .write .ensures))
 
@@ -162,15 +155,14 @@ write-put-requires-4 t c κs =
     let k = j .before in
     let i = k .before in
     let f = i .before .before .before in
-    let s = f .before .before .before .before in
-    let p = two-parts (s .pre .1) (k .pair-of .result) (i .if1 .left) (k .pair-of .ensures .0) (j .if2 .taken)
+    let p = two-parts (f .before .before .before .before .pre .1) (k .pair-of .result) (i .if1 .left)
+    (k .pair-of .ensures .0) (j .if2 .taken)
     (fl .flips-low .ensures) (mk .mark .ensures) (fh .flips-high .ensures) (f .put-flip .ensures) in
     has-one (next (next (next (next p (a .put2 .ensures)) (b .write .ensures)) (d .put3 .ensures)) (e .write2 .ensures))
 
 write-same-length-2 : (t : ℕ) → write-lts.Need-same-length-2 (beside t) (write-at t) write.Post
 write-same-length-2 t c =
-    let g = c .before .before in
-    let e = g .before .before .before .before in
+    let e = c .before .before .before .before .before .before in
     let fh = e .before .before in
     let d = fh .before .before .before in
     let mk = d .before in
@@ -181,16 +173,15 @@ write-same-length-2 t c =
     let k = j .before in
     let i = k .before in
     let f = i .before .before .before in
-    let s = f .before .before .before .before in
-    let p = two-parts (s .pre .1) (k .pair-of .result) (i .if1 .left) (k .pair-of .ensures .0) (j .if2 .taken)
+    let p = two-parts (f .before .before .before .before .pre .1) (k .pair-of .result) (i .if1 .left)
+    (k .pair-of .ensures .0) (j .if2 .taken)
     (fl .flips-low .ensures) (mk .mark .ensures) (fh .flips-high .ensures) (f .put-flip .ensures) in
     put-length (all-put (next (next (next (next (next p (a .put2 .ensures)) (b .write .ensures)) (d .put3 .ensures))
-    (e .write2 .ensures)) (g .put4 .ensures)))
+    (e .write2 .ensures)) (c .before .before .put4 .ensures)))
 
 write-returns-2 : (t : ℕ) → write-lts.Need-returns-2 (beside t) (write-at t) write.Post
 write-returns-2 t c =
-    let g = c .before .before in
-    let e = g .before .before .before .before in
+    let e = c .before .before .before .before .before .before in
     let fh = e .before .before in
     let d = fh .before .before .before in
     let mk = d .before in
@@ -201,88 +192,80 @@ write-returns-2 t c =
     let k = j .before in
     let i = k .before in
     let f = i .before .before .before in
-    let s = f .before .before .before .before in
-    let p = two-parts (s .pre .1) (k .pair-of .result) (i .if1 .left) (k .pair-of .ensures .0) (j .if2 .taken)
+    let p = two-parts (f .before .before .before .before .pre .1) (k .pair-of .result) (i .if1 .left)
+    (k .pair-of .ensures .0) (j .if2 .taken)
     (fl .flips-low .ensures) (mk .mark .ensures) (fh .flips-high .ensures) (f .put-flip .ensures) in
     all-put (next (next (next (next (next p (a .put2 .ensures)) (b .write .ensures)) (d .put3 .ensures))
-    (e .write2 .ensures)) (g .put4 .ensures))
+    (e .write2 .ensures)) (c .before .before .put4 .ensures))
 
 write-put-requires-5 : (t : ℕ) → write-lts.Need-put-requires-5 (beside t) (write-at t) write.Post
 write-put-requires-5 t c κs =
-    let z = c .before in
-    let j = z .before .before in
+    let j = c .before .before .before in
     let k = j .before in
     let i = k .before in
     let f = i .before .before .before in
-    let s = f .before .before .before .before in
-    let p = digit-parts (s .pre .1) (k .pair-of .result) (i .if1 .left) (k .pair-of .ensures .0) 48 0 refl
-    (j .if2 .left) (z .if3 .taken) (f .put-flip .ensures) in
-    has-one p
+    has-one (digit-parts (f .before .before .before .before .pre .1) (k .pair-of .result) (i .if1 .left)
+    (k .pair-of .ensures .0) 48 0 refl
+    (j .if2 .left) (c .before .if3 .taken) (f .put-flip .ensures))
 
 write-returns-3 : (t : ℕ) → write-lts.Need-returns-3 (beside t) (write-at t) write.Post
 write-returns-3 t c =
-    let a = c .before .before in
-    let z = a .before .before in
+    let z = c .before .before .before .before in
     let j = z .before .before in
     let k = j .before in
     let i = k .before in
     let f = i .before .before .before in
-    let s = f .before .before .before .before in
-    let p = digit-parts (s .pre .1) (k .pair-of .result) (i .if1 .left) (k .pair-of .ensures .0) 48 0 refl
+    let p = digit-parts (f .before .before .before .before .pre .1) (k .pair-of .result) (i .if1 .left)
+    (k .pair-of .ensures .0) 48 0 refl
     (j .if2 .left) (z .if3 .taken) (f .put-flip .ensures) in
-    all-put (next p (a .put5 .ensures))
+    all-put (next p (c .before .before .put5 .ensures))
 
 write-put-requires-6 : (t : ℕ) → write-lts.Need-put-requires-6 (beside t) (write-at t) write.Post
 write-put-requires-6 t c κs =
-    let o = c .before in
-    let j = o .before .before .before .before in
+    let j = c .before .before .before .before .before in
     let k = j .before in
     let i = k .before in
     let f = i .before .before .before in
-    let s = f .before .before .before .before in
-    let p = digit-parts (s .pre .1) (k .pair-of .result) (i .if1 .left) (k .pair-of .ensures .0) 49 3 refl
-    (j .if2 .left) (o .if4 .taken) (f .put-flip .ensures) in
-    has-one p
+    has-one (digit-parts (f .before .before .before .before .pre .1) (k .pair-of .result) (i .if1 .left)
+    (k .pair-of .ensures .0) 49 3 refl
+    (j .if2 .left) (c .before .if4 .taken) (f .put-flip .ensures))
 
 write-returns-4 : (t : ℕ) → write-lts.Need-returns-4 (beside t) (write-at t) write.Post
 write-returns-4 t c =
-    let a = c .before .before in
-    let o = a .before .before in
+    let o = c .before .before .before .before in
     let j = o .before .before .before .before in
     let k = j .before in
     let i = k .before in
     let f = i .before .before .before in
-    let s = f .before .before .before .before in
-    let p = digit-parts (s .pre .1) (k .pair-of .result) (i .if1 .left) (k .pair-of .ensures .0) 49 3 refl
+    let p = digit-parts (f .before .before .before .before .pre .1) (k .pair-of .result) (i .if1 .left)
+    (k .pair-of .ensures .0) 49 3 refl
     (j .if2 .left) (o .if4 .taken) (f .put-flip .ensures) in
-    all-put (next p (a .put6 .ensures))
+    all-put (next p (c .before .before .put6 .ensures))
 
 write-write-requires-3 : (t : ℕ) → write-lts.Need-write-requires-3 (beside t) (write-at t) write.Post
 write-write-requires-3 t c κs =
-    let o = c .before .before in
-    let z = o .before .before in
+    let z = c .before .before .before .before in
     let j = z .before .before in
     let k = j .before in
     let i = k .before in
     let f = i .before .before .before in
     let s = f .before .before .before .before in
     let p = same-parts (s .pre .1) (k .pair-of .result) (i .if1 .left) (k .pair-of .ensures .0) (j .if2 .left)
-    (z .if3 .left) (o .if4 .left) (f .put-flip .ensures) in
+    (z .if3 .left) (c .before .before .if4 .left) (f .put-flip .ensures) in
     low-room (s .pre .1) (k .pair-of .result) (i .if1 .left) (k .pair-of .ensures .0) (s .pre .0) (has-room p)
 
 write-returns-5 : (t : ℕ) → write-lts.Need-returns-5 (beside t) (write-at t) write.Post
 write-returns-5 t c =
-    let b = c .before .before in
-    let o = b .before .before .before in
+    let o = c .before .before .before .before .before in
     let z = o .before .before in
     let j = z .before .before in
     let k = j .before in
     let i = k .before in
     let f = i .before .before .before in
-    let s = f .before .before .before .before in
-    let p = same-parts (s .pre .1) (k .pair-of .result) (i .if1 .left) (k .pair-of .ensures .0) (j .if2 .left)
+    let p = same-parts (f .before .before .before .before .pre .1) (k .pair-of .result) (i .if1 .left)
+    (k .pair-of .ensures .0) (j .if2 .left)
     (z .if3 .left) (o .if4 .left) (f .put-flip .ensures) in
-    all-put (next p (b .write3 .ensures))
+    all-put (next p (c .before .before .write3 .ensures))
 
 pub +write-spec : {M : Type 1} → statement M
 +write-spec = close μ-write λ t. write-lts.spec (beside t) (write-at t)

@@ -1,6 +1,5 @@
 -- `word_of` meets its contract. The loop's invariant: at each of the 64 assignments that there are, what is left to run
--- gives the
--- sheet's bit. Assumes nothing.
+-- gives the sheet's bit. Assumes nothing.
 use mathlib.Core.Path.{_≡_, sym, ap, subst, _∙_}
 use mathlib.Core.Bool.{Bool}
 use mathlib.Core.List.{List}
