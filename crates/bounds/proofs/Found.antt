@@ -3,12 +3,12 @@
 use mathlib.Core.Path.{_≡_, refl, sym, ap, _∙_, subst}
 use mathlib.Core.Bool.{Bool, false, cond}
 use mathlib.Core.List.{List}
-use Prim.Native.Nat.{ℕ, _+_, _^_, _<_, _≤_, max}
+use Prim.Native.Nat.{ℕ, _+_, _-_, _^_, _<_, _≤_, max}
 use native.Mathlib.Omega.{arith}
 use lib.ListN.{length, replicate}
 use lib.Pow.{pow-pos}
 use borrow.Author.Tests.{le-leb, lt-leb}
-use Rattle.bits.specs.Numbers.{bit}
+use Rattle.bits.specs.Numbers.{bit, number}
 use Rattle.bits.specs.Sets.{size}
 use Rattle.bits.proofs.Numbers.{number-lt}
 use Rattle.bits.proofs.Sizes.{size-le}
@@ -19,9 +19,12 @@ use Rattle.quick.specs.Counted.{isFew, splitIn, FoundCounting}
 use Rattle.best.specs.Search.{Answer, none, split}
 use Rattle.best.specs.Counting.{bestCounting}
 use Rattle.best.proofs.Counting.{counting-split}
+use Rattle.chains.specs.Aside.{sheetAside}
+use Rattle.trees.specs.Tree.{IsTree}
+use Rattle.trees.proofs.Trees.{tree-made, stuck-treeless}
 use Rattle.finding.specs.FindBest.{ownOf}
 use Rattle.bounds.specs.Bound.{counted}
-use Rattle.bounds.specs.Least.{reaching, bySplit}
+use Rattle.bounds.specs.Least.{reaching, bySplit, byChain}
 
 -- the members of the mask of the inputs that count, as the machine counts them
 pub counted-is : (n m S : ℕ) (F : ℕ → Bool) → S ≡ support n F → ((p : ℕ) → S < 2 ^ p → m ≡ size p (bit S)) → m
@@ -29,6 +32,14 @@ pub counted-is : (n m S : ℕ) (F : ℕ → Bool) → S ≡ support n F → ((p 
 unfolding support
 counted-is n m S F is count =
     count n (subst (λ (s : ℕ). s < 2 ^ n) (sym is) (number-lt n (counts n F))) ∙ ap (λ (s : ℕ). size n (bit s)) is
+
+-- whether there is a tree tells what the chain comes to
+pub tree-chain : (n c : ℕ) (F : ℕ → Bool) → 1 ≤ n → IsTree n F → c - 1 ≡ byChain c (sheetAside n 2 (number (2 ^ n) F))
+tree-chain n c F p w = sym (ap (byChain c) (tree-made n F p (w .0) (w .1) .1))
+
+pub treeless-chain : (n c : ℕ) (F : ℕ → Bool) → 1 ≤ n → (IsTree n F → ⊥) → c
+    ≡ byChain c (sheetAside n 2 (number (2 ^ n) F))
+treeless-chain n c F p never = sym (ap (byChain c) (stuck-treeless n F p .1 (λ t I. never (t, I))))
 
 -- ---- where more than K inputs count
 module _ (n K c : ℕ) (t work work′ : List ℕ) (f : Counted) (w : FoundCounting n 1 K t work f work′)

@@ -17,7 +17,8 @@ use Rattle.fewest.specs.Fewest.{Fewest}
 use Rattle.chains.proofs.Aside.{table-most}
 use Rattle.fewest.proofs.Fewest.{table-three}
 use Rattle.trees.proofs.Trees.{made-tree, stuck-treeless}
-use Rattle.bounds.specs.Bound.{counted, NoFewer, IsTree, Bound, one, two, treeless, more}
+use Rattle.trees.specs.Tree.{IsTree}
+use Rattle.bounds.specs.Bound.{counted, NoFewer, Bound, one, two, treeless, more}
 use Rattle.bounds.proofs.Once.{network-tree}
 use Rattle.bounds.proofs.Two.{made-carries, few-made, two-fits, fits-made}
 use Rattle.bounds.proofs.Reaching.{reached, reaching-once, reaching-most}

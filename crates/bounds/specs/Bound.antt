@@ -7,7 +7,7 @@ use Rattle.bits.specs.Numbers.{bit}
 use Rattle.bits.specs.Sets.{size}
 use Rattle.tables.specs.Counting.{support}
 use Rattle.sheets.specs.Network.{Carries}
-use Rattle.trees.specs.Tree.{Tree, TreeOf}
+use Rattle.trees.specs.Tree.{IsTree}
 
 -- how many inputs count
 abbrev pub counted : ℕ → (ℕ → Bool) → ℕ
@@ -16,10 +16,6 @@ counted n F = size n (bit (support n F))
 -- L is a lower bound: no network of fewer than L cells of size K carries F, wired in any way at all
 abbrev pub NoFewer : ℕ → ℕ → (ℕ → Bool) → ℕ → Type 0
 NoFewer n K F L = (m : ℕ) → Carries n K m F → L ≤ m
-
--- some tree of two-input nodes computes F
-abbrev pub IsTree : ℕ → (ℕ → Bool) → Type 0
-IsTree n F = (t : Tree) × TreeOf n F t
 
 -- m is the least number of cells of size K that can bring c inputs to one output: c ≤ m(K - 1) + 1
 pub record Reaching (c K m : ℕ) : Type 0 where

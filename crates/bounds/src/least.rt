@@ -1,6 +1,6 @@
 // A lower bound on the cells of a table.
 use bits::sets::members;
-use making::chaining::chain_of;
+use joins::deciding::is_tree;
 use quick::counted::Counted;
 use quick::counted::find_counting;
 use tables::clear;
@@ -10,6 +10,7 @@ ghost use Prim.Native.Nat.{_+_, _^_, _<_, _≤_, max};
 ghost use lib.ListN.{length, replicate};
 ghost use Rattle.bits.specs.Numbers.{number};
 ghost use Rattle.tables.specs.Table.{mostInputs, tableLength, tableBit};
+ghost use Rattle.tables.specs.Counting.{support};
 ghost use Rattle.best.specs.Counting.{bestCounting};
 ghost use Rattle.quick.specs.Counted.{splitIn};
 ghost use Rattle.chains.specs.Aside.{sheetAside};
@@ -30,18 +31,16 @@ fn by_reach(c: u32, k: u32) -> u32
     m
 }
 
-// With cells of two inputs: the chain tells whether there is a tree, and a tree has one node fewer than inputs.
-fn by_chain(t: &[u8], n: u32, c: u32, work: &mut [u8]) -> u32
+// With cells of two inputs: a tree has one node fewer than inputs that count, and where there is no tree as many cells
+// are needed as inputs count.
+fn by_tree(t: &[u8], n: u32, counting: u16, c: u32) -> u32
     requires { ⌜
-        (1 ≤ n) × (n ≤ mostInputs) × (length (now t) ≡ tableLength n) × (workLength ≤ length (now work)) × (2 < c)
+        (1 ≤ n) × (n ≤ mostInputs) × (length (now t) ≡ tableLength n) × (counting ≡ support n (tableBit (now t)))
+        × (2 < c)
         ⌝ }
-    ensures { λ r. ⌜
-        (r ≡ byChain c (sheetAside n 2 (number (2 ^ n) (tableBit (now (t .entry))))))
-        × (now (work .exit) ≡ replicate (length (now (work .entry))) 0)
-        ⌝ }
+    ensures { λ r. ⌜ r ≡ byChain c (sheetAside n 2 (number (2 ^ n) (tableBit (now (t .entry))))) ⌝ }
 {
-    let end = chain_of(t, n, 2, work);
-    if end.finished {
+    if is_tree(t, n, counting) {
         return c - 1;
     }
     c
@@ -87,13 +86,15 @@ pub fn least_cells(t: &[u8], n: u32, k: u32, work: &mut [u8]) -> u32
         × (now (work .exit) ≡ replicate (length (now (work .entry))) 0)
         ⌝ }
 {
-    let c = members(support_of(t, n));
+    let counting = support_of(t, n);
+    let c = members(counting);
     if c <= k {
         clear(work);
         return 1;
     }
     if k == 2 {
-        return by_chain(t, n, c, work);
+        clear(work);
+        return by_tree(t, n, counting, c);
     }
     by_split(t, n, k, c, work)
 }

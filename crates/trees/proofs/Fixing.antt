@@ -24,7 +24,7 @@ use Rattle.trees.proofs.Pairs as pairs
 use Rattle.trees.proofs.Pairs.{Pair, pair-of}
 
 -- a function of one bit that is not constant is the bit, plain or flipped
-undone : (h : Bool → Bool) (u v : Bool) → (h u ≡ h v → ⊥) → (f : Bool) × ((y : Bool) → h (flipped f y) ≡ y)
+pub undone : (h : Bool → Bool) (u v : Bool) → (h u ≡ h v → ⊥) → (f : Bool) × ((y : Bool) → h (flipped f y) ≡ y)
 undone h u v ne = go (h true) (h false) refl refl
   where
     same : (u v : Bool) → h true ≡ h false → h u ≡ h v

@@ -2,19 +2,20 @@
 -- Assumes nothing.
 use mathlib.Core.Path.{_≡_, refl, sym, ap, ap₂, _∙_}
 use mathlib.Core.Bool.{Bool, true, false, not, _||_}
-use Prim.Native.Nat.{ℕ, zero, suc, _+_, _%_, _^_, _<_}
+use Prim.Native.Nat.{ℕ, _%_, _^_, _<_}
 use native.Mathlib.Nat.{mod-lt, mod-eq-of-lt}
-use native.Mathlib.Decide.{decLt}
+use native.Mathlib.Decide.{ℕ-discrete, decLt}
 use native.Mathlib.Omega.{arith}
 use lib.Dec.{eqb}
 use lib.Pow.{pow-pos}
-use borrow.Author.Tests.{eq-eqb, ne-eqb, eqb-true}
-use Rattle.bits.specs.Numbers.{bit, val, number}
+use borrow.Author.Tests.{eq-eqb, ne-eqb}
+use Rattle.bits.specs.Numbers.{bit, number}
 use Rattle.bits.specs.Sets.{Agree, size}
 use Rattle.bits.proofs.Bools.{clash, or-left, or-right}
 use Rattle.bits.proofs.Numbers.{number-lt, bit-number, bit-zero, bit-high, bit-mod}
-use Rattle.bits.proofs.Sizes.{size-lt, size-ext, size-sum}
-use Rattle.bits.proofs.Counting.{size-none, size-one}
+use Rattle.bits.proofs.Sizes.{size-ext}
+use Rattle.bits.proofs.Counting.{size-none}
+use Rattle.tables.specs.Depends.{DependsOn}
 use Rattle.tables.specs.Counting.{AlikeBut, AllCount}
 use Rattle.splits.specs.Split.{readsH, Possible}
 use Rattle.splits.proofs.Respect.{possible-of}
@@ -23,6 +24,7 @@ use Rattle.best.specs.Search.{none, best}
 use Rattle.best.proofs.Best.{best-none}
 use Rattle.trees.specs.Tree.{Tree, value}
 use Rattle.trees.proofs.Graft.{Computes, read-below}
+use Rattle.trees.proofs.Two.{own-size}
 use Rattle.trees.proofs.Shape.{Joined, Shape, flat, single, joined, shape}
 
 -- ---- two inputs that a tree joins are a split
@@ -50,20 +52,8 @@ module _ (n : ℕ) (F : ℕ → Bool) (t : Tree) (W : Computes n F t) (J : Joine
   unfolding own pair
   own-bit j l = bit-number n pair j l
 
-  -- one input is a set of size 1, the two of size 2
-  one : (i : ℕ) → i < n → size n (λ j. eqb j i) ≡ 1
-  one i l = omega (arith, size-one n i, size-lt n (λ j. eqb j i) i l (eq-eqb i i refl))
-
-  own-size : size n (bit own) ≡ 2
-  own-size =
-      sym (size-sum n (λ j. eqb j a) (λ j. eqb j b) (bit own)
-      (λ j l. go j (eqb j a) (eqb j b) refl refl ∙ ap val (sym (own-bit j l))))
-      ∙ ap₂ _+_ (one a la) (one b lb)
-    where
-      go : (j : ℕ) (s t : Bool) → eqb j a ≡ s → eqb j b ≡ t → val s + val t ≡ val (s || t)
-      go j true true e f = absurd (J .differ (sym (eqb-true j a e) ∙ eqb-true j b f))
-      go j true false e f = refl
-      go j false t e f = omega arith
+  pair-size : size n (bit own) ≡ 2
+  pair-size = own-size n b a own lb la own-bit (λ e. J .differ (sym e))
 
   pair-candidate : Candidate n 2 1 own 0
   unfolding own
@@ -71,8 +61,8 @@ module _ (n : ℕ) (F : ℕ → Bool) (t : Tree) (W : Computes n F t) (J : Joine
     belowA = number-lt n pair;
     belowB = pow-pos n;
     apart = λ j l e. absurd (clash e (bit-zero j));
-    more = omega (arith, own-size);
-    most = omega (arith, own-size, size-ext n (bit 0) (λ j. false) (λ j l. bit-zero j), size-none n);
+    more = omega (arith, pair-size);
+    most = omega (arith, pair-size, size-ext n (bit 0) (λ j. false) (λ j l. bit-zero j), size-none n);
   }
 
   pair-possible : Possible n F (bit own) (bit 0) 1
@@ -103,22 +93,25 @@ module _ (n : ℕ) (F : ℕ → Bool) (t : Tree) (W : Computes n F t) (J : Joine
   pair-splits : best n 1 F 2 ≡ none → ⊥
   pair-splits e = best-none n 1 F 2 e own 0 pair-candidate pair-possible
 
--- a tree with three inputs that count has a split
-pub tree-splits : (n : ℕ) (F : ℕ → Bool) (t : Tree) → 2 < n → AllCount n F → Computes n F t → best n 1 F 2 ≡ none → ⊥
-tree-splits n F t h all W e = go (shape t (W .most))
+-- a tree of which two inputs count has two that a single node joins
+pub two-joined : (n : ℕ) (F : ℕ → Bool) (t : Tree) → Computes n F t → (p q : ℕ) → (p ≡ q → ⊥) → DependsOn n F p
+    → DependsOn n F q → Joined t
+two-joined n F t W p q ne cp cq = go (shape t (W .most))
   where
     -- what takes no notice of an input is not F
-    still : (j : ℕ) → j < n → ((x y : ℕ) → AlikeBut n j x y → value t (bit x) ≡ value t (bit y)) → ⊥
-    still j l f = let c = all j l in c .differ (sym (W .computes (c .x) (c .belowX)) ∙ f (c .x) (c .y) (c .alike)
+    still : (j : ℕ) → DependsOn n F j → ((x y : ℕ) → AlikeBut n j x y → value t (bit x) ≡ value t (bit y)) → ⊥
+    still j c f = c .differ (sym (W .computes (c .x) (c .belowX)) ∙ f (c .x) (c .y) (c .alike)
         ∙ W .computes (c .y) (c .belowY))
 
-    -- an input beside j
-    other : (j : ℕ) → (q : ℕ) × (q < n) × (j ≡ q → ⊥)
-    other zero = (1, omega arith, λ r. omega arith)
-    other (suc j) = (0, omega arith, λ r. omega arith)
+    go : Shape t → Joined t
+    go (flat f) = absurd (still p cp (λ x y _. f (bit x) (bit y)))
+    go (single j r f) = elim (ℕ-discrete j p) [
+      | yes e ↦ absurd (still q cq (λ x y alike. f (bit x) (bit y) (alike j (read-below W j r) (λ z. ne (sym e ∙ z)))))
+      | no e ↦ absurd (still p cp (λ x y alike. f (bit x) (bit y) (alike j (read-below W j r) e)))
+    ]
+    go (joined J) = J
 
-    go : Shape t → ⊥
-    go (flat f) = still 0 (omega arith) (λ x y _. f (bit x) (bit y))
-    go (single j r f) = let w = other j in still (w .0) (w .1)
-        (λ x y alike. f (bit x) (bit y) (alike j (read-below W j r) (w .2)))
-    go (joined J) = pair-splits n F t W J e
+-- a tree with three inputs that count has a split
+pub tree-splits : (n : ℕ) (F : ℕ → Bool) (t : Tree) → 2 < n → AllCount n F → Computes n F t → best n 1 F 2 ≡ none → ⊥
+tree-splits n F t h all W e = pair-splits n F t W
+    (two-joined n F t W 0 1 (λ z. omega arith) (all 0 (omega arith)) (all 1 (omega arith))) e

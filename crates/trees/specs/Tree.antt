@@ -34,3 +34,7 @@ pub record TreeOf (n : ℕ) (F : ℕ → Bool) (t : Tree) : Type 0 where
   pub once : (j : ℕ) → j < n → DependsOn n F j → uses j t ≡ 1
   pub only : (j : ℕ) → (j < n → DependsOn n F j → ⊥) → uses j t ≡ 0
   pub computes : (x : ℕ) → x < 2 ^ n → value t (bit x) ≡ F x
+
+-- some tree of two-input nodes computes F
+abbrev pub IsTree : ℕ → (ℕ → Bool) → Type 0
+IsTree n F = (t : Tree) × TreeOf n F t

@@ -1,4 +1,4 @@
--- `least_cells` meets its contract: few inputs count, or the chain tells, or the best split. Assumes nothing.
+-- `least_cells` meets its contract: few inputs count, or whether there is a tree tells, or the best split. Assumes nothing.
 use mathlib.Core.Path.{sym, ap, _∙_}
 use Prim.Native.Nat.{ℕ, _^_}
 use native.Mathlib.Omega.{arith}
@@ -25,18 +25,25 @@ returns c =
     let is = counted-is (a .n) _ _ F (s .support-of .ensures) (m .members .ensures) in
     (sym (least-few (a .n) (a .k) F (omega (arith, is, i .if1 .taken))), c .before .before .clear .ensures)
 
+by-tree-requires : tie.Need-by-tree-requires
+by-tree-requires c κs =
+    let j = c .before .before .before .before in
+    let s = j .before .before .before in
+    let p = s .before .before .before .pre in
+    (p .0, p .1, p .4, s .support-of .ensures, omega (arith, j .before .if1 .left, j .if2 .taken))
+
 returns-2 : tie.Need-returns-2
 returns-2 c =
-    let r = c .before .before in
+    let r = c .before .before .before in
     let j = r .before .before in
     let m = j .before .before in
     let s = m .before in
     let a = s .before .before .before .args in
     let F = tableBit (a .t .now) in
     let is = counted-is (a .n) _ _ F (s .support-of .ensures) (m .members .ensures) in (
-      r .by-chain .ensures .0 ∙ ap (λ (c : ℕ). byChain c (sheetAside (a .n) 2 (number (2 ^ a .n) F))) is
+      c .by-tree .ensures ∙ ap (λ (c : ℕ). byChain c (sheetAside (a .n) 2 (number (2 ^ a .n) F))) is
           ∙ sym (least-chain (a .n) (a .k) F (omega (arith, is, j .before .if1 .left)) (j .if2 .taken)),
-      r .by-chain .ensures .1,
+      r .clear2 .ensures,
     )
 
 by-split-requires : tie.Need-by-split-requires
@@ -68,4 +75,4 @@ returns-3 c =
 pub least-cells-spec : {M : Type 1} → statement M
 least-cells-spec =
     tie.close (tie.spec (λ c κs. search needs) (λ c κs. search needs) (λ c κs. search needs) (λ c. search needs) returns
-    (λ c κs. search needs) (λ c. search needs) returns-2 by-split-requires (λ c. search needs) returns-3)
+    (λ c κs. search needs) by-tree-requires (λ c. search needs) returns-2 by-split-requires (λ c. search needs) returns-3)
