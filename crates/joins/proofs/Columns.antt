@@ -110,8 +110,8 @@ module _ (s : Split) (h : Held s) (F : ℕ → Bool) (at i j : ℕ) (li : i < s 
   abbrev pub Covers : Bool → Type 0
   Covers v = (p : Bool) → (col p (not v) ≡ col false v) ⊎ (col p (not v) ≡ col true v)
 
-  pub joins-when : (v : Bool) → Covers v → StandsFor n left i j v
-  joins-when v cover = record {
+  pub stands-when : (v : Bool) → Covers v → StandsFor n left i j v
+  stands-when v cover = record {
     D = λ p q. among v q p cover .0;
     gives = λ x l. gate-is x
         ∙ ap (λ (m : ℕ). bit m (gather n C x)) (among v (bit x i) (bit x j) cover .1)
@@ -127,8 +127,8 @@ module _ (s : Split) (h : Held s) (F : ℕ → Bool) (at i j : ℕ) (li : i < s 
       among false true p c = other false p c
       among false false p c = (p, refl)
 
-  pub joins-covers : (v : Bool) → StandsFor n left i j v → Covers v
-  joins-covers v J p = go (J .D p (not v)) refl
+  pub stands-covers : (v : Bool) → StandsFor n left i j v → Covers v
+  stands-covers v J p = go (J .D p (not v)) refl
     where
       same : col p (not v) ≡ col (J .D p (not v)) v
       same = same-columns p (not v) (J .D p (not v)) v (λ x.

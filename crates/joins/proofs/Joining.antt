@@ -132,10 +132,10 @@ module _ (n : ℕ) (G : ℕ → Bool) (i j : ℕ) (v : Bool) (li : i < n) (lj : 
         same p l g false e = c .alike p l g
 
     -- two other inputs
-    pub joins-before : (k l : ℕ) (w : Bool) → k < n → l < n → (k ≡ i → ⊥) → (k ≡ j → ⊥) → (l ≡ i → ⊥) → (l ≡ j → ⊥)
+    pub stands-before : (k l : ℕ) (w : Bool) → k < n → l < n → (k ≡ i → ⊥) → (k ≡ j → ⊥) → (l ≡ i → ⊥) → (l ≡ j → ⊥)
         → StandsFor n left k l w → StandsFor n G k l w
     unfolding asked
-    joins-before k l w bk bl ki kj li′ lj′ N = record {
+    stands-before k l w bk bl ki kj li′ lj′ N = record {
       D = N .D;
       gives = λ x h. gives x h ∙ N .gives (asked x) (asked-lt x) ∙ ap left (same x)
           ∙ sym (gives (there x) (set-lt n k w _));
@@ -172,8 +172,8 @@ module _ (n : ℕ) (G : ℕ → Bool) (i j : ℕ) (li : i < n) (lj : j < n) (ne 
     | no l ↦ bit-high x n p hx (omega arith) ∙ sym (bit-high y n p hy (omega arith))
   ])
 
-  pub joins-of : DependsOn n G j → (v : Bool) × StandsFor n G i j v
-  joins-of c =
+  pub stands-of : DependsOn n G j → (v : Bool) × StandsFor n G i j v
+  stands-of c =
       let w = undone (λ y. D y v) (bit (c .x) j) (bit (c .y) j) differ in
       (v, record { D = λ p q. flipped (w .0) (D p q); gives = λ x h. back (w .0) (w .1) x h })
     where

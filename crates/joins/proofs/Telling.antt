@@ -18,7 +18,7 @@ use Rattle.columns.specs.Reading.{Held, Within, alike, columnOf}
 use Rattle.columns.proofs.Reading.{within-spread, alike-column}
 use Rattle.joins.specs.StandsFor.{StandsFor}
 use Rattle.joins.specs.Left.{withFixed, valueBy, Valued}
-use Rattle.joins.proofs.Columns.{col, joins-when, joins-covers}
+use Rattle.joins.proofs.Columns.{col, stands-when, stands-covers}
 
 either : (x y z : ℕ) → (eqb x y || eqb x z) ≡ true → (x ≡ y) ⊎ (x ≡ z)
 either x y z e = go (eqb x y) refl e
@@ -89,15 +89,15 @@ module _ (s : Split) (h : Held s) (F : ℕ → Bool) (at i j : ℕ) (li : i < s 
 
   -- of four columns, two are all
   at-low : J false → ((c ≡ a) ⊎ (c ≡ b)) × ((d ≡ a) ⊎ (d ≡ b))
-  at-low w = let f = joins-covers s h F at i j li lt is false w in (f false, f true)
+  at-low w = let f = stands-covers s h F at i j li lt is false w in (f false, f true)
 
   at-high : J true → ((a ≡ c) ⊎ (a ≡ d)) × ((b ≡ c) ⊎ (b ≡ d))
-  at-high w = let f = joins-covers s h F at i j li lt is true w in (f false, f true)
+  at-high w = let f = stands-covers s h F at i j li lt is true w in (f false, f true)
 
   low : (c ≡ a) ⊎ (c ≡ b) → (d ≡ a) ⊎ (d ≡ b) → Told 0
   low p q = record {
     most = omega arith;
-    joins = λ _. joins-when s h F at i j li lt is false each;
+    joins = λ _. stands-when s h F at i j li lt is false each;
     none = λ e. absurd (omega arith);
   }
     where
@@ -108,7 +108,7 @@ module _ (s : Split) (h : Held s) (F : ℕ → Bool) (at i j : ℕ) (li : i < s 
   high : (a ≡ c) ⊎ (a ≡ d) → a ≡ b → Told 1
   high p e = record {
     most = omega arith;
-    joins = λ _. joins-when s h F at i j li lt is true each;
+    joins = λ _. stands-when s h F at i j li lt is true each;
     none = λ z. absurd (omega arith);
   }
     where

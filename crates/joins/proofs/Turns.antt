@@ -30,7 +30,7 @@ use Rattle.trees.proofs.Splits.{two-joined}
 use Rattle.joins.specs.declared.pairs.Left.{Left}
 use Rattle.joins.specs.StandsFor.{fixedAt, StandsFor}
 use Rattle.joins.specs.Left.{withFixed, gateLeft, Unfixed, Fixing, oneFixed, oneDecided, Reduced, DecidedFrom}
-use Rattle.joins.proofs.Joining.{tree-left, tree-joined, counts-left, joins-before, joins-of}
+use Rattle.joins.proofs.Joining.{tree-left, tree-joined, counts-left, stands-before, stands-of}
 use Rattle.joins.proofs.Leaving.{fixed-lt, fixed-bit, less-bit, fixing-more, left-more}
 
 -- some tree that reads each input at most once computes the gate: what inductions carry, and what it is
@@ -180,7 +180,7 @@ module _ (n : ℕ) (F : ℕ → Bool) (g : Left) (R : Reduced n F g) (i j : ℕ)
         let u = was k ek in
         let x = was l el in
         R .apart k l (u .0) (x .0) lk w
-        (joins-before n G i j v (fi .0) (fj .0) differ J k l w (within k ek) (within l el) (u .1)
+        (stands-before n G i j v (fi .0) (fj .0) differ J k l w (within k ek) (within l el) (u .1)
         (λ z. omega (arith, from .above k (u .0))) (x .1) (λ z. omega (arith, from .above l (x .0)))
         (subst (λ (K : ℕ → Bool). StandsFor n K k l w) left-is N));
   }
@@ -325,9 +325,9 @@ module _ (n : ℕ) (F : ℕ → Bool) (g : Left) (R : Reduced n F g) (from : Dec
 
           go : Joined t → ⊥
           go J = elim (decLt (J .a) (J .b)) [
-            | yes l ↦ never (J .b) (J .a) fb fa l (joins-of n H (J .b) (J .a) (fb .0) (fa .0) (λ e. J .differ (sym e)) (J .D)
+            | yes l ↦ never (J .b) (J .a) fb fa l (stands-of n H (J .b) (J .a) (fb .0) (fa .0) (λ e. J .differ (sym e)) (J .D)
                 (J .H) (J .others) (λ x b. sym (W .computes x b) ∙ J .gives (bit x)) (R .counts (J .a) fa))
-            | no l ↦ never (J .a) (J .b) fa fb (lower l) (joins-of n H (J .a) (J .b) (fa .0) (fb .0) (J .differ)
+            | no l ↦ never (J .a) (J .b) fa fb (lower l) (stands-of n H (J .a) (J .b) (fa .0) (fb .0) (J .differ)
                 (λ s u. J .D u s) (J .H) (λ e v w f. J .others e v w (λ k a b. f k b a))
                 (λ x b. sym (W .computes x b) ∙ J .gives (bit x)) (R .counts (J .b) fb))
           ]
