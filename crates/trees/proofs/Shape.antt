@@ -1,6 +1,6 @@
 -- A tree that reads each input at most once is constant, or a function of one input, or has two inputs that a single
 -- node joins. Assumes nothing.
-use mathlib.Core.Path.{_≡_, refl, ap, ap₂}
+use mathlib.Core.Path.{_≡_, refl, ap, ap₂, _∙_}
 use mathlib.Core.Bool.{Bool}
 use Prim.Native.Nat.{ℕ, _+_, _≤_}
 use native.Mathlib.Omega.{arith}
@@ -27,41 +27,41 @@ pub data Shape (t : Tree) : Type 0 where
   single : (j : ℕ) → 1 ≤ uses j t → ((v w : ℕ → Bool) → v j ≡ w j → value t v ≡ value t w) → Shape t
   joined : Joined t → Shape t
 
+-- what a tree joins is joined in every tree that is a function of it and of inputs beside the two
+module _ (s u : Tree) (J : Joined s) (K : Bool → (ℕ → Bool) → Bool) where
+  inside : ((j : ℕ) → uses j s ≤ uses j u)
+      → ((z : Bool) (v w : ℕ → Bool) → ((j : ℕ) → (j ≡ J .a → ⊥) → (j ≡ J .b → ⊥) → v j ≡ w j) → K z v ≡ K z w)
+      → ((v : ℕ → Bool) → value u v ≡ K (value s v) v) → Joined u
+  inside reads blind gives = record {
+    a = J .a;
+    b = J .b;
+    differ = J .differ;
+    readA = omega (arith, J .readA, reads (J .a));
+    readB = omega (arith, J .readB, reads (J .b));
+    D = J .D;
+    H = λ e v. K (J .H e v) v;
+    others = λ e v w h. ap (λ (z : Bool). K z v) (J .others e v w h) ∙ blind (J .H e w) v w h;
+    gives = λ v. gives v ∙ ap (λ (z : Bool). K z v) (J .gives v);
+  }
+
+-- an input that one tree reads is none that the other reads
+out : (s t : Tree) → ((j : ℕ) → uses j s + uses j t ≤ 1) → (a : ℕ) → 1 ≤ uses a s → (j : ℕ) → 1 ≤ uses j t → j ≡ a → ⊥
+out s t most a p j q e = omega (arith, most a, ap (λ (i : ℕ). uses i t) e)
+
 module _ (g : Bool → Bool → Bool) (s t : Tree) (most : (j : ℕ) → uses j s + uses j t ≤ 1) where
   -- what a child joins the node joins, since the other child reads neither
   left : Joined s → Joined (node g s t)
-  left J = record {
-    a = J .a;
-    b = J .b;
-    differ = J .differ;
-    readA = omega (arith, J .readA);
-    readB = omega (arith, J .readB);
-    D = J .D;
-    H = λ e v. g (J .H e v) (value t v);
-    others = λ e v w h. ap₂ g (J .others e v w h)
-        (value-reads t v w (λ j r. h j (out (J .a) (J .readA) j r) (out (J .b) (J .readB) j r)));
-    gives = λ v. ap (λ (z : Bool). g z (value t v)) (J .gives v);
-  }
-    where
-      out : (a : ℕ) → 1 ≤ uses a s → (j : ℕ) → 1 ≤ uses j t → j ≡ a → ⊥
-      out a p j q e = omega (arith, most a, ap (λ (i : ℕ). uses i t) e)
+  left J = inside s (node g s t) J (λ z v. g z (value t v)) (λ j. omega arith)
+      (λ z v w h. ap (g z) (value-reads t v w (λ j r. h j (out s t most (J .a) (J .readA) j r)
+      (out s t most (J .b) (J .readB) j r)))) (λ v. refl)
 
   right : Joined t → Joined (node g s t)
-  right J = record {
-    a = J .a;
-    b = J .b;
-    differ = J .differ;
-    readA = omega (arith, J .readA);
-    readB = omega (arith, J .readB);
-    D = J .D;
-    H = λ e v. g (value s v) (J .H e v);
-    others = λ e v w h. ap₂ g (value-reads s v w (λ j r. h j (out (J .a) (J .readA) j r) (out (J .b) (J .readB) j r)))
-        (J .others e v w h);
-    gives = λ v. ap (g (value s v)) (J .gives v);
-  }
+  right J = inside t (node g s t) J (λ z v. g (value s v) z) (λ j. omega arith)
+      (λ z v w h. ap (λ (y : Bool). g y z) (value-reads s v w (λ j r. h j (off (J .a) (J .readA) j r)
+      (off (J .b) (J .readB) j r)))) (λ v. refl)
     where
-      out : (a : ℕ) → 1 ≤ uses a t → (j : ℕ) → 1 ≤ uses j s → j ≡ a → ⊥
-      out a p j q e = omega (arith, most a, ap (λ (i : ℕ). uses i s) e)
+      off : (a : ℕ) → 1 ≤ uses a t → (j : ℕ) → 1 ≤ uses j s → j ≡ a → ⊥
+      off = out t s (λ j. omega (arith, most j))
 
   -- two functions of one input each
   join : (i j : ℕ) → 1 ≤ uses i s → 1 ≤ uses j t → ((v w : ℕ → Bool) → v i ≡ w i → value s v ≡ value s w)
