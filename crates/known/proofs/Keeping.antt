@@ -10,7 +10,7 @@ use lib.Dec.{eqb}
 use lib.Bits.{bitAnd, bitOr}
 use lib.ListN.{getD, set, replicate, length-set, length-replicate, getD-replicate}
 use lib.Seq.{getD-set-same, getD-set-other}
-use borrow.Author.Tests.{eqb-true}
+use borrow.Author.Tests.{eqb-true, not-false}
 use Rattle.bits.specs.Numbers.{bit}
 use Rattle.bits.specs.Sets.{Apart}
 use Rattle.bits.proofs.Bools.{clash, and-left}
@@ -32,13 +32,9 @@ pub and-meets : (p q own both : ℕ) → p < 4294967296 → own < 4294967296 →
     ≡ 0 → Meets p q own both
 and-meets p q own both fitsP fitsOwn e f = record { inside = inside; outside = λ j. and-off q both j f }
   where
-    off : (t : Bool) → not t ≡ false → t ≡ true
-    off true h = refl
-    off false h = sym h
-
     inside : Inside (bit p) (bit own)
     inside j h = elim (decLt j 32) [
-      | yes l ↦ off (bit own j) (sym (bit-not 32 own j fitsOwn l) ∙ and-off p (4294967295 - own) j e h)
+      | yes l ↦ not-false (bit own j) (sym (bit-not 32 own j fitsOwn l) ∙ and-off p (4294967295 - own) j e h)
       | no l ↦ absurd (clash h (bit-high p 32 j fitsP (omega arith)))
     ]
 

@@ -3,8 +3,9 @@ use mathlib.Core.Path.{sym, ap, _∙_, subst}
 use Prim.Native.Nat.{ℕ, _*_, _^_, _≤_}
 use lib.ListN.{length}
 use borrow.Author.Needs.{needs}
+use borrow.Author.Tests.{not-false}
 use Rattle.tables.specs.Table.{mostInputs}
-use Rattle.witness.proofs.Points.{said-no, not-false}
+use Rattle.witness.proofs.Points.{said-no}
 use Rattle.walks.proofs.Learning.{learned-one}
 use Rattle.walks.proofs.walk.learn.Statement.{statement}
 use Rattle.walks.proofs.walk.learn.Tie as tie

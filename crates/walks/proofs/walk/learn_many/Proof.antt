@@ -1,8 +1,9 @@
 -- What is kept was shown by many points. Assumes nothing.
 use native.Mathlib.Omega.{arith}
 use borrow.Author.Needs.{needs}
+use borrow.Author.Tests.{not-false}
 use Rattle.bits.proofs.Machine.{shl-one}
-use Rattle.witness.proofs.Points.{said-no, not-false}
+use Rattle.witness.proofs.Points.{said-no}
 use Rattle.walks.proofs.Learning.{learned-one}
 use Rattle.walks.proofs.walk.learn_many.Statement.{statement}
 use Rattle.walks.proofs.walk.learn_many.Tie as tie
