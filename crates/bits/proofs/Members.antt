@@ -11,14 +11,14 @@ use lib.Pow.{pow-pos}
 use Rattle.bits.specs.Numbers.{bit, val, number}
 use Rattle.bits.specs.Sets.{size, gather, spread}
 use Rattle.bits.proofs.Bools.{clash, and-left}
-use Rattle.bits.proofs.Numbers.{number-ext, number-bit, bit-below}
+use Rattle.bits.proofs.Numbers.{number-ext, number-bit, number-of, bit-below}
 use Rattle.bits.proofs.Sizes.{size-lt, size-ext}
 use Rattle.bits.proofs.Counting.{size-all}
 use Rattle.bits.proofs.Spreading.{mod-more, gather-bit, bit-spread, spread-lt}
 
 -- numbers with the same bits are the same
 pub same-bits : (n x y : ℕ) → x < 2 ^ n → y < 2 ^ n → ((j : ℕ) → j < n → bit x j ≡ bit y j) → x ≡ y
-same-bits n x y p q h = sym (number-bit n x p) ∙ number-ext n (bit x) (bit y) h ∙ number-bit n y q
+same-bits n x y p q h = number-of n x (bit y) p h ∙ number-bit n y q
 
 -- member number k of s
 pub record Place (n : ℕ) (s : ℕ → Bool) (k : ℕ) : Type 0 where

@@ -10,7 +10,7 @@ use lib.Dec.{eqb}
 use lib.Bits.{bitAnd, bitOr}
 use lib.ListN.{getD, set, replicate, length-set, length-replicate, getD-replicate}
 use lib.Seq.{getD-set-same, getD-set-other}
-use borrow.Author.Tests.{eqb-true}
+use borrow.Author.Tests.{eqb-true, not-false}
 use Rattle.bits.specs.Numbers.{bit}
 use Rattle.bits.specs.Sets.{Apart}
 use Rattle.bits.proofs.Bools.{clash, and-left}
@@ -32,13 +32,9 @@ pub and-meets : (p q own both : ℕ) → p < 4294967296 → own < 4294967296 →
     ≡ 0 → Meets p q own both
 and-meets p q own both fitsP fitsOwn e f = record { inside = inside; outside = λ j. and-off q both j f }
   where
-    off : (t : Bool) → not t ≡ false → t ≡ true
-    off true h = refl
-    off false h = sym h
-
     inside : Inside (bit p) (bit own)
     inside j h = elim (decLt j 32) [
-      | yes l ↦ off (bit own j) (sym (bit-not 32 own j fitsOwn l) ∙ and-off p (4294967295 - own) j e h)
+      | yes l ↦ not-false (bit own j) (sym (bit-not 32 own j fitsOwn l) ∙ and-off p (4294967295 - own) j e h)
       | no l ↦ absurd (clash h (bit-high p 32 j fitsP (omega arith)))
     ]
 
@@ -63,14 +59,15 @@ module _ {n : ℕ} {F : ℕ → Bool} {m : ℕ} where
         (clash (free 0 refl) (ap (λ (t : Bool). not (t || B 0)) (own 0 refl)));
   }
 
+  rules-at : {p q u v : ℕ} → p ≡ u → q ≡ v → RulesOut n F m (bit u) (bit v) → RulesOut n F m (bit p) (bit q)
+  rules-at {q = q} {u = u} e f w = subst (λ (p : ℕ). RulesOut n F m (bit p) (bit q)) (sym e)
+      (subst (λ (q : ℕ). RulesOut n F m (bit u) (bit q)) (sym f) w)
+
   pub learned-blank : Learned n F m (replicate 130 1)
   learned-blank = record {
     long = length-replicate {A = ℕ} 130 1;
     each = λ i l.
-        subst (λ (p : ℕ). RulesOut n F m (bit p) (bit (getD (replicate 130 1) (64 + i) 0)))
-        (sym (getD-replicate 130 i 1 0 (omega arith)))
-        (subst (λ (q : ℕ). RulesOut n F m (bit 1) (bit q)) (sym (getD-replicate 130 (64 + i) 1 0 (omega arith)))
-        rules-nothing);
+        rules-at (getD-replicate 130 i 1 0 (omega arith)) (getD-replicate 130 (64 + i) 1 0 (omega arith)) rules-nothing;
   }
 
   -- a pair that rules out takes the place of one that did
@@ -84,32 +81,26 @@ module _ {n : ℕ} {F : ℕ → Bool} {m : ℕ} where
       l₂ : List ℕ
       l₂ = set l₁ (64 + at) q
 
-      rules : (i u v : ℕ) → i < 64 → getD l₁ i 0 ≡ u → getD l₂ (64 + i) 0 ≡ v → RulesOut n F m (bit u) (bit v)
-          → RulesOut n F m (bit (getD l₂ i 0)) (bit (getD l₂ (64 + i) 0))
-      rules i u v g e f x =
-          subst (λ (u : ℕ). RulesOut n F m (bit u) (bit (getD l₂ (64 + i) 0)))
-          (sym (getD-set-other l₁ (64 + at) i q 0 (λ d. omega (arith, d)) ∙ e))
-          (subst (λ (g : ℕ). RulesOut n F m (bit u) (bit g)) (sym f) x)
-
       each : (i : ℕ) → i < 64 → RulesOut n F m (bit (getD l₂ i 0)) (bit (getD l₂ (64 + i) 0))
-      each i g = elim (ℕ-discrete i at) [
-        | yes e ↦ rules i p q g (ap (λ (m : ℕ). getD l₁ m 0) e ∙ getD-set-same l at p 0 (omega (arith, w .long)))
-            (ap (λ (m : ℕ). getD l₂ (64 + m) 0) e ∙ getD-set-same l₁ (64 + at) q 0
-            (omega (arith, w .long, length-set l at p))) r
-        | no e ↦ rules i (getD l i 0) (getD l (64 + i) 0) g (getD-set-other l at i p 0 e)
-            (getD-set-other l₁ (64 + at) (64 + i) q 0 (λ d. e (omega (arith, d)))
-            ∙ getD-set-other l at (64 + i) p 0 (λ d. omega (arith, d))) (w .each i g)
-      ]
+      each i g =
+          let own : getD l₂ i 0 ≡ getD l₁ i 0 = getD-set-other l₁ (64 + at) i q 0 (λ d. omega (arith, d)) in
+          elim (ℕ-discrete i at) [
+            | yes e ↦ rules-at
+                (own ∙ ap (λ (m : ℕ). getD l₁ m 0) e ∙ getD-set-same l at p 0 (omega (arith, w .long)))
+                (ap (λ (m : ℕ). getD l₂ (64 + m) 0) e ∙ getD-set-same l₁ (64 + at) q 0
+                (omega (arith, w .long, length-set l at p))) r
+            | no e ↦ rules-at (own ∙ getD-set-other l at i p 0 e)
+                (getD-set-other l₁ (64 + at) (64 + i) q 0 (λ d. e (omega (arith, d)))
+                ∙ getD-set-other l at (64 + i) p 0 (λ d. omega (arith, d))) (w .each i g)
+          ]
 
   -- what stands behind the pairs is free
   pub learned-count : (l : List ℕ) (kept : ℕ) → Learned n F m l → Learned n F m (set l 128 kept)
   learned-count l kept w = record {
     long = length-set l 128 kept ∙ w .long;
     each = λ i g.
-        subst (λ (u : ℕ). RulesOut n F m (bit u) (bit (getD (set l 128 kept) (64 + i) 0)))
-        (sym (getD-set-other l 128 i kept 0 (λ d. omega (arith, d))))
-        (subst (λ (u : ℕ). RulesOut n F m (bit (getD l i 0)) (bit u))
-        (sym (getD-set-other l 128 (64 + i) kept 0 (λ d. omega (arith, d)))) (w .each i g));
+        rules-at (getD-set-other l 128 i kept 0 (λ d. omega (arith, d)))
+        (getD-set-other l 128 (64 + i) kept 0 (λ d. omega (arith, d))) (w .each i g);
   }
 
   -- two pairs change places

@@ -1,7 +1,6 @@
 -- As f64, rounded at each sum, the output's times are the least and the greatest along all paths too: rounding keeps
 -- the order. Assumes nothing.
 use mathlib.Core.Path.{_≡_, refl, sym, ap, ap₂, subst, _∙_}
-use mathlib.Core.Logic.{_⊎_, inl, inr}
 use mathlib.Core.Bool.{Bool, true, false, cond, _||_, _&&_}
 use mathlib.Core.List.{List}
 use Prim.Native.Nat.{ℕ, zero, suc, _+_, _*_, _^_, _≤_}
@@ -28,7 +27,7 @@ use Rattle.times.proofs.Counting.{at-most}
 use Rattle.times.proofs.Telling.{ranged}
 use Rattle.settling.proofs.Kept.{Leaves, all-sound}
 use Rattle.paths.specs.Paths.{BestPath, BeyondTime}
-use Rattle.paths.proofs.Along.{best-path}
+use Rattle.paths.proofs.Ordered.{ordered-path}
 use Rattle.paths.proofs.Whole.{good-fed, some-cells}
 
 -- ---- numbers from 0 up, infinity among them, in order
@@ -154,49 +153,6 @@ mono d x y r p (finite n g) h = first p h
     first infinite h = absurd (not-above n g h)
     first (finite m e) h = last m e r h
 
--- ---- which of two is kept
-
-either : (late : Bool) (x y : Float) → (keeping late x y ≡ x) ⊎ (keeping late x y ≡ y)
-unfolding keeping
-either true x y = go (lt x y)
-  where
-    go : (b : Bool) → (cond b y x ≡ x) ⊎ (cond b y x ≡ y)
-    go true = inr refl
-    go false = inl refl
-either false x y = go (lt y x)
-  where
-    go : (b : Bool) → (cond b y x ≡ x) ⊎ (cond b y x ≡ y)
-    go true = inr refl
-    go false = inl refl
-
-both : (late : Bool) (x y : Float) → NonNeg x → NonNeg y → BeyondTime late (keeping late x y) x
-    × BeyondTime late (keeping late x y) y
-unfolding keeping
-both true x y p q = go (lt x y) refl
-  where
-    go : (b : Bool) → lt x y ≡ b → T (le x (cond b y x)) × T (le y (cond b y x))
-    go true h = (less x y h, same y q)
-    go false h = (same x p, total y x q p h)
-both false x y p q = go (lt y x) refl
-  where
-    go : (b : Bool) → lt y x ≡ b → T (le (cond b y x) x) × T (le (cond b y x) y)
-    go true h = (less y x h, same y q)
-    go false h = (same x p, total x y p q h)
-
-same-time : (late : Bool) (x : Float) → NonNeg x → BeyondTime late x x
-same-time true x p = same x p
-same-time false x p = same x p
-
-through-time : (late : Bool) (x y z : Float) → NonNeg x → NonNeg y → NonNeg z → BeyondTime late x y
-    → BeyondTime late y z → BeyondTime late x z
-through-time true x y z p q r h k = trans z y x r q p k h
-through-time false x y z p q r h k = trans x y z p q r h k
-
-mono-time : (late : Bool) (d x y : Float) → NonNeg d → NonNeg x → NonNeg y → BeyondTime late x y
-    → BeyondTime late (delayed d x) (delayed d y)
-mono-time true d x y r p q h = mono d y x r q p h
-mono-time false d x y r p q h = mono d x y r p q h
-
 -- ---- the inputs
 
 plain-good : (x : Float) → inRange x ≡ true → NonNeg (plainZero x)
@@ -222,13 +178,11 @@ pub rounded-path : (late : Bool) (e : Edition) → IsEdition e
     → (d n : ℕ) (s : List ℕ) (delay : Float) (ts : List InputTime) → Leaves e d n s delay ts
     → BestPath (BeyondTime late) (delayed (plainZero delay)) n (sheetCells e s (records e s)) (inputTimes late n ts)
     (settled late e n s delay ts)
-unfolding settled
+unfolding settled keeping
 rounded-path late e ok d n s delay ts l =
     let p = plain-good delay (l .within) in
-    best-path (keeping late) (delayed (plainZero delay)) (BeyondTime late) NonNeg (same-time late) (through-time late)
-    (either late)
-    (λ x y a b. both late x y a b .0) (λ x y a b. both late x y a b .1) (λ x a. add-good (plainZero delay) x p a)
-    (λ x y a b. mono-time late (plainZero delay) x y p a b)
+    ordered-path lt (λ x y. T (le x y)) NonNeg same trans less (λ x y p q. total y x q p)
+    (delayed (plainZero delay)) (λ x a. add-good (plainZero delay) x p a) (λ x y. mono (plainZero delay) x y p)
     n (sheetCells e s (records e s)) (inputTimes late n ts) (good-fed e ok d n s (records e s) (l .good))
     (inputs-good late n ts (all-sound e n s (records e s) ts (l .times))) zeroTime
-    (some-cells e d n s (records e s) (l .good))
+    (some-cells e d n s (records e s) (l .good)) late

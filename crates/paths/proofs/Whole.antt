@@ -1,8 +1,7 @@
 -- Over whole numbers of sixteenths the output's times are the least and the greatest along all paths, and a good
 -- sheet's cells are fed. Assumes nothing.
-use mathlib.Core.Path.{_≡_, refl, sym, ap, subst, _∙_}
-use mathlib.Core.Logic.{_⊎_, inl, inr}
-use mathlib.Core.Bool.{Bool, true, false, cond}
+use mathlib.Core.Path.{_≡_, sym, ap, subst, _∙_}
+use mathlib.Core.Bool.{Bool}
 use mathlib.Core.List.{List}
 use Prim.Native.Nat.{ℕ, zero, suc, _+_, _*_, _<_, _≤_}
 use native.Mathlib.Nat.{not-suc-le-zero, suc-mul}
@@ -21,9 +20,10 @@ use Rattle.sheets.proofs.Wiring.{cells-length}
 use Rattle.times.specs.declared.input_time.InputTime.{InputTime}
 use Rattle.times.specs.InputTimes.{inputTimes}
 use Rattle.times.specs.Sixteenths.{sixteenthsOf}
-use Rattle.times.specs.Whole.{keepingWhole, settledWhole}
+use Rattle.times.specs.Whole.{settledWhole}
 use Rattle.paths.specs.Paths.{readBy, along, BestPath, Beyond}
-use Rattle.paths.proofs.Along.{Fed, best-path}
+use Rattle.paths.proofs.Along.{Fed}
+use Rattle.paths.proofs.Ordered.{ordered-path}
 
 -- ---- a good sheet's cells
 
@@ -61,42 +61,6 @@ some-cells e d n s m g = subst (λ (k : ℕ). 1 ≤ k) (sym (cells-length e s 0 
 
 -- ---- whole numbers
 
-either : (late : Bool) (i j : ℕ) → (keepingWhole late i j ≡ i) ⊎ (keepingWhole late i j ≡ j)
-either true i j = go (ltb i j)
-  where
-    go : (b : Bool) → (cond b j i ≡ i) ⊎ (cond b j i ≡ j)
-    go true = inr refl
-    go false = inl refl
-either false i j = go (ltb j i)
-  where
-    go : (b : Bool) → (cond b j i ≡ i) ⊎ (cond b j i ≡ j)
-    go true = inr refl
-    go false = inl refl
-
-same : (late : Bool) (i : ℕ) → Beyond late i i
-same true i = omega arith
-same false i = omega arith
-
-through : (late : Bool) (i j k : ℕ) → Beyond late i j → Beyond late j k → Beyond late i k
-through true i j k p q = omega arith
-through false i j k p q = omega arith
-
-both : (late : Bool) (i j : ℕ) → Beyond late (keepingWhole late i j) i × Beyond late (keepingWhole late i j) j
-both true i j = go (ltb i j) refl
-  where
-    go : (b : Bool) → ltb i j ≡ b → (i ≤ cond b j i) × (j ≤ cond b j i)
-    go true q = (omega (arith, ltb-true i j q), omega arith)
-    go false q = (omega arith, omega (arith, ltb-false i j q))
-both false i j = go (ltb j i) refl
-  where
-    go : (b : Bool) → ltb j i ≡ b → (cond b j i ≤ i) × (cond b j i ≤ j)
-    go true q = (omega (arith, ltb-true j i q), omega arith)
-    go false q = (omega arith, omega (arith, ltb-false j i q))
-
-mono : (late : Bool) (d i j : ℕ) → Beyond late i j → Beyond late (i + d) (j + d)
-mono true d i j h = omega arith
-mono false d i j h = omega arith
-
 -- the greatest (late), or the least, over all paths
 pub whole-path : (late : Bool) (e : Edition) → IsEdition e
     → (d n : ℕ) (s : List ℕ) (delay : Float) (ts : List InputTime) → Good e d n s (records e s)
@@ -104,12 +68,11 @@ pub whole-path : (late : Bool) (e : Edition) → IsEdition e
     (λ j. sixteenthsOf (inputTimes late n ts j)) (settledWhole late e n s delay ts)
 unfolding settledWhole
 whole-path late e ok d n s delay ts g =
-    best-path (keepingWhole late) (λ i. i + sixteenthsOf delay) (Beyond late) (λ i. Unit {0}) (λ i p. same late i)
-    (λ i j k p q r. through late i j k) (either late)
-    (λ i j p q. both late i j .0) (λ i j p q. both late i j .1) (λ i p. tt)
-    (λ i j p q. mono late (sixteenthsOf delay) i j)
-    n (sheetCells e s (records e s)) (λ j. sixteenthsOf (inputTimes late n ts j)) (good-fed e ok d n s (records e s) g)
-    (λ j. tt) 0 (some-cells e d n s (records e s) g)
+    ordered-path ltb _≤_ (λ i. Unit {0}) (λ i p. omega arith) (λ i j k p q r a b. omega arith)
+    (λ i j h. omega (arith, ltb-true i j h)) (λ i j p q h. ltb-false i j h)
+    (λ i. i + sixteenthsOf delay) (λ i p. tt) (λ i j p q h. omega arith)
+    n (sheetCells e s (records e s)) (λ j. sixteenthsOf (inputTimes late n ts j))
+    (good-fed e ok d n s (records e s) g) (λ j. tt) 0 (some-cells e d n s (records e s) g) late
 
 -- a path of k cells adds the delay k times
 pub along-whole : (d k i : ℕ) → along (λ j. j + d) k i ≡ i + k * d

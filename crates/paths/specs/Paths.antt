@@ -28,15 +28,18 @@ unfoldable pub along : {A : Type 0} → (A → A) → ℕ → A → A
 along after zero x = x
 along after (suc k) x = after (along after k x)
 
--- of whole numbers: i is at least j (late), or at most
-abbrev pub Beyond : Bool → ℕ → ℕ → Type 0
-Beyond true i j = j ≤ i
-Beyond false i j = i ≤ j
+-- by an order: x is at least y (late), or at most
+abbrev pub beyondBy : {A : Type 0} → (A → A → Type 0) → Bool → A → A → Type 0
+beyondBy atMost true x y = atMost y x
+beyondBy atMost false x y = atMost x y
 
--- of f64: x is at least y (late), or at most
+-- of whole numbers
+abbrev pub Beyond : Bool → ℕ → ℕ → Type 0
+Beyond = beyondBy _≤_
+
+-- of f64
 abbrev pub BeyondTime : Bool → Float → Float → Type 0
-BeyondTime true x y = T (le y x)
-BeyondTime false x y = T (le x y)
+BeyondTime = beyondBy (λ x y. T (le x y))
 
 -- o is the best of the times along all paths: it is at least as good as each, and it is that along one of them
 pub record BestPath {A : Type 0} (asGood : A → A → Type 0) (after : A → A) (n : ℕ) (cs : List Cell) (v : ℕ → A) (o : A)

@@ -15,6 +15,7 @@ use Rattle.sheets.proofs.Wholes.{length-sheet}
 use Rattle.tables.specs.Work.{workLength}
 use Rattle.refusals.specs.declared.verdicts.Verdict.{Verdict}
 use Rattle.refusals.specs.declared.verdicts.Verdict.the-variants.{Fine, Refused}
+use Rattle.refusals.specs.Lent.{into}
 use Rattle.refusals.specs.Lines.{verdict, numberOf, reply}
 use Rattle.bench.specs.declared.make_sheet.MakeAnswer.{MakeAnswer}
 use Rattle.bench.specs.MakeSheet.{MakeOutcome, sheetFor, cellsIn, makeLines, makeDone, makeNot, makeOutcome}
@@ -22,14 +23,16 @@ use Rattle.programs.specs.BenchProgram.{mostWritten, asked, ProgramOutco
 
 -- ---- the records made stand in the room for the sheet, so what is to be written stands in the room handed over
 
+-- a room that some bytes begin is as long as they are
+pub long-enough : (bytes room : List ℕ) → length bytes ≤ length (into bytes room)
+long-enough bytes room = omega (arith, length-append bytes (drop (length bytes) room))
+
 abbrev Fit : Edition → MakeOutcome → Type 0
 Fit e o = e .size * o .answer .count ≤ length (o .sheet)
 
 fit : (e : Edition) (d : ℕ) (cs : List Cell) (sheet work : List ℕ) (v : Verdict)
     → Fit e (reply v (makeDone e d cs sheet work) (makeNot sheet work))
-fit e d cs sheet work Fine =
-    let b = sheetBytes e d cs in
-    omega (arith, length-sheet e d cs, length-append b (drop (length b) sheet))
+fit e d cs sheet work Fine = omega (arith, length-sheet e d cs, long-enough (sheetBytes e d cs) sheet)
 fit e d cs sheet work (Refused r) = omega arith
 
 make-fits : (e : Edition) (d n K : ℕ) (t sheet work : List ℕ) → Fit e (makeOutcome e d n K t sheet work)

@@ -17,10 +17,11 @@ use Rattle.sheets.specs.Edition.{firstEdition}
 use Rattle.sheets.specs.Desk.{deskOf}
 use Rattle.refusals.specs.declared.verdicts.Verdict.{Verdict}
 use Rattle.refusals.specs.declared.verdicts.Verdict.the-variants.{Refused}
+use Rattle.refusals.specs.Lent.{into}
 use Rattle.refusals.specs.Lines.{refusal, numberOf, placeOf}
 use Rattle.refusals.proofs.Lines.{here, decides}
-use Rattle.refusals.proofs.Tests.{over as outside}
-use Rattle.programs.proofs.BenchProgram.{rest}
+use Rattle.refusals.proofs.Tests.{over}
+use Rattle.programs.proofs.BenchProgram.{rest, long-enough}
 use Rattle.inspection.specs.CheckSheet.{checkLines, checkOutcome, checkOwn}
 use Rattle.programs.specs.InspectProgram.{digits, decimal, inspected, shown, written, mostWritten}
 use Rattle.programs.specs.InspectProgram.{ProgramOutcome, programOutcome}
@@ -76,34 +77,30 @@ at-most b x h = few-digits b (suc x) x h
 
 -- ---- bytes written over the beginning of a room
 
--- d over the beginning of o
-abbrev pub over : List ℕ → List ℕ → List ℕ
-over d o = d ++ drop (length d) o
-
 -- one byte more
-one-more : (d o : List ℕ) (a : ℕ) → length d < length o → set (over d o) (length d) a ≡ over (d ++ (a ∷ [])) o
+one-more : (d o : List ℕ) (a : ℕ) → length d < length o → set (into d o) (length d) a ≡ into (d ++ (a ∷ [])) o
 one-more [] [] a h = absurd (not-suc-le-zero h)
 one-more [] (x ∷ o) a h = refl
 one-more (y ∷ d) [] a h = absurd (not-suc-le-zero h)
 one-more (y ∷ d) (x ∷ o) a h = ap (λ (l : List ℕ). y ∷ l) (one-more d o a (omega arith))
 
 -- the room keeps its length
-same-room : (d o : List ℕ) → length d ≤ length o → length (over d o) ≡ length o
+same-room : (d o : List ℕ) → length d ≤ length o → length (into d o) ≡ length o
 same-room d o h = omega (arith, length-append d (drop (length d) o), length-drop (length d) o)
 
 -- what a call that writes the digits of x over o leaves and returns
 abbrev pub Written : ℕ → List ℕ → List ℕ → ℕ → Type 0
-Written x o left r = (r ≡ length (decimal x)) × (left ≡ over (decimal x) o)
+Written x o left r = (r ≡ length (decimal x)) × (left ≡ into (decimal x) o)
 
 pub last-digit : (x : ℕ) (o : List ℕ) → x < 10 → length (decimal x) ≤ length o → (0 < length o)
     × Written x o (set o 0 (48 + x)) 1
 last-digit x o h f = go (decimal x) (one-digit x h) f
   where
     go : (d : List ℕ) → d ≡ (48 + x) ∷ [] → length d ≤ length o → (0 < length o)
-        × ((1 ≡ length d) × (set o 0 (48 + x) ≡ over d o))
+        × ((1 ≡ length d) × (set o 0 (48 + x) ≡ into d o))
     go d q f =
         let l : length d ≡ 1 = ap length q in
-        (omega arith, (sym l, one-more [] o (48 + x) (omega arith) ∙ ap (λ (d : List ℕ). over d o) (sym q)))
+        (omega arith, (sym l, one-more [] o (48 + x) (omega arith) ∙ ap (λ (d : List ℕ). into d o) (sym q)))
 
 -- x has one digit more than x / 10
 pub one-longer : (x : ℕ) → 10 ≤ x → length (decimal x) ≡ length (decimal (x / 10)) + 1
@@ -125,7 +122,7 @@ module _ (x : ℕ) (o left : List ℕ) (r : ℕ) (many : 10 ≤ x) (fit : length
     omega (arith, w .0, one-longer x many),
     ap₂ (λ (l : List ℕ) (k : ℕ). set l k (48 + x % 10)) (w .1) (w .0)
         ∙ one-more (decimal (x / 10)) o (48 + x % 10) (omega (arith, one-longer x many))
-        ∙ ap (λ (d : List ℕ). over d o) (sym (more-digits x many)),
+        ∙ ap (λ (d : List ℕ). into d o) (sym (more-digits x many)),
   )
 
 -- ---- the parts of the input
@@ -134,7 +131,7 @@ module _ (x : ℕ) (o left : List ℕ) (r : ℕ) (many : 10 ≤ x) (fit : length
 too-many : (n : ℕ) (t s : List ℕ) → mostInputs < n → Refused (refusal 1 0) ≡ checkOwn firstEdition n t s
 unfolding checkOutcome
 too-many n t s h = decides (checkLines firstEdition (deskOf firstEdition s) n t s)
-    (here (outside 1 n mostInputs (omega arith) ∙ lt-ltb mostInputs n h))
+    (here (over 1 n mostInputs (omega arith) ∙ lt-ltb mostInputs n h))
 
 module _ (input : List ℕ) (n start bytes end : ℕ) where
   abbrev behind : List ℕ
@@ -158,21 +155,21 @@ module _ (input : List ℕ) (n start bytes end : ℕ) where
 
 -- ---- the answer: a number, a space and a place, each over the beginning of what is left of the room
 
-over-twice : (d p o : List ℕ) → length d ≤ length o → d ++ over p (drop (length d) o) ≡ over (d ++ p) o
-over-twice [] p o h = refl
-over-twice (y ∷ d) p [] h = absurd (not-suc-le-zero h)
-over-twice (y ∷ d) p (x ∷ o) h = ap (λ (l : List ℕ). y ∷ l) (over-twice d p o (omega arith))
+into-twice : (d p o : List ℕ) → length d ≤ length o → d ++ into p (drop (length d) o) ≡ into (d ++ p) o
+into-twice [] p o h = refl
+into-twice (y ∷ d) p [] h = absurd (not-suc-le-zero h)
+into-twice (y ∷ d) p (x ∷ o) h = ap (λ (l : List ℕ). y ∷ l) (into-twice d p o (omega arith))
 
 -- p over the beginning of a part lent from behind d on
-lent : (a : ℕ) (left d p o ys : List ℕ) → a ≡ length d → left ≡ over d o → length d ≤ length o
-    → ys ≡ over p (midOf a (length left - a) left) → putMid a (length left - a) left ys ≡ over (d ++ p) o
+lent : (a : ℕ) (left d p o ys : List ℕ) → a ≡ length d → left ≡ into d o → length d ≤ length o
+    → ys ≡ into p (midOf a (length left - a) left) → putMid a (length left - a) left ys ≡ into (d ++ p) o
 lent a left d p o ys q r h w =
     let tail : drop a left ≡ drop (length d) o = ap₂ drop q r ∙ drop-append-seam d (drop (length d) o) in
     ap₂ (λ (f b : List ℕ). f ++ b) (ap₂ take q r ∙ take-append-seam d (drop (length d) o))
     (ap (λ (b : List ℕ). ys ++ b) (drop-of-length-le (drop a left) {i = length left - a}
     (omega (arith, length-drop a left)))
-    ∙ append-nil ys ∙ w ∙ ap (over p) (rest a left ∙ tail))
-    ∙ over-twice d p o h
+    ∙ append-nil ys ∙ w ∙ ap (into p) (rest a left ∙ tail))
+    ∙ into-twice d p o h
 
 module _ (room : List ℕ) (x : ℕ) (long : length room ≡ mostWritten) (small : x < 256) where
   pub number-fits : length (decimal x) ≤ length room
@@ -209,14 +206,14 @@ module _ (room : List ℕ) (x : ℕ) (long : length room ≡ mostWritten) (small
         let d = decimal x ++ (32 ∷ []) in
         let l : length d ≡ length (decimal x) + 1 = length-append (decimal x) (32 ∷ []) in
         let whole : length (d ++ decimal y) ≡ length d + length (decimal y) = length-append d (decimal y) in
-        let here : spaced ≡ over d room = ap₂ (λ (o : List ℕ) (k : ℕ). set o k 32) (w .1) (w .0)
+        let here : spaced ≡ into d room = ap₂ (λ (o : List ℕ) (k : ℕ). set o k 32) (w .1) (w .0)
         ∙ one-more (decimal x) room 32 (omega (arith, w .0, at-most 2 x (omega arith), long)) in
         let count : r + 1 + place ≡ length (d ++ decimal y) = omega (arith, l, whole, w .0, second .0) in
         let out = lent (r + 1) spaced d (decimal y) room ys (omega (arith, l, w .0)) here
         (omega (arith, l, at-most 2 x (omega arith), long)) (second .1) in
         ap₂ (λ (k : ℕ) (o : List ℕ). record { count = k; out = o }) count out
-        ∙ ap (λ (o : List ℕ). record { count = length (d ++ decimal y); out = over (d ++ decimal y) o }) zeros
-        ∙ ap (λ (t : List ℕ). record { count = length t; out = over t (replicate mostWritten 0) })
+        ∙ ap (λ (o : List ℕ). record { count = length (d ++ decimal y); out = into (d ++ decimal y) o }) zeros
+        ∙ ap (λ (t : List ℕ). record { count = length t; out = into t (replicate mostWritten 0) })
         (append-assoc (decimal x) (32 ∷ []) (decimal y) ∙ ap₂ (λ (i j : ℕ). decimal i ++ (32 ∷ decimal j)) number named
         ∙ ap shown asked)
 
@@ -224,7 +221,4 @@ module _ (room : List ℕ) (x : ℕ) (long : length room ≡ mostWritten) (small
 pub within : {count : ℕ} {out : List ℕ} (input : List ℕ) → record { count = count; out = out } ≡ programOutcome input
     → count ≤ length out
 within input q = subst (λ (o : ProgramOutcome). o .count ≤ length (o .out)) (sym q)
-    (front (written input) (replicate mostWritten 0))
-  where
-    front : (d o : List ℕ) → length d ≤ length (over d o)
-    front d o = omega (arith, length-append d (drop (length d) o))
+    (long-enough (written input) (replicate mostWritten 0))

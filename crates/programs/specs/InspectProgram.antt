@@ -7,6 +7,7 @@ use lib.ListN.{length, getD, take, drop, replicate}
 use Rattle.tables.specs.Table.{mostInputs, tableLength}
 use Rattle.sheets.specs.Edition.{recordSize, mostRecords, firstEdition}
 use Rattle.refusals.specs.declared.verdicts.Verdict.{Verdict}
+use Rattle.refusals.specs.Lent.{into}
 use Rattle.refusals.specs.Lines.{numberOf, placeOf}
 use Rattle.inspection.specs.CheckSheet.{checkOwn}
 
@@ -50,5 +51,5 @@ pub record ProgramOutcome : Type 0 where
 abbrev pub programOutcome : List ℕ → ProgramOutcome
 programOutcome input = record {
   count = length (written input);
-  out = written input ++ drop (length (written input)) (replicate mostWritten 0);
+  out = into (written input) (replicate mostWritten 0);
 }

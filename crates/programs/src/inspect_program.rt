@@ -9,10 +9,10 @@ use refusals::verdicts::place_of;
 use sheets::kinds::Sheet;
 use tables::clear;
 ghost use mathlib.Core.Path.{_≡_};
-ghost use mathlib.Core.List.{_++_};
 ghost use Prim.Native.Nat.{_≤_};
-ghost use lib.ListN.{length, drop};
+ghost use lib.ListN.{length};
 ghost use Rattle.tables.specs.Table.{mostInputs, tableLength};
+ghost use Rattle.refusals.specs.Lent.{into};
 ghost use Rattle.programs.specs.InspectProgram.{decimal, inspected, mostWritten, programOutcome};
 
 // n, the longest table, the longest sheet and one byte more: with that byte the sheet is too long, however long it is.
@@ -44,9 +44,7 @@ fn inspect(input: &[u8]) -> Verdict
 // Writes x in decimal into the first bytes of out; how many they are.
 fn write_decimal(x: u64, out: &mut [u8]) -> usize
     requires { ⌜ length (decimal x) ≤ length (now out) ⌝ }
-    ensures { λ r. ⌜
-        (r ≡ length (decimal x)) × (now (out .exit) ≡ decimal x ++ drop (length (decimal x)) (now (out .entry)))
-        ⌝ }
+    ensures { λ r. ⌜ (r ≡ length (decimal x)) × (now (out .exit) ≡ into (decimal x) (now (out .entry))) ⌝ }
 {
     if x < 10 {
         out[0] = 48 + x as u8;

@@ -16,7 +16,7 @@ use lib.Ieee.Order.{transfer}
 use lib.ListN.{length, getD}
 use borrow.Author.Tests.{lt-ltb, le-ltb}
 use Rattle.sheets.specs.Network.{Cell}
-use Rattle.times.specs.Signals.{kept, cellTime, outputTime, keeping, delayed}
+use Rattle.times.specs.Signals.{kept, cellTime, outputTime, keepBy, keeping, delayed}
 use Rattle.times.specs.Whole.{keepingWhole}
 use Rattle.times.proofs.Sums.{value, add-at}
 
@@ -98,18 +98,16 @@ same-order (fin false m e) (fin false n d) i j h k = elim (decLt i j) [
 picks : (late : Bool) (k : ℕ) (x y : Float) (i j : ℕ) → k ≤ 15 → Exactly k x i → Exactly k y j
     → Exactly k (keeping late x y) (keepingWhole late i j)
 unfolding keeping
-picks true k x y i j h p q = subst (λ (b : Bool). Exactly k (cond b y x) (cond (ltb i j) j i))
-    (sym (same-order x y i j (p .0) (q .0))) (one (ltb i j))
+picks late k x y i j h p q = go late
   where
-    one : (b : Bool) → Exactly k (cond b y x) (cond b j i)
-    one true = q
-    one false = p
-picks false k x y i j h p q = subst (λ (b : Bool). Exactly k (cond b y x) (cond (ltb j i) j i))
-    (sym (same-order y x j i (q .0) (p .0))) (one (ltb j i))
-  where
-    one : (b : Bool) → Exactly k (cond b y x) (cond b j i)
-    one true = q
-    one false = p
+    -- where a test is the same for both, it picks a time and its number
+    one : (b c : Bool) → b ≡ c → Exactly k (cond b y x) (cond c j i)
+    one b true e = subst (λ (b : Bool). Exactly k (cond b y x) j) (sym e) q
+    one b false e = subst (λ (b : Bool). Exactly k (cond b y x) i) (sym e) p
+
+    go : (late : Bool) → Exactly k (keepBy lt late x y) (keepBy ltb late i j)
+    go true = one (lt x y) (ltb i j) (same-order x y i j (p .0) (q .0))
+    go false = one (lt y x) (ltb j i) (same-order y x j i (q .0) (p .0))
 
 afters : (delay : Float) (d : ℕ) → Exactly 0 delay d → (k : ℕ) (x : Float) (i : ℕ) → k < 15 → Exactly k x i
     → Exactly (suc k) (delayed delay x) (i + d)

@@ -26,10 +26,14 @@ outputTime pick after o i [] v = o
 outputTime pick after o i (c ∷ cs) v =
     outputTime pick after (cellTime pick after c v) (suc i) cs (λ s. cond (eqb s i) (cellTime pick after c v) (v s))
 
+-- of two the greater (late), or the lesser
+abbrev pub keepBy : {A : Type 0} → (A → A → Bool) → Bool → A → A → A
+keepBy less true x y = cond (less x y) y x
+keepBy less false x y = cond (less y x) y x
+
 -- the greatest of the latest times (late) is kept, the least of the earliest
 unfoldable pub keeping : Bool → Float → Float → Float
-keeping true x y = cond (lt x y) y x
-keeping false x y = cond (lt y x) y x
+keeping = keepBy lt
 
 -- the delay added, rounded once
 abbrev pub delayed : Float → Float → Float

@@ -1,2 +1,3 @@
--- Where a walk may stop.
+-- Where a walk may stop, and what it learns on its way.
 pub mod Pruning
+pub mod Learning

@@ -72,9 +72,9 @@ pub wide-size : (n m : ℕ) → n ≤ 16 → m < 2 ^ n → size 16 (bit m) ≡ s
 wide-size n m h l = sym (ones-size 16 m (lt-of-lt-of-le l (pow-mono {i = n} {j = 16} h))) ∙ ones-size n m l
 
 -- `need & !acc`
-module _ (need acc : ℕ) (fits : acc < 65536) where
+module _ (need acc : ℕ) (small : acc < 65536) where
   pub left-bit : (j : ℕ) → j < 16 → bit (bitAnd need (65535 - acc)) j ≡ (bit need j && not (bit acc j))
-  left-bit j l = bit-and need (65535 - acc) j ∙ ap (λ (t : Bool). bit need j && t) (bit-not 16 acc j fits l)
+  left-bit j l = bit-and need (65535 - acc) j ∙ ap (λ (t : Bool). bit need j && t) (bit-not 16 acc j small l)
 
   left-off : (j : ℕ) → j < 16 → bit (bitAnd need (65535 - acc)) j ≡ true → (bit need j ≡ true) × (bit acc j ≡ false)
   left-off j l e = go (bit need j) (bit acc j) refl refl (sym (left-bit j l) ∙ e)
@@ -84,6 +84,10 @@ module _ (need acc : ℕ) (fits : acc < 65536) where
       go true false p q f = (p, q)
       go true true p q f = absurd (clash f refl)
       go false v p q f = absurd (clash f refl)
+
+-- a mask of a range is one of the machine's
+pub mask-fits : {n p acc : ℕ} → Range n p acc → acc < 2 ^ 16
+mask-fits {n} r = lt-of-lt-of-le (r .below) (pow-mono {i = n} {j = 16} (r .most))
 
 -- ---- the masks of a range have what is made already
 module _ {n p acc : ℕ} (r : Range n p acc) (i : ℕ) (l : i < 2 ^ p) where
@@ -116,13 +120,21 @@ module _ (n r : ℕ) (F : ℕ → Bool) where
   lacks P A B c w inside out apart = w .fails (bit A) (bit B) apart inside
       (λ j e. ap (λ (i : ℕ). rest (bit A) (bit B) i) (eqb-true j c e) ∙ ap not out)
 
+  -- a pair of masks that has no room for what is needed; S has of it what the pair has
+  no-room : (P S : ℕ → Bool) (A B need acc : ℕ) → Needs n F (2 ^ r) P need → acc < 65536 → Inside P (bit A)
+      → Inside (bit acc) S → ((c : ℕ) → bit need c ≡ true → S c ≡ false → union (bit A) (bit B) c ≡ false)
+      → size 16 S < size 16 (bit acc) + size 16 (bit (bitAnd need (65535 - acc)))
+      → Apart n (bit A) (bit B) → fewColumns n F (bit A) (bit B) (2 ^ r) ≡ false
+  no-room P S A B need acc w small has inside out h apart =
+      let x = crowded 16 (bit acc) (bit (bitAnd need (65535 - acc))) S (λ j l e. left-off need acc small j l e .1)
+      inside h in
+      let e = left-off need acc small (x .0) (x .1) (x .2) .0 in
+      lacks P A B (x .0) (w (x .0) e) has (out (x .0) e (x .3)) apart
+
   -- ---- shared masks
   module _ (own need : ℕ) (w : Needs n F (2 ^ r) (bit own) need) (off : (c : ℕ) → bit need c ≡ true → bit own c ≡ false)
       {p acc : ℕ} (g : SharedRange n own p acc)
       (k : ℕ) where
-    fits : acc < 65536
-    fits = lt-of-lt-of-le (g .range .below) (pow-mono {i = n} {j = 16} (g .range .most))
-
     without : (q c m : ℕ) → bit need c ≡ true → bit m c ≡ false → tryB n r F q own m ≡ none
     without q c m e f = tryB-never q own m (λ s apart. lacks (bit own) own m c (w c e) (λ j h. h) (ap₂ _||_ (off c e) f)
         apart)
@@ -135,32 +147,26 @@ module _ (n r : ℕ) (F : ℕ → Bool) where
         at : (i : ℕ) → i < 2 ^ p → size n (bit (acc + i)) ≡ size n (bit acc) + k → Apart n (bit own) (bit (acc + i))
             → fewColumns n F (bit own) (bit (acc + i)) (2 ^ r) ≡ false
         at i l s apart =
-            let x = crowded 16 (bit acc) (bit (bitAnd need (65535 - acc))) (bit (acc + i))
-            (λ j l e. left-off need acc fits j l e .1) (range-has (g .range) i l)
+            no-room (bit own) (bit (acc + i)) own (acc + i) need acc w (mask-fits (g .range)) (λ j h. h)
+            (range-has (g .range) i l) (λ c e f. ap₂ _||_ (off c e) f)
             (omega (
               arith,
               wide-size n acc (g .range .most) (g .range .below),
               wide-size n (acc + i) (g .range .most)
                   (range-lt (g .range) i l),
-            )) in
-            let e = left-off need acc fits (x .0) (x .1) (x .2) in
-            lacks (bit own) own (acc + i) (x .0) (w (x .0) (e .0)) (λ j h. h) (ap₂ _||_ (off (x .0) (e .0)) (x .3))
-            apart
+            )) apart
 
     pub shared-passed : need < 65536 → bit (bitAnd need (65535 - acc)) p ≡ true
         → inRange p acc (tryB n r F (size n (bit acc) + k) own) ≡ none
     shared-passed small h =
         let p-lt : p < 16 = bit-within (bitAnd need (65535 - acc)) 16 p
         (lt-of-le-of-lt (and-le-l need (65535 - acc)) small) h in
-        let e = left-off need acc fits p p-lt h in
+        let e = left-off need acc (mask-fits (g .range)) p p-lt h in
         first-nothing (2 ^ p) _ (λ i l. without (size n (bit acc) + k) p (acc + i) (e .0)
         (range-stays (g .range) i l p (omega arith) ∙ e .1))
 
   -- ---- own masks
   module _ (need : ℕ) {p acc : ℕ} (w : Needs n F (2 ^ r) (bit acc) need) (g : Range n p acc) (q k : ℕ) where
-    own-fits : acc < 65536
-    own-fits = lt-of-lt-of-le (g .below) (pow-mono {i = n} {j = 16} (g .most))
-
     pub own-crowded : q + k < size 16 (bit (bitAnd need (65535 - acc)))
         → inRange p acc (tryA n r F (size n (bit acc) + k) q) ≡ none
     own-crowded h = first-nothing (2 ^ p) _ (λ i l. tried i l
@@ -170,18 +176,15 @@ module _ (n r : ℕ) (F : ℕ → Bool) where
             → size n (bit B) ≡ q → Apart n (bit (acc + i)) (bit B)
             → fewColumns n F (bit (acc + i)) (bit B) (2 ^ r) ≡ false
         pairs i l s B b t apart =
-            let x = crowded 16 (bit acc) (bit (bitAnd need (65535 - acc))) (union (bit (acc + i)) (bit B))
-            (λ j l e. left-off need acc own-fits j l e .1)
-            (λ j e. ap (λ (u : Bool). u || bit B j) (range-has g i l j e))
+            no-room (bit acc) (union (bit (acc + i)) (bit B)) (acc + i) B need acc w (mask-fits g) (range-has g i l)
+            (λ j e. ap (λ (u : Bool). u || bit B j) (range-has g i l j e)) (λ c e f. f)
             (omega (
               arith,
               wide-size n acc (g .most) (g .below),
               wide-size n (acc + i) (g .most) (range-lt g i l),
               wide-size n B (g .most) b,
               size-or 16 (bit (acc + i)) (bit B),
-            )) in
-            lacks (bit acc) (acc + i) B (x .0) (w (x .0) (left-off need acc own-fits (x .0) (x .1) (x .2) .0))
-            (range-has g i l) (x .3) apart
+            )) apart
 
         tried : (i : ℕ) → i < 2 ^ p → Dec (size n (bit (acc + i)) ≡ size n (bit acc) + k)
             → tryA n r F (size n (bit acc) + k) q (acc + i) ≡ none

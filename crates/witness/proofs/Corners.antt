@@ -1,7 +1,7 @@
 -- Two own positions, one free one: at a place where all three are 0, four points and two offsets make eight bits. Where
 -- the words of their changes clash, three of the four points are told apart. Assumes nothing.
 use mathlib.Core.Path.{_≡_, refl, sym, ap, ap₂, _∙_, subst}
-use mathlib.Core.Bool.{Bool, true, false, not, _&&_, _||_}
+use mathlib.Core.Bool.{Bool, true, false, not, _&&_, _||_, or-false}
 use Prim.Native.Nat.{ℕ, zero, suc, _+_, _-_, _*_, _%_, _^_, _<_, _≤_}
 use native.Mathlib.Nat.{lt-of-lt-of-le, lt-of-le-of-lt, sub-le}
 use native.Mathlib.Decide.{decLt}
@@ -9,7 +9,7 @@ use native.Mathlib.Omega.{arith}
 use lib.Dec.{eqb, lit<}
 use lib.Bits.{bitAnd, bitOr, bitXor, or-lt, or-zero-r, and-le-l}
 use lib.Pow.{pow-mono, pow-pos, pow-add}
-use borrow.Author.Tests.{eqb-true}
+use borrow.Author.Tests.{eqb-true, not-true}
 use Rattle.bits.specs.Numbers.{bit, number}
 use Rattle.bits.specs.Sets.{union, Apart, spread}
 use Rattle.bits.proofs.Bools.{clash, false-of, or-none, and-left, and-right}
@@ -22,7 +22,7 @@ use Rattle.bits.proofs.Machine.{bit-and, bit-or}
 use Rattle.witness.specs.Witness.{RulesOut, Told, Spots}
 use Rattle.witness.specs.Points.{differ, Turned, Off, Still, Steps}
 use Rattle.witness.proofs.Members.{bit-xor, bit-within, power-bit}
-use Rattle.witness.proofs.Points.{told-by, not-told, said-no, not-true, three-rule}
+use Rattle.witness.proofs.Points.{told-by, not-told, said-no, three-rule}
 
 -- ---- four points and two offsets: some point changes at the first, some at the second, and some at one alone
 module _ (F : ℕ → Bool) (at : ℕ → ℕ → ℕ) where
@@ -123,11 +123,7 @@ module _ {n : ℕ} (x d p q k : ℕ) (least : 6 ≤ n) (belowX : x < 2 ^ n) (bel
   base-off : (o j : ℕ) → bit d j ≡ false → bit (base o) j ≡ bit x j
   unfolding base
   base-off zero j e = refl
-  base-off (suc o) j e = bit-or x d j ∙ ap (λ (t : Bool). bit x j || t) e ∙ none (bit x j)
-    where
-      none : (t : Bool) → (t || false) ≡ t
-      none true = refl
-      none false = refl
+  base-off (suc o) j e = bit-or x d j ∙ ap (λ (t : Bool). bit x j || t) e ∙ or-false (bit x j)
 
   -- the place moves no corner
   apart : (a o : ℕ) → Apart n (bit (bitOr (base o) (corner a))) (bit k)

@@ -1,9 +1,9 @@
 -- More than m columns of four bits: a point for each of them, and they are pairwise told apart. Assumes nothing.
 use mathlib.Core.Path.{_≡_, refl, sym, ap, ap₂, _∙_}
 use mathlib.Core.List.{List}
-use mathlib.Core.Bool.{Bool, true, false, _||_, Bool·beq}
+use mathlib.Core.Bool.{Bool, true, false, _||_, Bool-discrete}
 use Prim.Native.Nat.{ℕ, zero, suc, _+_, _*_, _/_, _%_, _^_, _<_, _≤_}
-use native.Mathlib.Nat.{not-suc-le-zero, mod-lt}
+use native.Mathlib.Nat.{mod-lt}
 use native.Mathlib.Decide.{decLt}
 use native.Mathlib.Omega.{arith}
 use lib.Dec.{lit<}
@@ -11,73 +11,19 @@ use lib.Bits.{bitAnd, bitOr, bitXor, xor-lt, xor-block, xor-zero-r}
 use borrow.Author.Tests.{eqb-true}
 use Rattle.bits.specs.Numbers.{bit, val}
 use Rattle.bits.specs.Sets.{size, spread}
-use Rattle.bits.proofs.Bools.{clash, or-none, same-beq, beq-same}
+use Rattle.bits.proofs.Bools.{clash, or-none}
 use Rattle.bits.proofs.Numbers.{bit-zero, bit-number}
 use Rattle.bits.proofs.Building.{bit-digit}
 use Rattle.bits.proofs.Machine.{bit-or}
+use Rattle.bits.proofs.Members.{Place, place}
 use Rattle.tables.specs.Table.{tableBit}
 use Rattle.tables.specs.Words.{tableWord}
-use Rattle.witness.specs.Witness.{RulesOut, Witness}
+use Rattle.witness.specs.Witness.{RulesOut}
 use Rattle.witness.specs.Crowd.{columnOver, HasColumn, Seen}
 use Rattle.witness.proofs.Members.{power-bit}
 use Rattle.witness.proofs.Points.{xor-still, xor-alike}
 use Rattle.witness.proofs.Corners.{spread-low}
 use Rattle.witness.proofs.Law.{witness-rules}
-
--- ---- the members of a set, numbered
-record Numbered (n : ℕ) (s : ℕ → Bool) (k : ℕ) : Type 0 where
-  nth : ℕ → ℕ
-  below : (i : ℕ) → i < k → nth i < n
-  holds : (i : ℕ) → i < k → s (nth i) ≡ true
-  apart : (i j : ℕ) → i < j → j < k → nth i ≡ nth j → ⊥
-
-numbered : (n : ℕ) (s : ℕ → Bool) → Numbered n s (size n s)
-unfolding size
-numbered zero s = record {
-  nth = λ i. 0;
-  below = λ i l. absurd (not-suc-le-zero l);
-  holds = λ i l. absurd (not-suc-le-zero l);
-  apart = λ i j l h. absurd (not-suc-le-zero h);
-}
-numbered (suc n) s = go (s n) refl (numbered n s)
-  where
-    go : (t : Bool) → s n ≡ t → Numbered n s (size n s) → Numbered (suc n) s (size n s + val t)
-    go false e w = record {
-      nth = w .nth;
-      below = λ i l. omega (arith, w .below i (omega arith));
-      holds = λ i l. w .holds i (omega arith);
-      apart = λ i j l h. w .apart i j l (omega arith);
-    }
-    go true e w = record { nth = nth; below = below; holds = holds; apart = apart }
-      where
-        pick : {i : ℕ} → Dec (i < size n s) → ℕ
-        pick {i} (yes l) = w .nth i
-        pick {i} (no l) = n
-
-        nth : ℕ → ℕ
-        nth i = pick (decLt i (size n s))
-
-        below : (i : ℕ) → i < size n s + 1 → nth i < suc n
-        below i l = at (decLt i (size n s))
-          where
-            at : (d : Dec (i < size n s)) → pick d < suc n
-            at (yes h) = omega (arith, w .below i h)
-            at (no h) = omega arith
-
-        holds : (i : ℕ) → i < size n s + 1 → s (nth i) ≡ true
-        holds i l = at (decLt i (size n s))
-          where
-            at : (d : Dec (i < size n s)) → s (pick d) ≡ true
-            at (yes h) = w .holds i h
-            at (no h) = e
-
-        apart : (i j : ℕ) → i < j → j < size n s + 1 → nth i ≡ nth j → ⊥
-        apart i j l h = at (decLt i (size n s)) (decLt j (size n s))
-          where
-            at : (d : Dec (i < size n s)) (d′ : Dec (j < size n s)) → pick d ≡ pick d′ → ⊥
-            at (yes p) (yes q) f = w .apart i j l q f
-            at (yes p) (no q) f = omega (arith, w .below i p)
-            at (no p) d′ f = omega arith
 
 -- ---- where two columns differ
 module _ (F : ℕ → Bool) (e f : ℕ) where
@@ -91,38 +37,18 @@ module _ (F : ℕ → Bool) (e f : ℕ) where
   unfolding four
   where-told x y h = go (same 0) (same 1) (same 2) (same 3)
     where
-      same : (o : ℕ) → Dec (Bool·beq (F (four o x)) (F (four o y)) ≡ true)
-      same o = at (Bool·beq (F (four o x)) (F (four o y))) refl
-        where
-          at : (t : Bool) → Bool·beq (F (four o x)) (F (four o y)) ≡ t
-              → Dec (Bool·beq (F (four o x)) (F (four o y)) ≡ true)
-          at true q = yes q
-          at false q = no (λ r. clash r q)
+      same : (o : ℕ) → Dec (F (four o x) ≡ F (four o y))
+      same o = Bool-discrete (F (four o x)) (F (four o y))
 
-      told : (o : ℕ) → (Bool·beq (F (four o x)) (F (four o y)) ≡ true → ⊥) → (o : ℕ) × (F (four o x) ≡ F (four o y) → ⊥)
-      told o g = (o, λ q. g (same-beq _ _ q))
-
-      all : Bool·beq (F (four 0 x)) (F (four 0 y)) ≡ true → Bool·beq (F (four 1 x)) (F (four 1 y)) ≡ true
-          → Bool·beq (F (four 2 x)) (F (four 2 y)) ≡ true
-          → Bool·beq (F (four 3 x)) (F (four 3 y)) ≡ true → columnOver F e f x ≡ columnOver F e f y
-      all p q r s =
-          let p′ : val (F x) ≡ val (F y) = ap val (beq-same (F x) (F y) p) in
-          let q′ : val (F (bitXor x e)) ≡ val (F (bitXor y e)) = ap val (beq-same (F (bitXor x e)) (F (bitXor y e)) q)
-          in
-          let r′ : val (F (bitXor x f)) ≡ val (F (bitXor y f)) = ap val (beq-same (F (bitXor x f)) (F (bitXor y f)) r)
-          in
-          let s′ : val (F (bitXor (bitXor x e) f)) ≡ val (F (bitXor (bitXor y e) f)) =
-          ap val (beq-same (F (bitXor (bitXor x e) f)) (F (bitXor (bitXor y e) f)) s) in
-          omega (arith, p′, q′, r′, s′)
-
-      go : Dec (Bool·beq (F (four 0 x)) (F (four 0 y)) ≡ true) → Dec (Bool·beq (F (four 1 x)) (F (four 1 y)) ≡ true)
-          → Dec (Bool·beq (F (four 2 x)) (F (four 2 y)) ≡ true) → Dec (Bool·beq (F (four 3 x)) (F (four 3 y)) ≡ true)
-          → (o : ℕ) × (F (four o x) ≡ F (four o y) → ⊥)
-      go (no g) q r s = told 0 g
-      go (yes p) (no g) r s = told 1 g
-      go (yes p) (yes q) (no g) s = told 2 g
-      go (yes p) (yes q) (yes r) (no g) = told 3 g
-      go (yes p) (yes q) (yes r) (yes s) = absurd (h (all p q r s))
+      go : Dec (F (four 0 x) ≡ F (four 0 y)) → Dec (F (four 1 x) ≡ F (four 1 y)) → Dec (F (four 2 x) ≡ F (four 2 y))
+          → Dec (F (four 3 x) ≡ F (four 3 y)) → (o : ℕ) × (F (four o x) ≡ F (four o y) → ⊥)
+      go (no g) q r s = (0, g)
+      go (yes p) (no g) r s = (1, g)
+      go (yes p) (yes q) (no g) s = (2, g)
+      go (yes p) (yes q) (yes r) (no g) = (3, g)
+      go (yes p) (yes q) (yes r) (yes s) =
+          let all : columnOver F e f x ≡ columnOver F e f y = omega (arith, ap val p, ap val q, ap val r, ap val s) in
+          absurd (h all)
 
   -- ---- the offsets move no position that neither has
   four-still : (o x j : ℕ) → bit (bitOr e f) j ≡ false → bit (four o x) j ≡ bit x j
@@ -153,13 +79,15 @@ module _ (F : ℕ → Bool) (e f : ℕ) where
     four-lt (suc (suc zero)) x l = xor-lt n x f l belowF
     four-lt (suc (suc (suc o))) x l = xor-lt n (bitXor x e) f (xor-lt n x e l belowE) belowF
 
-    -- ---- a point for each column
+    -- ---- a point for each column: point p has the column that p others come before
     module _ (m own base seen : ℕ) (belowBase : base < 2 ^ n) (points : Seen n F own base e f seen)
-        (w : Numbered 16 (bit seen) (size 16 (bit seen)))
         (many : m < size 16 (bit seen)) where
+      column : {p : ℕ} → p < size 16 (bit seen) → Place 16 (bit seen) p
+      column {p} = place 16 (bit seen) p
+
       pick : {p : ℕ} → Dec (p < size 16 (bit seen)) → ℕ
-      pick {p} (yes l) = points (w .nth p) (w .holds p l) .point
-      pick {p} (no l) = base
+      pick (yes l) = points (column l .at) (column l .member) .point
+      pick (no l) = base
 
       point : ℕ → ℕ
       point p = pick (decLt p (size 16 (bit seen)))
@@ -169,7 +97,7 @@ module _ (F : ℕ → Bool) (e f : ℕ) where
       point-lt p = at (decLt p (size 16 (bit seen)))
         where
           at : (d : Dec (p < size 16 (bit seen))) → pick d < 2 ^ n
-          at (yes l) = points (w .nth p) (w .holds p l) .below
+          at (yes l) = points (column l .at) (column l .member) .below
           at (no l) = belowBase
 
       point-like : (p j : ℕ) → j < n → bit own j ≡ false → bit (point p) j ≡ bit base j
@@ -177,34 +105,34 @@ module _ (F : ℕ → Bool) (e f : ℕ) where
       point-like p j b h = at (decLt p (size 16 (bit seen)))
         where
           at : (d : Dec (p < size 16 (bit seen))) → bit (pick d) j ≡ bit base j
-          at (yes l) = points (w .nth p) (w .holds p l) .like j b h
+          at (yes l) = points (column l .at) (column l .member) .like j b h
           at (no l) = refl
 
-      point-is : (p : ℕ) → p < size 16 (bit seen) → columnOver F e f (point p) ≡ w .nth p
+      point-rank : (p : ℕ) → p < size 16 (bit seen) → size (columnOver F e f (point p)) (bit seen) ≡ p
       unfolding point pick
-      point-is p b = at (decLt p (size 16 (bit seen)))
+      point-rank p b = at (decLt p (size 16 (bit seen)))
         where
-          at : (d : Dec (p < size 16 (bit seen))) → columnOver F e f (pick d) ≡ w .nth p
-          at (yes l) = points (w .nth p) (w .holds p l) .is
+          at : (d : Dec (p < size 16 (bit seen))) → size (columnOver F e f (pick d)) (bit seen) ≡ p
+          at (yes l) = ap (λ (c : ℕ). size c (bit seen)) (points (column l .at) (column l .member) .is)
+              ∙ column l .rank
           at (no l) = absurd (l b)
 
-      crowd : Witness n F m (bit own) (bit (bitOr e f))
-      crowd = record {
+      pub crowd-rule : RulesOut n F m (bit own) (bit (bitOr e f))
+      crowd-rule = witness-rules (record {
         at = λ p o. four o (point p);
         spots = record {
           below = λ p o. four-lt o (point p) (point-lt p);
           points = λ p p′ o j l h. four-alike o (point p) (point p′) j (point-like p j l h ∙ sym (point-like p′ j l h));
           offsets = λ p o o′ j l h. four-still o (point p) j h ∙ sym (four-still o′ (point p) j h);
         };
-        told = λ p p′ l h. where-told (point p) (point p′) (λ q.
-            w .apart p p′ l (omega (arith, many)) (sym (point-is p (omega (arith, many))) ∙ q
-            ∙ point-is p′ (omega (arith, many))));
-      }
-
-    pub crowd-rule : (m own base seen : ℕ) → base < 2 ^ n → Seen n F own base e f seen → m < size 16 (bit seen)
-        → RulesOut n F m (bit own) (bit (bitOr e f))
-    crowd-rule m own base seen b points many = witness-rules
-        (crowd m own base seen b points (numbered 16 (bit seen)) many)
+        told = λ p p′ l h. where-told (point p) (point p′) (λ q. omega (
+          arith,
+          l,
+          point-rank p (omega (arith, many)),
+          point-rank p′ (omega (arith, many)),
+          ap (λ (c : ℕ). size c (bit seen)) q,
+        ));
+      })
 
 -- ---- as the code says it
 

@@ -1,37 +1,32 @@
 -- Members of masks that the machine makes, and what a larger pair of sets rules out. Assumes nothing.
 use mathlib.Core.Path.{_≡_, refl, sym, ap, ap₂, _∙_}
-use mathlib.Core.Bool.{Bool, true, _||_}
+use mathlib.Core.Bool.{Bool, true, false, _||_}
 use Prim.Native.Nat.{ℕ, zero, suc, _+_, _-_, _*_, _/_, _%_, _^_, _<_, _≤_}
-use native.Mathlib.Nat.{mod-lt, pow-suc}
+use native.Mathlib.Nat.{pow-suc}
 use native.Mathlib.Decide.{decLt}
 use native.Mathlib.Omega.{arith}
-use lib.Dec.{eqb, lit<}
+use lib.Dec.{eqb}
 use lib.Bits.{bitOr, bitXor, xor-shr, xor-mod}
 use lib.Pow.{high, pow-pos}
 use lib.Count.{leadingZeros, leading-top}
-use Rattle.bits.specs.Numbers.{bit}
+use Rattle.bits.specs.Numbers.{bit, val}
 use Rattle.bits.proofs.Bools.{clash}
 use Rattle.bits.proofs.Numbers.{bit-number, bit-high}
-use Rattle.bits.proofs.Machine.{bit-or}
+use Rattle.bits.proofs.Machine.{by-digits, bit-or}
 use Rattle.bits.proofs.Single as Single
 use Rattle.best.specs.Moves.{both}
 use Rattle.witness.specs.Witness.{Inside, single, RulesOut}
 use Rattle.witness.specs.Points.{differ}
 
 -- `^`, bit by bit
-digit-xor : (d e : ℕ) → d < 2 → e < 2 → eqb (bitXor d e) 1 ≡ differ (eqb d 1) (eqb e 1)
-digit-xor zero zero p q = refl
-digit-xor zero (suc zero) p q = refl
-digit-xor zero (suc (suc e)) p q = absurd (omega arith)
-digit-xor (suc zero) zero p q = refl
-digit-xor (suc zero) (suc zero) p q = refl
-digit-xor (suc zero) (suc (suc e)) p q = absurd (omega arith)
-digit-xor (suc (suc d)) e p q = absurd (omega arith)
-
 pub bit-xor : (a b j : ℕ) → bit (bitXor a b) j ≡ differ (bit a j) (bit b j)
-bit-xor a b j =
-    ap (λ (m : ℕ). eqb (m % 2) 1) (xor-shr a b j) ∙ ap (λ (m : ℕ). eqb m 1) (xor-mod (a / 2 ^ j) (b / 2 ^ j) 1)
-    ∙ digit-xor (a / 2 ^ j % 2) (b / 2 ^ j % 2) (mod-lt (a / 2 ^ j) (lit< tt)) (mod-lt (b / 2 ^ j) (lit< tt))
+bit-xor = by-digits bitXor differ xor-shr xor-mod one
+  where
+    one : (s t : Bool) → eqb (bitXor (val s) (val t)) 1 ≡ differ s t
+    one true true = refl
+    one true false = refl
+    one false true = refl
+    one false false = refl
 
 -- the mask of one position
 pub power-bit : (i x : ℕ) → bit (2 ^ i) x ≡ eqb x i

@@ -1,9 +1,10 @@
 -- Every place passed is dead. Assumes nothing.
 use Prim.Native.Nat.{_-_, _≤_}
-use Rattle.witness.proofs.Points.{said-no, not-false}
+use Rattle.witness.proofs.Points.{said-no}
 use Rattle.known.specs.Notes.{AllDead}
 use borrow.Author.Count.{below-more}
 use borrow.Author.Needs.{needs}
+use borrow.Author.Tests.{not-false}
 use native.Mathlib.Nat.{not-suc-le-zero}
 use native.Mathlib.Omega.{arith}
 use Rattle.quick.proofs.dead.all_dead.Statement.{statement}

@@ -5,10 +5,11 @@ use native.Mathlib.Omega.{arith}
 use lib.Bits.{bitOr, or-lt}
 use lib.Pow.{pow-lt}
 use borrow.Author.Needs.{needs}
+use borrow.Author.Tests.{not-false}
 use borrow.Fn.Kinds.{In}
 use borrow.Fn.PlainCycle.{Measures, is, falls, and}
 use Rattle.bits.proofs.Machine.{shl-one}
-use Rattle.witness.proofs.Points.{said-no, not-false}
+use Rattle.witness.proofs.Points.{said-no}
 use Rattle.quick.proofs.Taking.{owns-big, owns-leaf, owns-next}
 use Rattle.quick.proofs.owning.none_owns.Reads as none-owns
 use Rattle.quick.proofs.owning.none_owns.Kinds as none-owns-kinds

@@ -1,5 +1,5 @@
 -- `byte_ok` meets its contract: each return answers the test of one kind of byte. Assumes nothing.
-use mathlib.Core.Path.{sym, ap, ap₂, _∙_}
+use mathlib.Core.Path.{_≡_, refl, sym, ap, ap₂, _∙_}
 use mathlib.Core.Bool.{Bool, _&&_, _||_}
 use Prim.Native.Nat.{ℕ, _+_, _-_}
 use native.Mathlib.Omega.{arith}
@@ -7,34 +7,20 @@ use lib.Dec.{ltb, eqb}
 use lib.Pow.{pow-mono}
 use borrow.Author.Tests.{lt-ltb, le-ltb, eq-eqb, ne-eqb}
 use Rattle.bits.proofs.Machine.{shl-one}
-use Rattle.sheets.specs.Record.{spareOk}
+use Rattle.sheets.specs.Record.{byteOk, spareOk}
 use Rattle.sheets.proofs.Keeping.{signal-byte, unused-byte, desk-byte, zero-byte, table-byte}
 use borrow.Author.Needs.{needs}
 use Rattle.records.proofs.rules.byte_ok.Statement.{statement}
 use Rattle.records.proofs.rules.byte_ok.Tie as tie
 
-returns : tie.Need-returns
-returns c =
-    let a = c .before .before .before .before .args in
-    sym (signal-byte (a .e) (a .d) (a .top) (a .k) (a .j) (a .p) (a .x) (c .before .before .if1 .taken)
-    (c .before .if2 .taken)
-    ∙ ap (λ (t : Bool). t && (eqb (a .j) 0 || ltb (a .p) (a .x))) (le-ltb (a .x) (a .top) (omega arith)))
-
-returns-2 : tie.Need-returns-2
-returns-2 c =
-    let a = c .before .before .before .before .before .args in
-    sym (signal-byte (a .e) (a .d) (a .top) (a .k) (a .j) (a .p) (a .x) (c .before .before .before .if1 .taken)
-    (c .before .before .if2 .taken)
-    ∙ ap₂ (λ (t u : Bool). t && (u || ltb (a .p) (a .x))) (lt-ltb (a .x) (a .top) (omega arith))
-    (eq-eqb (a .j) 0 (c .if4 .taken)))
-
-returns-3 : tie.Need-returns-3
-returns-3 c =
-    let a = c .before .before .before .before .before .args in
-    sym (signal-byte (a .e) (a .d) (a .top) (a .k) (a .j) (a .p) (a .x) (c .before .before .before .if1 .taken)
-    (c .before .before .if2 .taken)
-    ∙ ap₂ (λ (t u : Bool). t && (u || ltb (a .p) (a .x))) (lt-ltb (a .x) (a .top) (omega arith))
-    (ne-eqb (a .j) 0 (c .if4 .left)))
+-- the byte of a signal that is read
+signal : (c : tie.Then2) {known first : Bool} → let a = c .before .before .before .args in ltb (a .x) (a .top) ≡ known
+    → eqb (a .j) 0 ≡ first → (known && (first || ltb (a .p) (a .x)))
+    ≡ byteOk (a .e) (a .d) (a .top) (a .k) (a .j) (a .p) (a .x)
+signal c h g =
+    let a = c .before .before .before .args in
+    sym (signal-byte (a .e) (a .d) (a .top) (a .k) (a .j) (a .p) (a .x) (c .before .if1 .taken) (c .if2 .taken)
+    ∙ ap₂ (λ (t u : Bool). t && (u || ltb (a .p) (a .x))) h g)
 
 returns-4 : tie.Need-returns-4
 returns-4 c = let a = c .before .before .before .args
@@ -65,5 +51,8 @@ returns-7 c =
 
 pub byte-ok-spec : {M : Type 1} → statement M
 byte-ok-spec =
-    tie.close (tie.spec returns returns-2 returns-3 returns-4 returns-5 (λ c. search needs) returns-6
+    tie.close (tie.spec (λ c. signal (c .before) (le-ltb _ _ (c .if3 .taken)) refl)
+    (λ c. signal (c .before .before) (lt-ltb _ _ (c .before .if3 .left)) (eq-eqb _ 0 (c .if4 .taken)))
+    (λ c. signal (c .before .before) (lt-ltb _ _ (c .before .if3 .left)) (ne-eqb _ 0 (c .if4 .left)))
+    returns-4 returns-5 (λ c. search needs) returns-6
     (λ c. search needs) (λ c. search needs) (λ c. search needs) spare-ok-requires returns-7)

@@ -19,22 +19,18 @@ returns : tie.Need-returns
 returns c = at (c .before .before .before .t2 .given .1)
     (sym (c .before .in-range2 .ensures) ∙ not-true _ (c .if1 .taken)) refl
 
-returns-2 : tie.Need-returns-2
-returns-2 c =
-    let t = c .before .before .before .before .before .t2 .given in
-    at (t .1) (sym (c .before .before .before .in-range2 .ensures) ∙ not-false _ (c .before .before .if1 .left))
-    (ap (λ (q : Bool). q && le (t .0 .0) (t .0 .1 .0))
-    (sym (c .before .in-range3 .ensures) ∙ not-true _ (c .if2 .taken)))
-
-returns-5 : tie.Need-returns-5
-returns-5 c =
-    let t = c .before .before .before .before .before .t2 .given in
-    at (t .1) (sym (c .before .before .before .in-range2 .ensures) ∙ not-false _ (c .before .before .if1 .left))
-    (ap (λ (q : Bool). q && le (t .0 .0) (t .0 .1 .0))
-    (sym (c .before .in-range3 .ensures) ∙ not-false _ (c .if2 .left)))
+-- where the earliest is in range, the latest is in range or not
+latest : (c : tie.After-in-range3) {q : Bool} → c .in-range3 .result ≡ q
+    → let t = c .before .before .before .before in (q && le (t .t2 .given .0 .0) (t .t2 .given .0 .1 .0))
+    ≡ soundTime (t .before .before .args .t)
+latest c h =
+    let t = c .before .before .before .before .t2 .given in
+    at (t .1) (sym (c .before .before .in-range2 .ensures) ∙ not-false _ (c .before .if1 .left))
+    (ap (λ (q : Bool). q && le (t .0 .0) (t .0 .1 .0)) (sym (c .in-range3 .ensures) ∙ h))
 
 pub sound-time-spec : {M : Type 1} → statement M
 sound-time-spec =
     tie.close (tie.spec (λ c. search needs) (λ c. search needs) (λ c κs. search needs) (λ c. search needs)
-    (λ c κs. search needs) returns (λ c κs. search needs) returns-2 (λ c. search needs)
-    (λ c. c .in-range .ensures ∙ sym (ap soundTime (c .before .before .t .given .1))) returns-5)
+    (λ c κs. search needs) returns (λ c κs. search needs) (λ c. latest (c .before) (not-true _ (c .if2 .taken)))
+    (λ c. search needs) (λ c. c .in-range .ensures ∙ sym (ap soundTime (c .before .before .t .given .1)))
+    (λ c. latest (c .before) (not-false _ (c .if2 .left))))

@@ -3,7 +3,6 @@
 use mathlib.Core.Path.{refl, sym, ap, _∙_}
 use Prim.Native.Nat.{ℕ, _<_}
 use native.Mathlib.Omega.{arith}
-use lib.Pow.{pow-mono}
 use borrow.Author.Needs.{needs}
 use borrow.Fn.Kinds.{In}
 use borrow.Fn.PlainCycle.{Measures, is, falls, and}
@@ -12,9 +11,10 @@ use Rattle.tables.specs.Table.{tableBit}
 use Rattle.best.specs.Search.{tryB}
 use Rattle.best.specs.Answers.{answerOf}
 use Rattle.best.proofs.Tries.{tryA-is}
-use Rattle.best.proofs.Walks.{ownTries, turn, shared-start, start-whole, walk-big, walk-leaf, walk-found, walk-next}
+use Rattle.best.proofs.Walks.{OfSize, ownTries, Turn, turn, walk-big, walk-leaf, walk-found, walk-next}
+use Rattle.best.proofs.Walks.{shared-start, start-whole}
 use Rattle.known.proofs.Keeping.{needs-part}
-use Rattle.walks.proofs.Pruning.{left-outside, own-crowded, own-more}
+use Rattle.walks.proofs.Pruning.{mask-fits, left-outside, own-crowded, own-more}
 use Rattle.walks.proofs.walk.walk_own.Reads as walk-own
 use Rattle.walks.proofs.walk.walk_own.Kinds as walk-own-kinds
 use Rattle.walks.proofs.walk.+walk_own.Lts-walk_own as walk-own-lts
@@ -33,8 +33,9 @@ walk-own-at t = and 2 walk-own-kinds.ps (is 2 walk-own-kinds.ps μ-walk-own t) w
 abbrev walk-own-below : ℕ → In 2 walk-own-kinds.ps
 walk-own-below t = and 2 walk-own-kinds.ps (falls 2 walk-own-kinds.ps _<_ μ-walk-own t) walk-own.Pre
 
-pub +walk-own-spec : {M : Type 1} → statement M
-+walk-own-spec = close μ-walk-own λ t. walk-own-lts.spec (
+-- what its callees ask and tell
+abbrev callees : ℕ → walk-own-lts.Claims
+callees t = (
   too-many-reads.Asked,
   too-many-reads.Learnt,
   walk-shared-reads.Asked,
@@ -44,13 +45,30 @@ pub +walk-own-spec : {M : Type 1} → statement M
   needed-reads.Asked,
   needed-reads.Learnt,
 )
-    (walk-own-at t)
-    walk-own.Post
+
+abbrev Entry : ℕ → Type 0
+Entry t = walk-own-lts.Start (callees t) (walk-own-at t) walk-own.Post
+
+abbrev tries : {t : ℕ} (s : Entry t) → OfSize (s .args .n)
+tries s = let a = s .args in ownTries (a .n) (a .r) (tableBit (a .t .now)) (a .q)
+
+-- k is from 1 to p: the highest open position is left out, then taken in
+abbrev Deciding : ℕ → Type 0
+Deciding t = walk-own-lts.Else3 (callees t) (walk-own-at t) walk-own.Post
+
+abbrev entry : {t : ℕ} → Deciding t → Entry t
+entry c = c .before .before .before .before .before .before .before
+
+decided : {t : ℕ} (c : Deciding t) → let a = entry c .args in Turn (a .n) (a .p) (a .acc) (a .k)
+decided c =
+    let s = entry c in
+    turn (s .args .k) (s .pre .1 .1 .0) (omega (arith, c .before .before .before .if1 .left)) (c .if3 .left)
+
+pub +walk-own-spec : {M : Type 1} → statement M
++walk-own-spec = close μ-walk-own λ t. walk-own-lts.spec (callees t) (walk-own-at t) walk-own.Post
     -- k is above p
     (λ c. let s = c .before .before .before .before in
-    let a = s .args in
-    let w = s .pre .1 .1 .0 in
-    (sym (walk-big (ownTries (a .n) (a .r) (tableBit (a .t .now)) (a .q)) w (a .k) (c .if1 .taken)), s .pre .1 .0 .0))
+    (sym (walk-big (tries s) (s .pre .1 .1 .0) (s .args .k) (c .if1 .taken)), s .pre .1 .0 .0))
     -- the needed positions do not fit
     (λ c. let s = c .before .before .before .before
     in omega (arith, s .pre .1 .1 .2, s .pre .1 .1 .0 .within, s .pre .1 .1 .0 .most, c .if1 .left))
@@ -75,95 +93,51 @@ pub +walk-own-spec : {M : Type 1} → statement M
       ),
     ))
     (λ c. search needs)
-    (λ c. let s = c .before .before .before .before .before .before .before .before .before .before .before in
-    let a = s .args in
-    let w = s .pre .1 .1 .0 in (
-      c .before .before .walk-shared .ensures .0 ∙ start-whole (a .n) (a .q)
-          (λ q. tryB (a .n) (a .r) (tableBit (a .t .now)) q (a .acc))
-          ∙ sym (walk-leaf (ownTries (a .n) (a .r) (tableBit (a .t .now)) (a .q)) w (a .k)
-          (c .before .before .before .before .if3 .taken)
+    (λ c. let f = c .before .before in
+    let s = f .before .before .before .before .before .before .before .before .before in
+    let a = s .args in (
+      f .walk-shared .ensures .0 ∙ start-whole (a .n) (a .q) (λ q. tryB (a .n) (a .r) (tableBit (a .t .now)) q (a .acc))
+          ∙ sym (walk-leaf (tries s) (s .pre .1 .1 .0) (a .k) (f .before .before .if3 .taken)
           ∙ tryA-is (a .n) (a .r) (tableBit (a .t .now)) _ (a .q) (a .acc) refl),
-      c .before .before .walk-shared .ensures .1,
+      f .walk-shared .ensures .1,
     ))
     -- the numbers of a turn fit
     (λ c. search needs)
     (λ c. search needs)
     (λ c. search needs)
-    (λ c. let s = c .before .before .before .before .before .before .before in
-    let a = s .args in
-    let w = s .pre .1 .1 .0 in
-    let d = turn (a .k) w (omega (arith, c .before .before .before .if1 .left)) (c .if3 .left) in
-    omega (arith, d .taken .below, pow-mono {i = a .n} {j = 16} (w .most)))
+    (λ c. record { fits = mask-fits (decided c .taken) })
     (λ c. search needs)
     -- the masks without the position
-    (λ c κs. let s = c .before .before .before .before .before .before .before .before in
-    let a = s .args in
+    (λ c κs. let d = decided (c .before) in
+    let s = entry (c .before) in
     let h = s .pre .1 .1 in
-    let d = turn (a .k) (h .0) (omega (arith, c .before .before .before .before .if1 .left)) (c .before .if3 .left) in
     (omega (arith, s .pre .0, d .down), (s .pre .1 .0, (d .out, h .1, h .2))))
     (λ c. search needs)
     (λ c. search needs)
-    (λ c. let s = c .before .before .before .before .before .before .before .before .before .before .before .before
-    .before .before in
-    let a = s .args in
-    let w = s .pre .1 .1 .0 in
-    let d = turn (a .k) w
-    (omega (arith, c .before .before .before .before .before .before .before .before .before .before .if1 .left))
-    (c .before .before .before .before .before .before .before .if3 .left) in (
-      sym (walk-found (ownTries (a .n) (a .r) (tableBit (a .t .now)) (a .q)) w (a .k) d _ _
-          (sym (c .before .before .before .before .before .walk-own .ensures .0)
-          ∙ ap answerOf (c .before .without .given .1))),
-      c .before .before .before .before .before .walk-own .ensures .1,
+    (λ c. let f = c .before .before .before .before .before in
+    let s = entry (f .before .before) in (
+      sym (walk-found (tries s) (s .pre .1 .1 .0) (s .args .k) (decided (f .before .before)) _ _
+          (sym (f .walk-own .ensures .0) ∙ ap answerOf (c .before .without .given .1))),
+      f .walk-own .ensures .1,
     ))
     (λ c. search needs)
     -- the masks with the position, and what it needs
-    (λ c κs. let s = c .before .before .before .before .before .before .before .before .before .before .before .before
-    .before in
-    let h = s .pre .1 .1 in (
-      s .pre .1 .0 .1 .long,
-      omega (
-        arith,
-        h .0 .within,
-        h .0 .most,
-        c .before .before .before .before .before .before .before .before .before .if1 .left,
-        c .before .before .before .before .before .before .if3 .left,
-      ),
-    ))
-    (λ c κs. let s = c .before .before .before .before .before .before .before .before .before .before .before .before
-    .before .before .before in
-    let a = s .args in
+    (λ c κs. let m = c .before .before .before .before .before .before in
+    let s = entry m in
+    (s .pre .1 .0 .1 .long, omega (arith, decided m .inside, s .pre .1 .1 .0 .most)))
+    (λ c κs. let f = c .before .before .before .before .before .before in
+    let d = decided (f .before .before) in
+    let s = entry (f .before .before) in
+    let b = s .pre .1 .0 .1 in
     let h = s .pre .1 .1 in
-    let d = turn (a .k) (h .0)
-    (omega (
-      arith,
-      c .before .before .before .before .before .before .before .before .before .before .before .if1
-          .left,
-    )) (c .before .before .before .before .before .before .before .before .if3 .left) in (
-      omega (arith, s .pre .0, d .down),
-      (
-        (c .before .before .before .before .before .before .walk-own .ensures .1, s .pre .1 .0 .1),
-        (
-          d .taken,
-          own-more (h .0) d (a .pairs .now) (a .need) _ (s .pre .1 .0 .1) (h .1) (c .before .needed .ensures),
-          h .2,
-        ),
-      ),
-    ))
+    let w = own-more (h .0) d (s .args .pairs .now) (s .args .need) _ b (h .1) (c .before .needed .ensures) in
+    (omega (arith, s .pre .0, d .down), ((f .walk-own .ensures .1, b), (d .taken, w, h .2))))
     (λ c. search needs)
-    (λ c. let s = c .before .before .before .before .before .before .before .before .before .before .before .before
-    .before .before .before .before .before .before in
-    let a = s .args in
-    let w = s .pre .1 .1 .0 in
-    let d = turn (a .k) w
-    (omega (
-      arith,
-      c .before .before .before .before .before .before .before .before .before .before .before .before
-          .before .before .if1 .left,
-    ))
-    (c .before .before .before .before .before .before .before .before .before .before .before .if3 .left) in (
-      c .before .before .walk-own2 .ensures .0
-          ∙ sym (walk-next (ownTries (a .n) (a .r) (tableBit (a .t .now)) (a .q)) w (a .k) d
-          (sym (c .before .before .before .before .before .before .before .before .before .walk-own .ensures .0)
-          ∙ ap answerOf (c .before .before .before .before .before .enum-told .given .1))),
-      c .before .before .walk-own2 .ensures .1,
+    (λ c. let g = c .before .before in
+    let f = g .before .before .before .before .before .before .before in
+    let s = entry (f .before .before) in (
+      g .walk-own2 .ensures .0
+          ∙ sym (walk-next (tries s) (s .pre .1 .1 .0) (s .args .k) (decided (f .before .before))
+          (sym (f .walk-own .ensures .0) ∙ ap answerOf (g .before .before .before .enum-told .given .1))),
+      g .walk-own2 .ensures .1,
     ))

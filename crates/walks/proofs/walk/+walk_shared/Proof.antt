@@ -3,16 +3,15 @@
 use mathlib.Core.Path.{sym, ap, _∙_}
 use Prim.Native.Nat.{ℕ, _-_, _<_}
 use native.Mathlib.Omega.{arith}
-use lib.Pow.{pow-mono}
 use borrow.Author.Needs.{needs}
 use borrow.Fn.Kinds.{In}
 use borrow.Fn.PlainCycle.{Measures, is, falls, and}
 use Rattle.bits.proofs.Machine.{bit-set, bit-clear}
 use Rattle.tables.specs.Table.{tableBit}
 use Rattle.best.specs.Answers.{answerOf}
-use Rattle.best.proofs.Walks.{sharedTries, turn, walk-big, walk-leaf, walk-found, walk-next, walk-without, shared-out}
-use Rattle.best.proofs.Walks.{shared-taken, tryB-own}
-use Rattle.walks.proofs.Pruning.{left-lt, shared-crowded, shared-passed}
+use Rattle.best.proofs.Walks.{OfSize, sharedTries, Turn, turn, walk-big, walk-leaf, walk-found, walk-next}
+use Rattle.best.proofs.Walks.{walk-without, shared-out, shared-taken, tryB-own}
+use Rattle.walks.proofs.Pruning.{mask-fits, left-lt, shared-crowded, shared-passed}
 use Rattle.walks.proofs.walk.walk_shared.Reads as walk-shared
 use Rattle.walks.proofs.walk.walk_shared.Kinds as walk-shared-kinds
 use Rattle.walks.proofs.walk.+walk_shared.Lts-walk_shared as walk-shared-lts
@@ -30,8 +29,9 @@ walk-shared-at t = and 2 walk-shared-kinds.ps (is 2 walk-shared-kinds.ps μ-walk
 abbrev walk-shared-below : ℕ → In 2 walk-shared-kinds.ps
 walk-shared-below t = and 2 walk-shared-kinds.ps (falls 2 walk-shared-kinds.ps _<_ μ-walk-shared t) walk-shared.Pre
 
-pub +walk-shared-spec : {M : Type 1} → statement M
-+walk-shared-spec = close μ-walk-shared λ t. walk-shared-lts.spec (
+-- what its callees ask and tell
+abbrev callees : ℕ → walk-shared-lts.Claims
+callees t = (
   too-many-reads.Asked,
   too-many-reads.Learnt,
   try-pair-reads.Asked,
@@ -39,15 +39,31 @@ pub +walk-shared-spec : {M : Type 1} → statement M
   walk-shared-below t,
   walk-shared.Post,
 )
-    (walk-shared-at t)
-    walk-shared.Post
+
+abbrev Entry : ℕ → Type 0
+Entry t = walk-shared-lts.Start (callees t) (walk-shared-at t) walk-shared.Post
+
+abbrev tries : {t : ℕ} (s : Entry t) → OfSize (s .args .n)
+tries s = let a = s .args in sharedTries (a .n) (a .r) (tableBit (a .t .now)) (a .own)
+
+-- k is from 1 to p: the highest open position is left out, then taken in
+abbrev Deciding : ℕ → Type 0
+Deciding t = walk-shared-lts.Else4 (callees t) (walk-shared-at t) walk-shared.Post
+
+abbrev entry : {t : ℕ} → Deciding t → Entry t
+entry c = c .before .before .before .before .before .before .before
+
+decided : {t : ℕ} (c : Deciding t) → let a = entry c .args in Turn (a .n) (a .p) (a .acc) (a .k)
+decided c =
+    let s = entry c in
+    turn (s .args .k) (s .pre .1 .1 .0 .range) (omega (arith, c .before .before .before .before .if1 .left))
+    (c .if4 .left)
+
+pub +walk-shared-spec : {M : Type 1} → statement M
++walk-shared-spec = close μ-walk-shared λ t. walk-shared-lts.spec (callees t) (walk-shared-at t) walk-shared.Post
     -- k is above p
     (λ c. let s = c .before .before .before in
-    let a = s .args in
-    let w = s .pre .1 .1 .0 in (
-      sym (walk-big (sharedTries (a .n) (a .r) (tableBit (a .t .now)) (a .own)) (w .range) (a .k) (c .if1 .taken)),
-      s .pre .1 .0,
-    ))
+    (sym (walk-big (tries s) (s .pre .1 .1 .0 .range) (s .args .k) (c .if1 .taken)), s .pre .1 .0))
     -- the needed positions do not fit
     (λ c κs. search needs)
     (λ c. let s = c .before .before .before .before .before in
@@ -73,97 +89,59 @@ pub +walk-shared-spec : {M : Type 1} → statement M
     let w = s .pre .1 .1 .0 in
     (s .pre .1 .0, (w .belowA, w .range .below, w .apart)))
     (λ c. search needs)
-    (λ c. let s = c .before .before .before .before .before .before .before .before .before .before .before in
-    let a = s .args in
-    let w = s .pre .1 .1 .0 in (
-      c .before .before .try-pair .ensures .0 ∙ sym
-          (walk-leaf (sharedTries (a .n) (a .r) (tableBit (a .t .now)) (a .own)) (w .range) (a .k)
-          (c .before .before .before .before .if4 .taken)),
-      c .before .before .try-pair .ensures .1,
+    (λ c. let f = c .before .before in
+    let s = f .before .before .before .before .before .before .before .before .before in (
+      f .try-pair .ensures .0
+          ∙ sym (walk-leaf (tries s) (s .pre .1 .1 .0 .range) (s .args .k) (f .before .before .if4 .taken)),
+      f .try-pair .ensures .1,
     ))
     -- the numbers of a turn fit
     (λ c. search needs)
     (λ c. search needs)
     (λ c. search needs)
-    (λ c. let s = c .before .before .before .before .before .before .before in
-    let a = s .args in
-    let w = s .pre .1 .1 .0 in
-    let d = turn (a .k) (w .range) (omega (arith, c .before .before .before .before .if1 .left)) (c .if4 .left) in
-    omega (arith, d .taken .below, pow-mono {i = a .n} {j = 16} (w .range .most)))
+    (λ c. record { fits = mask-fits (decided c .taken) })
     (λ c. search needs)
     -- the masks without the position
-    (λ c κs. let s = c .before .before .before .before .before .before .before .before in
-    let a = s .args in
+    (λ c κs. let d = decided (c .before) in
+    let s = entry (c .before) in
     let h = s .pre .1 .1 in
-    let d = turn (a .k) (h .0 .range) (omega (arith, c .before .before .before .before .before .if1 .left))
-    (c .before .if4 .left) in
     (omega (arith, s .pre .0, d .down), (s .pre .1 .0, (shared-out (h .0) d, h .1, h .2))))
     (λ c. search needs)
     (λ c. search needs)
-    (λ c. let s = c .before .before .before .before .before .before .before .before .before .before .before .before
-    .before .before in
-    let a = s .args in
-    let w = s .pre .1 .1 .0 in
-    let d = turn (a .k) (w .range) (omega (
-      arith,
-      c .before .before .before .before .before .before .before .before .before .before .before .if1 .left,
-    ))
-    (c .before .before .before .before .before .before .before .if4 .left) in (
-      sym (walk-found (sharedTries (a .n) (a .r) (tableBit (a .t .now)) (a .own)) (w .range) (a .k) d _ _
-          (sym (c .before .before .before .before .before .walk-shared .ensures .0)
-          ∙ ap answerOf (c .before .without .given .1))),
-      c .before .before .before .before .before .walk-shared .ensures .1,
+    (λ c. let f = c .before .before .before .before .before in
+    let s = entry (f .before .before) in (
+      sym (walk-found (tries s) (s .pre .1 .1 .0 .range) (s .args .k) (decided (f .before .before)) _ _
+          (sym (f .walk-shared .ensures .0) ∙ ap answerOf (c .before .without .given .1))),
+      f .walk-shared .ensures .1,
     ))
     (λ c. search needs)
     -- the own mask has it, so that no other has
     (λ c. search needs)
     (λ c. search needs)
     (λ c. search needs)
-    (λ c. let s = c .before .before .before .before .before .before .before .before .before .before .before .before
-    .before .before in
-    let a = s .args in
-    let w = s .pre .1 .1 .0 in
-    let d = turn (a .k) (w .range) (omega (
-      arith,
-      c .before .before .before .before .before .before .before .before .before .before .before .if1 .left,
-    ))
-    (c .before .before .before .before .before .before .before .if4 .left) in (
-      sym (walk-without (sharedTries (a .n) (a .r) (tableBit (a .t .now)) (a .own)) (w .range) (a .k) d
+    (λ c. let f = c .before .before .before .before .before in
+    let d = decided (f .before .before) in
+    let s = entry (f .before .before) in
+    let a = s .args in (
+      sym (walk-without (tries s) (s .pre .1 .1 .0 .range) (a .k) d
           (tryB-own (a .n) (a .r) (tableBit (a .t .now)) _ (a .own) (a .p - 1) (d .inside)
           (bit-set (a .own) (a .p - 1) (c .if5 .taken)))
-          (sym (c .before .before .before .before .before .walk-shared .ensures .0)
-          ∙ ap answerOf (c .before .enum-told .given .1))),
-      c .before .before .before .before .before .walk-shared .ensures .1,
+          (sym (f .walk-shared .ensures .0) ∙ ap answerOf (c .before .enum-told .given .1))),
+      f .walk-shared .ensures .1,
     ))
     -- the masks with the position
-    (λ c κs. let s = c .before .before .before .before .before .before .before .before .before .before .before .before
-    .before .before .before in
-    let a = s .args in
+    (λ c κs. let f = c .before .before .before .before .before .before in
+    let d = decided (f .before .before) in
+    let s = entry (f .before .before) in
     let h = s .pre .1 .1 in
-    let d = turn (a .k) (h .0 .range) (omega (
-      arith,
-      c .before .before .before .before .before .before .before .before .before .before .before .before .if1 .left,
-    ))
-    (c .before .before .before .before .before .before .before .before .if4 .left) in (
-      omega (arith, s .pre .0, d .down),
-      (
-        c .before .before .before .before .before .before .walk-shared .ensures .1,
-        (shared-taken (h .0) d (bit-clear (a .own) (a .p - 1) (c .before .if5 .left)), h .1, h .2),
-      ),
-    ))
+    let r = shared-taken (h .0) d (bit-clear _ (s .args .p - 1) (c .before .if5 .left)) in
+    (omega (arith, s .pre .0, d .down), (f .walk-shared .ensures .1, (r, h .1, h .2))))
     (λ c. search needs)
-    (λ c. let s = c .before .before .before .before .before .before .before .before .before .before .before .before
-    .before .before .before .before .before .before in
-    let a = s .args in
-    let w = s .pre .1 .1 .0 in
-    let d = turn (a .k) (w .range) (omega (
-      arith,
-      c .before .before .before .before .before .before .before .before .before .before .before .before .before .before
-          .before .if1 .left,
-    )) (c .before .before .before .before .before .before .before .before .before .before .before .if4 .left) in (
-      c .before .before .walk-shared2 .ensures .0
-          ∙ sym (walk-next (sharedTries (a .n) (a .r) (tableBit (a .t .now)) (a .own)) (w .range) (a .k) d
-          (sym (c .before .before .before .before .before .before .before .before .before .walk-shared .ensures .0)
-          ∙ ap answerOf (c .before .before .before .before .before .enum-told .given .1))),
-      c .before .before .walk-shared2 .ensures .1,
+    (λ c. let g = c .before .before in
+    let f = g .before .before .before .before .before .before .before in
+    let s = entry (f .before .before) in (
+      g .walk-shared2 .ensures .0
+          ∙ sym (walk-next (tries s) (s .pre .1 .1 .0 .range) (s .args .k) (decided (f .before .before))
+          (sym (f .walk-shared .ensures .0) ∙ ap answerOf (g .before .before .before .enum-told .given .1))),
+      g .walk-shared2 .ensures .1,
     ))

@@ -1,21 +1,14 @@
 -- What is kept was shown by six bits, or by many points. Assumes nothing.
-use mathlib.Core.Path.{_≡_, sym, _∙_, subst}
-use mathlib.Core.Bool.{Bool}
+use mathlib.Core.Path.{sym, ap, _∙_, subst}
 use Prim.Native.Nat.{ℕ, _*_, _^_, _≤_}
 use lib.ListN.{length}
 use borrow.Author.Needs.{needs}
-use Rattle.bits.specs.Numbers.{bit}
-use Rattle.tables.specs.Table.{mostInputs, tableBit}
-use Rattle.witness.specs.Witness.{RulesOut}
-use Rattle.witness.proofs.Points.{said-no, not-false}
-use Rattle.known.proofs.Keeping.{meets-fails}
+use borrow.Author.Tests.{not-false}
+use Rattle.tables.specs.Table.{mostInputs}
+use Rattle.witness.proofs.Points.{said-no}
+use Rattle.walks.proofs.Learning.{learned-one}
 use Rattle.walks.proofs.walk.learn.Statement.{statement}
 use Rattle.walks.proofs.walk.learn.Tie as tie
-
--- three columns are more than one first cell allows
-over-first : (n : ℕ) (F : ℕ → Bool) (r p q : ℕ) → r ≡ 1 → RulesOut n F 2 (bit p) (bit q)
-    → RulesOut n F (2 ^ r) (bit p) (bit q)
-over-first n F r p q e w = subst (λ (k : ℕ). RulesOut n F (2 ^ k) (bit p) (bit q)) (sym e) w
 
 look-requires : tie.Need-look-requires
 look-requires c κs =
@@ -27,23 +20,13 @@ look-requires c κs =
 
 returns-4 : tie.Need-returns-4
 returns-4 c =
-    let s = c .before .before .before .before .before .before .before .before .before .before .before .before .before
-    .before .before .before in
-    let a = s .args in
-    let F = tableBit (a .t .now) in
-    let shown = c .before .before .before .before .before .before .shows .ensures
-    (not-false _ (c .before .before .before .before .before .if3 .left)) in
-    let rules = over-first (a .n) F (a .r) _ _
-    (c .before .before .before .before .before .before .before .before .before .before .before .before .before .if1
-    .left) shown in (
-      λ e. meets-fails _ _ (a .own) (a .shared) rules (c .meets .ensures e) (s .pre .1 .2),
-      record {
-        most = s .pre .0 .most;
-        first = s .pre .0 .first;
-        long = s .pre .0 .long;
-        learned = c .before .before .before .keep .ensures (a .n) (2 ^ a .r) F (s .pre .0 .learned) rules;
-      },
-    )
+    let k = c .before .before .before in
+    let h = k .before .before .before in
+    let s = h .before .before .before .before .before .before .before .before .before .before in
+    learned-one (s .pre .0) 2 _ _ (s .args .own) (s .args .shared) _
+    (sym (ap (λ (r : ℕ). 2 ^ r) (h .before .before .before .before .before .before .before .if1 .left)))
+    (h .shows .ensures (not-false _ (k .before .before .if3 .left))) (k .keep .ensures) (s .pre .1 .2)
+    (c .meets .ensures)
 
 pub learn-spec : {M : Type 1} → statement M
 learn-spec =

@@ -1,24 +1,17 @@
 -- What is ruled out is not possible, and what is left is tested. Assumes nothing.
 use mathlib.Core.Path.{sym, _∙_}
-use Prim.Native.Nat.{_^_}
 use Rattle.tables.specs.Table.{tableBit}
 use Rattle.known.proofs.Keeping.{skips-fails}
 use Rattle.walks.specs.Known.{Known}
+use Rattle.walks.proofs.Learning.{still-known}
 use Rattle.walks.proofs.Pruning.{tryB-never}
 use Rattle.walks.proofs.walk.try_pair.Statement.{statement}
 use Rattle.walks.proofs.walk.try_pair.Tie as tie
 
 -- what was asked of the notes leaves them true
-still-known : (c : tie.After-ruled) → let s = c .before .before .before .before
+asked : (c : tie.After-ruled) → let s = c .before .before .before .before
     in Known (s .args .n) (s .args .r) (s .args .t .now) (c .ruled .last .0)
-still-known c =
-    let s = c .before .before .before .before in
-    record {
-      most = s .pre .0 .most;
-      first = s .pre .0 .first;
-      long = s .pre .0 .long;
-      learned = c .ruled .ensures .1 (s .args .n) (2 ^ s .args .r) (tableBit (s .args .t .now)) (s .pre .0 .learned);
-    }
+asked c = still-known (c .before .before .before .before .pre .0) (c .ruled .ensures .1)
 
 returns : tie.Need-returns
 returns c =
@@ -27,7 +20,7 @@ returns c =
       sym (tryB-never (a .n) (a .r) (tableBit (a .t .now)) _ (a .own) (a .shared) (λ z apart.
           skips-fails (a .notes .now) (a .own) (a .shared) (s .pre .0 .learned)
           (c .before .before .before .ruled .ensures .0 (c .if1 .taken)) apart)),
-      still-known (c .before .before .before),
+      asked (c .before .before .before),
     )
 
 returns-2 : tie.Need-returns-2
@@ -48,11 +41,11 @@ try-pair-spec =
     tie.close
     (tie.spec
     (λ c κs. c .before .before .before .pre .0 .learned .long)
-    (λ c. still-known (c .before .before .before) .learned .long
+    (λ c. asked (c .before .before .before) .learned .long
     ∙ sym (c .before .before .before .before .before .before .before .pre .0 .learned .long))
     returns
     (λ c κs. let s = c .before .before .before .before .before .before .before .before
-    in (still-known (c .before .before .before .before), s .pre .1))
+    in (asked (c .before .before .before .before), s .pre .1))
     (λ c. c .before .before .before .learn .ensures .1 .learned .long
     ∙ sym (c .before .before .before .before .before .before .before .before .before .before .before .before .pre .0
     .learned .long))

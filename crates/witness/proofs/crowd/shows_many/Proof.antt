@@ -1,9 +1,10 @@
 -- `shows_many` meets its contract, by the law of many points. Assumes nothing.
 use native.Mathlib.Omega.{arith}
 use borrow.Author.Needs.{needs}
+use borrow.Author.Tests.{not-false}
 use Rattle.tables.specs.Table.{tableBit}
 use Rattle.witness.proofs.Many.{crowd-rule}
-use Rattle.witness.proofs.Points.{said-no, not-false}
+use Rattle.witness.proofs.Points.{said-no}
 use Rattle.witness.proofs.crowd.shows_many.Statement.{statement}
 use Rattle.witness.proofs.crowd.shows_many.Tie as tie
 

@@ -1,7 +1,7 @@
 -- `pass_over_rest` is safe and ends: the measure is the number of turns that are left. Assumes nothing.
 use native.Mathlib.Omega.{arith}
-use Rattle.bench_main.proofs.pass_over_rest.Statement.{statement}
-use Rattle.bench_main.proofs.pass_over_rest.Tie as tie
+use Rattle.streams.proofs.pass_over_rest.Statement.{statement}
+use Rattle.streams.proofs.pass_over_rest.Tie as tie
 
 abbrev Inv-loop : tie.InvT-loop
 Inv-loop turns₀ turns = Unit {0}
