@@ -1,17 +1,20 @@
 -- Make a sheet for a desk: how many cells, and their records in a lent sheet.
+use mathlib.Core.Bool.{cond}
 use mathlib.Core.List.{List, [], _∷_, _++_}
 use Prim.Native.Nat.{ℕ, _^_}
+use lib.Dec.{leb}
 use lib.ListN.{length}
 use Rattle.bits.specs.Numbers.{number}
 use Rattle.tables.specs.Table.{tableBit}
 use Rattle.sheets.specs.declared.kinds.Edition.{Edition}
+use Rattle.sheets.specs.Edition.{mostRecords}
 use Rattle.sheets.specs.Network.{Cell}
 use Rattle.sheets.specs.Writing.{sheetBytes}
 use Rattle.chains.specs.Chain.{Made, stuck, made}
 use Rattle.chains.specs.Aside.{sheetAside}
 use Rattle.refusals.specs.declared.verdicts.Refusal.{Refusal}
 use Rattle.refusals.specs.declared.verdicts.Verdict.the-variants.{Fine, Refused}
-use Rattle.refusals.specs.Lines.{Line, verdict, reply}
+use Rattle.refusals.specs.Lines.{Line, refusal, verdict, reply}
 use Rattle.refusals.specs.Refusals.{gateLines, badDesk, shortSheet}
 use Rattle.bench.specs.Refusals.{chainStuck}
 use Rattle.refusals.specs.Lent.{into, workAfter}
@@ -55,6 +58,12 @@ makeNot sheet work r = record {
   sheet = sheet;
   work = workAfter (Refused r) work;
 }
+
+-- what comes of a chain: its records; or that it is stuck, 8; or longer than a sheet, 17
+abbrev pub chainWritten : Edition → ℕ → Made → List ℕ → List ℕ → MakeOutcome
+chainWritten e d stuck sheet work = makeNot sheet work (refusal 8 0)
+chainWritten e d (made cs) sheet work =
+    cond (leb (length cs) mostRecords) (makeDone e d cs sheet work) (makeNot sheet work (refusal 17 0))
 
 -- what make is to return and leave for the desk d, whatever is handed over
 unfoldable pub makeOutcome : Edition → ℕ → ℕ → ℕ → List ℕ → List ℕ → List ℕ → MakeOutcome

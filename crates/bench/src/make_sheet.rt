@@ -1,5 +1,5 @@
 // Making a sheet of best splits.
-use making::chaining::chain_of;
+use making::chaining::chain_upto;
 use refusals::form;
 use refusals::verdicts::Refusal;
 use refusals::verdicts::Verdict;
@@ -9,15 +9,16 @@ use sheets::kinds::Sheet;
 use sheets::writing::put_all;
 use tables::WORK;
 ghost use mathlib.Core.Path.{_≡_};
-ghost use mathlib.Core.List.{[], _∷_};
-ghost use Prim.Native.Nat.{_*_, _≤_};
+ghost use Prim.Native.Nat.{_*_, _^_, _≤_};
 ghost use lib.ListN.{length};
-ghost use Rattle.tables.specs.Table.{mostInputs, tableLength};
+ghost use Rattle.bits.specs.Numbers.{number};
+ghost use Rattle.tables.specs.Table.{mostInputs, tableLength, tableBit};
+ghost use Rattle.splits.specs.Columns.{mostFirst};
 ghost use Rattle.sheets.specs.Edition.{IsEdition, mostRecords, firstEdition};
 ghost use Rattle.tables.specs.Work.{workLength};
-ghost use Rattle.refusals.specs.Lines.{verdict, reply};
-ghost use Rattle.bench.specs.Refusals.{chainStuck};
-ghost use Rattle.bench.specs.MakeSheet.{sheetFor, cellsIn, makeForm, makeDone, makeNot, makeOutcome};
+ghost use Rattle.chains.specs.Aside.{cellsAside};
+ghost use Rattle.refusals.specs.Lines.{verdict};
+ghost use Rattle.bench.specs.MakeSheet.{makeForm, chainWritten, makeOutcome};
 
 // How many cells, if nothing is wrong.
 pub struct MakeAnswer {
@@ -54,37 +55,44 @@ fn make_form<'a>(
     Verdict::Fine
 }
 
-// The sheet of a gate into lent bytes that are enough, or that its chain is stuck; the work area is cleared.
-fn write_chain(
+// The chain of a gate with up to `most` first cells at each step: its records into lent bytes that are enough, or that
+// it is stuck, or longer than a sheet, which it never is with one; the work area is cleared.
+pub fn write_chain(
     e: Edition,
     d: u8,
     n: u32,
+    most: u32,
     k: u32,
     t: &[u8],
     sheet: &mut [u8],
     work: &mut [u8],
 ) -> MakeAnswer
-    requires { ⌜ IsEdition e × (1 ≤ n) × (n ≤ mostInputs) × (2 ≤ k) × (k ≤ e .most) ⌝ }
+    requires { ⌜ IsEdition e × (1 ≤ n) × (n ≤ mostInputs) × (most ≤ mostFirst) × (2 ≤ k) × (k ≤ e .most) ⌝ }
     requires { ⌜
         (length (now t) ≡ tableLength n) × (e .size * mostRecords ≤ length (now sheet))
         × (workLength ≤ length (now work))
         ⌝ }
     ensures { λ r. ⌜
         record { answer = r; sheet = now (sheet .exit); work = now (work .exit) }
-        ≡ reply (verdict (chainStuck (sheetFor n k (now (t .entry))) ∷ []))
-        (makeDone e d (cellsIn (sheetFor n k (now (t .entry)))) (now (sheet .entry)) (now (work .entry)))
-        (makeNot (now (sheet .entry)) (now (work .entry)))
+        ≡ chainWritten e d (cellsAside most n k (number (2 ^ n) (tableBit (now (t .entry))))) (now (sheet .entry))
+        (now (work .entry))
         ⌝ }
 {
-    let chain = chain_of(t, n, k, work);
+    let chain = chain_upto(t, n, most, k, work);
     if !chain.finished {
         return MakeAnswer {
             verdict: refuse(Refusal::SPLIT),
             count: 0,
         };
     }
+    let cells = chain.count;
+    if Sheet::RECORDS < cells {
+        return MakeAnswer {
+            verdict: refuse(Refusal::LONG),
+            count: 0,
+        };
+    }
     let held = chain.sheet;
-    let cells = held.count;
     put_all(e, d, held, sheet);
     MakeAnswer {
         verdict: Verdict::Fine,
@@ -115,7 +123,7 @@ pub fn make_in(
             count: 0,
         };
     };
-    write_chain(e, d as u8, n as u32, k as u32, t, sheet, work)
+    write_chain(e, d as u8, n as u32, 1, k as u32, t, sheet, work)
 }
 
 // Makes the sheet of a table for a desk, 0 being the bench's own: how many cells.

@@ -4,9 +4,8 @@
 use mathlib.Core.Path.{_≡_, refl, sym, ap, ap₂, _∙_, subst₂}
 use mathlib.Core.Bool.{Bool, true, false, _&&_, _||_}
 use mathlib.Core.List.{List}
-use Prim.Native.Nat.{ℕ, _*_, _^_, _<_, _≤_}
+use Prim.Native.Nat.{ℕ, _^_, _<_}
 use native.Mathlib.Omega.{arith}
-use lib.ListN.{take}
 use Rattle.bits.specs.Numbers.{bit, number}
 use Rattle.bits.specs.Sets.{size, gather, spread}
 use Rattle.bits.proofs.Bools.{or-left, or-right}
@@ -15,9 +14,9 @@ use Rattle.bits.proofs.Sizes.{size-lt}
 use Rattle.bits.proofs.Spreading.{gather-lt, gather-bit, gather-spread, bit-spread, bit-spread-in, spread-lt}
 use Rattle.bits.proofs.Members.{Place, place, gather-place, size-spread, spread-rises, spread-inside, inside-spread}
 use Rattle.tables.specs.Table.{tableBit}
-use Rattle.tables.specs.Counting.{AllCount, Counting, Sees, support, tableOver}
+use Rattle.tables.specs.declared.counting.CountingInputs.{CountingInputs}
+use Rattle.tables.specs.Counting.{AllCount, Counting, Sees, CountingIn, support, tableOver}
 use Rattle.tables.proofs.Depending.{support-sees, support-counting, support-all}
-use Rattle.tables.proofs.Setting.{take-number}
 use Rattle.splits.specs.Split.{readsD, Possible}
 use Rattle.splits.proofs.Over.{possible-whole, possible-over}
 use Rattle.best.specs.Best.{Candidate, Ahead, Best}
@@ -200,21 +199,22 @@ module _ (n r : ℕ) (F : ℕ → Bool) (K : ℕ) where
               in absurd (best-none n r F K e A B (b .candidate) (b .possible))
 
 -- where the table over the inputs that count stands in front of a list of bytes, the search there finds it
-pub counting-found : (n r K S : ℕ) (F : ℕ → Bool) (work : List ℕ) (c len : ℕ) → S ≡ support n F → c ≡ size n (bit S)
-    → 2 ^ c ≤ 8 * len
-    → number (2 ^ size n (bit S)) (tableBit work) ≡ tableOver n (bit S) F
-    → spreadAnswer n (bit S) (best c r (tableBit (take len work)) K) ≡ bestCounting n r F K
+pub counting-found : (n r K : ℕ) (F : ℕ → Bool) (c : CountingInputs) (work : List ℕ) → CountingIn n F c
+    → number (2 ^ size n (bit (c .mask))) (tableBit work) ≡ tableOver n (bit (c .mask)) F
+    → spreadAnswer n (bit (c .mask)) (best (c .many) r (tableBit work) K) ≡ bestCounting n r F K
 unfolding bestCounting
-counting-found n r K S F work c len is count long over =
-    ap (spreadAnswer n (bit S)) (best-ext c r K G (bit (tableOver n (bit S) F)) same
-    ∙ ap (λ (k : ℕ). best k r (bit (tableOver n (bit S) F)) K) count)
-    ∙ ap (λ (s : ℕ). spreadAnswer n (bit s) (best (size n (bit s)) r (bit (tableOver n (bit s) F)) K)) is
+counting-found n r K F c work w over =
+    ap (spreadAnswer n (bit (c .mask))) (best-ext (c .many) r K (tableBit work) T same
+    ∙ ap (λ (k : ℕ). best k r T K) count)
+    ∙ ap (λ (s : ℕ). spreadAnswer n (bit s) (best (size n (bit s)) r (bit (tableOver n (bit s) F)) K)) (w .is)
   where
-    G : ℕ → Bool
-    G = tableBit (take len work)
+    T : ℕ → Bool
+    T = bit (tableOver n (bit (c .mask)) F)
 
-    same : (x : ℕ) → x < 2 ^ c → tableBit (take len work) x ≡ bit (tableOver n (bit S) F) x
+    count : c .many ≡ size n (bit (c .mask))
+    count = w .count ∙ ap (λ (s : ℕ). size n (bit s)) (sym (w .is))
+
+    same : (x : ℕ) → x < 2 ^ c .many → tableBit work x ≡ T x
     same x h =
-        sym (bit-number (2 ^ c) G x h)
-        ∙ ap (λ (m : ℕ). bit m x) (take-number work len c long ∙ ap (λ (k : ℕ). number (2 ^ k) (tableBit work)) count
-        ∙ over)
+        sym (bit-number (2 ^ c .many) (tableBit work) x h)
+        ∙ ap (λ (m : ℕ). bit m x) (ap (λ (k : ℕ). number (2 ^ k) (tableBit work)) count ∙ over)

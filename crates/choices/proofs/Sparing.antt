@@ -44,22 +44,12 @@ module _ (n low r : ℕ) where
           → sparing n low (cond t (choice r A B) (choice q C D))
           ≡ better n r (cond p (choice q C D) nothing) (cond s (split A B) none)
       go true true true t p s = cc
-      go true true false t p s = absurd (omega (
-        arith,
-        ltb-true (size n (bit C) + r) (size n (bit A) + q) t,
-        ltb-true (low + q) (size n (bit C)) p,
-        ltb-false (low + r) (size n (bit A)) s,
-      ))
+      go true true false t p s = absurd (omega (arith, ltb-true, ltb-false))
       go true false true t p s = cc
       go true false false t p s = cc
       go false true true t p s = cc
       go false true false t p s = cc
-      go false false true t p s = absurd (omega (
-        arith,
-        ltb-false (size n (bit C) + r) (size n (bit A) + q) t,
-        ltb-false (low + q) (size n (bit C)) p,
-        ltb-true (low + r) (size n (bit A)) s,
-      ))
+      go false false true t p s = absurd (omega (arith, ltb-true, ltb-false))
       go false false false t p s = cc
 
 -- ---- beside a choice made

@@ -3,14 +3,14 @@
 use mathlib.Core.Path.{_≡_, refl, sym, ap, ap₂, _∙_, fun-ext}
 use mathlib.Core.Bool.{Bool, true, false, cond}
 use mathlib.Core.List.{List}
-use Prim.Native.Nat.{ℕ, zero, suc, _+_, _*_, _^_, _≤_}
+use Prim.Native.Nat.{ℕ, zero, suc, _+_, _^_}
 use lib.Dec.{ltb, eqb}
-use lib.ListN.{take}
 use Rattle.bits.specs.Numbers.{bit, number}
 use Rattle.bits.specs.Sets.{size, spread}
 use Rattle.bits.proofs.Members.{size-spread}
 use Rattle.tables.specs.Table.{tableBit}
-use Rattle.tables.specs.Counting.{support, tableOver}
+use Rattle.tables.specs.declared.counting.CountingInputs.{CountingInputs}
+use Rattle.tables.specs.Counting.{CountingIn, tableOver}
 use Rattle.best.specs.Search.{Answer, none, split, best}
 use Rattle.best.specs.Counting.{spreadAnswer}
 use Rattle.best.proofs.Counting.{counting-found}
@@ -49,11 +49,14 @@ module _ (n : ℕ) (s : ℕ → Bool) where
   spread-chosen c = sym (spread-cond (eqb (c .first) 0) nothing (choice (c .first) (c .own) (c .shared)))
 
 -- where the table over the inputs that count stands in front of a list of bytes, the search there finds it
-pub over-found : (n m K S : ℕ) (F : ℕ → Bool) (work : List ℕ) (c len : ℕ) → S ≡ support n F → c ≡ size n (bit S) → 2 ^ c
-    ≤ 8 * len
-    → number (2 ^ size n (bit S)) (tableBit work) ≡ tableOver n (bit S) F
-    → spreadChoice n (bit S) (bestUpTo c (tableBit (take len work)) K m) ≡ bestOver n F K m
-over-found n m K S F work c len is count long over =
-    ap (λ (k : ℕ). spreadChoice n (bit S) (firstOver k (λ r. best c r (tableBit (take len work)) K) m)) count
-    ∙ spread-first n (bit S) (λ r. best c r (tableBit (take len work)) K) m
-    ∙ ap (λ (f : ℕ → Answer). firstOver n f m) (fun-ext (λ r. counting-found n r K S F work c len is count long over))
+pub over-found : (n m K : ℕ) (F : ℕ → Bool) (c : CountingInputs) (work : List ℕ) → CountingIn n F c
+    → number (2 ^ size n (bit (c .mask))) (tableBit work) ≡ tableOver n (bit (c .mask)) F
+    → spreadChoice n (bit (c .mask)) (bestUpTo (c .many) (tableBit work) K m) ≡ bestOver n F K m
+over-found n m K F c work w over =
+    ap (λ (k : ℕ). spreadChoice n (bit (c .mask)) (firstOver k found m))
+    (w .count ∙ ap (λ (s : ℕ). size n (bit s)) (sym (w .is)))
+    ∙ spread-first n (bit (c .mask)) found m
+    ∙ ap (λ (f : ℕ → Answer). firstOver n f m) (fun-ext (λ r. counting-found n r K F c work w over))
+  where
+    found : ℕ → Answer
+    found r = best (c .many) r (tableBit work) K

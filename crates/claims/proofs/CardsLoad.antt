@@ -15,14 +15,14 @@ use Rattle.refusals.specs.declared.verdicts.Verdict.{Verdict}
 use Rattle.refusals.specs.declared.verdicts.Verdict.the-variants.{Fine, Refused}
 use Rattle.refusals.specs.Lines.{refusal, InOrder, verdict, numberOf, placeOf}
 use Rattle.refusals.specs.Refusals.{badInputs, badSheet, sheetLines, unreadRecord}
-use Rattle.refusals.proofs.Lines.{in-order, names-nothing}
+use Rattle.refusals.proofs.Lines.{in-order}
 use Rattle.cards.specs.declared.stores.Store.{Store}
 use Rattle.cards.specs.Stores.{made}
 use Rattle.cards.specs.Refusals.{badCard, badLoad}
 use Rattle.cards.specs.LoadDesk.{LoadOutcome, loadLines, loadDone, loadNot, partOutcome}
 use Rattle.cards.proofs.Desks.{Accepted, accepts}
 use Rattle.claims.specs.Words.{ByLines, FirstBad}
-use Rattle.claims.proofs.Verdicts.{says-verdict, is-done, is-refused, by-lines}
+use Rattle.claims.proofs.Verdicts.{says-verdict, is-done, is-refused, by-lines, no-place}
 use Rattle.claims.proofs.Sheets.{index-first, unread-exactly}
 
 module _ (ts : List Store) (c : List ℕ) (d n : ℕ) (s : List ℕ) where
@@ -64,10 +64,7 @@ module _ (ts : List Store) (c : List ℕ) (d n : ℕ) (s : List ℕ) where
   pub load-no-index : (eqb (numberOf (partOutcome ts c d n s .verdict)) 10
       || eqb (numberOf (partOutcome ts c d n s .verdict)) 15) ≡ false
       → placeOf (partOutcome ts c d n s .verdict) ≡ 0
-  load-no-index h =
-      ap placeOf load-says
-      ∙ names-nothing (λ k. eqb k 10 || eqb k 15) (loadLines c d n s) refl
-      (ap (λ (v : Verdict). eqb (numberOf v) 10 || eqb (numberOf v) 15) (sym load-says) ∙ h)
+  load-no-index = no-place (λ k. eqb k 10 || eqb k 15) (loadLines c d n s) refl load-says
 
   -- 10 names the first bad record, one of another desk being bad
   pub load-index : numberOf (partOutcome ts c d n s .verdict) ≡ 10

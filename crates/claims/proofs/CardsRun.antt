@@ -10,11 +10,10 @@ use Rattle.sheets.specs.Sheet.{records, sheetBit}
 use Rattle.sheets.specs.Reading.{IsFirstUnread}
 use Rattle.sheets.proofs.Keeping.{first-edition}
 use Rattle.refusals.specs.declared.verdicts.Refusal.{Refusal}
-use Rattle.refusals.specs.declared.verdicts.Verdict.{Verdict}
 use Rattle.refusals.specs.declared.verdicts.Verdict.the-variants.{Fine, Refused}
 use Rattle.refusals.specs.Lines.{verdict, numberOf, placeOf}
 use Rattle.refusals.specs.Refusals.{badInputs, badRecord, unreadRecord, badAssignment}
-use Rattle.refusals.proofs.Lines.{names-nothing, held}
+use Rattle.refusals.proofs.Lines.{held}
 use Rattle.refusals.proofs.Sheets.{unread-named}
 use Rattle.running.specs.declared.run_sheet.RunAnswer.{RunAnswer}
 use Rattle.running.specs.RunSheet.{runDone, runNot}
@@ -23,7 +22,7 @@ use Rattle.cards.specs.Refusals.{badCard, missingDesk, closedDesk, badCount}
 use Rattle.cards.specs.RunDesk.{runDeskLines, runDeskOutcome}
 use Rattle.cards.proofs.Desks.{run-by-lines}
 use Rattle.claims.specs.Words.{ByLines, FirstBad}
-use Rattle.claims.proofs.Verdicts.{says-verdict, is-done, is-refused, by-lines}
+use Rattle.claims.proofs.Verdicts.{says-verdict, is-done, is-refused, by-lines, no-place}
 use Rattle.claims.proofs.Sheets.{index-first}
 
 module _ (c : List ℕ) (d x : ℕ) where
@@ -65,10 +64,7 @@ module _ (c : List ℕ) (d x : ℕ) where
   pub run-desk-no-index : (eqb (numberOf (runDeskOutcome c d x .verdict)) 10
       || eqb (numberOf (runDeskOutcome c d x .verdict)) 15) ≡ false
       → placeOf (runDeskOutcome c d x .verdict) ≡ 0
-  run-desk-no-index h =
-      ap placeOf run-desk-says
-      ∙ names-nothing (λ k. eqb k 10 || eqb k 15) (runDeskLines c d x) refl
-      (ap (λ (v : Verdict). eqb (numberOf v) 10 || eqb (numberOf v) 15) (sym run-desk-says) ∙ h)
+  run-desk-no-index = no-place (λ k. eqb k 10 || eqb k 15) (runDeskLines c d x) refl run-desk-says
 
   -- 10 names the first bad record, counted within the desk; one of another desk is bad
   pub run-desk-index : numberOf (runDeskOutcome c d x .verdict) ≡ 10

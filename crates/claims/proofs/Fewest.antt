@@ -26,8 +26,9 @@ use Rattle.fewest.proofs.Joining.{joining-fewest}
 use Rattle.refusals.specs.declared.verdicts.Verdict.the-variants.{Fine}
 use Rattle.refusals.specs.Lines.{InOrder}
 use Rattle.bench.specs.MakeSheet.{sheetFor, makeForm, makeOutcome}
+use Rattle.bench.proofs.Ready.{ready}
 use Rattle.claims.specs.Words.{networkOf}
-use Rattle.claims.proofs.Made.{IsMade, make-sound, is-made, not-stuck, made-network}
+use Rattle.claims.proofs.Made.{IsMade, is-made, not-stuck, made-network}
 use Rattle.claims.proofs.MakeSheet.{made-gives}
 
 -- the reach of m cells: they carry no table that depends on more than m(K - 1) + 1 inputs (`reach`, fewest)
@@ -78,7 +79,7 @@ module _ (e : Edition) (ok : IsEdition e) (d n K : ℕ) (t sheet work : List ℕ
       → ((x : ℕ) → x < 2 ^ n → tableBit t x ≡ joined op u n (bit x))
       → (makeOutcome e d n K t sheet work .answer .verdict ≡ Fine)
       × Fewest n K (tableBit t) (networkOf e (makeOutcome e d n K t sheet work))
-  joining-made form op u j same = let g = make-sound e d n K t sheet work form
+  joining-made form op u j same = let g = ready e d n K t sheet work form .gate
       in go (joining-fewest op u j n K (g .some) (g .two))
     where
       -- what carries the lent table carries the joined one

@@ -1,5 +1,5 @@
--- What an inspector reads: one file a call, the five tries, the examples. Verdicts, Sheets, Tables and Written are the
--- steps that these share.
+-- What an inspector reads: one file a call, the five tries, the examples. Verdicts, Sheets, Tables, MakeReply and
+-- Written are the steps that these share.
 pub mod Verdicts
 pub mod Tables
 pub mod Sheets
@@ -13,6 +13,7 @@ pub mod RebuildTable
 pub mod RunTold
 pub mod RebuildTold
 pub mod Rewrite
+pub mod MakeReply
 pub mod Written
 pub mod Made
 pub mod MakeSheet

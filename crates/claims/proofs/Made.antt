@@ -5,7 +5,6 @@ use mathlib.Core.List.{List, [], _∷_}
 use Prim.Native.Nat.{ℕ, _≤_}
 use native.Mathlib.Omega.{arith}
 use lib.ListN.{length}
-use borrow.Author.Tests.{ltb-false}
 use Rattle.bits.proofs.Bools.{clash}
 use Rattle.tables.specs.Table.{tableBit}
 use Rattle.sheets.specs.declared.kinds.Edition.{Edition}
@@ -20,23 +19,18 @@ use Rattle.refusals.specs.declared.verdicts.Verdict.the-variants.{Fine}
 use Rattle.refusals.specs.Lines.{InOrder, verdict, reply}
 use Rattle.bench.specs.Refusals.{chainStuck, isStuck}
 use Rattle.refusals.proofs.Lines.{in-order, passes}
-use Rattle.refusals.proofs.Tests.{Sound, sound}
-use Rattle.bench.specs.MakeSheet.{MakeOutcome, sheetFor, cellsIn, makeForm, makeLines, makeDone, makeNot, makeOutcome}
+use Rattle.refusals.proofs.Tests.{Sound}
+use Rattle.bench.specs.MakeSheet.{sheetFor, cellsIn, makeForm, makeLines, makeDone, makeNot, makeOutcome}
+use Rattle.bench.proofs.Ready.{Ready, ready}
 use Rattle.claims.specs.Words.{recordsOf, networkOf}
-use Rattle.claims.proofs.Verdicts.{says-verdict, is-done}
+use Rattle.claims.proofs.Verdicts.{order-before}
+use Rattle.claims.proofs.MakeReply.{reply-says, reply-done}
 use Rattle.claims.proofs.Written.{IsWritten, outcome-records, outcome-good, outcome-network}
 
 module _ (e : Edition) (d n K : ℕ) (t sheet work : List ℕ) where
   pub make-says : makeOutcome e d n K t sheet work .answer .verdict ≡ verdict (makeLines e d n K t sheet work)
   unfolding makeOutcome
-  make-says =
-      says-verdict (λ (o : MakeOutcome). o .answer .verdict) (makeDone e d (cellsIn (sheetFor n K t)) sheet work)
-      (makeNot sheet work) refl (λ r. refl)
-      (verdict (makeLines e d n K t sheet work))
-
-  -- form and room are in order: so is the gate
-  pub make-sound : InOrder (makeForm e d n K t sheet work) → Sound e n K t
-  make-sound s = sound e n K t (s .0, (s .1 .0, (s .1 .1 .0, (s .1 .1 .1 .0, tt))))
+  make-says = reply-says e d (cellsIn (sheetFor n K t)) sheet work (verdict (makeLines e d n K t sheet work))
 
   pub record IsMade : Type 0 where
     pub gate : Sound e n K t
@@ -53,17 +47,19 @@ module _ (e : Edition) (d n K : ℕ) (t sheet work : List ℕ) where
       w : InOrder (makeLines e d n K t sheet work)
       w = in-order (makeLines e d n K t sheet work) (sym make-says ∙ h)
 
+      r : Ready e d n K t sheet work
+      r = ready e d n K t sheet work
+          (order-before (makeForm e d n K t sheet work) (chainStuck (sheetFor n K t) ∷ []) w)
+
       go : (c : Made) → sheetFor n K t ≡ c → isStuck c ≡ false → IsMade
       go stuck q g = absurd (clash refl g)
       go (made cs) q g = record {
-        gate = sound e n K t (w .0, (w .1 .0, (w .1 .1 .0, (w .1 .1 .1 .0, tt))));
-        desk = ltb-false mostDesk d (w .1 .1 .1 .1 .0);
+        gate = r .gate;
+        desk = r .desk;
         cells = cs;
         chain = q;
         outcome =
-            is-done (λ (o : MakeOutcome). o .answer .verdict) (makeDone e d (cellsIn (sheetFor n K t)) sheet work)
-            (makeNot sheet work) refl (λ r. refl)
-            (verdict (makeLines e d n K t sheet work)) h
+            reply-done e d (cellsIn (sheetFor n K t)) sheet work (verdict (makeLines e d n K t sheet work)) h
             ∙ ap (λ (c : Made). makeDone e d (cellsIn c) sheet work) q;
       }
 
@@ -73,8 +69,8 @@ module _ (e : Edition) (d n K : ℕ) (t sheet work : List ℕ) where
   unfolding makeOutcome
   not-stuck s cs q = (
     record {
-      gate = make-sound s;
-      desk = ltb-false mostDesk d (s .1 .1 .1 .1 .0);
+      gate = ready e d n K t sheet work s .gate;
+      desk = ready e d n K t sheet work s .desk;
       cells = cs;
       chain = q;
       outcome =

@@ -29,16 +29,18 @@ use Rattle.refusals.specs.Lines.{InOrder, verdict, numberOf}
 use Rattle.refusals.specs.Lent.{workAfter}
 use Rattle.refusals.proofs.Lines.{in-order, passes, passed, held}
 use Rattle.refusals.proofs.Lent.{work-found}
-use Rattle.refusals.proofs.Tests.{Sound, sound}
+use Rattle.refusals.proofs.Tests.{Sound}
 use Rattle.running.specs.RunSheet.{runOutcome}
 use Rattle.rebuilding.specs.RebuildTable.{rebuildOutcome}
 use Rattle.bench.specs.declared.make_sheet.MakeAnswer.{MakeAnswer}
-use Rattle.bench.specs.MakeSheet.{MakeOutcome, makeForm, makeDone, makeNot, makeOutcome}
+use Rattle.bench.specs.MakeSheet.{MakeOutcome, makeForm, makeDone, makeOutcome}
+use Rattle.bench.proofs.Ready.{ready}
 use Rattle.any_gate.specs.MakeAny.{anyFor, cellsAny, isUnsplit, isOverlong, noneAny, tooLong, anySays, anyLines}
 use Rattle.any_gate.specs.MakeAny.{anyOutcome}
 use Rattle.any_gate.proofs.Answers.{as-make}
 use Rattle.claims.specs.Words.{ByLines, AllBytes, recordsOf, networkOf}
-use Rattle.claims.proofs.Verdicts.{says-verdict, is-done, is-refused, area-left, by-lines, work-cleared}
+use Rattle.claims.proofs.Verdicts.{by-lines, order-before, work-cleared}
+use Rattle.claims.proofs.MakeReply.{reply-says, reply-done, reply-refused, reply-left, parts-once}
 use Rattle.claims.proofs.Written.{IsWritten, outcome-network, outcome-runs, outcome-rebuilds}
 use Rattle.claims.proofs.Written.{outcome-each-read, outcome-never-unread, outcome-gives}
 
@@ -55,17 +57,11 @@ module _ (e : Edition) (d n K : ℕ) (t s work : List ℕ) where
 
   says : anyOutcome e d n K t s work .answer .verdict ≡ verdict (anyLines e d n K t s work)
   unfolding anyOutcome
-  says =
-      says-verdict (λ (o : MakeOutcome). o .answer .verdict) (makeDone e d (cellsAny (anyFor n K t)) s work)
-      (makeNot s work) refl (λ r. refl)
-      (verdict (anyLines e d n K t s work))
+  says = reply-says e d (cellsAny (anyFor n K t)) s work (verdict (anyLines e d n K t s work))
 
   left : anyOutcome e d n K t s work .work ≡ workAfter (anyOutcome e d n K t s work .answer .verdict) work
   unfolding anyOutcome
-  left =
-      area-left (λ (o : MakeOutcome). o .answer .verdict) (makeDone e d (cellsAny (anyFor n K t)) s work)
-      (makeNot s work) refl (λ r. refl) (λ (o : MakeOutcome). o .work) work refl (λ r. refl)
-      (verdict (anyLines e d n K t s work))
+  left = reply-left e d (cellsAny (anyFor n K t)) s work (verdict (anyLines e d n K t s work))
 
   -- the verdict is that of lines 1 to 6, 8 and 17
   pub any-lines : ByLines (anyOutcome e d n K t s work .answer .verdict) (anyLines e d n K t s work)
@@ -75,11 +71,7 @@ module _ (e : Edition) (d n K : ℕ) (t s work : List ℕ) where
   pub any-refused : (r : Refusal) → anyOutcome e d n K t s work .answer .verdict ≡ Refused r
       → (anyOutcome e d n K t s work .answer .count ≡ 0) × (anyOutcome e d n K t s work .sheet ≡ s)
   unfolding anyOutcome
-  any-refused r h =
-      let q = is-refused (λ (o : MakeOutcome). o .answer .verdict) (makeDone e d (cellsAny (anyFor n K t)) s work)
-      (makeNot s work) refl (λ u. refl)
-      (verdict (anyLines e d n K t s work)) r h in
-      (ap (λ o. o .answer .count) q, ap (λ o. o .sheet) q)
+  any-refused = reply-refused e d (cellsAny (anyFor n K t)) s work (verdict (anyLines e d n K t s work))
 
   -- 1 to 7 leave the work area as found
   pub any-keeps : 1 ≤ numberOf (anyOutcome e d n K t s work .answer .verdict)
@@ -98,21 +90,13 @@ module _ (e : Edition) (d n K : ℕ) (t s work : List ℕ) where
   pub any-once : (a a′ : MakeAnswer) (l l′ w w′ : List ℕ) → record { answer = a; sheet = l; work = w }
       ≡ anyOutcome e d n K t s work
       → record { answer = a′; sheet = l′; work = w′ } ≡ anyOutcome e d n K t s work → (a ≡ a′) × (l ≡ l′) × (w ≡ w′)
-  any-once a a′ l l′ w w′ p q = (
-    ap (λ o. o .answer) (p ∙ sym q),
-    ap (λ o. o .sheet) (p ∙ sym q),
-    ap (λ o. o .work)
-        (p ∙ sym q),
-  )
+  any-once = parts-once (anyOutcome e d n K t s work)
 
   -- where make gives another number than 8, it is make's outcome, sheet and all; so what is claimed of make then holds
   -- of it
   pub any-as-make : (numberOf (makeOutcome e d n K t s work .answer .verdict) ≡ 8 → ⊥) → anyOutcome e d n K t s work
       ≡ makeOutcome e d n K t s work
   any-as-make h = sym (as-make e d n K t s work h)
-
-  gate : InOrder (makeForm e d n K t s work) → Sound e n K t
-  gate w = sound e n K t (w .0, (w .1 .0, (w .1 .1 .0, (w .1 .1 .1 .0, tt))))
 
   -- ---- demand 2: done; the records that it wrote
 
@@ -134,13 +118,12 @@ module _ (e : Edition) (d n K : ℕ) (t s work : List ℕ) where
         go unsplit q g h = absurd (clash refl g)
         go overlong q g h = absurd (clash refl h)
         go (sheet cs) q g h = record {
-          sound-gate = sound e n K t (w .0, (w .1 .0, (w .1 .1 .0, (w .1 .1 .1 .0, tt))));
+          sound-gate = ready e d n K t s work (order-before (makeForm e d n K t s work) (anySays (anyFor n K t)) w)
+              .gate;
           cells = cs;
           answer = q;
           outcome =
-              is-done (λ (o : MakeOutcome). o .answer .verdict) (makeDone e d (cellsAny (anyFor n K t)) s work)
-              (makeNot s work) refl (λ r. refl)
-              (verdict (anyLines e d n K t s work)) done
+              reply-done e d (cellsAny (anyFor n K t)) s work (verdict (anyLines e d n K t s work)) done
               ∙ ap (λ (a : Any). makeDone e d (cellsAny a) s work) q;
         }
 
@@ -206,7 +189,7 @@ module _ (e : Edition) (d n K : ℕ) (t s work : List ℕ) where
       × BlockedOver mostFirst K n keptInputs keptOf
   any-blocked h =
       let q = ap numberOf (sym says) ∙ h in
-      let g = gate (passed (makeForm e d n K t s work) (anySays (anyFor n K t)) 8 refl q .0) in
+      let g = ready e d n K t s work (passed (makeForm e d n K t s work) (anySays (anyFor n K t)) 8 refl q .0) .gate in
       any-unsplit n K (tableBit t) (g .some) (omega (arith, g .two)) .0
       (go (anyFor n K t) (held (makeForm e d n K t s work) (noneAny (anyFor n K t)) (tooLong (anyFor n K t) ∷ []) 8 refl
       refl (λ z. omega arith) q .0))
@@ -223,7 +206,7 @@ module _ (e : Edition) (d n K : ℕ) (t s work : List ℕ) where
       × (mostRecords < length cs))
   any-too-long h =
       let q = ap numberOf (sym says) ∙ h in
-      let g = gate (passed (makeForm e d n K t s work) (anySays (anyFor n K t)) 17 refl q .0) in
+      let g = ready e d n K t s work (passed (makeForm e d n K t s work) (anySays (anyFor n K t)) 17 refl q .0) .gate in
       any-overlong n K (tableBit t) (g .some) (omega (arith, g .two)) .0
       (go (anyFor n K t) (passed (makeForm e d n K t s work) (anySays (anyFor n K t)) 17 refl q .1))
     where
@@ -241,11 +224,11 @@ module _ (e : Edition) (d n K : ℕ) (t s work : List ℕ) where
 
     pub blocked-any : Blocked K n keptInputs keptOf → BlockedOver mostFirst K n keptInputs keptOf
         → numberOf (anyOutcome e d n K t s work .answer .verdict) ≡ 8
-    blocked-any b c = let g = gate form in by-answer unsplit
+    blocked-any b c = let g = ready e d n K t s work form .gate in by-answer unsplit
         (any-unsplit n K (tableBit t) (g .some) (omega (arith, g .two)) .1 (b, c))
 
     pub long-any : Blocked K n keptInputs keptOf → (cs : List Cell) → MakesOver mostFirst K n keptInputs keptOf cs
         → mostRecords < length cs
         → numberOf (anyOutcome e d n K t s work .answer .verdict) ≡ 17
-    long-any b cs c l = let g = gate form in by-answer overlong
+    long-any b cs c l = let g = ready e d n K t s work form .gate in by-answer overlong
         (any-overlong n K (tableBit t) (g .some) (omega (arith, g .two)) .1 (b, (cs, c, l)))

@@ -36,13 +36,15 @@ use Rattle.running.specs.RunSheet.{runOutcome}
 use Rattle.rebuilding.specs.RebuildTable.{rebuildOutcome}
 use Rattle.bench.specs.declared.make_sheet.MakeAnswer.{MakeAnswer}
 use Rattle.bench.specs.MakeSheet.{MakeOutcome, sheetFor, cellsIn, makeForm, makeLines, makeDone, makeNot, makeOutcome}
+use Rattle.bench.proofs.Ready.{ready}
 use Rattle.claims.specs.Words.{ByLines, AllBytes, recordsOf, networkOf}
 use Rattle.claims.specs.Before.{makeBefore}
-use Rattle.claims.proofs.Verdicts.{is-refused, area-left, by-lines, work-cleared}
+use Rattle.claims.proofs.Verdicts.{by-lines, work-cleared}
+use Rattle.claims.proofs.MakeReply.{reply-refused, reply-left, parts-once}
 use Rattle.claims.proofs.FindBest.{found-more, found-best}
 use Rattle.claims.proofs.Written.{IsWritten, outcome-runs, outcome-rebuilds, outcome-each-read}
 use Rattle.claims.proofs.Written.{outcome-never-unread, outcome-gives}
-use Rattle.claims.proofs.Made.{IsMade, make-says, make-sound, is-made, not-stuck, made-written, made-network}
+use Rattle.claims.proofs.Made.{IsMade, make-says, is-made, not-stuck, made-written, made-network}
 
 module _ (e : Edition) (d n K : ℕ) (t sheet work : List ℕ) where
   -- the inputs that are kept of the gate's, as signals, and the table over them
@@ -54,10 +56,7 @@ module _ (e : Edition) (d n K : ℕ) (t sheet work : List ℕ) where
 
   left : makeOutcome e d n K t sheet work .work ≡ workAfter (makeOutcome e d n K t sheet work .answer .verdict) work
   unfolding makeOutcome
-  left =
-      area-left (λ (o : MakeOutcome). o .answer .verdict) (makeDone e d (cellsIn (sheetFor n K t)) sheet work)
-      (makeNot sheet work) refl (λ r. refl) (λ (o : MakeOutcome). o .work) work refl (λ r. refl)
-      (verdict (makeLines e d n K t sheet work))
+  left = reply-left e d (cellsIn (sheetFor n K t)) sheet work (verdict (makeLines e d n K t sheet work))
 
   -- the verdict is that of lines 1 to 6 and 8
   pub make-lines : ByLines (makeOutcome e d n K t sheet work .answer .verdict) (makeLines e d n K t sheet work)
@@ -68,11 +67,7 @@ module _ (e : Edition) (d n K : ℕ) (t sheet work : List ℕ) where
   pub make-refused : (r : Refusal) → makeOutcome e d n K t sheet work .answer .verdict ≡ Refused r
       → (makeOutcome e d n K t sheet work .answer .count ≡ 0) × (makeOutcome e d n K t sheet work .sheet ≡ sheet)
   unfolding makeOutcome
-  make-refused r h =
-      let q = is-refused (λ (o : MakeOutcome). o .answer .verdict) (makeDone e d (cellsIn (sheetFor n K t)) sheet work)
-      (makeNot sheet work) refl (λ u. refl)
-      (verdict (makeLines e d n K t sheet work)) r h in
-      (ap (λ o. o .answer .count) q, ap (λ o. o .sheet) q)
+  make-refused = reply-refused e d (cellsIn (sheetFor n K t)) sheet work (verdict (makeLines e d n K t sheet work))
 
   -- 1 to 7 leave the work area as found
   pub make-keeps : 1 ≤ numberOf (makeOutcome e d n K t sheet work .answer .verdict)
@@ -91,12 +86,7 @@ module _ (e : Edition) (d n K : ℕ) (t sheet work : List ℕ) where
       ≡ makeOutcome e d n K t sheet work
       → record { answer = a′; sheet = l′; work = w′ } ≡ makeOutcome e d n K t sheet work → (a ≡ a′) × (l ≡ l′)
       × (w ≡ w′)
-  make-once a a′ l l′ w w′ p q = (
-    ap (λ o. o .answer) (p ∙ sym q),
-    ap (λ o. o .sheet) (p ∙ sym q),
-    ap (λ o. o .work)
-        (p ∙ sym q),
-  )
+  make-once = parts-once (makeOutcome e d n K t sheet work)
 
   -- ---- demand 2: done; s are the records that it wrote
 
@@ -145,8 +135,8 @@ module _ (e : Edition) (d n K : ℕ) (t sheet work : List ℕ) where
   pub made-blocked : numberOf (makeOutcome e d n K t sheet work .answer .verdict) ≡ 8 → Blocked K n keptInputs keptOf
   made-blocked h =
       let q = ap numberOf (sym (make-says e d n K t sheet work)) ∙ h in
-      let g = make-sound e d n K t sheet work (passed (makeForm e d n K t sheet work) (chainStuck (sheetFor n K t) ∷ [])
-      8 refl q .0) in
+      let g = ready e d n K t sheet work (passed (makeForm e d n K t sheet work) (chainStuck (sheetFor n K t) ∷ []) 8
+      refl q .0) .gate in
       sheet-stuck n K (tableBit t) (g .some) (omega (arith, g .two)) .0
       (is-stuck (sheetFor n K t) (held (makeForm e d n K t sheet work) (chainStuck (sheetFor n K t)) [] 8 refl refl
       (λ z. omega arith) q .0))
@@ -160,7 +150,7 @@ module _ (e : Edition) (d n K : ℕ) (t sheet work : List ℕ) where
     pub blocked-refused : Blocked K n keptInputs keptOf → numberOf (makeOutcome e d n K t sheet work .answer .verdict)
         ≡ 8
     blocked-refused b =
-        let g = make-sound e d n K t sheet work form in
+        let g = ready e d n K t sheet work form .gate in
         ap numberOf (make-says e d n K t sheet work ∙ passes (makeForm e d n K t sheet work)
         (chainStuck (sheetFor n K t) ∷ []) form)
         ∙ ap (λ (c : Made). numberOf (verdict (chainStuck c ∷ [])))
@@ -174,7 +164,7 @@ module _ (e : Edition) (d n K : ℕ) (t sheet work : List ℕ) where
         × Fewest n K (tableBit t) (networkOf e (makeOutcome e d n K t sheet work))
         × ((m′ : ℕ) → Carries n K m′ (tableBit t) → makeOutcome e d n K t sheet work .answer .count ≤ m′)
     made-fewest ok m c h =
-        let g = make-sound e d n K t sheet work form in go
+        let g = ready e d n K t sheet work form .gate in go
         (table-fewest n K (tableBit t) (g .some) (omega (arith, g .two)) m c h)
       where
         go : (cs : List Cell) × (sheetFor n K t ≡ made cs) × Fewest n K (tableBit t) cs
@@ -206,7 +196,7 @@ pub constant-made : (e : Edition) → IsEdition e → (d n K : ℕ) (t sheet wor
     → (makeOutcome e d n K t sheet work .answer .verdict ≡ Fine)
     × (networkOf e (makeOutcome e d n K t sheet work) ≡ lastCell (0 ∷ []) (cond (tableBit t 0) 3 0) ∷ [])
 constant-made e ok d n K t sheet work form none =
-    let g = make-sound e d n K t sheet work form in
+    let g = ready e d n K t sheet work form .gate in
     let cs = lastCell (0 ∷ []) (cond (tableBit t 0) 3 0) ∷ [] in
     let w = not-stuck e d n K t sheet work form cs
     (sheet-constant n K (tableBit t) (g .some) (omega (arith, g .two)) none) in

@@ -28,7 +28,8 @@ use Rattle.bench.specs.declared.make_sheet.MakeAnswer.{MakeAnswer}
 use Rattle.bench.specs.MakeSheet.{MakeOutcome, sheetFor, cellsIn, makeForm, makeLines, makeDone, makeNot, makeOutcome}
 use Rattle.bench.specs.MakeTold.{makeToldLines, makeTold}
 use Rattle.claims.specs.Words.{ByLines, AllBytes, recordsOf, networkOf}
-use Rattle.claims.proofs.Verdicts.{says-verdict, is-refused, area-left, by-lines, work-cleared}
+use Rattle.claims.proofs.Verdicts.{by-lines, work-cleared}
+use Rattle.claims.proofs.MakeReply.{reply-says, reply-refused, reply-left, parts-once}
 use Rattle.claims.proofs.MakeSheet.{made-gives, made-fewest}
 use Rattle.claims.proofs.Desks.{made-runs-own, made-rebuilds-own, made-accepted-own}
 use Rattle.claims.proofs.RunTold.{run-told-is}
@@ -38,16 +39,11 @@ use Rattle.claims.proofs.CheckTold.{check-told-is}
 module _ (w d n K : ℕ) (t sheet work : List ℕ) where
   says : makeTold w d n K t sheet work .answer .verdict ≡ verdict (makeToldLines w d n K t sheet work)
   says =
-      says-verdict (λ (o : MakeOutcome). o .answer .verdict)
-      (makeDone (editionOf w) d (cellsIn (sheetFor n K t)) sheet work) (makeNot sheet work) refl (λ r. refl)
-      (verdict (makeToldLines w d n K t sheet work))
+      reply-says (editionOf w) d (cellsIn (sheetFor n K t)) sheet work (verdict (makeToldLines w d n K t sheet work))
 
   left : makeTold w d n K t sheet work .work ≡ workAfter (makeTold w d n K t sheet work .answer .verdict) work
   left =
-      area-left (λ (o : MakeOutcome). o .answer .verdict)
-      (makeDone (editionOf w) d (cellsIn (sheetFor n K t)) sheet work) (makeNot sheet work) refl (λ r. refl)
-      (λ (o : MakeOutcome). o .work) work refl (λ r. refl)
-      (verdict (makeToldLines w d n K t sheet work))
+      reply-left (editionOf w) d (cellsIn (sheetFor n K t)) sheet work (verdict (makeToldLines w d n K t sheet work))
 
   -- the verdict is that of 1, of 2 for the edition, and of lines 1 to 6 and 8 in that edition
   pub make-told-lines : ByLines (makeTold w d n K t sheet work .answer .verdict) (makeToldLines w d n K t sheet work)
@@ -57,11 +53,8 @@ module _ (w d n K : ℕ) (t sheet work : List ℕ) where
   -- refused: the count is 0, and the sheet is as it was lent
   pub make-told-refused : (r : Refusal) → makeTold w d n K t sheet work .answer .verdict ≡ Refused r
       → (makeTold w d n K t sheet work .answer .count ≡ 0) × (makeTold w d n K t sheet work .sheet ≡ sheet)
-  make-told-refused r h =
-      let q = is-refused (λ (o : MakeOutcome). o .answer .verdict)
-      (makeDone (editionOf w) d (cellsIn (sheetFor n K t)) sheet work) (makeNot sheet work) refl (λ u. refl)
-      (verdict (makeToldLines w d n K t sheet work)) r h in
-      (ap (λ o. o .answer .count) q, ap (λ o. o .sheet) q)
+  make-told-refused =
+      reply-refused (editionOf w) d (cellsIn (sheetFor n K t)) sheet work (verdict (makeToldLines w d n K t sheet work))
 
   -- 1 to 7 leave the work area as found
   pub make-told-keeps : 1 ≤ numberOf (makeTold w d n K t sheet work .answer .verdict)
@@ -79,12 +72,7 @@ module _ (w d n K : ℕ) (t sheet work : List ℕ) where
   pub make-told-once : (a a′ : MakeAnswer) (l l′ x x′ : List ℕ) → record { answer = a; sheet = l; work = x }
       ≡ makeTold w d n K t sheet work
       → record { answer = a′; sheet = l′; work = x′ } ≡ makeTold w d n K t sheet work → (a ≡ a′) × (l ≡ l′) × (x ≡ x′)
-  make-told-once a a′ l l′ x x′ p q = (
-    ap (λ o. o .answer) (p ∙ sym q),
-    ap (λ o. o .sheet) (p ∙ sym q),
-    ap
-        (λ o. o .work) (p ∙ sym q),
-  )
+  make-told-once = parts-once (makeTold w d n K t sheet work)
 
   -- told an edition that there is, it is make in that edition
   pub make-told-is : badEdition w .holds ≡ false → makeTold w d n K t sheet work

@@ -13,7 +13,7 @@ use Rattle.refusals.specs.declared.verdicts.Verdict.{Verdict}
 use Rattle.refusals.specs.declared.verdicts.Verdict.the-variants.{Fine, Refused}
 use Rattle.refusals.specs.Lines.{refusal, naming, InOrder, verdict, numberOf, placeOf}
 use Rattle.refusals.specs.Refusals.{badInputs, badTable}
-use Rattle.refusals.proofs.Lines.{passes, names-nothing, not-fine}
+use Rattle.refusals.proofs.Lines.{passes, not-fine}
 use Rattle.values.specs.Formula.{Formula, value}
 use Rattle.formulas.specs.Text.{ReadAs, RefusedAt}
 use Rattle.formulas.specs.Reading.{Answer, formula, refused, textOf, valueIn}
@@ -21,7 +21,7 @@ use Rattle.formulas.specs.Refusals.{isRefused, placeIn, badText}
 use Rattle.formulas.specs.ReadFormula.{ReadOutcome, readLines, readDone, readNot, readOutcome}
 use Rattle.formulas.proofs.Place.{read-as, refused-at, one-formula}
 use Rattle.claims.specs.Words.{ByLines}
-use Rattle.claims.proofs.Verdicts.{says-verdict, is-done, is-refused, by-lines}
+use Rattle.claims.proofs.Verdicts.{says-verdict, is-done, is-refused, by-lines, no-place}
 use Rattle.claims.proofs.Tables.{spare-zero}
 
 -- line 16 of an answer
@@ -62,10 +62,7 @@ module _ (n : ℕ) (s table : List ℕ) where
   -- nothing is named but for number 16
   pub read-no-place : eqb (numberOf (readOutcome n s table .verdict)) 16 ≡ false
       → placeOf (readOutcome n s table .verdict) ≡ 0
-  read-no-place h =
-      ap placeOf read-says
-      ∙ names-nothing (λ k. eqb k 16) (readLines n s table) refl
-      (ap (λ (v : Verdict). eqb (numberOf v) 16) (sym read-says) ∙ h)
+  read-no-place = no-place (λ k. eqb k 16) (readLines n s table) refl read-says
 
   -- two outcomes that keep the promise are equal: the verdict, and the table afterwards
   pub read-once : (v v′ : Verdict) (l l′ : List ℕ) → record { verdict = v; table = l } ≡ readOutcome n s table

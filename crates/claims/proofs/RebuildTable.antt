@@ -18,7 +18,7 @@ use Rattle.refusals.specs.declared.verdicts.Verdict.{Verdict}
 use Rattle.refusals.specs.declared.verdicts.Verdict.the-variants.{Fine, Refused}
 use Rattle.refusals.specs.Lines.{refusal, InOrder, verdict, numberOf, placeOf, reply}
 use Rattle.refusals.specs.Refusals.{badInputs, badTable, badSheet, unreadRecord}
-use Rattle.refusals.proofs.Lines.{lapses, in-order, names-nothing}
+use Rattle.refusals.proofs.Lines.{lapses, in-order}
 use Rattle.refusals.proofs.Tests.{inside, right-table}
 use Rattle.refusals.proofs.Sheets.{good-sheet, all-read, read-fine}
 use Rattle.running.specs.RunSheet.{runOutcome}
@@ -26,7 +26,7 @@ use Rattle.rebuilding.specs.RebuildTable.{RebuildOutcome, rebuildForm, rebuildL
 use Rattle.rebuilding.specs.RebuildTable.{rebuildOutcome}
 use Rattle.claims.specs.Words.{ByLines, FirstBad}
 use Rattle.claims.specs.Before.{rebuildBefore}
-use Rattle.claims.proofs.Verdicts.{says-verdict, is-done, is-refused, by-lines}
+use Rattle.claims.proofs.Verdicts.{says-verdict, is-done, is-refused, by-lines, no-place}
 use Rattle.claims.proofs.Tables.{spare-zero}
 use Rattle.claims.proofs.Sheets.{index-first, good-run, unread-exactly}
 
@@ -52,10 +52,7 @@ module _ (e : Edition) (d n : ℕ) (s table : List ℕ) where
   pub rebuild-no-index : (eqb (numberOf (rebuildOutcome e d n s table .verdict)) 10
       || eqb (numberOf (rebuildOutcome e d n s table .verdict)) 15) ≡ false
       → placeOf (rebuildOutcome e d n s table .verdict) ≡ 0
-  rebuild-no-index h =
-      ap placeOf rebuild-says
-      ∙ names-nothing (λ k. eqb k 10 || eqb k 15) (rebuildLines e d n s table) refl
-      (ap (λ (v : Verdict). eqb (numberOf v) 10 || eqb (numberOf v) 15) (sym rebuild-says) ∙ h)
+  rebuild-no-index = no-place (λ k. eqb k 10 || eqb k 15) (rebuildLines e d n s table) refl rebuild-says
 
   -- 10 names the first bad record
   pub rebuild-index : IsEdition e → numberOf (rebuildOutcome e d n s table .verdict) ≡ 10

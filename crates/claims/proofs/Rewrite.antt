@@ -22,7 +22,7 @@ use Rattle.refusals.specs.declared.verdicts.Verdict.{Verdict}
 use Rattle.refusals.specs.declared.verdicts.Verdict.the-variants.{Fine, Refused}
 use Rattle.refusals.specs.Lines.{refusal, InOrder, verdict, numberOf, placeOf, reply}
 use Rattle.refusals.specs.Refusals.{badInputs, badTable, badSheet, shortRecords, unreadRecord, readLines}
-use Rattle.refusals.proofs.Lines.{passes, lapses, in-order, names-nothing}
+use Rattle.refusals.proofs.Lines.{passes, lapses, in-order}
 use Rattle.refusals.proofs.Sheets.{good-sheet, sheet-fine, counted, all-read, read-fine}
 use Rattle.rebuilding.specs.RebuildTable.{rebuildDone, rebuildNot, rebuildOutcome, rebuildOwn}
 use Rattle.rebuilding.specs.RebuildTold.{rebuildTold}
@@ -31,7 +31,7 @@ use Rattle.rewriting.specs.Rewrite.{SaysTheSame, RewriteOutcome, newRecords, re
 use Rattle.rewriting.specs.Rewrite.{rewriteDone, rewriteNot, rewriteOutcome, rewriteOwn}
 use Rattle.rewriting.proofs.Widened.{widened}
 use Rattle.claims.specs.Words.{ByLines, FirstBad}
-use Rattle.claims.proofs.Verdicts.{says-verdict, is-done, is-refused, by-lines}
+use Rattle.claims.proofs.Verdicts.{says-verdict, is-done, is-refused, by-lines, no-place}
 use Rattle.claims.proofs.Sheets.{index-first, unread-exactly}
 use Rattle.claims.proofs.RebuildTable.{rebuild-says}
 use Rattle.claims.proofs.RebuildTold.{rebuild-told-is, rebuild-told-one}
@@ -70,10 +70,7 @@ module _ (e f : Edition) (d n : ℕ) (s room : List ℕ) where
   pub rewrite-no-index : (eqb (numberOf (rewriteOutcome e f d n s room .answer .verdict)) 10
       || eqb (numberOf (rewriteOutcome e f d n s room .answer .verdict)) 15) ≡ false
       → placeOf (rewriteOutcome e f d n s room .answer .verdict) ≡ 0
-  rewrite-no-index h =
-      ap placeOf rewrite-says
-      ∙ names-nothing (λ k. eqb k 10 || eqb k 15) (rewriteLines e f d n s room) refl
-      (ap (λ (v : Verdict). eqb (numberOf v) 10 || eqb (numberOf v) 15) (sym rewrite-says) ∙ h)
+  rewrite-no-index = no-place (λ k. eqb k 10 || eqb k 15) (rewriteLines e f d n s room) refl rewrite-says
 
   -- 10 names the first bad record
   pub rewrite-index : IsEdition e → numberOf (rewriteOutcome e f d n s room .answer .verdict) ≡ 10

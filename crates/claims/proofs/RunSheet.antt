@@ -18,13 +18,13 @@ use Rattle.refusals.specs.declared.verdicts.Verdict.{Verdict}
 use Rattle.refusals.specs.declared.verdicts.Verdict.the-variants.{Refused}
 use Rattle.refusals.specs.Lines.{refusal, InOrder, verdict, numberOf, placeOf, reply}
 use Rattle.refusals.specs.Refusals.{badInputs, badSheet, badAssignment, unreadRecord}
-use Rattle.refusals.proofs.Lines.{lapses, names-nothing}
+use Rattle.refusals.proofs.Lines.{lapses}
 use Rattle.refusals.proofs.Sheets.{good-sheet, read-fine}
 use Rattle.running.specs.declared.run_sheet.RunAnswer.{RunAnswer}
 use Rattle.running.specs.RunSheet.{runForm, runLines, runDone, runNot, runOutcome}
 use Rattle.claims.specs.Words.{ByLines, FirstBad}
 use Rattle.claims.specs.Before.{runBefore}
-use Rattle.claims.proofs.Verdicts.{says-verdict, is-refused, by-lines}
+use Rattle.claims.proofs.Verdicts.{says-verdict, is-refused, by-lines, no-place}
 use Rattle.claims.proofs.Sheets.{index-first, unread-exactly}
 
 module _ (e : Edition) (d n : ℕ) (s : List ℕ) (x : ℕ) where
@@ -47,10 +47,7 @@ module _ (e : Edition) (d n : ℕ) (s : List ℕ) (x : ℕ) where
   pub run-no-index : (eqb (numberOf (runOutcome e d n s x .verdict)) 10
       || eqb (numberOf (runOutcome e d n s x .verdict)) 15) ≡ false
       → placeOf (runOutcome e d n s x .verdict) ≡ 0
-  run-no-index h =
-      ap placeOf run-says
-      ∙ names-nothing (λ k. eqb k 10 || eqb k 15) (runLines e d n s x) refl
-      (ap (λ (v : Verdict). eqb (numberOf v) 10 || eqb (numberOf v) 15) (sym run-says) ∙ h)
+  run-no-index = no-place (λ k. eqb k 10 || eqb k 15) (runLines e d n s x) refl run-says
 
   -- 10 names the first bad record
   pub run-index : IsEdition e → numberOf (runOutcome e d n s x .verdict) ≡ 10

@@ -22,7 +22,7 @@ use Rattle.refusals.specs.declared.verdicts.Refusal.{Refusal}
 use Rattle.refusals.specs.declared.verdicts.Verdict.the-variants.{Fine, Refused}
 use Rattle.refusals.specs.Lines.{InOrder, line, verdict, numberOf, placeOf, reply}
 use Rattle.refusals.specs.Refusals.{badInputs, badSheet, sheetLines}
-use Rattle.refusals.proofs.Lines.{in-order, passes, names-nothing}
+use Rattle.refusals.proofs.Lines.{in-order, passes}
 use Rattle.settling.specs.declared.settle.SettleAnswer.{SettleAnswer}
 use Rattle.settling.specs.Refusals.{passesOver, unread, inputSound, badTimes}
 use Rattle.settling.specs.Settle.{settleLines, settleDone, settleNot, settleOutcome}
@@ -33,7 +33,7 @@ use Rattle.paths.proofs.Whole.{whole-path}
 use Rattle.paths.proofs.Rounded.{rounded-path}
 use Rattle.claims.specs.Words.{ByLines, FirstBad}
 use Rattle.claims.specs.Times.{Reads, SoundTimes, WholeTimes}
-use Rattle.claims.proofs.Verdicts.{says-verdict, is-refused, is-done, by-lines}
+use Rattle.claims.proofs.Verdicts.{says-verdict, is-refused, is-done, by-lines, no-place}
 use Rattle.claims.proofs.Sheets.{index-first}
 
 module _ (e : Edition) (d n : ℕ) (s : List ℕ) (delay : Float) (ts : List InputTime) where
@@ -58,10 +58,7 @@ module _ (e : Edition) (d n : ℕ) (s : List ℕ) (delay : Float) (ts : List Inp
   -- nothing is named but for number 10
   pub settle-no-index : (numberOf (settleOutcome e d n s delay ts .verdict) ≡ 10 → ⊥)
       → placeOf (settleOutcome e d n s delay ts .verdict) ≡ 0
-  settle-no-index h =
-      ap placeOf settle-says
-      ∙ names-nothing (λ k. eqb k 10) (settleLines e d n s delay ts) refl
-      (ne-eqb (numberOf (verdict (settleLines e d n s delay ts))) 10 (λ q. h (ap numberOf settle-says ∙ q)))
+  settle-no-index h = no-place (λ k. eqb k 10) (settleLines e d n s delay ts) refl settle-says (ne-eqb _ 10 h)
 
   -- and then it is the first bad record
   pub settle-index : IsEdition e → numberOf (settleOutcome e d n s delay ts .verdict) ≡ 10

@@ -18,7 +18,7 @@ use Rattle.refusals.specs.declared.verdicts.Refusal.{Refusal}
 use Rattle.refusals.specs.declared.verdicts.Verdict.the-variants.{Fine, Refused}
 use Rattle.refusals.specs.Lines.{InOrder, verdict, numberOf, placeOf}
 use Rattle.refusals.specs.Refusals.{badInputs, badSheet}
-use Rattle.refusals.proofs.Lines.{in-order, names-nothing}
+use Rattle.refusals.proofs.Lines.{in-order}
 use Rattle.settling.specs.declared.slack.SlackAnswer.{SlackAnswer}
 use Rattle.settling.specs.Refusals.{badTimes, badSlack}
 use Rattle.settling.specs.Slack.{slackLines, slackDone, slackNot, slackOutcome}
@@ -27,7 +27,7 @@ use Rattle.settling.proofs.Slacking.{counted, InWhole, in-whole}
 use Rattle.paths.specs.Paths.{Beyond, BestPath}
 use Rattle.paths.proofs.Whole.{whole-path}
 use Rattle.claims.specs.Words.{ByLines, FirstBad}
-use Rattle.claims.proofs.Verdicts.{says-verdict, is-refused, is-done, by-lines}
+use Rattle.claims.proofs.Verdicts.{says-verdict, is-refused, is-done, by-lines, no-place}
 use Rattle.claims.proofs.Sheets.{index-first}
 
 module _ (e : Edition) (d n : ℕ) (s : List ℕ) (delay : Float) (ts : List InputTime) (deadline : ℤ) where
@@ -52,10 +52,7 @@ module _ (e : Edition) (d n : ℕ) (s : List ℕ) (delay : Float) (ts : List Inp
   -- nothing is named but for number 10
   pub slack-no-index : (numberOf (slackOutcome e d n s delay ts deadline .verdict) ≡ 10 → ⊥)
       → placeOf (slackOutcome e d n s delay ts deadline .verdict) ≡ 0
-  slack-no-index h =
-      ap placeOf slack-says
-      ∙ names-nothing (λ k. eqb k 10) (slackLines e d n s delay ts deadline) refl
-      (ne-eqb (numberOf (verdict (slackLines e d n s delay ts deadline))) 10 (λ q. h (ap numberOf slack-says ∙ q)))
+  slack-no-index h = no-place (λ k. eqb k 10) (slackLines e d n s delay ts deadline) refl slack-says (ne-eqb _ 10 h)
 
   -- and then it is the first bad record
   pub slack-index : IsEdition e → numberOf (slackOutcome e d n s delay ts deadline .verdict) ≡ 10

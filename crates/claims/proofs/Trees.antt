@@ -20,12 +20,13 @@ use Rattle.trees.proofs.Trees.{made-tree, tree-made, stuck-treeless}
 use Rattle.refusals.specs.declared.verdicts.Verdict.the-variants.{Fine}
 use Rattle.refusals.specs.Lines.{InOrder, numberOf}
 use Rattle.bench.specs.MakeSheet.{sheetFor, makeForm, makeOutcome}
-use Rattle.claims.proofs.Made.{make-sound, is-made, not-stuck}
+use Rattle.bench.proofs.Ready.{ready}
+use Rattle.claims.proofs.Made.{is-made, not-stuck}
 use Rattle.claims.proofs.MakeSheet.{made-blocked, blocked-refused}
 
 module _ (e : Edition) (d n : ℕ) (t sheet work : List ℕ) (form : InOrder (makeForm e d n 2 t sheet work)) where
   some : 1 ≤ n
-  some = make-sound e d n 2 t sheet work form .some
+  some = ready e d n 2 t sheet work form .gate .some
 
   -- form and room in order, make with K = 2 is refused as 8 exactly when no tree of two-input nodes reads each of the
   -- inputs that count once and computes the table (`stuck-treeless`, trees)

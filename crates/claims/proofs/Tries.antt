@@ -32,8 +32,9 @@ use Rattle.refusals.proofs.Lines.{not-fine}
 use Rattle.refusals.proofs.Sheets.{counted}
 use Rattle.rebuilding.specs.RebuildTable.{rebuildOutcome}
 use Rattle.bench.specs.MakeSheet.{sheetFor, cellsIn, makeForm, makeOutcome}
+use Rattle.bench.proofs.Ready.{ready}
 use Rattle.claims.specs.Words.{AllBytes, recordsOf, networkOf}
-use Rattle.claims.proofs.Made.{IsMade, make-sound, is-made, not-stuck, made-records, made-good, made-network}
+use Rattle.claims.proofs.Made.{IsMade, is-made, not-stuck, made-records, made-good, made-network}
 use Rattle.claims.proofs.MakeSheet.{made-rebuilds, made-gives}
 
 -- ---- a bench that only says no
@@ -43,7 +44,7 @@ module _ (e : Edition) (d n K : ℕ) (t sheet work : List ℕ) (form : InOrder (
   -- where form and room are in order and at most K inputs count, make is done, with one cell
   pub one-cell : makeOutcome e d n K t sheet work .answer ≡ record { verdict = Fine; count = 1 }
   one-cell =
-      let g = make-sound e d n K t sheet work form in
+      let g = ready e d n K t sheet work form .gate in
       let s = bit (kept n (tableBit t)) in
       let cs = lastCell (pick n s (inputs n)) (tableOver n s (tableBit t)) ∷ [] in
       let few : length (pick n s (inputs n)) ≤ K = omega

@@ -36,11 +36,11 @@ use Rattle.refusals.specs.Lines.{InOrder, naming, verdict, numberOf, placeOf, r
 use Rattle.refusals.specs.Refusals.{notPossible}
 use Rattle.splitting.specs.TrySplit.{TryOutcome, tryForm, tryLines, tryDone, tryNot, tryOutcome}
 use Rattle.refusals.specs.Lent.{into}
-use Rattle.refusals.proofs.Lines.{in-order, passes, held, names-nothing}
+use Rattle.refusals.proofs.Lines.{in-order, passes, held}
 use Rattle.refusals.proofs.Tests.{sound}
 use Rattle.splitting.proofs.Sets.{candidate, most-first}
 use Rattle.claims.specs.Words.{ByLines, Breaks}
-use Rattle.claims.proofs.Verdicts.{says-verdict, is-done, is-refused, by-lines}
+use Rattle.claims.proofs.Verdicts.{says-verdict, is-done, is-refused, by-lines, no-place}
 use Rattle.claims.proofs.Tables.{spare-zero, table-in, table-word, table-rest, pair-works}
 
 module _ (e : Edition) (n K r A B : ℕ) (t room : List ℕ) where
@@ -76,8 +76,7 @@ module _ (e : Edition) (n K r A B : ℕ) (t room : List ℕ) where
       × (tryOutcome e n K r A B t room .answer .columns ≡ 0)
   unfolding tryOutcome
   try-no-break h = (
-    ap placeOf says ∙ names-nothing (λ k. eqb k 8) (tryLines e n K r A B t room) refl
-        (ne-eqb _ 8 (λ q. h (ap numberOf says ∙ q))),
+    no-place (λ k. eqb k 8) (tryLines e n K r A B t room) refl says (ne-eqb _ 8 h),
     go (verdict (tryLines e n K r A B t room)) h,
   )
     where

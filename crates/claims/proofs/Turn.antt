@@ -10,7 +10,7 @@ use Rattle.bits.proofs.Bools.{false-of}
 use Rattle.refusals.specs.declared.verdicts.Refusal.{Refusal}
 use Rattle.refusals.specs.declared.verdicts.Verdict.the-variants.{Fine, Refused}
 use Rattle.refusals.specs.Lines.{refusal, line, verdict, numberOf, placeOf, reply}
-use Rattle.refusals.proofs.Lines.{names-nothing, not-fine}
+use Rattle.refusals.proofs.Lines.{not-fine}
 use Rattle.turning.specs.declared.ways.Way.{Way}
 use Rattle.turning.specs.declared.turn.TurnAnswer.{TurnAnswer}
 use Rattle.turning.specs.Ways.{IsWay, Reachable, FirstWay, wayCount}
@@ -21,7 +21,7 @@ use Rattle.turning.specs.Turn.{turnLines, turnDone, turnNot, turnOutcome}
 use Rattle.turning.proofs.Listed.{rank, rank-lt, listed, way-at, first-way}
 use Rattle.book.proofs.Entries.{reaches-exactly, same-entry}
 use Rattle.claims.specs.Words.{ByLines}
-use Rattle.claims.proofs.Verdicts.{says-verdict, is-refused, by-lines}
+use Rattle.claims.proofs.Verdicts.{says-verdict, is-refused, by-lines, no-place}
 
 module _ (f g : ℕ) where
   pub says : turnOutcome f g .verdict ≡ verdict (turnLines f g)
@@ -43,7 +43,7 @@ module _ (f g : ℕ) where
 
   -- nothing is named
   pub turn-names-nothing : placeOf (turnOutcome f g .verdict) ≡ 0
-  turn-names-nothing = ap placeOf says ∙ names-nothing (λ k. false) (turnLines f g) refl refl
+  turn-names-nothing = no-place (λ k. false) (turnLines f g) refl says refl
 
   -- two answers that keep the promise are equal
   pub turn-once : (a b : TurnAnswer) → a ≡ turnOutcome f g → b ≡ turnOutcome f g → a ≡ b

@@ -2,16 +2,16 @@
 -- returned and left. Assumes nothing.
 use mathlib.Core.Path.{_≡_, refl, sym, ap, _∙_}
 use mathlib.Core.Logic.{_⊎_, inl, inr}
-use mathlib.Core.Bool.{true}
-use mathlib.Core.List.{List}
+use mathlib.Core.Bool.{Bool, true, false}
+use mathlib.Core.List.{List, [], _∷_, _++_}
 use Prim.Native.Nat.{ℕ}
 use lib.ListN.{length, replicate}
 use Rattle.refusals.specs.declared.verdicts.Refusal.{Refusal}
 use Rattle.refusals.specs.declared.verdicts.Verdict.{Verdict}
 use Rattle.refusals.specs.declared.verdicts.Verdict.the-variants.{Fine, Refused}
-use Rattle.refusals.specs.Lines.{Line, verdict, numberOf, reply, Given}
+use Rattle.refusals.specs.Lines.{Line, InOrder, verdict, numberOf, placeOf, reply, Given}
 use Rattle.refusals.specs.Lent.{workAfter}
-use Rattle.refusals.proofs.Lines.{others, given, done, another}
+use Rattle.refusals.proofs.Lines.{others, given, done, another, naming-only, names-nothing}
 use Rattle.claims.specs.Words.{ByLines}
 
 -- a call's verdict is that of its lines
@@ -45,6 +45,17 @@ by-lines ls o v e = record {
     cases : (u : Verdict) → u ≡ verdict ls → (u ≡ Fine) ⊎ Given (numberOf u) ls
     cases Fine q = inl refl
     cases (Refused r) q = inr (given ls (r .number) (another ls 0 r o (sym q)) .0 (ap numberOf (sym q)))
+
+-- lines that are in order with others after them
+pub order-before : (ls ms : List Line) → InOrder (ls ++ ms) → InOrder ls
+order-before [] ms w = tt
+order-before (l ∷ ls) ms w = (w .0, order-before ls ms (w .1))
+
+-- where its lines name something by some numbers alone, a verdict by another names nothing
+pub no-place : (p : ℕ → Bool) (ls : List Line) → naming-only p ls ≡ true → {v : Verdict} → v ≡ verdict ls
+    → p (numberOf v) ≡ false → placeOf v ≡ 0
+no-place p ls only says h =
+    ap placeOf says ∙ names-nothing p ls only (ap (λ (v : Verdict). p (numberOf v)) (sym says) ∙ h)
 
 -- a work area after 0 or 8 is zeros
 pub work-cleared : (v : Verdict) (work : List ℕ) → (numberOf v ≡ 0) ⊎ (numberOf v ≡ 8) → workAfter v work

@@ -10,10 +10,9 @@ use Rattle.sheets.specs.declared.kinds.Edition.{Edition}
 use Rattle.sheets.specs.Edition.{IsEdition}
 use Rattle.sheets.specs.Sheet.{records, sheetCells, sheetBit}
 use Rattle.refusals.specs.declared.verdicts.Refusal.{Refusal}
-use Rattle.refusals.specs.declared.verdicts.Verdict.{Verdict}
 use Rattle.refusals.specs.declared.verdicts.Verdict.the-variants.{Fine, Refused}
 use Rattle.refusals.specs.Lines.{refusal, InOrder, verdict, numberOf, placeOf}
-use Rattle.refusals.proofs.Lines.{in-order, passes, names-nothing, not-fine}
+use Rattle.refusals.proofs.Lines.{in-order, passes, not-fine}
 use Rattle.values.specs.Formula.{Formula, value}
 use Rattle.formulas.specs.Text.{ReadAs}
 use Rattle.printing.specs.Print.{sheetText, formulaOf}
@@ -21,7 +20,7 @@ use Rattle.printing.specs.Printable.{Printable, notPrinted}
 use Rattle.printing.specs.WriteFormula.{WriteOutcome, writeForm, writeLines, writeDone, writeNot, writeOutcome}
 use Rattle.printing.proofs.Printing as printing
 use Rattle.claims.specs.Words.{ByLines}
-use Rattle.claims.proofs.Verdicts.{says-verdict, is-done, is-refused, by-lines}
+use Rattle.claims.proofs.Verdicts.{says-verdict, is-done, is-refused, by-lines, no-place}
 
 module _ (e : Edition) (d n : ℕ) (s room : List ℕ) where
   pub write-says : writeOutcome e d n s room .answer .verdict ≡ verdict (writeLines e d n s room)
@@ -45,10 +44,7 @@ module _ (e : Edition) (d n : ℕ) (s room : List ℕ) where
   -- nothing is named but for number 10: so 16 is given at place 0
   pub write-no-place : eqb (numberOf (writeOutcome e d n s room .answer .verdict)) 10 ≡ false
       → placeOf (writeOutcome e d n s room .answer .verdict) ≡ 0
-  write-no-place h =
-      ap placeOf write-says
-      ∙ names-nothing (λ k. eqb k 10) (writeLines e d n s room) refl
-      (ap (λ (v : Verdict). eqb (numberOf v) 10) (sym write-says) ∙ h)
+  write-no-place = no-place (λ k. eqb k 10) (writeLines e d n s room) refl write-says
 
   -- two outcomes that keep the promise are equal: the answer, and the room afterwards
   pub write-once : (o o′ : WriteOutcome) → o ≡ writeOutcome e d n s room → o′ ≡ writeOutcome e d n s room → o ≡ o′

@@ -1,12 +1,10 @@
 // The best split over the inputs that count.
 use crate::search::find_with;
 use best::Found;
-use bits::sets::members;
-use bits::sets::spread_out;
 use tables::aside::set_aside;
+use tables::aside::spread_mask;
 use tables::clear;
-use tables::counting::support_of;
-use tables::length_for;
+use tables::counting::counting_inputs;
 ghost use mathlib.Core.Path.{_≡_};
 ghost use mathlib.Core.Bool.{false};
 ghost use Prim.Native.Nat.{_≤_};
@@ -34,9 +32,9 @@ fn spread_back(n: u32, mask: u16, found: Found) -> Counted
     let Found::Split(own, shared) = found else {
         return Counted::Nothing;
     };
-    let a = spread_out(n, mask, own as u32);
-    let b = spread_out(n, mask, shared as u32);
-    Counted::Split(a as u16, b as u16)
+    let a = spread_mask(n, mask, own);
+    let b = spread_mask(n, mask, shared);
+    Counted::Split(a, b)
 }
 
 // The best split with r first cells of k inputs over the inputs that count, in a work area, which is then cleared;
@@ -46,14 +44,12 @@ pub fn find_counting(t: &[u8], n: u32, r: u32, k: u32, work: &mut [u8]) -> Count
         × (length (now t) ≤ length (now work)) ⌝ }
     ensures { λ f. ⌜ FoundCounting n r k (now (t .entry)) (now (work .entry)) f (now (work .exit)) ⌝ }
 {
-    let mask = support_of(t, n);
-    let m = members(mask);
-    if m <= k {
+    let counting = counting_inputs(t, n);
+    if counting.many <= k {
         return Counted::Few;
     }
-    set_aside(t, n, mask, work);
-    let len = length_for(m);
-    let found = find_with(&work[..len], m, r, k);
+    set_aside(t, n, counting.mask, work);
+    let found = find_with(work, counting.many, r, k);
     clear(work);
-    spread_back(n, mask, found)
+    spread_back(n, counting.mask, found)
 }

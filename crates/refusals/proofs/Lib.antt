@@ -4,3 +4,4 @@ pub mod Lent
 pub mod Tests
 pub mod Sheets
 pub mod Told
+pub mod Refusing

@@ -1,12 +1,11 @@
 // Finding the best split with several first cells.
-use bits::sets::members;
 use choices::counted::find_over;
 use finding::find_best::find_form;
 use refusals::verdicts::Refusal;
 use refusals::verdicts::Verdict;
 use refusals::verdicts::refuse;
 use sheets::kinds::Edition;
-use tables::counting::support_of;
+use tables::counting::counting_inputs;
 ghost use mathlib.Core.Path.{_≡_};
 ghost use Prim.Native.Nat.{_≤_};
 ghost use lib.ListN.{length};
@@ -48,10 +47,11 @@ fn search(n: u32, k: u32, t: &[u8], work: &mut [u8]) -> FindSeveralAnswer
         (severalDone (bestSeveral n k (now (t .entry))) (now (work .entry))) (severalNot (now (work .entry)))
         ⌝ }
 {
-    if members(support_of(t, n)) <= k {
+    let counting = counting_inputs(t, n);
+    if counting.many <= k {
         return without(refuse(Refusal::NOTHING));
     }
-    let found = find_over(t, n, k, work);
+    let found = find_over(t, n, counting, k, work);
     if found.first == 0 {
         return without(refuse(Refusal::SPLIT));
     }

@@ -1,7 +1,7 @@
--- Line 5 as the code asks it, and what it lets through; refusals that count no columns. Assumes nothing.
-use mathlib.Core.Path.{_≡_, ap, subst}
+-- Line 5 as the code asks it, and what it lets through; what the lines before 8 refuse. Assumes nothing.
+use mathlib.Core.Path.{_≡_, sym, ap, ap₂, _∙_, subst}
 use mathlib.Core.Bool.{Bool, true, false, not, cond, _&&_}
-use mathlib.Core.List.{List}
+use mathlib.Core.List.{List, _++_}
 use Prim.Native.Nat.{ℕ, _+_, _-_, _^_, _<_, _≤_}
 use native.Mathlib.Nat.{le-trans}
 use native.Mathlib.Omega.{arith}
@@ -16,14 +16,17 @@ use Rattle.tables.specs.Table.{tableLength, tableBit}
 use Rattle.splits.specs.Columns.{mostFirst, columns}
 use Rattle.splits.specs.Pair.{inputsH}
 use Rattle.splits.proofs.Respect.{inputs-H}
+use Rattle.charts.specs.declared.pair.FirstCells.{FirstCells}
+use Rattle.charts.specs.Cells.{noCells}
 use Rattle.best.specs.Best.{Candidate}
 use Rattle.refusals.specs.declared.verdicts.Refusal.{Refusal}
+use Rattle.refusals.specs.declared.verdicts.Verdict.{Verdict}
 use Rattle.refusals.specs.declared.verdicts.Verdict.the-variants.{Refused}
-use Rattle.refusals.specs.Lines.{Line, verdict}
+use Rattle.refusals.specs.Lines.{Line, verdict, reply}
 use Rattle.refusals.specs.Refusals.{badSets}
-use Rattle.refusals.proofs.Lines.{others, another}
+use Rattle.refusals.proofs.Lines.{others, another, refused-by}
 use Rattle.refusals.proofs.Tests.{inside}
-use Rattle.splitting.specs.TrySplit.{columnsNamed}
+use Rattle.splitting.specs.TrySplit.{TryOutcome, tryNot}
 
 module _ (n K r A B : ℕ) where
   pub bad-first : not (leb 1 r && leb r mostFirst) ≡ true → badSets n K r A B .holds ≡ true
@@ -75,12 +78,23 @@ bytes-H {n} {K} {r} {A} {B} c F =
     let e : n + r - size n (bit A) ≡ inputsH n F (bit A) (bit B) r = omega
     (arith, inputs-H n (bit A) (bit B) (c .apart) F r) in ap tableLength e
 
--- lines of which none is 8 refuse without counting columns
-pub no-columns : (ls : List Line) → others 8 ls ≡ true → (n A B : ℕ) (t : List ℕ) (why : Refusal) → verdict ls
-    ≡ Refused why → columnsNamed n A B t why ≡ 0
-no-columns ls o n A B t why h =
-    ap (λ (b : Bool). cond b (length (columns n (tableBit t) (bit A) (bit B) (why .place))) 0)
-    (ne-eqb (why .number) 8 (another ls 8 why o h))
+-- lines of which none is 8 refuse without counting columns, whatever comes after them
+pub refused-before : (ls ms : List Line) → others 8 ls ≡ true → (n A B : ℕ) (t room : List ℕ) (done : TryOutcome)
+    (v : Verdict) (why : Refusal) (d : FirstCells) → v ≡ verdict ls → v ≡ Refused why → d ≡ noCells
+    → record { answer = record { verdict = v; d = d; columns = 0 }; room = room }
+    ≡ reply (verdict (ls ++ ms)) done (tryNot n A B t room)
+refused-before ls ms o n A B t room done v why d looked e none =
+    ap₂ (λ (v : Verdict) (d : FirstCells). record { answer = record { verdict = v; d = d; columns = 0 }; room = room })
+    e none
+    ∙ ap (λ (b : Bool). record {
+      answer = record {
+        verdict = Refused why;
+        d = noCells;
+        columns = cond b (length (columns n (tableBit t) (bit A) (bit B) (why .place))) 0;
+      };
+      room = room;
+    }) (sym (ne-eqb (why .number) 8 (another ls 8 why o (sym looked ∙ e))))
+    ∙ refused-by ls ms done (tryNot n A B t room) v why looked e
 
 -- what is said of a split's numbers is said of those it was made of
 pub carried : {n n′ a a′ b b′ : ℕ} (P : ℕ → ℕ → ℕ → Type 0) → n ≡ n′ → a ≡ a′ → b ≡ b′ → P n a b → P n′ a′ b′

@@ -1,11 +1,12 @@
 -- The inputs that count, and the table over some of the inputs.
 use mathlib.Core.Path.{_≡_}
 use mathlib.Core.Bool.{Bool, true, cond, not, _||_, Bool·beq}
-use Prim.Native.Nat.{ℕ, _+_, _^_, _<_}
+use Prim.Native.Nat.{ℕ, _+_, _^_, _<_, _≤_}
 use lib.Dec.{eqb}
 use Rattle.bits.specs.Numbers.{bit, number}
 use Rattle.bits.specs.Sets.{Agree, size, spread}
 use Rattle.bits.specs.Below.{every}
+use Rattle.tables.specs.declared.counting.CountingInputs.{CountingInputs}
 use Rattle.tables.specs.Depends.{DependsOn}
 
 -- ---- what counts, said by `DependsOn`
@@ -39,6 +40,13 @@ counts n F j = not (every (2 ^ n) (λ x. bit x j || Bool·beq (F x) (F (x + 2 ^ 
 -- the inputs that count
 unfoldable pub support : ℕ → (ℕ → Bool) → ℕ
 support n F = number n (counts n F)
+
+-- that mask, and how many inputs count, as the code holds them
+pub record CountingIn (n : ℕ) (F : ℕ → Bool) (c : CountingInputs) : Type 0 where
+  pub is : c .mask ≡ support n F
+  pub below : c .mask < 2 ^ n
+  pub count : c .many ≡ size n (bit (support n F))
+  pub few : c .many ≤ n
 
 -- the inputs that are kept when the others are set aside: those that count, and input 0 where none does
 unfoldable pub kept : ℕ → (ℕ → Bool) → ℕ

@@ -3,6 +3,7 @@ use crate::fixed::byte_in;
 use crate::fixed::word_over;
 use crate::length_for;
 use bits::sets::members;
+use bits::sets::spread_out;
 ghost use mathlib.Core.Path.{_≡_};
 ghost use mathlib.Core.List.{_++_};
 ghost use Prim.Native.Nat.{_*_, _^_, _<_, _≤_};
@@ -63,4 +64,12 @@ pub fn set_aside(t: &[u8], n: u32, mask: u16, room: &mut [u8])
         return;
     }
     pack(t, n, mask, length_for(members(mask)), room);
+}
+
+// A mask over the inputs that were not set aside, in the positions of all.
+pub fn spread_mask(n: u32, mask: u16, part: u16) -> u16
+    requires { ⌜ n ≤ mostInputs ⌝ }
+    ensures { λ r. ⌜ r ≡ spread n (bit mask) part ⌝ }
+{
+    spread_out(n, mask, part as u32) as u16
 }

@@ -2,13 +2,14 @@
 use crate::words::short_word;
 use crate::words::table_word;
 use bits::patterns::of_input;
+use bits::sets::members;
 use bits::sets::next;
 use bits::sets::parts;
 ghost use mathlib.Core.Path.{_≡_};
 ghost use Prim.Native.Nat.{_-_, _*_, _^_, _<_, _≤_};
 ghost use lib.ListN.{length};
 ghost use Rattle.tables.specs.Table.{mostInputs, tableLength, tableBit};
-ghost use Rattle.tables.specs.Counting.{counts, support, kept};
+ghost use Rattle.tables.specs.Counting.{counts, support, kept, CountingIn};
 ghost use Rattle.tables.specs.Words.{gateWord, LowerHalf, WordWithout, Compared, Live};
 
 // Word w of the table of n inputs, spare bits zero; with fewer than 6 inputs there is one word, and it is not full.
@@ -95,6 +96,25 @@ pub fn support_of(t: &[u8], n: u32) -> u16
         }
     }
     live
+}
+
+// The inputs that count: their mask, and how many they are.
+pub struct CountingInputs {
+    pub mask: u16,
+    pub many: u32,
+}
+
+// The inputs of a table that count.
+pub fn counting_inputs(t: &[u8], n: u32) -> CountingInputs
+    requires { ⌜ (length (now t) ≡ tableLength n) × (n ≤ mostInputs) ⌝ }
+    ensures { λ c. ⌜ CountingIn n (tableBit (now (t .entry))) c ⌝ }
+{
+    let mask = support_of(t, n);
+    let many = members(mask);
+    CountingInputs {
+        mask: mask,
+        many: many,
+    }
 }
 
 // The mask of the inputs that are kept.

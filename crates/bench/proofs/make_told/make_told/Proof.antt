@@ -7,10 +7,9 @@ use Rattle.sheets.specs.declared.kinds.Edition.{Edition}
 use Rattle.sheets.specs.Edition.{IsEdition, editionOf}
 use Rattle.sheets.proofs.Keeping.{is-edition}
 use Rattle.refusals.specs.declared.verdicts.Verdict.{Verdict}
-use Rattle.refusals.specs.declared.verdicts.Verdict.the-variants.{Refused}
 use Rattle.refusals.specs.Refusals.{toldForm}
-use Rattle.refusals.proofs.Lines.{refused-by, left-to}
-use Rattle.refusals.proofs.Lent.{form-leaves}
+use Rattle.refusals.proofs.Lines.{left-to}
+use Rattle.refusals.proofs.Refusing.{form-refuses}
 use Rattle.bench.specs.MakeSheet.{sheetFor, cellsIn, makeLines, makeDone, makeNot, makeOutcome}
 use Rattle.bench.proofs.make_told.make_told.Statement.{statement}
 use Rattle.bench.proofs.make_told.make_told.Tie as tie
@@ -19,24 +18,14 @@ returns : tie.Need-returns
 returns c =
     let f = c .before .before in
     let a = f .before .before .before .before .args in
-    let r = c .enum-told2 .given .0 .0 in
-    let e = c .enum-told2 .given .1 in
-    let ls = toldForm (a .w) (a .n) in
-    ap (λ (v : Verdict). record {
+    form-refuses (toldForm (a .w) (a .n))
+    (makeLines (editionOf (a .w)) (a .desk) (a .n) (a .k) (a .t .now) (a .sheet .now) (a .work .now))
+    (makeDone (editionOf (a .w)) (a .desk) (cellsIn (sheetFor (a .n) (a .k) (a .t .now))) (a .sheet .now)
+    (a .work .now)) (λ (v : Verdict) (l : List ℕ). record {
       answer = record { verdict = v; count = 0 };
       sheet = a .sheet .now;
-      work = a .work .now;
-    }) e
-    ∙ ap (λ (l : List ℕ). record {
-      answer = record { verdict = Refused r; count = 0 };
-      sheet = a .sheet .now;
       work = l;
-    })
-    (sym (form-leaves ls r refl (sym (f .told .ensures) ∙ e) (a .work .now)))
-    ∙ refused-by ls (makeLines (editionOf (a .w)) (a .desk) (a .n) (a .k) (a .t .now) (a .sheet .now) (a .work .now))
-    (makeDone (editionOf (a .w)) (a .desk) (cellsIn (sheetFor (a .n) (a .k) (a .t .now))) (a .sheet .now)
-    (a .work .now)) (makeNot (a .sheet .now) (a .work .now))
-    (f .told .result) r (f .told .ensures) e
+    }) (a .work .now) refl (f .told .result) (c .enum-told2 .given .0 .0) (f .told .ensures) (c .enum-told2 .given .1)
 
 make-in-requires : tie.Need-make-in-requires
 make-in-requires c κs = subst IsEdition (sym (c .before .before .numbered .ensures)) (is-edition _)

@@ -7,10 +7,9 @@ use Rattle.sheets.specs.declared.kinds.Edition.{Edition}
 use Rattle.sheets.specs.Edition.{IsEdition, editionOf}
 use Rattle.sheets.proofs.Keeping.{is-edition}
 use Rattle.refusals.specs.declared.verdicts.Verdict.{Verdict}
-use Rattle.refusals.specs.declared.verdicts.Verdict.the-variants.{Refused}
 use Rattle.refusals.specs.Refusals.{toldForm}
-use Rattle.refusals.proofs.Lines.{refused-by, left-to}
-use Rattle.refusals.proofs.Lent.{form-leaves}
+use Rattle.refusals.proofs.Lines.{left-to}
+use Rattle.refusals.proofs.Refusing.{form-refuses}
 use Rattle.finding.specs.FindBest.{bestFor, findLines, findDone, findNot, findOutcome}
 use Rattle.finding.proofs.find_told.find_told.Statement.{statement}
 use Rattle.finding.proofs.find_told.find_told.Tie as tie
@@ -19,15 +18,11 @@ returns : tie.Need-returns
 returns c =
     let f = c .before .before in
     let a = f .before .before .before .args in
-    let r = c .enum-told2 .given .0 .0 in
-    let e = c .enum-told2 .given .1 in
-    let ls = toldForm (a .w) (a .n) in
-    ap (λ (v : Verdict). record { answer = record { verdict = v; own = 0; shared = 0 }; work = a .work .now }) e
-    ∙ ap (λ (l : List ℕ). record { answer = record { verdict = Refused r; own = 0; shared = 0 }; work = l })
-    (sym (form-leaves ls r refl (sym (f .told .ensures) ∙ e) (a .work .now)))
-    ∙ refused-by ls (findLines (editionOf (a .w)) (a .n) (a .k) (a .t .now) (a .work .now))
-    (findDone (bestFor (a .n) (a .k) (a .t .now)) (a .work .now))
-    (findNot (a .work .now)) (f .told .result) r (f .told .ensures) e
+    form-refuses (toldForm (a .w) (a .n)) (findLines (editionOf (a .w)) (a .n) (a .k) (a .t .now) (a .work .now))
+    (findDone (bestFor (a .n) (a .k) (a .t .now)) (a .work .now)) (λ (v : Verdict) (l : List ℕ). record {
+      answer = record { verdict = v; own = 0; shared = 0 };
+      work = l;
+    }) (a .work .now) refl (f .told .result) (c .enum-told2 .given .0 .0) (f .told .ensures) (c .enum-told2 .given .1)
 
 find-in-requires : tie.Need-find-in-requires
 find-in-requires c κs = subst IsEdition (sym (c .before .numbered .ensures)) (is-edition _)

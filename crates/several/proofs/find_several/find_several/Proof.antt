@@ -1,22 +1,18 @@
 -- `find_several` meets its contract: what form and room refuse, else what the search finds. Assumes nothing.
-use mathlib.Core.Path.{_≡_, refl, sym, ap, _∙_}
-use mathlib.Core.List.{List, [], _∷_}
+use mathlib.Core.Path.{_≡_, refl, ap, _∙_}
+use mathlib.Core.List.{List}
 use Prim.Native.Nat.{ℕ}
 use native.Mathlib.Omega.{arith}
-use lib.ListN.{length}
 use borrow.Author.Needs.{needs}
-use borrow.Author.Tests.{ltb-false}
 use Rattle.sheets.specs.declared.kinds.Edition.{Edition}
 use Rattle.sheets.specs.Edition.{firstEdition}
-use Rattle.tables.specs.Work.{workLength}
 use Rattle.refusals.specs.declared.verdicts.Verdict.{Verdict}
-use Rattle.refusals.specs.declared.verdicts.Verdict.the-variants.{Fine, Refused}
+use Rattle.refusals.specs.declared.verdicts.Verdict.the-variants.{Fine}
 use Rattle.refusals.specs.Lines.{Line, verdict}
-use Rattle.refusals.specs.Refusals.{shortWork}
-use Rattle.refusals.proofs.Lines.{in-order, refused-by, left-to}
-use Rattle.refusals.proofs.Lent.{form-leaves}
-use Rattle.refusals.proofs.Tests.{Sound, sound-before}
+use Rattle.refusals.proofs.Lines.{left-to}
+use Rattle.refusals.proofs.Refusing.{form-refuses}
 use Rattle.finding.specs.FindBest.{findForm}
+use Rattle.finding.proofs.Ready.{Ready, ready}
 use Rattle.several.specs.declared.find_several.FindSeveralAnswer.{FindSeveralAnswer}
 use Rattle.several.specs.FindSeveral.{bestSeveral, severalSays, severalDone, severalNot, findSeveralOutcome}
 use Rattle.several.proofs.find_several.find_several.Statement.{statement}
@@ -36,10 +32,11 @@ module _ (c : tie.After-find-form) where
       ∙ ap (λ (e : Edition). verdict (findForm e (g .args .n) (g .args .k) (g .args .t .now) (g .args .work .now)))
       (c .before .before .first .ensures)
 
-  module _ (fine : c .find-form .result ≡ Fine) where
-    gate : Sound firstEdition (g .args .n) (g .args .k) (g .args .t .now)
-    gate = sound-before firstEdition (g .args .n) (g .args .k) (g .args .t .now) (shortWork (g .args .work .now) ∷ []) _
-        told fine
+  -- both are in order
+  through : c .find-form .result ≡ Fine
+      → Ready firstEdition (g .args .n) (g .args .k) (g .args .t .now) (g .args .work .now)
+  through = ready firstEdition (g .args .n) (g .args .k) (g .args .t .now) (g .args .work .now) (c .find-form .result)
+      told
 
 returns : tie.Need-returns
 unfolding findSeveralOutcome
@@ -47,24 +44,17 @@ returns c =
     let o = c .before in
     let f = o .before .before in
     let a = g f .args in
-    let r = o .enum-told2 .given .0 .0 in
-    let e = o .enum-told2 .given .1 in
-    ap (λ (x : FindSeveralAnswer). record { answer = x; work = a .work .now })
-    (c .without .ensures ∙ ap (λ (v : Verdict). record { verdict = v; first = 0; own = 0; shared = 0 }) e)
-    ∙ ap (λ (l : List ℕ). record { answer = record { verdict = Refused r; first = 0; own = 0; shared = 0 }; work = l })
-    (sym (form-leaves (ls f) r refl (sym (told f) ∙ e) (a .work .now)))
-    ∙ refused-by (ls f) (severalSays (a .n) (a .k) (a .t .now))
-    (severalDone (bestSeveral (a .n) (a .k) (a .t .now)) (a .work .now)) (severalNot (a .work .now))
-    (f .find-form .result) r (told f) e
+    ap (λ (x : FindSeveralAnswer). record { answer = x; work = a .work .now }) (c .without .ensures)
+    ∙ form-refuses (ls f) (severalSays (a .n) (a .k) (a .t .now))
+    (severalDone (bestSeveral (a .n) (a .k) (a .t .now)) (a .work .now)) (λ (v : Verdict) (l : List ℕ). record {
+      answer = record { verdict = v; first = 0; own = 0; shared = 0 };
+      work = l;
+    }) (a .work .now) refl (f .find-form .result) (o .enum-told2 .given .0 .0) (told f) (o .enum-told2 .given .1)
 
 search-requires : tie.Need-search-requires
 search-requires c κs =
-    let f = c .before .before .before in
-    let a = g f .args in
-    let fine = c .before .enum-told .given .1 in
-    let w = gate f fine in
-    let l = in-order (ls f) (sym (told f) ∙ fine) .1 .1 .1 .1 .0 in
-    (w .most, omega (arith, w .largest), w .long, ltb-false (length (a .work .now)) workLength l)
+    let w = through (c .before .before .before) (c .before .enum-told .given .1) in
+    (w .gate .most, omega (arith, w .gate .largest), w .gate .long, w .area)
 
 returns-2 : tie.Need-returns-2
 unfolding findSeveralOutcome
@@ -82,6 +72,6 @@ pub find-several-spec : {M : Type 1} → statement M
 find-several-spec =
     tie.close (tie.spec (λ c κs. search needs) (λ c κs. search needs) (λ c. search needs) (λ c. search needs)
     (λ c κs. search needs) (λ c. search needs) returns
-    (λ c. omega (arith, gate (c .before .before) (c .enum-told .given .1) .most))
-    (λ c. omega (arith, gate (c .before .before) (c .enum-told .given .1) .largest)) search-requires
+    (λ c. omega (arith, through (c .before .before) (c .enum-told .given .1) .gate .most))
+    (λ c. omega (arith, through (c .before .before) (c .enum-told .given .1) .gate .largest)) search-requires
     (λ c. search needs) returns-2)

@@ -1,5 +1,5 @@
 -- `try_in` meets its contract: what form and room refuse, else the fixed pair. Assumes nothing.
-use mathlib.Core.Path.{_≡_, refl, sym, ap, ap₂, _∙_, subst}
+use mathlib.Core.Path.{_≡_, refl, sym, ap, _∙_, subst}
 use mathlib.Core.List.{List, [], _∷_}
 use Prim.Native.Nat.{ℕ, _+_, _-_, _≤_}
 use native.Mathlib.Omega.{arith}
@@ -11,19 +11,16 @@ use Rattle.bits.specs.Numbers.{bit}
 use Rattle.bits.specs.Sets.{size}
 use Rattle.tables.specs.Table.{mostInputs, tableLength, tableBit}
 use Rattle.splits.specs.Columns.{mostFirst}
-use Rattle.charts.specs.declared.pair.FirstCells.{FirstCells}
-use Rattle.charts.specs.Cells.{noCells}
 use Rattle.best.specs.Best.{Candidate}
 use Rattle.sheets.specs.declared.kinds.Edition.{Edition}
 use Rattle.sheets.specs.Edition.{largestCell}
-use Rattle.refusals.specs.declared.verdicts.Verdict.{Verdict}
-use Rattle.refusals.specs.declared.verdicts.Verdict.the-variants.{Fine, Refused}
+use Rattle.refusals.specs.declared.verdicts.Verdict.the-variants.{Fine}
 use Rattle.refusals.specs.Lines.{verdict, reply}
 use Rattle.refusals.specs.Refusals.{badSets, shortRoom, notPossible}
 use Rattle.splitting.specs.TrySplit.{tryForm, tryDone, tryNot, tryOutcome}
-use Rattle.refusals.proofs.Lines.{in-order, refused-by, left-to}
+use Rattle.refusals.proofs.Lines.{in-order, left-to}
 use Rattle.refusals.proofs.Tests.{Sound, sound-before}
-use Rattle.splitting.proofs.Sets.{candidate, most-first, carried, bytes-H, no-columns}
+use Rattle.splitting.proofs.Sets.{candidate, most-first, carried, bytes-H, refused-before}
 use Rattle.splitting.proofs.try_split.try_in.Statement.{statement}
 use Rattle.splitting.proofs.try_split.try_in.Tie as tie
 
@@ -52,18 +49,11 @@ unfolding tryOutcome
 returns c =
     let f = c .before .before .before in
     let a = f .before .before .before .before .args in
-    let r = c .before .enum-told2 .given .0 .0 in
-    let e = c .before .enum-told2 .given .1 in
-    ap₂ (λ (v : Verdict) (d : FirstCells). record
-    { answer = record { verdict = v; d = d; columns = 0 }; room = a .room .now }) e (c .none .ensures)
-    ∙ ap (λ (k : ℕ). record { answer = record { verdict = Refused r; d = noCells; columns = k }; room = a .room .now })
-    (sym (no-columns (tryForm (a .e) (a .n) (a .k) (a .r) (a .own) (a .shared) (a .t .now) (a .room .now)) refl (a .n)
-    (a .own) (a .shared) (a .t .now) r
-    (sym (f .try-form .ensures) ∙ e)))
-    ∙ refused-by (tryForm (a .e) (a .n) (a .k) (a .r) (a .own) (a .shared) (a .t .now) (a .room .now))
-    (notPossible (a .n) (a .r) (a .own) (a .shared) (a .t .now) ∷ [])
-    (tryDone (a .n) (a .r) (a .own) (a .shared) (a .t .now) (a .room .now))
-    (tryNot (a .n) (a .own) (a .shared) (a .t .now) (a .room .now)) (f .try-form .result) r (f .try-form .ensures) e
+    let o = c .before .enum-told2 .given in
+    refused-before (tryForm (a .e) (a .n) (a .k) (a .r) (a .own) (a .shared) (a .t .now) (a .room .now))
+    (notPossible (a .n) (a .r) (a .own) (a .shared) (a .t .now) ∷ []) refl (a .n) (a .own) (a .shared) (a .t .now)
+    (a .room .now) (tryDone (a .n) (a .r) (a .own) (a .shared) (a .t .now) (a .room .now)) (f .try-form .result)
+    (o .0 .0) (c .none .result) (f .try-form .ensures) (o .1) (c .none .ensures)
 
 of-requires : tie.Need-of-requires
 of-requires c κs =

@@ -1,18 +1,13 @@
 -- `try_told` meets its contract: what n and the edition refuse, else the call in that edition. Assumes nothing.
-use mathlib.Core.Path.{refl, sym, ap, ap₂, _∙_, subst}
-use Prim.Native.Nat.{ℕ}
+use mathlib.Core.Path.{refl, sym, ap, _∙_, subst}
 use borrow.Author.Needs.{needs}
-use Rattle.charts.specs.declared.pair.FirstCells.{FirstCells}
-use Rattle.charts.specs.Cells.{noCells}
 use Rattle.sheets.specs.declared.kinds.Edition.{Edition}
 use Rattle.sheets.specs.Edition.{IsEdition, editionOf}
 use Rattle.sheets.proofs.Keeping.{is-edition}
-use Rattle.refusals.specs.declared.verdicts.Verdict.{Verdict}
-use Rattle.refusals.specs.declared.verdicts.Verdict.the-variants.{Refused}
 use Rattle.refusals.specs.Refusals.{toldForm}
-use Rattle.refusals.proofs.Lines.{refused-by, left-to}
+use Rattle.refusals.proofs.Lines.{left-to}
 use Rattle.splitting.specs.TrySplit.{tryLines, tryDone, tryNot, tryOutcome}
-use Rattle.splitting.proofs.Sets.{no-columns}
+use Rattle.splitting.proofs.Sets.{refused-before}
 use Rattle.splitting.proofs.try_told.try_told.Statement.{statement}
 use Rattle.splitting.proofs.try_told.try_told.Tie as tie
 
@@ -20,17 +15,11 @@ returns : tie.Need-returns
 returns c =
     let f = c .before .before .before in
     let a = f .before .before .before .args in
-    let r = c .before .enum-told2 .given .0 .0 in
-    let e = c .before .enum-told2 .given .1 in
-    ap₂ (λ (v : Verdict) (d : FirstCells). record
-    { answer = record { verdict = v; d = d; columns = 0 }; room = a .room .now }) e (c .none .ensures)
-    ∙ ap (λ (k : ℕ). record { answer = record { verdict = Refused r; d = noCells; columns = k }; room = a .room .now })
-    (sym (no-columns (toldForm (a .w) (a .n)) refl (a .n) (a .own) (a .shared) (a .t .now) r
-    (sym (f .told .ensures) ∙ e)))
-    ∙ refused-by (toldForm (a .w) (a .n)) (tryLines (editionOf (a .w)) (a .n) (a .k) 1 (a .own) (a .shared) (a .t .now)
-    (a .room .now))
-    (tryDone (a .n) 1 (a .own) (a .shared) (a .t .now) (a .room .now))
-    (tryNot (a .n) (a .own) (a .shared) (a .t .now) (a .room .now)) (f .told .result) r (f .told .ensures) e
+    let o = c .before .enum-told2 .given in
+    refused-before (toldForm (a .w) (a .n))
+    (tryLines (editionOf (a .w)) (a .n) (a .k) 1 (a .own) (a .shared) (a .t .now) (a .room .now)) refl (a .n) (a .own)
+    (a .shared) (a .t .now) (a .room .now) (tryDone (a .n) 1 (a .own) (a .shared) (a .t .now) (a .room .now))
+    (f .told .result) (o .0 .0) (c .none .result) (f .told .ensures) (o .1) (c .none .ensures)
 
 try-in-requires : tie.Need-try-in-requires
 try-in-requires c κs = subst IsEdition (sym (c .before .numbered .ensures)) (is-edition _)
