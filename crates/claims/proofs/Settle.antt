@@ -3,16 +3,19 @@ use mathlib.Core.Path.{_≡_, refl, sym, ap, ap₂, subst, _∙_, fun-ext}
 use mathlib.Core.Bool.{Bool, true, false, cond, not, _&&_, _||_}
 use mathlib.Core.List.{List, [], _∷_, _++_}
 use Prim.Native.Nat.{ℕ, _+_, _<_}
+use native.Mathlib.Omega.{arith}
 use lib.Dec.{eqb, ltb}
 use lib.Ieee.{Float}
 use lib.Ieee.Exact.{HasValue}
-use borrow.Author.Tests.{eq-eqb, ne-eqb, ltb-true, not-true, not-false}
+use borrow.Author.Tests.{ne-eqb, ltb-true, not-false}
 use Rattle.bits.specs.Below.{every}
 use Rattle.bits.proofs.Below.{every-at, every-all, every-ext}
 use Rattle.bits.proofs.Bools.{and-left, and-right, clash}
 use Rattle.sheets.specs.declared.kinds.Edition.{Edition}
 use Rattle.sheets.specs.Edition.{IsEdition}
-use Rattle.sheets.specs.Sheet.{recordAt, records, sheetCells}
+use Rattle.sheets.specs.Sheet.{records, sheetCells}
+use Rattle.sheets.specs.Reading.{noneReads}
+use Rattle.sheets.proofs.Unread.{none-names}
 use Rattle.times.specs.declared.input_time.InputTime.{InputTime}
 use Rattle.times.specs.InputTimes.{zeroTime, plainZero, inRange, soundTime, given, timeOf, timeAt, inputTimes}
 use Rattle.times.specs.Signals.{keeping, delayed, outputTime, settled}
@@ -24,7 +27,7 @@ use Rattle.refusals.specs.Lines.{InOrder, line, verdict, numberOf, placeOf, rep
 use Rattle.refusals.specs.Refusals.{badInputs, badSheet, sheetLines}
 use Rattle.refusals.proofs.Lines.{in-order, passes}
 use Rattle.settling.specs.declared.settle.SettleAnswer.{SettleAnswer}
-use Rattle.settling.specs.Refusals.{passesOver, unread, inputSound, badTimes}
+use Rattle.settling.specs.Refusals.{inputSound, badTimes}
 use Rattle.settling.specs.Settle.{settleLines, settleDone, settleNot, settleOutcome}
 use Rattle.settling.proofs.Kept.{Leaves, leaves}
 use Rattle.settling.proofs.Slacking.{settled-exact}
@@ -76,12 +79,17 @@ module _ (e : Edition) (d n : ℕ) (s : List ℕ) (delay : Float) (ts : List Inp
 
   sound-input : (j : ℕ) → inputSound e s (records e s) ts j ≡ true → given (timeAt ts j) ≡ false → Reads e s j → ⊥
   sound-input j h g r =
-      let u = or-first (given (timeAt ts j)) (unread e s (records e s) j)
-      (and-right (soundTime (timeAt ts j)) (given (timeAt ts j) || unread e s (records e s) j) h) g in
-      let o = every-at (records e s) (λ i. passesOver (recordAt e s i) j) u (r .cell) (r .within) in
-      let p = every-at (recordAt e s (r .cell) 0) (λ k. not (eqb (recordAt e s (r .cell) (k + 1)) j)) o (r .place)
-      (r .among) in
-      clash (eq-eqb (recordAt e s (r .cell) (r .place + 1)) j (r .reads)) (not-true _ p)
+      none-names e s j (records e s) .0
+      (or-first (given (timeAt ts j)) (noneReads j (sheetCells e s (records e s)))
+      (and-right (soundTime (timeAt ts j)) (given (timeAt ts j) || noneReads j (sheetCells e s (records e s))) h) g)
+      (record {
+        reader = r .cell;
+        from = omega arith;
+        within = omega (arith, r .within);
+        place = r .place;
+        among = r .among;
+        names = r .reads;
+      })
     where
       or-first : (a b : Bool) → (a || b) ≡ true → a ≡ false → b ≡ true
       or-first true b h g = absurd (clash refl g)
@@ -107,18 +115,17 @@ module _ (e : Edition) (d n : ℕ) (s : List ℕ) (delay : Float) (ts : List Inp
         at : (j : ℕ) → j < n → inputSound e s (records e s) ts j ≡ true
         at j l = go (given (timeAt ts j)) refl
           where
-            none : (i : ℕ) → i < records e s → (k : ℕ) → k < recordAt e s i 0 → given (timeAt ts j) ≡ false
-                → not (eqb (recordAt e s i (k + 1)) j) ≡ true
-            none i h k m g = ap not (ne-eqb (recordAt e s i (k + 1)) j
-                (λ q. w .there j l g (record { cell = i; within = h; place = k; among = m; reads = q })))
-
             go : (b : Bool) → given (timeAt ts j) ≡ b → inputSound e s (records e s) ts j ≡ true
             go true q = rw (w .sound j l, q) refl
             go false q =
-                let u : unread e s (records e s) j ≡ true =
-                every-all (records e s) (λ i. passesOver (recordAt e s i) j)
-                (λ i h. every-all (recordAt e s i 0) (λ k. not (eqb (recordAt e s i (k + 1)) j))
-                (λ k m. none i h k m q)) in
+                let u : noneReads j (sheetCells e s (records e s)) ≡ true =
+                none-names e s j (records e s) .1 (λ y. w .there j l q (record {
+                  cell = y .reader;
+                  within = omega (arith, y .within);
+                  place = y .place;
+                  among = y .among;
+                  reads = y .names;
+                })) in
                 rw (w .sound j l, q, u) refl
 
         all : every n (inputSound e s (records e s) ts) ≡ true

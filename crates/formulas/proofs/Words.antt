@@ -172,27 +172,31 @@ module _ (s : List ℕ) (n i : ℕ) where
   pub f-deep-open : {d p : ℕ} → kind n (byteAt s p) ≡ opening → d ≡ 0 → Gives s n 0 d p i (Stuck p)
   f-deep-open {d} {p} e h = f-deep d h (by-run 0 0 p (Stuck p) (λ m l. (stuck p, r-deep-open e, refl)))
 
-  -- one level down, and one byte on
+  -- one level down, and one byte on: an answer from what the reading at level k there comes to
+  inner : {d p : ℕ} {r : Found} (r′ : Found) (k : ℕ) → k ≤ 3 → (d ≡ 0 → ⊥) → p < length s
+      → Gives s n k (d - 1) (p + 1) i r
+      → ((m d : ℕ) → Gives s n k d (suc p) i r → 4 * (length s - suc p) + k < m → (g : Reading)
+      × Run (byteAt s) n (suc m) 0 (suc d) p g × (r′ ≡ foundOf i g))
+      → Gives s n 0 d p i r′
+  inner {d} {p} {r} r′ k few b l h f = go d b (subst (λ (z : ℕ). Gives s n k (d - 1) z i r) (add-one p) h)
+    where
+      go : (d : ℕ) → (d ≡ 0 → ⊥) → Gives s n k (d - 1) (suc p) i r → Gives s n 0 d p i r′
+      go zero b h = absurd (b refl)
+      go (suc d) b h =
+          let g = subst (λ (x : ℕ). Gives s n k x (suc p) i r) (one-less d) h in
+          by-run 0 (suc d) p r′ (λ m y. f m d g (omega arith))
+
   pub f-not-bad : {d p q : ℕ} {r : Found} → kind n (byteAt s p) ≡ bang → (d ≡ 0 → ⊥) → p < length s → r ≡ Stuck q
       → Gives s n 0 (d - 1) (p + 1) i r → Gives s n 0 d p i (Stuck q)
-  f-not-bad {d} {p} {q} {r} a b l e h = go d b (subst (λ (z : ℕ). Gives s n 0 (d - 1) z i r) (add-one p) h)
-    where
-      down : (k d : ℕ) → Gives s n k (suc d - 1) (suc p) i r → Gives s n k d (suc p) i r
-      down k d h = subst (λ (x : ℕ). Gives s n k x (suc p) i r) (one-less d) h
-
-      go : (d : ℕ) → (d ≡ 0 → ⊥) → Gives s n 0 (d - 1) (suc p) i r → Gives s n 0 d p i (Stuck q)
-      go zero b h = absurd (b refl)
-      go (suc d) b h = by-run 0 (suc d) p (Stuck q)
-          (λ m y. (stuck q, r-not-bad a (read-no e (down 0 d h) m (omega arith)), refl))
+  f-not-bad {d} {p} {q} a b l e h = inner (Stuck q) 0 (omega arith) b l h
+      (λ m d g y. (stuck q, r-not-bad a (read-no e g m y), refl))
 
   pub f-not : {d p q : ℕ} {v z : Stretch} {r : Found} → kind n (byteAt s p) ≡ bang → (d ≡ 0 → ⊥) → p < length s → r
       ≡ Read v q → Gives s n 0 (d - 1) (p + 1) i r
       → z ≡ inEach (λ x. 2 ^ 64 - 1 - x) v → Gives s n 0 d p i (Read z q)
-  f-not {d} {p} {q} {v} {z} {r} a b l e h c = go d b (subst (λ (x : ℕ). Gives s n 0 (d - 1) x i r) (add-one p) h)
+  f-not {d} {p} {q} {v} {z} {r} a b l e h c = inner (Read z q) 0 (omega arith) b l h
+      (λ m d g y. on m d (read-value e g m y))
     where
-      down : (k d : ℕ) → Gives s n k (suc d - 1) (suc p) i r → Gives s n k d (suc p) i r
-      down k d h = subst (λ (x : ℕ). Gives s n k x (suc p) i r) (one-less d) h
-
       on : (m d : ℕ) → (F : Formula) × Run (byteAt s) n m 0 d (suc p) (upTo F q) × (v ≡ stretchOf (value F) i)
           → (g : Reading) × Run (byteAt s) n (suc m) 0 (suc d) p g × (Read z q ≡ foundOf i g)
       on m d y = (
@@ -201,60 +205,28 @@ module _ (s : List ℕ) (n i : ℕ) where
         ap (λ (t : Stretch). Read t q) (c ∙ ap (inEach (λ x. 2 ^ 64 - 1 - x)) (y .2) ∙ not-stretch (y .0) i),
       )
 
-      go : (d : ℕ) → (d ≡ 0 → ⊥) → Gives s n 0 (d - 1) (suc p) i r → Gives s n 0 d p i (Read z q)
-      go zero b h = absurd (b refl)
-      go (suc d) b h = by-run 0 (suc d) p (Read z q) (λ m y. on m d (read-value e (down 0 d h) m (omega arith)))
-
   pub f-open-bad : {d p q : ℕ} {r : Found} → kind n (byteAt s p) ≡ opening → (d ≡ 0 → ⊥) → p < length s → r ≡ Stuck q
       → Gives s n 3 (d - 1) (p + 1) i r → Gives s n 0 d p i (Stuck q)
-  f-open-bad {d} {p} {q} {r} a b l e h = go d b (subst (λ (z : ℕ). Gives s n 3 (d - 1) z i r) (add-one p) h)
-    where
-      down : (k d : ℕ) → Gives s n k (suc d - 1) (suc p) i r → Gives s n k d (suc p) i r
-      down k d h = subst (λ (x : ℕ). Gives s n k x (suc p) i r) (one-less d) h
-
-      go : (d : ℕ) → (d ≡ 0 → ⊥) → Gives s n 3 (d - 1) (suc p) i r → Gives s n 0 d p i (Stuck q)
-      go zero b h = absurd (b refl)
-      go (suc d) b h = by-run 0 (suc d) p (Stuck q)
-          (λ m y. (stuck q, r-open-bad a (read-no e (down 3 d h) m (omega arith)), refl))
-
-  pub f-open-left : {d p q : ℕ} {v : Stretch} {r : Found} → kind n (byteAt s p) ≡ opening → (d ≡ 0 → ⊥) → p < length s
-      → r ≡ Read v q → Gives s n 3 (d - 1) (p + 1) i r
-      → (byteAt s q ≡ 41 → ⊥) → Gives s n 0 d p i (Stuck q)
-  f-open-left {d} {p} {q} {v} {r} a b l e h x = go d b (subst (λ (z : ℕ). Gives s n 3 (d - 1) z i r) (add-one p) h)
-    where
-      down : (k d : ℕ) → Gives s n k (suc d - 1) (suc p) i r → Gives s n k d (suc p) i r
-      down k d h = subst (λ (x : ℕ). Gives s n k x (suc p) i r) (one-less d) h
-
-      on : (m d : ℕ) → (F : Formula) × Run (byteAt s) n m 3 d (suc p) (upTo F q) × (v ≡ stretchOf (value F) i)
-          → (g : Reading) × Run (byteAt s) n (suc m) 0 (suc d) p g × (Stuck q ≡ foundOf i g)
-      on m d y = (stuck q, r-open-left (y .0) a (y .1) x, refl)
-
-      go : (d : ℕ) → (d ≡ 0 → ⊥) → Gives s n 3 (d - 1) (suc p) i r → Gives s n 0 d p i (Stuck q)
-      go zero b h = absurd (b refl)
-      go (suc d) b h = by-run 0 (suc d) p (Stuck q) (λ m y. on m d (read-value e (down 3 d h) m (omega arith)))
-
-  pub f-open : {d p q : ℕ} {v : Stretch} {r : Found} → kind n (byteAt s p) ≡ opening → (d ≡ 0 → ⊥) → p < length s → r
-      ≡ Read v q → Gives s n 3 (d - 1) (p + 1) i r
-      → byteAt s q ≡ 41 → Gives s n 0 d p i (Read v (q + 1))
-  f-open {d} {p} {q} {v} {r} a b l e h x = go d b (subst (λ (z : ℕ). Gives s n 3 (d - 1) z i r) (add-one p) h)
-    where
-      down : (k d : ℕ) → Gives s n k (suc d - 1) (suc p) i r → Gives s n k d (suc p) i r
-      down k d h = subst (λ (x : ℕ). Gives s n k x (suc p) i r) (one-less d) h
-
-      on : (m d : ℕ) → (F : Formula) × Run (byteAt s) n m 3 d (suc p) (upTo F q) × (v ≡ stretchOf (value F) i)
-          → (g : Reading) × Run (byteAt s) n (suc m) 0 (suc d) p g × (Read v (q + 1) ≡ foundOf i g)
-      on m d y = (upTo (y .0) (suc q), r-open a (y .1) x, ap₂ Read (y .2) (add-one q))
-
-      go : (d : ℕ) → (d ≡ 0 → ⊥) → Gives s n 3 (d - 1) (suc p) i r → Gives s n 0 d p i (Read v (q + 1))
-      go zero b h = absurd (b refl)
-      go (suc d) b h = by-run 0 (suc d) p (Read v (q + 1)) (λ m y. on m d (read-value e (down 3 d h) m (omega arith)))
+  f-open-bad {d} {p} {q} a b l e h = inner (Stuck q) 3 (omega arith) b l h
+      (λ m d g y. (stuck q, r-open-bad a (read-no e g m y), refl))
 
   -- closed, or not
   pub f-closed : {d p q : ℕ} {v : Stretch} {r r′ : Found} → kind n (byteAt s p) ≡ opening → (d ≡ 0 → ⊥) → p < length s
       → r ≡ Read v q → Gives s n 3 (d - 1) (p + 1) i r
       → r′ ≡ closedAt s v q → Gives s n 0 d p i r′
-  f-closed {d} {p} {q} {v} {r} {r′} a b l e h c = subst (Gives s n 0 d p i) (sym c) (go (eqb (byteAt s q) 41) refl)
+  f-closed {d} {p} {q} {v} {r} {r′} a b l e h c =
+      inner r′ 3 (omega arith) b l h (λ m d g y. on m d (read-value e g m y) (eqb (byteAt s q) 41) refl)
     where
-      go : (t : Bool) → eqb (byteAt s q) 41 ≡ t → Gives s n 0 d p i (cond t (Read v (q + 1)) (Stuck q))
-      go true x = f-open a b l e h (eqb-true (byteAt s q) 41 x)
-      go false x = f-open-left a b l e h (eqb-false (byteAt s q) 41 x)
+      on : (m d : ℕ) → (F : Formula) × Run (byteAt s) n m 3 d (suc p) (upTo F q) × (v ≡ stretchOf (value F) i)
+          → (t : Bool) → eqb (byteAt s q) 41 ≡ t
+          → (g : Reading) × Run (byteAt s) n (suc m) 0 (suc d) p g × (r′ ≡ foundOf i g)
+      on m d y true x = (
+        upTo (y .0) (suc q),
+        r-open a (y .1) (eqb-true (byteAt s q) 41 x),
+        c ∙ sym (closes s v q (eqb-true (byteAt s q) 41 x)) ∙ ap₂ Read (y .2) (add-one q),
+      )
+      on m d y false x = (
+        stuck q,
+        r-open-left (y .0) a (y .1) (eqb-false (byteAt s q) 41 x),
+        c ∙ sym (closes-not s v q (eqb-false (byteAt s q) 41 x)),
+      )

@@ -4,7 +4,6 @@ use crate::reading::sum;
 use refusals::form;
 use refusals::verdicts::Refusal;
 use refusals::verdicts::Verdict;
-use refusals::verdicts::refuse;
 use refusals::verdicts::refuse_at;
 use runs::words::first_bits;
 use values::stretches::Stretch;
@@ -87,14 +86,11 @@ fn fill(n: u32, t: &[u8], table: &mut [u8])
 fn read_form<'a>(n: u64, t: &'a [u8], table: &'a [u8]) -> Verdict
     ensures { λ r. ⌜ r ≡ verdict (readLines n (now (t .entry)) (now (table .entry))) ⌝ }
 {
-    if form::bad_inputs(n) {
-        return refuse(Refusal::INPUTS);
-    }
-    let inputs = n as u32;
-    if form::bad_table(inputs, table) {
-        return refuse(Refusal::TABLE);
-    }
-    look(inputs, t)
+    let seen = form::sized(n, table);
+    let Verdict::Fine = seen else {
+        return seen;
+    };
+    look(n as u32, t)
 }
 
 // Reads a formula of n inputs into a lent table.

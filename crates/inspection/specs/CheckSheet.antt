@@ -9,17 +9,14 @@ use Rattle.sheets.specs.Sheet.{records, sheetBit, Good}
 use Rattle.sheets.specs.Reading.{EachRead}
 use Rattle.refusals.specs.declared.verdicts.Verdict.{Verdict}
 use Rattle.refusals.specs.Lines.{Line, verdict}
-use Rattle.refusals.specs.Refusals.{badInputs, badTable, badSpare, sheetLines, tableDiffers, unreadRecord}
-
--- the gate's table: 1, 3 and 4
-abbrev pub tableLines : ℕ → List ℕ → List Line
-tableLines n t = badInputs n ∷ badTable n t ∷ badSpare n t ∷ []
+use Rattle.refusals.specs.Refusals.{sheetLines, tableDiffers, unreadRecord}
+pub use Rattle.refusals.specs.Refusals.{tableLines}
 
 -- the sheet against it: 9, 10 and 12
 abbrev pub againstLines : Edition → ℕ → ℕ → List ℕ → List ℕ → List Line
 againstLines e d n t s = sheetLines e d n s ++ (tableDiffers e n t s ∷ [])
 
--- both, then 15
+-- the gate's table, 1, 3 and 4, and the sheet against it, then 15
 abbrev pub checkLines : Edition → ℕ → ℕ → List ℕ → List ℕ → List Line
 checkLines e d n t s = (tableLines n t ++ againstLines e d n t s) ++ (unreadRecord e n s ∷ [])
 

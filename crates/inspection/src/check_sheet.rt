@@ -3,38 +3,19 @@ use records::desk::desk_of;
 use refusals::form;
 use refusals::verdicts::Refusal;
 use refusals::verdicts::Verdict;
-use refusals::verdicts::refuse;
 use refusals::verdicts::refuse_at;
 use runs::checking::first_difference;
 use sheets::kinds::Edition;
 ghost use mathlib.Core.Path.{_≡_};
 ghost use Rattle.sheets.specs.Edition.{IsEdition, firstEdition};
-ghost use Rattle.refusals.specs.Lines.{verdict};
-ghost use Rattle.inspection.specs.CheckSheet.{tableLines, checkOutcome, checkOwn};
-
-// Lines 1, 3 and 4.
-fn table_form(n: u64, t: &[u8]) -> Verdict
-    ensures { λ r. ⌜ r ≡ verdict (tableLines n (now (t .entry))) ⌝ }
-{
-    if form::bad_inputs(n) {
-        return refuse(Refusal::INPUTS);
-    }
-    let inputs = n as u32;
-    if form::bad_table(inputs, t) {
-        return refuse(Refusal::TABLE);
-    }
-    if !tables::spare_clear(inputs, t) {
-        return refuse(Refusal::SPARE);
-    }
-    Verdict::Fine
-}
+ghost use Rattle.inspection.specs.CheckSheet.{checkOutcome, checkOwn};
 
 // Checks a sheet of an edition, which is to be the desk d's, against a table.
 pub fn check_in<'a>(e: Edition, d: u8, n: u64, t: &'a [u8], s: &'a [u8]) -> Verdict
     requires { ⌜ IsEdition e ⌝ }
     ensures { λ r. ⌜ r ≡ checkOutcome e d n (now (t .entry)) (now (s .entry)) ⌝ }
 {
-    let table = table_form(n, t);
+    let table = form::table(n, t);
     let Verdict::Fine = table else {
         return table;
     };

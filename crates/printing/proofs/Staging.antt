@@ -72,6 +72,16 @@ next {w = w} {ws = ws} x y =
       fits = x .fits;
     }
 
+-- where what was put is written in another way: a flip, or a byte, that is another's value
+pub next-flipped : {room room′ room″ : List ℕ} {p q r : ℕ} {whole : List ℕ} {ws : List (List ℕ)} {f g : Bool}
+    (w : List ℕ) → f ≡ g → Stage room p whole (flippedText g w ∷ ws) room′ q → Put room′ q (flippedText f w) room″ r
+    → Stage room p whole ws room″ r
+next-flipped w e x y = next x (put-as (ap (λ (t : Bool). flippedText t w) e) y)
+
+pub next-byte : {room room′ room″ : List ℕ} {p q r : ℕ} {whole : List ℕ} {ws : List (List ℕ)} {b d : ℕ} → b ≡ d
+    → Stage room p whole ((d ∷ []) ∷ ws) room′ q → Put room′ q (b ∷ []) room″ r → Stage room p whole ws room″ r
+next-byte e x y = next x (put-as (ap (λ (t : ℕ). t ∷ []) e) y)
+
 pub has-room : {room room′ : List ℕ} {p q : ℕ} {whole w : List ℕ} {ws : List (List ℕ)}
     → Stage room p whole (w ∷ ws) room′ q → q + length w ≤ length room′
 has-room {room} {room′} {p} {q} {whole} {w} {ws} x =
@@ -172,90 +182,100 @@ module _ {e : Edition} {n : ℕ} {s : List ℕ} {x : ℕ} {flip : Bool} {room : 
               (plain-at e s m 0 (h .sheet .plain) (x - n) (omega arith)),
         )
 
-    module _ (c : Pair) (g : n ≤ x) (is : pairCell c ≡ cellOf e (recordAt e s (x - n))) where
-      below : x - n < length (sheetCells e s m)
-      below = omega (arith, h .signal, cells-length e s 0 m)
+-- signal x is a cell's, which is c, and `!` or nothing is put before it
+pub record AtCell (e : Edition) (n : ℕ) (s : List ℕ) (x : ℕ) (flip : Bool) (room : List ℕ) (p : ℕ) (c : Pair)
+    (room′ : List ℕ) (q : ℕ) : Type 0 where
+  pub has : Room e n s x flip room p
+  pub above : n ≤ x
+  pub cell : pairCell c ≡ cellOf e (recordAt e s (x - n))
+  pub flipped : Put room p (flippedText flip []) room′ q
 
-      the-cell : cellAt (sheetCells e s m) (x - n) ≡ pairCell c
-      the-cell =
-          let q : 0 + (x - n) ≡ x - n = omega arith in
-          cell-at e s m 0 (x - n) noCell (omega (arith, h .signal)) ∙ ap (λ (k : ℕ). cellOf e (recordAt e s k)) q
-          ∙ sym is
+module _ {e : Edition} {n : ℕ} {s : List ℕ} {x : ℕ} {flip : Bool} {room : List ℕ} {p : ℕ} {c : Pair} {room′ : List ℕ}
+    {q : ℕ} (k : AtCell e n s x flip room p c room′ q) where
+  abbrev cells : List Cell
+  cells = sheetCells e s (records e s)
 
-      pair-text : text x ≡ cellText (pairCell c) text
-      unfolding printed
-      pair-text =
-          let q : x ≡ n + (x - n) = omega arith in
-          ap text q ∙ turn-cell cellText text-sees (e .most) (sheetCells e s m) n (letterText n) (h .sheet .wired)
-          (x - n)
-          below ∙ ap (λ (k : Cell). cellText k text) the-cell
+  abbrev texts : ℕ → List ℕ
+  texts = printed n cells
 
-      reads-lower : (k : ℕ) → k < length (pairCell c .signals) → getD (pairCell c .signals) k 0 < x
-      reads-lower k l =
-          let a = subst (λ (d : Cell). (i : ℕ) → i < length (d .signals) → getD (d .signals) i 0 < n + (x - n)) the-cell
-          (wired-at (e .most) (sheetCells e s m) n (h .sheet .wired) (x - n) below) in
-          omega (arith, a k l)
+  below : x - n < length cells
+  below = omega (arith, k .above, k .has .signal, cells-length e s 0 (records e s))
 
-      -- ( , ! or not, the lower signal, the mark, ! or not, the other, )
-      pub two-parts : {f i : Bool} {b : ℕ} {room′ : List ℕ} {q : ℕ} → c .two ≡ true → f ≡ flipsLow (c .table) → b
-          ≡ markOf (c .table) → i ≡ flipsHigh (c .table)
-          → Put room p (flippedText flip []) room′ q
-          → Stage room p (flippedText flip (text x)) ((40 ∷ []) ∷ flippedText f (text (c .low)) ∷ (b ∷ []) ∷ flippedText
-          i
-          (text (c .high)) ∷ (41 ∷ []) ∷ []) room′ q
-      two-parts {f} {i} {b} q u v w y =
-          begun {ws = (40 ∷ []) ∷ flippedText f (text (c .low)) ∷ (b ∷ []) ∷ flippedText i (text (c .high)) ∷ (41 ∷ [])
-          ∷
-          []}
-          (pair-text ∙ ap (λ (t : Bool). bySides [] oneText twoText (cond t (c .low ∷ c .high ∷ []) (c .low ∷ []))
-          (c .table) text) q
-          ∙ ap₂ (λ (f i : Bool). 40 ∷ (flippedText f (text (c .low))
-          ++ (markOf (c .table) ∷ (flippedText i (text (c .high)) ++ (41 ∷ []))))) (sym u) (sym w)
-          ∙ ap (λ (b : ℕ). 40 ∷ (flippedText f (text (c .low)) ++ (b ∷ (flippedText i (text (c .high)) ++ (41 ∷ [])))))
-          (sym v)) y
+  the-cell : cellAt cells (x - n) ≡ pairCell c
+  the-cell =
+      let q : 0 + (x - n) ≡ x - n = omega (arith, k .above) in
+      cell-at e s (records e s) 0 (x - n) noCell (omega (arith, k .above, k .has .signal))
+      ∙ ap (λ (j : ℕ). cellOf e (recordAt e s j)) q ∙ sym (k .cell)
 
-      one-text : c .two ≡ false → text x ≡ oneText (c .table) (text (c .low))
-      one-text q = pair-text ∙ ap (λ (t : Bool). bySides [] oneText twoText
-          (cond t (c .low ∷ c .high ∷ []) (c .low ∷ []))
-          (c .table) text) q
+  pair-text : texts x ≡ cellText (pairCell c) texts
+  unfolding printed
+  pair-text =
+      let q : x ≡ n + (x - n) = omega (arith, k .above) in
+      ap texts q ∙ turn-cell cellText text-sees (e .most) cells n (letterText n) (k .has .sheet .wired)
+      (x - n)
+      below ∙ ap (λ (k : Cell). cellText k texts) the-cell
 
-      -- `0` or `1`
-      pub digit-parts : {room′ : List ℕ} {q : ℕ} (b t : ℕ) → oneText t (text (c .low)) ≡ b ∷ [] → c .two ≡ false
-          → c .table ≡ t → Put room p (flippedText flip []) room′ q
-          → Stage room p (flippedText flip (text x)) ((b ∷ []) ∷ []) room′ q
-      digit-parts b t d q z y = begun {ws = (b ∷ []) ∷ []}
-          (one-text q ∙ ap (λ (k : ℕ). oneText k (text (c .low))) z ∙ d)
-          y
+  reads-lower : (j : ℕ) → j < length (pairCell c .signals) → getD (pairCell c .signals) j 0 < x
+  reads-lower j l =
+      let a = subst (λ (d : Cell). (i : ℕ) → i < length (d .signals) → getD (d .signals) i 0 < n + (x - n)) the-cell
+      (wired-at (e .most) cells n (k .has .sheet .wired) (x - n) below) in
+      omega (arith, k .above, a j l)
 
-      pub same-parts : {room′ : List ℕ} {q : ℕ} → c .two ≡ false → (c .table ≡ 0 → ⊥) → (c .table ≡ 3 → ⊥)
-          → Put room p (flippedText flip []) room′ q
-          → Stage room p (flippedText flip (text x)) (flippedText (eqb (c .table) 1) (text (c .low)) ∷ []) room′ q
-      same-parts q t u y =
-          let w = flippedText (eqb (c .table) 1) (text (c .low)) in
-          begun {ws = w ∷ []}
-          (one-text q
-          ∙ ap₂ (λ (a b : Bool). cond a (48 ∷ []) (cond b (49 ∷ []) w)) (ne-eqb (c .table) 0 t) (ne-eqb (c .table) 3 u)
-          ∙ sym (append-nil w)) y
+  -- ( , ! or not, the lower signal, the mark, ! or not, the other, )
+  pub two-parts : c .two ≡ true → Stage room p (flippedText flip (texts x)) ((40 ∷ [])
+      ∷ flippedText (flipsLow (c .table)) (texts (c .low)) ∷ (markOf (c .table) ∷ [])
+      ∷ flippedText (flipsHigh (c .table)) (texts (c .high)) ∷ (41 ∷ []) ∷ []) room′ q
+  two-parts two = begun (k .has) {ws = (40 ∷ []) ∷ flippedText (flipsLow (c .table)) (texts (c .low))
+      ∷ (markOf (c .table) ∷ []) ∷ flippedText (flipsHigh (c .table)) (texts (c .high)) ∷ (41 ∷ []) ∷ []}
+      (pair-text ∙ ap (λ (t : Bool). bySides [] oneText twoText (cond t (c .low ∷ c .high ∷ []) (c .low ∷ []))
+      (c .table) texts) two) (k .flipped)
 
-      -- a side's room; the signal falls
-      side-room : {y t : ℕ} {f : Bool} {room′ : List ℕ} {q : ℕ} → y < x → x ≡ t → q + length (flippedText f (text y))
-          ≤ length room′ → (y < t) × Room e n s y f room′ q
-      side-room l z r = (omega arith, record { sheet = h .sheet; signal = omega (arith, h .signal); fits = r })
+  one-text : c .two ≡ false → texts x ≡ oneText (c .table) (texts (c .low))
+  one-text q = pair-text ∙ ap (λ (t : Bool). bySides [] oneText twoText
+      (cond t (c .low ∷ c .high ∷ []) (c .low ∷ []))
+      (c .table) texts) q
 
-      pub low-room : {t : ℕ} {f : Bool} {room′ : List ℕ} {q : ℕ} → x ≡ t → q + length (flippedText f (text (c .low)))
-          ≤ length room′ → (c .low < t) × Room e n s (c .low) f room′ q
-      low-room z r = side-room (go (c .two) reads-lower) z r
-        where
-          go : (b : Bool) → ((k : ℕ) → k < length (cond b (c .low ∷ c .high ∷ []) (c .low ∷ []))
-              → getD (cond b (c .low ∷ c .high ∷ []) (c .low ∷ [])) k 0 < x) → c .low < x
-          go true a = a 0 (omega arith)
-          go false a = a 0 (omega arith)
+  -- `0` or `1`
+  pub digit-parts : (b t : ℕ) → oneText t (texts (c .low)) ≡ b ∷ [] → c .two ≡ false → c .table ≡ t
+      → Stage room p (flippedText flip (texts x)) ((b ∷ []) ∷ []) room′ q
+  digit-parts b t d one z = begun (k .has) {ws = (b ∷ []) ∷ []}
+      (one-text one ∙ ap (λ (i : ℕ). oneText i (texts (c .low))) z ∙ d) (k .flipped)
 
-      pub high-room : {t : ℕ} {f : Bool} {room′ : List ℕ} {q : ℕ} → c .two ≡ true → x ≡ t → q
-          + length (flippedText f (text (c .high))) ≤ length room′ → (c .high < t) × Room e n s (c .high) f room′ q
-      high-room two z r = side-room (go (c .two) two reads-lower) z r
-        where
-          go : (b : Bool) → b ≡ true → ((k : ℕ) → k < length (cond b (c .low ∷ c .high ∷ []) (c .low ∷ []))
-              → getD (cond b (c .low ∷ c .high ∷ []) (c .low ∷ [])) k 0 < x) → c .high < x
-          go true q a = a 1 (omega arith)
-          go false q a = absurd (let z : _≡_ {A = ℕ} 0 1 = cc in omega arith)
+  pub same-parts : c .two ≡ false → (c .table ≡ 0 → ⊥) → (c .table ≡ 3 → ⊥)
+      → Stage room p (flippedText flip (texts x)) (flippedText (eqb (c .table) 1) (texts (c .low)) ∷ []) room′ q
+  same-parts one t u =
+      let w = flippedText (eqb (c .table) 1) (texts (c .low)) in
+      begun (k .has) {ws = w ∷ []}
+      (one-text one
+      ∙ ap₂ (λ (a b : Bool). cond a (48 ∷ []) (cond b (49 ∷ []) w)) (ne-eqb (c .table) 0 t) (ne-eqb (c .table) 3 u)
+      ∙ sym (append-nil w)) (k .flipped)
+
+  -- a side's room, where its flip is written as f; the signal falls
+  side-room : {y t : ℕ} {f g : Bool} {room″ : List ℕ} {r : ℕ} → y < x → x ≡ t → f ≡ g
+      → r + length (flippedText g (texts y)) ≤ length room″ → (y < t) × Room e n s y f room″ r
+  side-room {y} {t} {f} {g} {room″} {r} l z e h = (
+    omega arith,
+    record {
+      sheet = k .has .sheet;
+      signal = omega (arith, k .has .signal);
+      fits = subst (λ (b : Bool). r + length (flippedText b (texts y)) ≤ length room″) (sym e) h;
+    },
+  )
+
+  pub low-room : {t : ℕ} {f g : Bool} {room″ : List ℕ} {r : ℕ} → x ≡ t → f ≡ g
+      → r + length (flippedText g (texts (c .low))) ≤ length room″ → (c .low < t) × Room e n s (c .low) f room″ r
+  low-room z e h = side-room (go (c .two) reads-lower) z e h
+    where
+      go : (b : Bool) → ((j : ℕ) → j < length (cond b (c .low ∷ c .high ∷ []) (c .low ∷ []))
+          → getD (cond b (c .low ∷ c .high ∷ []) (c .low ∷ [])) j 0 < x) → c .low < x
+      go true a = a 0 (omega arith)
+      go false a = a 0 (omega arith)
+
+  pub high-room : {t : ℕ} {f g : Bool} {room″ : List ℕ} {r : ℕ} → c .two ≡ true → x ≡ t → f ≡ g
+      → r + length (flippedText g (texts (c .high))) ≤ length room″ → (c .high < t) × Room e n s (c .high) f room″ r
+  high-room two z e h = side-room (go (c .two) two reads-lower) z e h
+    where
+      go : (b : Bool) → b ≡ true → ((j : ℕ) → j < length (cond b (c .low ∷ c .high ∷ []) (c .low ∷ []))
+          → getD (cond b (c .low ∷ c .high ∷ []) (c .low ∷ [])) j 0 < x) → c .high < x
+      go true q a = a 1 (omega arith)
+      go false q a = absurd (let z : _≡_ {A = ℕ} 0 1 = cc in omega arith)

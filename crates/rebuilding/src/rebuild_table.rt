@@ -1,9 +1,7 @@
 // Rebuilding a table from a sheet.
 use records::desk::desk_of;
 use refusals::form;
-use refusals::verdicts::Refusal;
 use refusals::verdicts::Verdict;
-use refusals::verdicts::refuse;
 use runs::running::rebuild;
 use sheets::kinds::Edition;
 ghost use mathlib.Core.Path.{_≡_};
@@ -16,14 +14,11 @@ fn rebuild_form<'a>(e: Edition, d: u8, n: u64, s: &'a [u8], table: &'a [u8]) -> 
     requires { ⌜ IsEdition e ⌝ }
     ensures { λ r. ⌜ r ≡ verdict (rebuildLines e d n (now (s .entry)) (now (table .entry))) ⌝ }
 {
-    if form::bad_inputs(n) {
-        return refuse(Refusal::INPUTS);
-    }
-    let inputs = n as u32;
-    if form::bad_table(inputs, table) {
-        return refuse(Refusal::TABLE);
-    }
-    form::read_sheet(e, d, inputs, s)
+    let seen = form::sized(n, table);
+    let Verdict::Fine = seen else {
+        return seen;
+    };
+    form::read_sheet(e, d, n as u32, s)
 }
 
 // Rebuilds the table of a sheet of an edition, which is to be the desk d's, into a lent one, which is written whole.

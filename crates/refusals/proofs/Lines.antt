@@ -93,9 +93,12 @@ module _ (ls ms : List Line) (v : Verdict) (looked : v ≡ verdict ls) where
   pub stopped : (r : Refusal) → v ≡ Refused r → v ≡ verdict (ls ++ ms)
   stopped r e = e ∙ sym (stops ls ms r (sym looked ∙ e))
 
-  -- those are in order
+  -- those are in order: the others decide, which a look at them or the first that holds does
+  pub goes-on : v ≡ Fine → {w : Verdict} → w ≡ verdict ms → w ≡ verdict (ls ++ ms)
+  goes-on e f = f ∙ sym (passes ls ms (in-order ls (sym looked ∙ e)))
+
   pub decided : v ≡ Fine → {w : Verdict} → First ms w → w ≡ verdict (ls ++ ms)
-  decided e f = decides ms f ∙ sym (passes ls ms (in-order ls (sym looked ∙ e)))
+  decided e f = goes-on e (decides ms f)
 
 -- ---- number k is given exactly when the line with number k holds and no earlier line does
 

@@ -1,7 +1,7 @@
 -- The tests of the table of refusals, as the code asks them. Assumes nothing.
 use mathlib.Core.Path.{_≡_, sym, ap, ap₂, _∙_}
 use mathlib.Core.Bool.{Bool, true, false, not, _&&_}
-use mathlib.Core.List.{List, _++_}
+use mathlib.Core.List.{List, _∷_, _++_}
 use Prim.Native.Nat.{ℕ, _<_, _≤_}
 use native.Mathlib.Decide.{decLt}
 use native.Mathlib.Omega.{arith}
@@ -15,7 +15,7 @@ use Rattle.sheets.specs.declared.kinds.Edition.{Edition}
 use Rattle.refusals.specs.declared.verdicts.Verdict.{Verdict}
 use Rattle.refusals.specs.declared.verdicts.Verdict.the-variants.{Fine}
 use Rattle.refusals.specs.Lines.{Line, InOrder, verdict}
-use Rattle.refusals.specs.Refusals.{badTable, gateLines}
+use Rattle.refusals.specs.Refusals.{badInputs, badTable, sizedLines, gateLines, sheetLines}
 use Rattle.refusals.proofs.Lines.{in-order}
 
 -- ---- lines 1 and 2: a number outside its limits
@@ -35,6 +35,10 @@ module _ (low x high : ℕ) where
       let g = not-false (leb low x && leb x high) h in
       (leb-true low x (and-left (leb low x) (leb x high) g), leb-true x high (and-right (leb low x) (leb x high) g))
 
+-- where line 1 doesn't hold, as an answer b to it says
+pub few-inputs : (n : ℕ) {b : Bool} → b ≡ badInputs n .holds → b ≡ false → n ≤ mostInputs
+few-inputs n q e = inside 1 n mostInputs (sym q ∙ e) .1
+
 -- ---- line 3: a table's length
 
 pub right-table : (n : ℕ) (t : List ℕ) → badTable n t .holds ≡ false → length t ≡ tableLength n
@@ -48,6 +52,18 @@ spare-line n t = elim (decLt n 3) [
   | no l ↦ ap₂ (λ (b c : Bool). b && not c) (le-ltb n 3 (omega arith)) (spare-none n t (omega arith))
       ∙ ap not (sym (spare-none n t (omega arith)))
 ]
+
+-- ---- what lines 1 and 3, and lines 1, 9 and 10, let through, as a look at them comes to v
+
+pub sized-through : (n : ℕ) (t : List ℕ) (v : Verdict) → v ≡ verdict (sizedLines n t) → v ≡ Fine → (n ≤ mostInputs)
+    × (length t ≡ tableLength n)
+sized-through n t v p q = let w = in-order (sizedLines n t) (sym p ∙ q)
+    in (inside 1 n mostInputs (w .0) .1, right-table n t (w .1 .0))
+
+pub sheet-through : (e : Edition) (d n : ℕ) (s : List ℕ) (v : Verdict) → v
+    ≡ verdict (badInputs n ∷ sheetLines e d n s) → v ≡ Fine → (n ≤ mostInputs) × InOrder (sheetLines e d n s)
+sheet-through e d n s v p q = let w = in-order (badInputs n ∷ sheetLines e d n s) (sym p ∙ q)
+    in (inside 1 n mostInputs (w .0) .1, w .1)
 
 -- ---- what lines 1 to 4 let through
 

@@ -111,6 +111,14 @@ unreadRecord e n s = naming 15 (firstUnread e n s (records e s))
 
 -- ---- lines that several calls share
 
+-- a table to be filled, or read: n, then its length
+abbrev pub sizedLines : ℕ → List ℕ → List Line
+sizedLines n t = badInputs n ∷ badTable n t ∷ []
+
+-- a gate's table: n, then the table
+abbrev pub tableLines : ℕ → List ℕ → List Line
+tableLines n t = sizedLines n t ++ (badSpare n t ∷ [])
+
 -- a gate: 1 to 4, on n, K and the table
 abbrev pub gateLines : Edition → ℕ → ℕ → List ℕ → List Line
 gateLines e n K t = badInputs n ∷ badCell e K ∷ badTable n t ∷ badSpare n t ∷ []

@@ -1,4 +1,4 @@
-// Lines that several calls share: 1 to 4 of a gate, 1 and 2 of a told edition, 9, 10 and 15 of a sheet.
+// Lines that several calls share: 1 to 4 of a gate, 1 and 2 of a told edition, 1, 9, 10 and 15 of a sheet.
 use crate::verdicts::Refusal;
 use crate::verdicts::Verdict;
 use crate::verdicts::refuse;
@@ -16,7 +16,8 @@ ghost use Rattle.tables.specs.Table.{mostInputs};
 ghost use Rattle.sheets.specs.Edition.{IsEdition};
 ghost use Rattle.refusals.specs.Lines.{verdict, InOrder};
 ghost use Rattle.refusals.specs.Refusals.{badInputs, badCell, badEdition, badTable};
-ghost use Rattle.refusals.specs.Refusals.{gateLines, sheetLines, unreadRecord, readLines, toldForm};
+ghost use Rattle.refusals.specs.Refusals.{sizedLines, tableLines, gateLines, sheetLines, unreadRecord, readLines};
+ghost use Rattle.refusals.specs.Refusals.{toldForm};
 
 // Whether a number is outside its limits.
 pub fn outside(low: u64, x: u64, high: u64) -> bool
@@ -43,14 +44,41 @@ fn bad_cell(e: Edition, k: u64) -> bool
 }
 
 // Line 3: a wrong length.
-pub fn bad_table(n: u32, t: &[u8]) -> bool
+fn bad_table(n: u32, t: &[u8]) -> bool
     requires { ⌜ n ≤ mostInputs ⌝ }
     ensures { λ r. ⌜ r ≡ badTable n (now (t .entry)) .holds ⌝ }
 {
     t.len() != tables::length_for(n)
 }
 
-// Lines 1 to 4; a table of three inputs or more has no spare bits.
+// Lines 1 and 3.
+pub fn sized(n: u64, t: &[u8]) -> Verdict
+    ensures { λ r. ⌜ r ≡ verdict (sizedLines n (now (t .entry))) ⌝ }
+{
+    if bad_inputs(n) {
+        return refuse(Refusal::INPUTS);
+    }
+    if bad_table(n as u32, t) {
+        return refuse(Refusal::TABLE);
+    }
+    Verdict::Fine
+}
+
+// Lines 1, 3 and 4; a table of three inputs or more has no spare bits.
+pub fn table(n: u64, t: &[u8]) -> Verdict
+    ensures { λ r. ⌜ r ≡ verdict (tableLines n (now (t .entry))) ⌝ }
+{
+    let seen = sized(n, t);
+    let Verdict::Fine = seen else {
+        return seen;
+    };
+    if !tables::spare_clear(n as u32, t) {
+        return refuse(Refusal::SPARE);
+    }
+    Verdict::Fine
+}
+
+// Lines 1 to 4.
 pub fn gate(e: Edition, n: u64, k: u64, t: &[u8]) -> Verdict
     ensures { λ r. ⌜ r ≡ verdict (gateLines e n k (now (t .entry))) ⌝ }
 {
@@ -60,14 +88,7 @@ pub fn gate(e: Edition, n: u64, k: u64, t: &[u8]) -> Verdict
     if bad_cell(e, k) {
         return refuse(Refusal::CELL);
     }
-    let inputs = n as u32;
-    if bad_table(inputs, t) {
-        return refuse(Refusal::TABLE);
-    }
-    if !tables::spare_clear(inputs, t) {
-        return refuse(Refusal::SPARE);
-    }
-    Verdict::Fine
+    table(n, t)
 }
 
 // Line 2: the number of the edition is neither 1 nor 2.
@@ -101,6 +122,17 @@ pub fn sheet(e: Edition, d: u8, n: u32, s: &[u8]) -> Verdict
         Looked::BadAt(i) => refuse_at(Refusal::RECORD, i as u64),
         Looked::Fine(_) => Verdict::Fine,
     }
+}
+
+// Lines 1, 9 and 10.
+pub fn sheet_for(e: Edition, d: u8, n: u64, s: &[u8]) -> Verdict
+    requires { ⌜ IsEdition e ⌝ }
+    ensures { λ r. ⌜ r ≡ verdict (badInputs n ∷ sheetLines e d n (now (s .entry))) ⌝ }
+{
+    if bad_inputs(n) {
+        return refuse(Refusal::INPUTS);
+    }
+    sheet(e, d, n as u32, s)
 }
 
 // Line 15, of a sheet that lines 9 and 10 let through.

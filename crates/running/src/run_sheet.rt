@@ -22,18 +22,14 @@ fn run_form(e: Edition, d: u8, n: u64, s: &[u8], x: u64) -> Verdict
     requires { ⌜ IsEdition e ⌝ }
     ensures { λ r. ⌜ r ≡ verdict (runLines e d n (now (s .entry)) x) ⌝ }
 {
-    if form::bad_inputs(n) {
-        return refuse(Refusal::INPUTS);
-    }
-    let inputs = n as u32;
-    let seen = form::sheet(e, d, inputs, s);
+    let seen = form::sheet_for(e, d, n, s);
     let Verdict::Fine = seen else {
         return seen;
     };
     if 1 << n <= x {
         return refuse(Refusal::ASSIGNMENT);
     }
-    form::all_read(e, d, inputs, s)
+    form::all_read(e, d, n as u32, s)
 }
 
 // Runs a sheet of an edition, which is to be the desk d's, at the assignment x.

@@ -1,29 +1,21 @@
 -- The lines on times of the table of refusals. The code has their numbers with the others (refusals, src/verdicts.rt).
 use mathlib.Core.Bool.{Bool, not, _&&_, _||_}
 use mathlib.Core.List.{List}
-use Prim.Native.Nat.{ℕ, _+_}
-use lib.Dec.{eqb}
+use Prim.Native.Nat.{ℕ}
 use lib.IntN.{ℤ}
 use lib.Ieee.{Float}
 use Rattle.bits.specs.Below.{every}
 use Rattle.sheets.specs.declared.kinds.Edition.{Edition}
-use Rattle.sheets.specs.Sheet.{recordAt, records}
+use Rattle.sheets.specs.Sheet.{records, sheetCells}
+use Rattle.sheets.specs.Reading.{noneReads}
 use Rattle.times.specs.declared.input_time.InputTime.{InputTime}
 use Rattle.times.specs.InputTimes.{inRange, soundTime, given, timeAt}
 use Rattle.times.specs.Sixteenths.{inSixteenths, timeInSixteenths, deadlineOk}
 use Rattle.refusals.specs.Lines.{Line, line}
 
--- a record, as the function that gives its byte j, doesn't read signal t
-abbrev pub passesOver : (ℕ → ℕ) → ℕ → Bool
-passesOver b t = every (b 0) (λ j. not (eqb (b (j + 1)) t))
-
--- no cell of m reads signal t
-abbrev pub unread : Edition → List ℕ → ℕ → ℕ → Bool
-unread e s m t = every m (λ i. passesOver (recordAt e s i) t)
-
 -- what is said of input j is sound, and a time is given unless no cell reads it
 abbrev pub inputSound : Edition → List ℕ → ℕ → List InputTime → ℕ → Bool
-inputSound e s m ts j = soundTime (timeAt ts j) && (given (timeAt ts j) || unread e s m j)
+inputSound e s m ts j = soundTime (timeAt ts j) && (given (timeAt ts j) || noneReads j (sheetCells e s m))
 
 -- 13: the delay or a time of the n inputs is not a number, out of range, crossed, or missing for an input that some
 -- cell reads

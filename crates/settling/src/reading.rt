@@ -9,8 +9,11 @@ ghost use Prim.Native.Nat.{_<_, _≤_};
 ghost use Rattle.bits.specs.Below.{every};
 ghost use Rattle.tables.specs.Table.{mostInputs};
 ghost use Rattle.sheets.specs.Record.{byteAt};
+ghost use Rattle.sheets.specs.Sheet.{sheetCells};
+ghost use Rattle.sheets.specs.Reading.{noneReads};
 ghost use Rattle.times.specs.Reading.{Reads, Timed};
-ghost use Rattle.settling.specs.Refusals.{passesOver, unread, inputSound};
+ghost use Rattle.settling.specs.Reading.{passesOver};
+ghost use Rattle.settling.specs.Refusals.{inputSound};
 
 // Whether a record doesn't read signal t.
 fn passes_over(e: Edition, b: &[u8], t: u8) -> bool
@@ -32,7 +35,7 @@ fn passes_over(e: Edition, b: &[u8], t: u8) -> bool
 // Whether no cell of m reads signal t.
 fn no_cell_reads(e: Edition, s: &[u8], m: usize, t: u8) -> bool
     requires { ⌜ Timed e (now s) m ⌝ }
-    ensures { λ r. ⌜ r ≡ unread e (now (s .entry)) m t ⌝ }
+    ensures { λ r. ⌜ r ≡ noneReads t (sheetCells e (now (s .entry)) m) ⌝ }
 {
     let mut i = 0;
     while i < m {

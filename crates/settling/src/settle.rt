@@ -33,11 +33,7 @@ fn settle_form(e: Edition, d: u8, n: u64, s: &[u8], delay: f64, times: [InputTim
     requires { ⌜ IsEdition e ⌝ }
     ensures { λ r. ⌜ r ≡ verdict (settleLines e d n (now (s .entry)) delay times) ⌝ }
 {
-    if form::bad_inputs(n) {
-        return refuse(Refusal::INPUTS);
-    }
-    let inputs = n as u32;
-    let seen = form::sheet(e, d, inputs, s);
+    let seen = form::sheet_for(e, d, n, s);
     let Verdict::Fine = seen else {
         return seen;
     };
@@ -45,7 +41,7 @@ fn settle_form(e: Edition, d: u8, n: u64, s: &[u8], delay: f64, times: [InputTim
         return refuse(Refusal::TIME);
     }
     let m = s.len() / e.size;
-    if !inputs_sound(e, inputs, s, m, times) {
+    if !inputs_sound(e, n as u32, s, m, times) {
         return refuse(Refusal::TIME);
     }
     Verdict::Fine

@@ -22,8 +22,8 @@ use Rattle.sheets.specs.Edition.{IsEdition}
 use Rattle.sheets.specs.Record.{cellOf}
 use Rattle.sheets.specs.Sheet.{recordAt, cellsFrom, sheetCells}
 use Rattle.sheets.specs.Writing.{FitsFrom, sheetBytes}
-use Rattle.sheets.specs.Reading.{times, reads, AllRead, unreadCell, unread, firstUnread, IsRead, EachRead}
-use Rattle.sheets.specs.Reading.{IsFirstUnread}
+use Rattle.sheets.specs.Reading.{times, reads, noneReads, AllRead, unreadCell, unread, firstUnread, IsRead}
+use Rattle.sheets.specs.Reading.{EachRead, IsFirstUnread}
 use Rattle.sheets.proofs.Wholes.{cells-back}
 
 -- a signal that is there stands at some place
@@ -61,13 +61,13 @@ module _ (e : Edition) (s : List ℕ) where
       drop-cells (suc i) 0 m h ∙ ap (λ (j : ℕ). cellsFrom e s j (m - suc i)) p
 
   -- one of the records a, .., a + k - 1 names x
-  record Names (x a k : ℕ) : Type 0 where
-    reader : ℕ
-    from : a ≤ reader
-    within : reader < a + k
-    place : ℕ
-    among : place < recordAt e s reader 0
-    names : recordAt e s reader (place + 1) ≡ x
+  pub record Names (x a k : ℕ) : Type 0 where
+    pub reader : ℕ
+    pub from : a ≤ reader
+    pub within : reader < a + k
+    pub place : ℕ
+    pub among : place < recordAt e s reader 0
+    pub names : recordAt e s reader (place + 1) ≡ x
 
   read-names : (x k a : ℕ) → 1 ≤ reads x (cellsFrom e s a k) → Names x a k
   unfolding cellsFrom cellOf
@@ -129,6 +129,16 @@ module _ (e : Edition) (s : List ℕ) where
           let one = subst (λ (y : ℕ). 1 ≤ times y l) v (times-at l p
           (omega (arith, length-list (b 0) (λ j. b (j + 1))))) in
           omega arith
+
+  -- no cell of m reads x exactly where none of their records names it
+  pub none-names : (x m : ℕ) → (noneReads x (sheetCells e s m) ≡ true) ↔ (Names x 0 m → ⊥)
+  none-names x m = (
+    λ q w. omega (arith, eqb-true (reads x (sheetCells e s m)) 0 q, names-read x m 0 w),
+    λ none. elim (decLt 0 (reads x (sheetCells e s m))) [
+      | yes g ↦ absurd (none (read-names x m 0 g))
+      | no g ↦ eq-eqb (reads x (sheetCells e s m)) 0 (omega arith)
+    ],
+  )
 
   -- the test says that no later record names the record's signal
   module _ (n m i : ℕ) (h : i < m) where

@@ -22,6 +22,10 @@ abbrev pub reads : ℕ → List Cell → ℕ
 reads s [] = 0
 reads s (c ∷ cs) = times s (c .signals) + reads s cs
 
+-- no cell reads signal s
+abbrev pub noneReads : ℕ → List Cell → Bool
+noneReads s cs = eqb (reads s cs) 0
+
 -- ---- cells of a network of n inputs, in which cell i gives signal n + i
 
 -- each cell but the last is read by a later one
@@ -30,7 +34,7 @@ AllRead n cs = (i : ℕ) → i + 1 < length cs → 1 ≤ reads (n + i) (drop (su
 
 -- no later cell reads cell i
 abbrev pub unreadCell : ℕ → List Cell → ℕ → Bool
-unreadCell n cs i = eqb (reads (n + i) (drop (suc i) cs)) 0
+unreadCell n cs i = noneReads (n + i) (drop (suc i) cs)
 
 -- a signal's number where the signal g is taken away
 abbrev pub lowered : ℕ → ℕ → ℕ

@@ -2,6 +2,7 @@
 -- nothing.
 use mathlib.Core.Path.{sym, ap, _∙_, subst}
 use mathlib.Core.List.{[], _∷_}
+use Prim.Native.Nat.{_≤_}
 use native.Mathlib.Omega.{arith}
 use borrow.Author.Needs.{needs}
 use Rattle.tables.specs.Table.{mostInputs}
@@ -11,7 +12,7 @@ use Rattle.sheets.proofs.Keeping.{first-edition}
 use Rattle.refusals.specs.Lines.{verdict}
 use Rattle.refusals.specs.Refusals.{badInputs, readLines}
 use Rattle.refusals.proofs.Lines.{here, decides, passes}
-use Rattle.refusals.proofs.Tests.{inside}
+use Rattle.refusals.proofs.Tests.{few-inputs}
 use Rattle.cards.specs.Refusals.{filedLines}
 use Rattle.cards.proofs.form.filed.Statement.{statement}
 use Rattle.cards.proofs.form.filed.Tie as tie
@@ -23,22 +24,8 @@ returns c =
     c .refuse .ensures ∙ decides (filedLines (a .d) (a .n) (a .s .now))
     (here (sym (i .before .bad-inputs .ensures) ∙ i .if1 .taken))
 
-cast-read-sheet : tie.Need-cast-read-sheet
-cast-read-sheet c =
-    let i = c .before in
-    omega (
-      arith,
-      inside 1 (i .before .before .before .args .n) mostInputs
-          (sym (i .before .bad-inputs .ensures) ∙ i .if1 .left),
-    )
-
-read-sheet-requires : tie.Need-read-sheet-requires
-read-sheet-requires c κs =
-    let i = c .before in (
-      subst IsEdition (sym (c .first .ensures)) first-edition,
-      inside 1 (i .before .before .before .args .n) mostInputs
-          (sym (i .before .bad-inputs .ensures) ∙ i .if1 .left) .1,
-    )
+few : (c : tie.After-first) → c .before .before .before .before .args .n ≤ mostInputs
+few c = let i = c .before in few-inputs _ (i .before .bad-inputs .ensures) (i .if1 .left)
 
 returns-2 : tie.Need-returns-2
 returns-2 c =
@@ -51,5 +38,5 @@ returns-2 c =
 
 pub filed-spec : {M : Type 1} → statement M
 filed-spec =
-    tie.close (tie.spec (λ c κs. search needs) (λ c κs. search needs) returns (λ c κs. search needs) cast-read-sheet
-    read-sheet-requires returns-2)
+    tie.close (tie.spec (λ c κs. search needs) (λ c κs. search needs) returns (λ c κs. search needs) (λ c. omega (arith, few c))
+    (λ c κs. (subst IsEdition (sym (c .first .ensures)) first-edition, few c)) returns-2)

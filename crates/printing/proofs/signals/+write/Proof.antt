@@ -1,9 +1,15 @@
 -- `write` puts the text of a signal. The number that falls is the signal. Assumes nothing.
 use mathlib.Core.Path.{refl}
 use native.Mathlib.Omega.{arith}
+use lib.Dec.{eqb}
 use borrow.Author.Needs.{needs}
-use Rattle.printing.proofs.Staging.{next, has-room, has-one, all-put, put-length, flip-fits, letter-parts}
-use Rattle.printing.proofs.Staging.{pair-ready, two-parts, digit-parts, same-parts, low-room, high-room}
+use Rattle.printing.proofs.Staging.{Stage, AtCell, next, next-flipped, next-byte, has-room, has-one, all-put}
+use Rattle.printing.proofs.Staging.{put-length, flip-fits, letter-parts, pair-ready, two-parts, digit-parts}
+use Rattle.printing.proofs.Staging.{same-parts, low-room, high-room}
+use mathlib.Core.List.{List, [], _∷_}
+use Rattle.sheets.specs.Sheet.{records, sheetCells}
+use Rattle.printing.specs.Forms.{markOf, flipsLow, flipsHigh}
+use Rattle.printing.specs.Print.{flippedText, printed}
 use Prim.Native.Nat.{ℕ, _<_}
 use borrow.Fn.Kinds.{In}
 use borrow.Fn.PlainCycle.{Measures, is, falls, and}
@@ -50,6 +56,8 @@ beside t = (
 write-put-flip-requires : (t : ℕ) → write-lts.Need-put-flip-requires (beside t) (write-at t) write.Post
 write-put-flip-requires t c κs = flip-fits (c .before .before .before .pre .1)
 
+-- ---- a letter
+
 write-cast-put : (t : ℕ) → write-lts.Need-cast-put (beside t) (write-at t) write.Post
 write-cast-put t c = omega
     (arith, c .before .before .before .before .before .before .before .before .pre .1 .sheet .inputs)
@@ -70,54 +78,109 @@ write-returns t c =
     let p = letter-parts (f .before .before .before .before .pre .1) (i .if1 .taken) (f .put-flip .ensures) in
     all-put (next p (c .before .before .put .ensures))
 
+-- ---- a cell, which the record says
+
 write-pair-of-requires : (t : ℕ) → write-lts.Need-pair-of-requires (beside t) (write-at t) write.Post
 write-pair-of-requires t c κs =
     pair-ready (c .before .before .before .before .before .before .before .pre .1) (c .if1 .left)
 
+module _ {t : ℕ} where
+  -- where the call began
+  abbrev start : write-lts.After-pair-of (beside t) (write-at t) write.Post
+      → write-lts.Start (beside t) (write-at t) write.Post
+  start k = k .before .before .before .before .before .before .before .before
+
+  -- `!` or nothing is put before the cell
+  at-cell : (k : write-lts.After-pair-of (beside t) (write-at t) write.Post) → let a = start k .args in
+      let f = k .before .before .before .before .put-flip in
+      AtCell (a .e) (a .n) (a .s .now) (a .x) (a .flip) (a .room .now) (a .at) (k .pair-of .result) (f .last .0)
+      (f .result)
+  at-cell k = record {
+    has = start k .pre .1;
+    above = k .before .if1 .left;
+    cell = k .pair-of .ensures .0;
+    flipped = k .before .before .before .before .put-flip .ensures;
+  }
+
+  -- ---- of two inputs: what is put, and what is left, after each step
+
+  -- the text of a signal
+  abbrev text : write-lts.Start (beside t) (write-at t) write.Post → ℕ → List ℕ
+  text s = printed (s .args .n) (sheetCells (s .args .e) (s .args .s .now) (records (s .args .e) (s .args .s .now)))
+
+  -- these parts of the whole are left
+  abbrev Left : write-lts.After-pair-of (beside t) (write-at t) write.Post → List (List ℕ) → List ℕ → ℕ → Type 0
+  Left k rest room q = Stage (start k .args .room .now) (start k .args .at)
+      (flippedText (start k .args .flip) (text (start k) (start k .args .x))) rest room q
+
+  -- the other signal and `)`
+  abbrev high : write-lts.After-pair-of (beside t) (write-at t) write.Post → List (List ℕ)
+  high k = let c = k .pair-of .result
+      in flippedText (flipsHigh (c .table)) (text (start k) (c .high)) ∷ (41 ∷ []) ∷ []
+
+  -- the lower signal, the mark, and those
+  abbrev low : write-lts.After-pair-of (beside t) (write-at t) write.Post → List (List ℕ)
+  low k = let c = k .pair-of .result
+      in flippedText (flipsLow (c .table)) (text (start k) (c .low)) ∷ (markOf (c .table) ∷ []) ∷ high k
+
+  opened : (c : write-lts.After-put2 (beside t) (write-at t) write.Post) → let k = c .before .before .before in
+      Left k (low k) (c .put2 .last .0) (c .put2 .result)
+  opened c = next (two-parts (at-cell (c .before .before .before)) (c .before .before .if2 .taken)) (c .put2 .ensures)
+
+  low-put : (c : write-lts.After-write (beside t) (write-at t) write.Post)
+      → let k = c .before .before .before .before .before .before .before .before in
+      Left k ((markOf (k .pair-of .result .table) ∷ []) ∷ high k) (c .write .last .1 .1 .1 .1 .1 .0) (c .write .result)
+  low-put c = next-flipped _ (c .before .before .flips-low .ensures) (opened (c .before .before .before .before .before))
+      (c .write .ensures)
+
+  mark-put : (c : write-lts.After-put3 (beside t) (write-at t) write.Post)
+      → let k = c .before .before .before .before .before .before .before .before .before .before .before .before .before
+      in Left k (high k) (c .put3 .last .0) (c .put3 .result)
+  mark-put c = next-byte (c .before .mark .ensures) (low-put (c .before .before .before .before .before))
+      (c .put3 .ensures)
+
+  high-put : (c : write-lts.After-write2 (beside t) (write-at t) write.Post)
+      → let k = c .before .before .before .before .before .before .before .before .before .before .before .before .before
+      .before .before .before .before .before in
+      Left k ((41 ∷ []) ∷ []) (c .write2 .last .1 .1 .1 .1 .1 .0) (c .write2 .result)
+  high-put c = next-flipped _ (c .before .before .flips-high .ensures) (mark-put (c .before .before .before .before .before))
+      (c .write2 .ensures)
+
+  -- ---- of one input: a digit, or the signal that it reads
+
+  zero-left : (c : write-lts.Then3 (beside t) (write-at t) write.Post) → let k = c .before .before .before in
+      let f = k .before .before .before .before .put-flip in Left k ((48 ∷ []) ∷ []) (f .last .0) (f .result)
+  zero-left c = digit-parts (at-cell (c .before .before .before)) 48 0 refl (c .before .before .if2 .left) (c .if3 .taken)
+
+  one-left : (c : write-lts.Then4 (beside t) (write-at t) write.Post) → let k = c .before .before .before .before .before in
+      let f = k .before .before .before .before .put-flip in Left k ((49 ∷ []) ∷ []) (f .last .0) (f .result)
+  one-left c = digit-parts (at-cell (c .before .before .before .before .before)) 49 3 refl
+      (c .before .before .before .before .if2 .left) (c .if4 .taken)
+
+  same-left : (c : write-lts.Else4 (beside t) (write-at t) write.Post) → let k = c .before .before .before .before .before in
+      let f = k .before .before .before .before .put-flip in let r = k .pair-of .result in
+      Left k (flippedText (eqb (r .table) 1) (text (start k) (r .low)) ∷ []) (f .last .0) (f .result)
+  same-left c = same-parts (at-cell (c .before .before .before .before .before))
+      (c .before .before .before .before .if2 .left) (c .before .before .if3 .left) (c .if4 .left)
+
 write-put-requires-2 : (t : ℕ) → write-lts.Need-put-requires-2 (beside t) (write-at t) write.Post
-write-put-requires-2 t c κs =
-    let k = c .before .before in
-    let i = k .before in
-    let f = i .before .before .before in
-    has-one (two-parts (f .before .before .before .before .pre .1) (k .pair-of .result) (i .if1 .left)
-    (k .pair-of .ensures .0) (c .before .if2 .taken) refl refl
-    refl (f .put-flip .ensures))
+write-put-requires-2 t c κs = has-one (two-parts (at-cell (c .before .before)) (c .before .if2 .taken))
 
 write-flips-low-requires : (t : ℕ) → write-lts.Need-flips-low-requires (beside t) (write-at t) write.Post
 write-flips-low-requires t c κs = c .before .before .before .before .before .pair-of .ensures .1
 
 write-write-requires : (t : ℕ) → write-lts.Need-write-requires (beside t) (write-at t) write.Post
 write-write-requires t c κs =
-    let fl = c .before in
-    let a = fl .before .before .before in
-    let j = a .before .before in
-    let k = j .before in
-    let i = k .before in
-    let f = i .before .before .before in
-    let s = f .before .before .before .before in
-    let p = two-parts (s .pre .1) (k .pair-of .result) (i .if1 .left) (k .pair-of .ensures .0) (j .if2 .taken)
-    (fl .flips-low .ensures) refl refl (f .put-flip .ensures) in
-    low-room (s .pre .1) (k .pair-of .result) (i .if1 .left) (k .pair-of .ensures .0) (s .pre .0)
-    (has-room (next p (a .put2 .ensures)))
+    let a = c .before .before .before .before in
+    let k = a .before .before .before in
+    low-room (at-cell k) (start k .pre .0) (c .before .flips-low .ensures) (has-room (opened a))
 
 write-mark-requires : (t : ℕ) → write-lts.Need-mark-requires (beside t) (write-at t) write.Post
 write-mark-requires t c κs =
     c .before .before .before .before .before .before .before .before .before .before .before .pair-of .ensures .1
 
 write-put-requires-3 : (t : ℕ) → write-lts.Need-put-requires-3 (beside t) (write-at t) write.Post
-write-put-requires-3 t c κs =
-    let mk = c in
-    let b = mk .before .before .before .before in
-    let fl = b .before .before in
-    let a = fl .before .before .before in
-    let j = a .before .before in
-    let k = j .before in
-    let i = k .before in
-    let f = i .before .before .before in
-    let p = two-parts (f .before .before .before .before .pre .1) (k .pair-of .result) (i .if1 .left)
-    (k .pair-of .ensures .0) (j .if2 .taken)
-    (fl .flips-low .ensures) (mk .mark .ensures) refl (f .put-flip .ensures) in
-    has-one (next (next p (a .put2 .ensures)) (b .write .ensures))
+write-put-requires-3 t c κs = has-one (low-put (c .before .before .before .before))
 
 write-flips-high-requires : (t : ℕ) → write-lts.Need-flips-high-requires (beside t) (write-at t) write.Post
 write-flips-high-requires t c κs =
@@ -126,146 +189,39 @@ write-flips-high-requires t c κs =
 
 write-write-requires-2 : (t : ℕ) → write-lts.Need-write-requires-2 (beside t) (write-at t) write.Post
 write-write-requires-2 t c κs =
-    let fh = c .before in
-    let d = fh .before .before .before in
-    let mk = d .before in
-    let b = mk .before .before .before .before in
-    let fl = b .before .before in
-    let a = fl .before .before .before in
-    let j = a .before .before in
-    let k = j .before in
-    let i = k .before in
-    let f = i .before .before .before in
-    let s = f .before .before .before .before in
-    let p = two-parts (s .pre .1) (k .pair-of .result) (i .if1 .left) (k .pair-of .ensures .0) (j .if2 .taken)
-    (fl .flips-low .ensures) (mk .mark .ensures) (fh .flips-high .ensures) (f .put-flip .ensures) in
-    high-room (s .pre .1) (k .pair-of .result) (i .if1 .left) (k .pair-of .ensures .0) (j .if2 .taken) (s .pre .0)
-    (has-room (next (next (next p (a .put2 .ensures)) (b .write .ensures)) (d .put3 .ensures)))
+    let d = c .before .before .before .before in
+    let j = d .before .before .before .before .before .before .before .before .before .before .before .before in
+    high-room (at-cell (j .before)) (j .if2 .taken) (start (j .before) .pre .0) (c .before .flips-high .ensures)
+    (has-room (mark-put d))
 
 write-put-requires-4 : (t : ℕ) → write-lts.Need-put-requires-4 (beside t) (write-at t) write.Post
-write-put-requires-4 t c κs =
-    let e = c .before .before .before in
-    let fh = e .before .before in
-    let d = fh .before .before .before in
-    let mk = d .before in
-    let b = mk .before .before .before .before in
-    let fl = b .before .before in
-    let a = fl .before .before .before in
-    let j = a .before .before in
-    let k = j .before in
-    let i = k .before in
-    let f = i .before .before .before in
-    let p = two-parts (f .before .before .before .before .pre .1) (k .pair-of .result) (i .if1 .left)
-    (k .pair-of .ensures .0) (j .if2 .taken)
-    (fl .flips-low .ensures) (mk .mark .ensures) (fh .flips-high .ensures) (f .put-flip .ensures) in
-    has-one (next (next (next (next p (a .put2 .ensures)) (b .write .ensures)) (d .put3 .ensures)) (e .write2 .ensures))
-
-write-same-length-2 : (t : ℕ) → write-lts.Need-same-length-2 (beside t) (write-at t) write.Post
-write-same-length-2 t c =
-    let e = c .before .before .before .before .before .before in
-    let fh = e .before .before in
-    let d = fh .before .before .before in
-    let mk = d .before in
-    let b = mk .before .before .before .before in
-    let fl = b .before .before in
-    let a = fl .before .before .before in
-    let j = a .before .before in
-    let k = j .before in
-    let i = k .before in
-    let f = i .before .before .before in
-    let p = two-parts (f .before .before .before .before .pre .1) (k .pair-of .result) (i .if1 .left)
-    (k .pair-of .ensures .0) (j .if2 .taken)
-    (fl .flips-low .ensures) (mk .mark .ensures) (fh .flips-high .ensures) (f .put-flip .ensures) in
-    put-length (all-put (next (next (next (next (next p (a .put2 .ensures)) (b .write .ensures)) (d .put3 .ensures))
-    (e .write2 .ensures)) (c .before .before .put4 .ensures)))
+write-put-requires-4 t c κs = has-one (high-put (c .before .before .before))
 
 write-returns-2 : (t : ℕ) → write-lts.Need-returns-2 (beside t) (write-at t) write.Post
-write-returns-2 t c =
-    let e = c .before .before .before .before .before .before in
-    let fh = e .before .before in
-    let d = fh .before .before .before in
-    let mk = d .before in
-    let b = mk .before .before .before .before in
-    let fl = b .before .before in
-    let a = fl .before .before .before in
-    let j = a .before .before in
-    let k = j .before in
-    let i = k .before in
-    let f = i .before .before .before in
-    let p = two-parts (f .before .before .before .before .pre .1) (k .pair-of .result) (i .if1 .left)
-    (k .pair-of .ensures .0) (j .if2 .taken)
-    (fl .flips-low .ensures) (mk .mark .ensures) (fh .flips-high .ensures) (f .put-flip .ensures) in
-    all-put (next (next (next (next (next p (a .put2 .ensures)) (b .write .ensures)) (d .put3 .ensures))
-    (e .write2 .ensures)) (c .before .before .put4 .ensures))
+write-returns-2 t c = let d = c .before .before in all-put (next (high-put (d .before .before .before .before)) (d .put4 .ensures))
+
+-- ---- of one input
 
 write-put-requires-5 : (t : ℕ) → write-lts.Need-put-requires-5 (beside t) (write-at t) write.Post
-write-put-requires-5 t c κs =
-    let j = c .before .before .before in
-    let k = j .before in
-    let i = k .before in
-    let f = i .before .before .before in
-    has-one (digit-parts (f .before .before .before .before .pre .1) (k .pair-of .result) (i .if1 .left)
-    (k .pair-of .ensures .0) 48 0 refl
-    (j .if2 .left) (c .before .if3 .taken) (f .put-flip .ensures))
+write-put-requires-5 t c κs = has-one (zero-left (c .before))
 
 write-returns-3 : (t : ℕ) → write-lts.Need-returns-3 (beside t) (write-at t) write.Post
-write-returns-3 t c =
-    let z = c .before .before .before .before in
-    let j = z .before .before in
-    let k = j .before in
-    let i = k .before in
-    let f = i .before .before .before in
-    let p = digit-parts (f .before .before .before .before .pre .1) (k .pair-of .result) (i .if1 .left)
-    (k .pair-of .ensures .0) 48 0 refl
-    (j .if2 .left) (z .if3 .taken) (f .put-flip .ensures) in
-    all-put (next p (c .before .before .put5 .ensures))
+write-returns-3 t c = all-put (next (zero-left (c .before .before .before .before)) (c .before .before .put5 .ensures))
 
 write-put-requires-6 : (t : ℕ) → write-lts.Need-put-requires-6 (beside t) (write-at t) write.Post
-write-put-requires-6 t c κs =
-    let j = c .before .before .before .before .before in
-    let k = j .before in
-    let i = k .before in
-    let f = i .before .before .before in
-    has-one (digit-parts (f .before .before .before .before .pre .1) (k .pair-of .result) (i .if1 .left)
-    (k .pair-of .ensures .0) 49 3 refl
-    (j .if2 .left) (c .before .if4 .taken) (f .put-flip .ensures))
+write-put-requires-6 t c κs = has-one (one-left (c .before))
 
 write-returns-4 : (t : ℕ) → write-lts.Need-returns-4 (beside t) (write-at t) write.Post
-write-returns-4 t c =
-    let o = c .before .before .before .before in
-    let j = o .before .before .before .before in
-    let k = j .before in
-    let i = k .before in
-    let f = i .before .before .before in
-    let p = digit-parts (f .before .before .before .before .pre .1) (k .pair-of .result) (i .if1 .left)
-    (k .pair-of .ensures .0) 49 3 refl
-    (j .if2 .left) (o .if4 .taken) (f .put-flip .ensures) in
-    all-put (next p (c .before .before .put6 .ensures))
+write-returns-4 t c = all-put (next (one-left (c .before .before .before .before)) (c .before .before .put6 .ensures))
 
 write-write-requires-3 : (t : ℕ) → write-lts.Need-write-requires-3 (beside t) (write-at t) write.Post
 write-write-requires-3 t c κs =
-    let z = c .before .before .before .before in
-    let j = z .before .before in
-    let k = j .before in
-    let i = k .before in
-    let f = i .before .before .before in
-    let s = f .before .before .before .before in
-    let p = same-parts (s .pre .1) (k .pair-of .result) (i .if1 .left) (k .pair-of .ensures .0) (j .if2 .left)
-    (z .if3 .left) (c .before .before .if4 .left) (f .put-flip .ensures) in
-    low-room (s .pre .1) (k .pair-of .result) (i .if1 .left) (k .pair-of .ensures .0) (s .pre .0) (has-room p)
+    let o = c .before .before in
+    let k = o .before .before .before .before .before in
+    low-room (at-cell k) (start k .pre .0) refl (has-room (same-left o))
 
 write-returns-5 : (t : ℕ) → write-lts.Need-returns-5 (beside t) (write-at t) write.Post
-write-returns-5 t c =
-    let o = c .before .before .before .before .before in
-    let z = o .before .before in
-    let j = z .before .before in
-    let k = j .before in
-    let i = k .before in
-    let f = i .before .before .before in
-    let p = same-parts (f .before .before .before .before .pre .1) (k .pair-of .result) (i .if1 .left)
-    (k .pair-of .ensures .0) (j .if2 .left)
-    (z .if3 .left) (o .if4 .left) (f .put-flip .ensures) in
-    all-put (next p (c .before .before .write3 .ensures))
+write-returns-5 t c = let w = c .before .before in all-put (next (same-left (w .before .before .before)) (w .write3 .ensures))
 
 pub +write-spec : {M : Type 1} → statement M
 +write-spec = close μ-write λ t. write-lts.spec (beside t) (write-at t)
@@ -285,7 +241,7 @@ pub +write-spec : {M : Type 1} → statement M
     (write-flips-high-requires t)
     (write-write-requires-2 t)
     (write-put-requires-4 t)
-    (write-same-length-2 t)
+    (λ c. put-length (write-returns-2 t c))
     (write-returns-2 t)
     (write-put-requires-5 t)
     (λ c. search needs)

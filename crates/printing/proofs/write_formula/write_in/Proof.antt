@@ -7,7 +7,7 @@ use Rattle.refusals.specs.declared.verdicts.Verdict.{Verdict}
 use Rattle.refusals.specs.Lines.{reply}
 use Rattle.refusals.proofs.Lines.{in-order}
 use Rattle.printing.specs.WriteFormula.{writeLines, writeDone, writeNot, writeOutcome}
-use Rattle.printing.proofs.Printing.{sound, ready, written}
+use Rattle.printing.proofs.Printing.{Sound, sound, ready, written}
 use Rattle.printing.proofs.write_formula.write_in.Statement.{statement}
 use Rattle.printing.proofs.write_formula.write_in.Tie as tie
 
@@ -21,52 +21,30 @@ returns c =
     ∙ ap (λ (v : Verdict). reply v (writeDone (a .e) (a .n) (a .s .now) (a .room .now)) (writeNot (a .room .now)))
     (sym e ∙ f .write-form .ensures)
 
-sub-last : tie.Need-sub-last
-sub-last c =
-    let f = c .before .before .before in
-    let s = f .before .before .before .before in
-    let a = s .args in
-    let k = sound (a .e) (a .d) (a .n) (a .s .now) (a .room .now) (s .pre)
-    (in-order (writeLines (a .e) (a .d) (a .n) (a .s .now) (a .room .now))
-    (sym (f .write-form .ensures) ∙ c .before .enum-told .given .1)) in
-    k .good .some
+-- after the look at the form, which lets all through
+module _ (c : tie.After-enum-told) where
+  abbrev start : tie.Start
+  start = c .before .before .before .before .before .before
 
-add-write : tie.Need-add-write
-add-write c =
-    let f = c .before .before .before in
-    let s = f .before .before .before .before in
-    let a = s .args in
-    let k = sound (a .e) (a .d) (a .n) (a .s .now) (a .room .now) (s .pre)
-    (in-order (writeLines (a .e) (a .d) (a .n) (a .s .now) (a .room .now))
-    (sym (f .write-form .ensures) ∙ c .before .enum-told .given .1)) in
-    omega (arith, k .inputs, k .good .most)
-
-write-requires : tie.Need-write-requires
-write-requires c κs =
-    let f = c .before .before .before .before in
-    let s = f .before .before .before .before in
-    let a = s .args in
-    ready (sound (a .e) (a .d) (a .n) (a .s .now) (a .room .now) (s .pre)
-    (in-order (writeLines (a .e) (a .d) (a .n) (a .s .now) (a .room .now))
-    (sym (f .write-form .ensures) ∙ c .before .before .enum-told .given .1)))
+  looked : Sound (start .args .e) (start .args .n) (start .args .s .now) (start .args .room .now)
+  looked = sound (start .args .e) (start .args .d) (start .args .n) (start .args .s .now) (start .args .room .now)
+      (start .pre)
+      (in-order (writeLines (start .args .e) (start .args .d) (start .args .n) (start .args .s .now)
+      (start .args .room .now)) (sym (c .before .before .write-form .ensures) ∙ c .enum-told .given .1))
 
 returns-2 : tie.Need-returns-2
 unfolding writeOutcome
 returns-2 c =
     let w = c .before .before in
     let t = w .before .before .before in
-    let f = t .before .before in
-    let s = f .before .before .before .before in
-    let a = s .args in
-    let v = sym (f .write-form .ensures) ∙ t .enum-told .given .1 in
-    let k = sound (a .e) (a .d) (a .n) (a .s .now) (a .room .now) (s .pre)
-    (in-order (writeLines (a .e) (a .d) (a .n) (a .s .now) (a .room .now)) v) in
-    written k (w .write .ensures)
+    let a = start t .args in
+    written (looked t) (w .write .ensures)
     ∙ ap (λ (v : Verdict). reply v (writeDone (a .e) (a .n) (a .s .now) (a .room .now)) (writeNot (a .room .now)))
-    (sym v)
+    (sym (t .enum-told .given .1) ∙ t .before .before .write-form .ensures)
 
 pub write-in-spec : {M : Type 1} → statement M
 write-in-spec =
     tie.close (tie.spec (λ c κs. search needs) (λ c. search needs) (λ c. search needs) (λ c. search needs) returns
-    (λ c. search needs) sub-last
-    add-write write-requires (λ c. search needs) returns-2)
+    (λ c. search needs) (λ c. looked (c .before) .good .some)
+    (λ c. let k = looked (c .before) in omega (arith, k .inputs, k .good .most))
+    (λ c κs. ready (looked (c .before .before))) (λ c. search needs) returns-2)

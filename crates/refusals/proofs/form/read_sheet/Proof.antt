@@ -3,7 +3,7 @@ use mathlib.Core.Path.{sym, _∙_}
 use mathlib.Core.List.{[], _∷_}
 use borrow.Author.Needs.{needs}
 use Rattle.refusals.specs.Refusals.{sheetLines, unreadRecord}
-use Rattle.refusals.proofs.Lines.{in-order, passes, stopped}
+use Rattle.refusals.proofs.Lines.{in-order, stopped, goes-on}
 use Rattle.refusals.proofs.form.read_sheet.Statement.{statement}
 use Rattle.refusals.proofs.form.read_sheet.Tie as tie
 
@@ -30,9 +30,8 @@ returns-2 : tie.Need-returns-2
 returns-2 c =
     let l = c .before .before .before in
     let a = l .before .before .args in
-    let ls = sheetLines (a .e) (a .d) (a .n) (a .s .now) in
-    c .all-read .ensures ∙ sym (passes ls (unreadRecord (a .e) (a .n) (a .s .now) ∷ [])
-    (in-order ls (sym (l .sheet .ensures) ∙ c .before .enum-told .given .1)))
+    goes-on (sheetLines (a .e) (a .d) (a .n) (a .s .now)) (unreadRecord (a .e) (a .n) (a .s .now) ∷ []) _
+    (l .sheet .ensures) (c .before .enum-told .given .1) (c .all-read .ensures)
 
 pub read-sheet-spec : {M : Type 1} → statement M
 read-sheet-spec =

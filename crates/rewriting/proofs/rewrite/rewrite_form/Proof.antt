@@ -1,7 +1,7 @@
 -- `rewrite_form` meets its contract: each return is the first line that holds, or that none does. Assumes nothing.
 use mathlib.Core.Path.{sym, _∙_}
 use mathlib.Core.List.{[], _∷_}
-use Prim.Native.Nat.{_*_}
+use Prim.Native.Nat.{_*_, _≤_}
 use native.Mathlib.Omega.{arith}
 use lib.ListN.{length}
 use borrow.Author.Needs.{needs}
@@ -10,7 +10,7 @@ use Rattle.tables.specs.Table.{mostInputs}
 use Rattle.sheets.specs.Edition.{mostRecords}
 use Rattle.refusals.specs.Refusals.{badInputs, shortRecords, readLines}
 use Rattle.refusals.proofs.Lines.{here, later, decides, passes}
-use Rattle.refusals.proofs.Tests.{inside}
+use Rattle.refusals.proofs.Tests.{few-inputs}
 use Rattle.rewriting.specs.Rewrite.{rewriteLines}
 use Rattle.rewriting.proofs.rewrite.rewrite_form.Statement.{statement}
 use Rattle.rewriting.proofs.rewrite.rewrite_form.Tie as tie
@@ -32,20 +32,8 @@ returns-2 c =
     (later (sym (i .before .bad-inputs .ensures) ∙ i .if1 .left)
     (here (lt-ltb (length (a .room .now)) (a .f .size * mostRecords) (b .if2 .taken))))
 
-cast-read-sheet : tie.Need-cast-read-sheet
-cast-read-sheet c =
-    let i = c .before .before in
-    omega (
-      arith,
-      inside 1 (i .before .before .before .before .args .n) mostInputs
-          (sym (i .before .bad-inputs .ensures) ∙ i .if1 .left),
-    )
-
-read-sheet-requires : tie.Need-read-sheet-requires
-read-sheet-requires c κs =
-    let i = c .before .before in
-    let s = i .before .before .before .before in
-    (s .pre .0, inside 1 (s .args .n) mostInputs (sym (i .before .bad-inputs .ensures) ∙ i .if1 .left) .1)
+few : (c : tie.Else2) → c .before .before .before .before .before .before .args .n ≤ mostInputs
+few c = let i = c .before .before in few-inputs _ (i .before .bad-inputs .ensures) (i .if1 .left)
 
 returns-3 : tie.Need-returns-3
 returns-3 c =
@@ -62,4 +50,5 @@ returns-3 c =
 pub rewrite-form-spec : {M : Type 1} → statement M
 rewrite-form-spec =
     tie.close (tie.spec (λ c κs. search needs) (λ c κs. search needs) returns (λ c. search needs)
-    (λ c κs. search needs) returns-2 cast-read-sheet read-sheet-requires returns-3)
+    (λ c κs. search needs) returns-2 (λ c. omega (arith, few c))
+    (λ c κs. (c .before .before .before .before .before .before .pre .0, few c)) returns-3)

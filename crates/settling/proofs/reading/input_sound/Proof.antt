@@ -4,22 +4,23 @@ use mathlib.Core.Path.{sym, ap, ap₂, _∙_}
 use mathlib.Core.Bool.{Bool, _&&_, _||_}
 use borrow.Author.Needs.{needs}
 use borrow.Author.Tests.{not-true, not-false}
+use Rattle.sheets.specs.Sheet.{sheetCells}
+use Rattle.sheets.specs.Reading.{noneReads}
 use Rattle.times.specs.InputTimes.{given, timeAt}
-use Rattle.settling.specs.Refusals.{unread}
 use Rattle.settling.proofs.reading.input_sound.Statement.{statement}
 use Rattle.settling.proofs.reading.input_sound.Tie as tie
 
 returns : tie.Need-returns
 returns c =
     let a = c .before .before .before .before .args in
-    sym (ap (λ (t : Bool). t && (given (timeAt (a .t4) (a .j)) || unread (a .e) (a .s .now) (a .m) (a .j)))
+    sym (ap (λ (t : Bool). t && (given (timeAt (a .t4) (a .j)) || noneReads (a .j) (sheetCells (a .e) (a .s .now) (a .m))))
     (sym (c .before .sound-time .ensures) ∙ not-true _ (c .if1 .taken)))
 
 returns-2 : tie.Need-returns-2
 returns-2 c =
     let q = c .before .before in
     let a = q .before .before .before .before .args in
-    sym (ap₂ (λ (t u : Bool). t && (u || unread (a .e) (a .s .now) (a .m) (a .j)))
+    sym (ap₂ (λ (t u : Bool). t && (u || noneReads (a .j) (sheetCells (a .e) (a .s .now) (a .m))))
     (sym (q .before .sound-time .ensures) ∙ not-false _ (q .if1 .left))
     (sym (c .before .is-given .ensures) ∙ c .if2 .taken))
 
@@ -29,7 +30,7 @@ returns-3 c =
     let q = g .before .before in
     let a = q .before .before .before .before .args in
     c .no-cell-reads .ensures
-    ∙ sym (ap₂ (λ (t u : Bool). t && (u || unread (a .e) (a .s .now) (a .m) (a .j)))
+    ∙ sym (ap₂ (λ (t u : Bool). t && (u || noneReads (a .j) (sheetCells (a .e) (a .s .now) (a .m))))
     (sym (q .before .sound-time .ensures) ∙ not-false _ (q .if1 .left))
     (sym (g .before .is-given .ensures) ∙ g .if2 .left))
 

@@ -14,7 +14,8 @@ use Rattle.sheets.specs.Record.{byteAt}
 use Rattle.sheets.specs.Sheet.{recordAt}
 use Rattle.sheets.proofs.Places.{record-within}
 use Rattle.times.specs.Reading.{Reads}
-use Rattle.settling.specs.Refusals.{passesOver}
+use Rattle.settling.specs.Reading.{passesOver}
+use Rattle.settling.proofs.Unread.{each-passes}
 use Rattle.settling.proofs.reading.no_cell_reads.Statement.{statement}
 use Rattle.settling.proofs.reading.no_cell_reads.Tie as tie
 
@@ -50,7 +51,7 @@ returns c =
     let y = c .before .passes-over .ensures ∙ ap (λ (b : List ℕ). passesOver (byteAt b) (a .t))
     (c .before .before .record-of .ensures) in
     sym (every-stop (a .m) (over (a .e) (a .s .now) (a .t)) (q .loop .i) (omega arith)
-    (sym y ∙ not-true _ (c .if1 .taken)))
+    (sym y ∙ not-true _ (c .if1 .taken))) ∙ each-passes (a .e) (a .s .now) (a .t) (a .m)
 
 loop-again : tie.Need-loop-again Inv-loop μ-loop
 loop-again c =
@@ -69,6 +70,7 @@ returns-2 c =
     let a = q .before .before .args in
     let z : q .loop .i ≡ a .m = omega arith in
     sym (q .loop .inv .1) ∙ ap (λ (k : ℕ). every k (over (a .e) (a .s .now) (a .t))) z
+    ∙ each-passes (a .e) (a .s .now) (a .t) (a .m)
 
 pub no-cell-reads-spec : {M : Type 1} → statement M
 no-cell-reads-spec =

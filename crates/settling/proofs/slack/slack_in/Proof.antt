@@ -62,6 +62,15 @@ module _ (e : Edition) (d n : ℕ) (s : List ℕ) (delay : Float) (ts : List Inp
             (λ (x : SettleAnswer). x .latest) p ∙ its-latest v,
       )
 
+-- the answer a of settle, and then the look at line 14, of the deadline as the number z, which comes to v
+record Asked (e : Edition) (d n : ℕ) (s : List ℕ) (delay : Float) (ts : List InputTime) (deadline : ℤ) (a : SettleAnswer)
+    (z : ℤ) (v : Verdict) : Type 0 where
+  ok : IsEdition e
+  settles : a ≡ settleOutcome e d n s delay ts
+  fine : a .verdict ≡ Fine
+  due : z ≡ deadline
+  looked : v ≡ verdict (badSlack n delay ts z ∷ [])
+
 -- the outcome, by the verdict of settle's lines and then of line 14
 module _ (e : Edition) (d n : ℕ) (s : List ℕ) (delay : Float) (ts : List InputTime) (deadline : ℤ) (a : SettleAnswer)
     (p : a ≡ settleOutcome e d n s delay ts) where
@@ -76,52 +85,52 @@ module _ (e : Edition) (d n : ℕ) (s : List ℕ) (delay : Float) (ts : List Inp
       ∙ refused-by (settleLines e d n s delay ts) (badSlack n delay ts deadline ∷ [])
       (slackDone e n s delay ts deadline) slackNot (a .verdict) r by-lines q
 
-  module _ (q : a .verdict ≡ Fine) (z : ℤ) (k : z ≡ deadline) (v : Verdict)
-      (f : v ≡ verdict (badSlack n delay ts z ∷ [])) where
-    by-slack : reply v (slackDone e n s delay ts deadline) slackNot ≡ slackOutcome e d n s delay ts deadline
-    unfolding slackOutcome
-    by-slack =
-        ap (λ (u : Verdict). reply u (slackDone e n s delay ts deadline) slackNot)
-        (f ∙ ap (λ (x : ℤ). verdict (badSlack n delay ts x ∷ [])) k)
-        ∙ left-to (settleLines e d n s delay ts) (badSlack n delay ts deadline ∷ []) (slackDone e n s delay ts deadline)
-        slackNot (a .verdict) by-lines q
+module _ {e : Edition} {d n : ℕ} {s : List ℕ} {delay : Float} {ts : List InputTime} {deadline : ℤ} {a : SettleAnswer}
+    {z : ℤ} {v : Verdict} (k : Asked e d n s delay ts deadline a z v) where
+  by-slack : reply v (slackDone e n s delay ts deadline) slackNot ≡ slackOutcome e d n s delay ts deadline
+  unfolding slackOutcome
+  by-slack =
+      ap (λ (u : Verdict). reply u (slackDone e n s delay ts deadline) slackNot)
+      (k .looked ∙ ap (λ (x : ℤ). verdict (badSlack n delay ts x ∷ [])) (k .due))
+      ∙ left-to (settleLines e d n s delay ts) (badSlack n delay ts deadline ∷ []) (slackDone e n s delay ts deadline)
+      slackNot (a .verdict) (by-lines e d n s delay ts deadline a (k .settles)) (k .fine)
 
-    refused-then : (r : Refusal) → v ≡ Refused r → record { verdict = v; slack = pos 0 }
-        ≡ slackOutcome e d n s delay ts deadline
-    refused-then r h =
-        ap (λ (u : Verdict). record { verdict = u; slack = pos 0 }) h
-        ∙ ap (λ (u : Verdict). reply u (slackDone e n s delay ts deadline) slackNot) (sym h) ∙ by-slack
+  refused-then : (r : Refusal) → v ≡ Refused r → record { verdict = v; slack = pos 0 }
+      ≡ slackOutcome e d n s delay ts deadline
+  refused-then r h =
+      ap (λ (u : Verdict). record { verdict = u; slack = pos 0 }) h
+      ∙ ap (λ (u : Verdict). reply u (slackDone e n s delay ts deadline) slackNot) (sym h) ∙ by-slack
 
-    module _ (ok : IsEdition e) (h : v ≡ Fine) where
-      whole : InWhole n delay ts deadline
-      whole = in-whole n delay ts deadline (in-order (badSlack n delay ts deadline ∷ [])
-          (ap (λ (x : ℤ). verdict (badSlack n delay ts x ∷ [])) (sym k) ∙ sym f ∙ h))
+  module _ (h : v ≡ Fine) where
+    whole : InWhole n delay ts deadline
+    whole = in-whole n delay ts deadline (in-order (badSlack n delay ts deadline ∷ [])
+        (ap (λ (x : ℤ). verdict (badSlack n delay ts x ∷ [])) (sym (k .due)) ∙ sym (k .looked) ∙ h))
 
-      latest : HasValue (a .latest) false (sixteenthsOf (a .latest)) 16 × (sixteenthsOf (a .latest) ≤ 1048576)
-      latest =
-          let w = passed e d n s delay ts ok a p q in
-          let x = settled-exact e d n s delay ts (w .0) (whole .whole) (whole .wholes) true in
-          subst (λ (y : Float). HasValue y false (sixteenthsOf y) 16 × (sixteenthsOf y ≤ 1048576)) (sym (w .1))
-          (subst (λ (i : ℕ). HasValue (settled true e n s delay ts) false i 16 × (i ≤ 1048576))
-          (sym (counted e d n s delay ts (w .0) (whole .whole) (whole .wholes) true)) x)
+    latest : HasValue (a .latest) false (sixteenthsOf (a .latest)) 16 × (sixteenthsOf (a .latest) ≤ 1048576)
+    latest =
+        let w = passed e d n s delay ts (k .ok) a (k .settles) (k .fine) in
+        let x = settled-exact e d n s delay ts (w .0) (whole .whole) (whole .wholes) true in
+        subst (λ (y : Float). HasValue y false (sixteenthsOf y) 16 × (sixteenthsOf y ≤ 1048576)) (sym (w .1))
+        (subst (λ (i : ℕ). HasValue (settled true e n s delay ts) false i 16 × (i ≤ 1048576))
+        (sym (counted e d n s delay ts (w .0) (whole .whole) (whole .wholes) true)) x)
 
-      module _ (i : ℕ) (c : i ≡ sixteenthsOf (a .latest)) where
-        few : i ≤ 1048576
-        few = omega (arith, c, latest .1)
+    module _ (i : ℕ) (c : i ≡ sixteenthsOf (a .latest)) where
+      few : i ≤ 1048576
+      few = omega (arith, c, latest .1)
 
-        less : z -ℤ toZ w64 i ≡ deadline -ℤ pos i
-        less = ap₂ (λ (x y : ℤ). x -ℤ y) k (toZ-pos w64 {n = i} (omega (arith, few)))
+      less : z -ℤ toZ w64 i ≡ deadline -ℤ pos i
+      less = ap₂ (λ (x y : ℤ). x -ℤ y) (k .due) (toZ-pos w64 {n = i} (omega (arith, few)))
 
-        fits-less : SFits w64 (z -ℤ toZ w64 i)
-        fits-less = subst (λ (x : ℤ). SFits w64 x) (sym less) (record { sfits = small deadline i (whole .within) few })
+      fits-less : SFits w64 (z -ℤ toZ w64 i)
+      fits-less = subst (λ (x : ℤ). SFits w64 x) (sym less) (record { sfits = small deadline i (whole .within) few })
 
-        done : record { verdict = Fine; slack = toZ w64 (ofZ w64 (z -ℤ toZ w64 i)) }
-            ≡ slackOutcome e d n s delay ts deadline
-        done =
-            ap (λ (x : ℤ). record { verdict = Fine; slack = x })
-            (toZ-ofZ fits-less ∙ less ∙ ap (λ (j : ℕ). deadline -ℤ pos j)
-            (c ∙ ap sixteenthsOf (passed e d n s delay ts ok a p q .1)))
-            ∙ ap (λ (u : Verdict). reply u (slackDone e n s delay ts deadline) slackNot) (sym h) ∙ by-slack
+      done : record { verdict = Fine; slack = toZ w64 (ofZ w64 (z -ℤ toZ w64 i)) }
+          ≡ slackOutcome e d n s delay ts deadline
+      done =
+          ap (λ (x : ℤ). record { verdict = Fine; slack = x })
+          (toZ-ofZ fits-less ∙ less ∙ ap (λ (j : ℕ). deadline -ℤ pos j)
+          (c ∙ ap sixteenthsOf (passed e d n s delay ts (k .ok) a (k .settles) (k .fine) .1)))
+          ∙ ap (λ (u : Verdict). reply u (slackDone e n s delay ts deadline) slackNot) (sym h) ∙ by-slack
 
 returns : tie.Need-returns
 returns c =
@@ -149,67 +158,40 @@ slack-form-requires c κs =
     let l = left c in
     (l .inputs, l .within, all-sound (a .e) (a .n) (a .s .now) (records (a .e) (a .s .now)) (a .times) (l .times))
 
+-- what is asked where settle's lines are in order
+asked : (g : tie.After-slack-form) → let f = g .before .before .before in let a = f .before .before .args
+    in Asked (a .e) (a .d) (a .n) (a .s .now) (a .delay) (a .times) (a .deadline) (f .settle-in .result)
+    (toZ w64 (ofZ w64 (a .deadline))) (g .slack-form .result)
+asked g = let f = g .before .before .before in record {
+  ok = f .before .before .pre;
+  settles = f .settle-in .ensures;
+  fine = g .before .enum-told .given .1;
+  due = toZ-ofZ (f .before .before .fits .deadline);
+  looked = g .slack-form .ensures;
+}
+
 returns-2 : tie.Need-returns-2
-returns-2 c =
-    let g = c .before .before in
-    let f = g .before .before .before in
-    let t = f .before .before in
-    let a = t .args in
-    refused-then (a .e) (a .d) (a .n) (a .s .now) (a .delay) (a .times) (a .deadline) (f .settle-in .result)
-    (f .settle-in .ensures) (g .before .enum-told .given .1) _
-    (toZ-ofZ (t .fits .deadline)) (g .slack-form .result) (g .slack-form .ensures) (c .enum-told4 .given .0 .0)
-    (c .enum-told4 .given .1)
+returns-2 c = refused-then (asked (c .before .before)) (c .enum-told4 .given .0 .0) (c .enum-told4 .given .1)
 
 count-of-requires : tie.Need-count-of-requires
-count-of-requires c κs =
-    let g = c .before .before in
-    let f = g .before .before .before in
-    let t = f .before .before in
-    let a = t .args in
-    latest (a .e) (a .d) (a .n) (a .s .now) (a .delay) (a .times) (a .deadline) (f .settle-in .result)
-    (f .settle-in .ensures) (g .before .enum-told .given .1) _
-    (toZ-ofZ (t .fits .deadline)) (g .slack-form .result) (g .slack-form .ensures) (t .pre) (c .enum-told3 .given .1)
+count-of-requires c κs = latest (asked (c .before .before)) (c .enum-told3 .given .1)
 
 cast-t14 : tie.Need-cast-t14
-cast-t14 c =
-    let m = c .before in
-    let g = m .before .before in
-    let f = g .before .before .before in
-    let t = f .before .before in
-    let a = t .args in
-    record {
-      sfits = omega (
-        arith,
-        few (a .e) (a .d) (a .n) (a .s .now) (a .delay) (a .times) (a .deadline) (f .settle-in .result)
-            (f .settle-in .ensures) (g .before .enum-told .given .1) _
-            (toZ-ofZ (t .fits .deadline)) (g .slack-form .result) (g .slack-form .ensures) (t .pre)
-            (m .enum-told3 .given .1) (c .count-of .result) (c .count-of .ensures),
-      );
-    }
+cast-t14 c = let m = c .before in record {
+  sfits = omega (
+    arith,
+    few (asked (m .before .before)) (m .enum-told3 .given .1) (c .count-of .result)
+        (c .count-of .ensures),
+  );
+}
 
 sub-t15 : tie.Need-sub-t15
-sub-t15 c =
-    let m = c .before in
-    let g = m .before .before in
-    let f = g .before .before .before in
-    let t = f .before .before in
-    let a = t .args in
-    fits-less (a .e) (a .d) (a .n) (a .s .now) (a .delay) (a .times) (a .deadline) (f .settle-in .result)
-    (f .settle-in .ensures) (g .before .enum-told .given .1) _
-    (toZ-ofZ (t .fits .deadline)) (g .slack-form .result) (g .slack-form .ensures) (t .pre) (m .enum-told3 .given .1)
-    (c .count-of .result) (c .count-of .ensures)
+sub-t15 c = let m = c .before in fits-less (asked (m .before .before)) (m .enum-told3 .given .1) (c .count-of .result)
+    (c .count-of .ensures)
 
 returns-3 : tie.Need-returns-3
-returns-3 c =
-    let m = c .before in
-    let g = m .before .before in
-    let f = g .before .before .before in
-    let t = f .before .before in
-    let a = t .args in
-    done (a .e) (a .d) (a .n) (a .s .now) (a .delay) (a .times) (a .deadline) (f .settle-in .result)
-    (f .settle-in .ensures) (g .before .enum-told .given .1) _
-    (toZ-ofZ (t .fits .deadline)) (g .slack-form .result) (g .slack-form .ensures) (t .pre) (m .enum-told3 .given .1)
-    (c .count-of .result) (c .count-of .ensures)
+returns-3 c = let m = c .before in done (asked (m .before .before)) (m .enum-told3 .given .1) (c .count-of .result)
+    (c .count-of .ensures)
 
 pub slack-in-spec : {M : Type 1} → statement M
 slack-in-spec =
