@@ -1,21 +1,16 @@
--- What the code finds, in the words of the bound: how many inputs count, and the own set of the best split. Assumes
+-- What the code finds, in the words of the bound: whether there is a tree, and the own set of the best split. Assumes
 -- nothing.
 use mathlib.Core.Path.{_≡_, refl, sym, ap, _∙_, subst}
-use mathlib.Core.Bool.{Bool, false, cond}
-use mathlib.Core.List.{List}
+use mathlib.Core.Bool.{Bool, cond}
 use Prim.Native.Nat.{ℕ, _+_, _-_, _^_, _<_, _≤_, max}
 use native.Mathlib.Omega.{arith}
-use lib.ListN.{length, replicate}
 use lib.Pow.{pow-pos}
 use borrow.Author.Tests.{le-leb, lt-leb}
 use Rattle.bits.specs.Numbers.{bit, number}
 use Rattle.bits.specs.Sets.{size}
-use Rattle.bits.proofs.Numbers.{number-lt}
 use Rattle.bits.proofs.Sizes.{size-le}
-use Rattle.tables.specs.Table.{tableBit}
-use Rattle.tables.specs.Counting.{counts, support}
 use Rattle.quick.specs.declared.counted.Counted.{Counted}
-use Rattle.quick.specs.Counted.{isFew, splitIn, FoundCounting}
+use Rattle.quick.specs.Counted.{splitIn}
 use Rattle.best.specs.Search.{Answer, none, split}
 use Rattle.best.specs.Counting.{bestCounting}
 use Rattle.best.proofs.Counting.{counting-split}
@@ -23,15 +18,7 @@ use Rattle.chains.specs.Aside.{sheetAside}
 use Rattle.trees.specs.Tree.{IsTree}
 use Rattle.trees.proofs.Trees.{tree-made, stuck-treeless}
 use Rattle.finding.specs.FindBest.{ownOf}
-use Rattle.bounds.specs.Bound.{counted}
 use Rattle.bounds.specs.Least.{reaching, bySplit, byChain}
-
--- the members of the mask of the inputs that count, as the machine counts them
-pub counted-is : (n m S : ℕ) (F : ℕ → Bool) → S ≡ support n F → ((p : ℕ) → S < 2 ^ p → m ≡ size p (bit S)) → m
-    ≡ counted n F
-unfolding support
-counted-is n m S F is count =
-    count n (subst (λ (s : ℕ). s < 2 ^ n) (sym is) (number-lt n (counts n F))) ∙ ap (λ (s : ℕ). size n (bit s)) is
 
 -- whether there is a tree tells what the chain comes to
 pub tree-chain : (n c : ℕ) (F : ℕ → Bool) → 1 ≤ n → IsTree n F → c - 1 ≡ byChain c (sheetAside n 2 (number (2 ^ n) F))
@@ -41,31 +28,21 @@ pub treeless-chain : (n c : ℕ) (F : ℕ → Bool) → 1 ≤ n → (IsTree n F 
     ≡ byChain c (sheetAside n 2 (number (2 ^ n) F))
 treeless-chain n c F p never = sym (ap (byChain c) (stuck-treeless n F p .1 (λ t I. never (t, I))))
 
--- ---- where more than K inputs count
-module _ (n K c : ℕ) (t work work′ : List ℕ) (f : Counted) (w : FoundCounting n 1 K t work f work′)
-    (is : c ≡ counted n (tableBit t)) (more : K < c) where
+-- ---- what the search found
+module _ (n K c : ℕ) (F : ℕ → Bool) (f : Counted) (found : splitIn f ≡ bestCounting n 1 F K) where
   abbrev a : Answer
-  a = bestCounting n 1 (tableBit t) K
-
-  not-few : isFew f ≡ false
-  not-few = w .few ∙ lt-leb (counted n (tableBit t)) K (omega arith)
-
-  searched : splitIn f ≡ a
-  searched = w .answer ∙ ap (λ (b : Bool). cond b none (bestCounting n 1 (tableBit t) K)) not-few
-
-  pub cleared : work′ ≡ replicate (length work) 0
-  cleared = w .left ∙ ap (λ (b : Bool). cond b work (replicate (length work) 0)) not-few
+  a = bestCounting n 1 F K
 
   -- the own mask is one of n inputs
-  own-below : (a : Answer) → bestCounting n 1 (tableBit t) K ≡ a → ownOf a < 2 ^ n
+  own-below : (a : Answer) → bestCounting n 1 F K ≡ a → ownOf a < 2 ^ n
   own-below none e = pow-pos n
-  own-below (split A B) e = counting-split n 1 (tableBit t) K A B e .candidate .belowA
+  own-below (split A B) e = counting-split n 1 F K A B e .candidate .belowA
 
   -- its members, as the machine counts them
-  module _ (m own : ℕ) (found : own ≡ ownOf (splitIn f)) (count : (p : ℕ) → own < 2 ^ p → m ≡ size p (bit own)) where
+  module _ (m own : ℕ) (in-it : own ≡ ownOf (splitIn f)) (count : (p : ℕ) → own < 2 ^ p → m ≡ size p (bit own)) where
     own-size : m ≡ size n (bit (ownOf a))
     own-size =
-        let same : own ≡ ownOf a = found ∙ ap ownOf searched in
+        let same : own ≡ ownOf a = in-it ∙ ap ownOf found in
         count n (subst (λ (o : ℕ). o < 2 ^ n) (sym same) (own-below a refl)) ∙ ap (λ (o : ℕ). size n (bit o)) same
 
     pub own-few : m ≤ n

@@ -2,21 +2,21 @@
 use bits::sets::members;
 use joins::deciding::is_tree;
 use quick::counted::Counted;
-use quick::counted::find_counting;
+use quick::counted::search_counting;
 use tables::clear;
-use tables::counting::support_of;
+use tables::counting::CountingInputs;
+use tables::counting::counting_inputs;
 ghost use mathlib.Core.Path.{_≡_};
 ghost use Prim.Native.Nat.{_+_, _^_, _<_, _≤_, max};
 ghost use lib.ListN.{length, replicate};
 ghost use Rattle.bits.specs.Numbers.{number};
 ghost use Rattle.tables.specs.Table.{mostInputs, tableLength, tableBit};
-ghost use Rattle.tables.specs.Counting.{support};
+ghost use Rattle.tables.specs.Counting.{CountingIn};
 ghost use Rattle.best.specs.Counting.{bestCounting};
 ghost use Rattle.quick.specs.Counted.{splitIn};
 ghost use Rattle.chains.specs.Aside.{sheetAside};
 ghost use Rattle.tables.specs.Work.{workLength};
 ghost use Rattle.finding.specs.FindBest.{ownOf};
-ghost use Rattle.bounds.specs.Bound.{counted};
 ghost use Rattle.bounds.specs.Least.{reaching, bySplit, byChain, leastCells};
 
 // The greater of 3 and the least number of cells of k inputs that can bring c of them to one output.
@@ -33,14 +33,15 @@ fn by_reach(c: u32, k: u32) -> u32
 
 // With cells of two inputs: a tree has one node fewer than inputs that count, and where there is no tree as many cells
 // are needed as inputs count.
-fn by_tree(t: &[u8], n: u32, counting: u16, c: u32) -> u32
+fn by_tree(t: &[u8], n: u32, counting: CountingInputs) -> u32
     requires { ⌜
-        (1 ≤ n) × (n ≤ mostInputs) × (length (now t) ≡ tableLength n) × (counting ≡ support n (tableBit (now t)))
-        × (2 < c)
+        (1 ≤ n) × (n ≤ mostInputs) × (length (now t) ≡ tableLength n) × (2 < counting .many)
+        × CountingIn n (tableBit (now t)) counting
         ⌝ }
-    ensures { λ r. ⌜ r ≡ byChain c (sheetAside n 2 (number (2 ^ n) (tableBit (now (t .entry))))) ⌝ }
+    ensures { λ r. ⌜ r ≡ byChain (counting .many) (sheetAside n 2 (number (2 ^ n) (tableBit (now (t .entry))))) ⌝ }
 {
-    if is_tree(t, n, counting) {
+    let c = counting.many;
+    if is_tree(t, n, counting.mask) {
         return c - 1;
     }
     c
@@ -58,17 +59,18 @@ fn own_in(found: Counted) -> u16
 }
 
 // Else one look for the best split: two cells do where H is left with at most k inputs.
-fn by_split(t: &[u8], n: u32, k: u32, c: u32, work: &mut [u8]) -> u32
+fn by_split(t: &[u8], n: u32, k: u32, counting: CountingInputs, work: &mut [u8]) -> u32
     requires { ⌜
-        (n ≤ mostInputs) × (2 ≤ k) × (k < c) × (c ≤ mostInputs) × (length (now t) ≡ tableLength n)
-        × (workLength ≤ length (now work)) × (c ≡ counted n (tableBit (now t)))
+        (n ≤ mostInputs) × (2 ≤ k) × (k < counting .many) × (length (now t) ≡ tableLength n)
+        × (workLength ≤ length (now work)) × CountingIn n (tableBit (now t)) counting
         ⌝ }
     ensures { λ r. ⌜
-        (r ≡ bySplit n k c (bestCounting n 1 (tableBit (now (t .entry))) k))
+        (r ≡ bySplit n k (counting .many) (bestCounting n 1 (tableBit (now (t .entry))) k))
         × (now (work .exit) ≡ replicate (length (now (work .entry))) 0)
         ⌝ }
 {
-    let found = find_counting(t, n, 1, k, work);
+    let c = counting.many;
+    let found = search_counting(t, n, counting, 1, k, work);
     if c + 1 <= k + members(own_in(found)) {
         return 2;
     }
@@ -86,15 +88,14 @@ pub fn least_cells(t: &[u8], n: u32, k: u32, work: &mut [u8]) -> u32
         × (now (work .exit) ≡ replicate (length (now (work .entry))) 0)
         ⌝ }
 {
-    let counting = support_of(t, n);
-    let c = members(counting);
-    if c <= k {
+    let counting = counting_inputs(t, n);
+    if counting.many <= k {
         clear(work);
         return 1;
     }
     if k == 2 {
         clear(work);
-        return by_tree(t, n, counting, c);
+        return by_tree(t, n, counting);
     }
-    by_split(t, n, k, c, work)
+    by_split(t, n, k, counting, work)
 }

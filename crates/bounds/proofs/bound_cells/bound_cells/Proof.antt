@@ -7,10 +7,9 @@ use Rattle.sheets.specs.declared.kinds.Edition.{Edition}
 use Rattle.sheets.specs.Edition.{IsEdition, editionOf}
 use Rattle.sheets.proofs.Keeping.{is-edition}
 use Rattle.refusals.specs.declared.verdicts.Verdict.{Verdict}
-use Rattle.refusals.specs.declared.verdicts.Verdict.the-variants.{Refused}
 use Rattle.refusals.specs.Refusals.{toldForm}
-use Rattle.refusals.proofs.Lines.{refused-by, left-to}
-use Rattle.refusals.proofs.Lent.{form-leaves}
+use Rattle.refusals.proofs.Lines.{left-to}
+use Rattle.refusals.proofs.Refusing.{form-refuses}
 use Rattle.finding.specs.FindBest.{findForm}
 use Rattle.bounds.specs.BoundCells.{boundDone, boundNot, boundIn, boundOutcome}
 use Rattle.bounds.proofs.bound_cells.bound_cells.Statement.{statement}
@@ -21,15 +20,11 @@ unfolding boundOutcome
 returns c =
     let f = c .before .before in
     let a = f .before .before .before .args in
-    let r = c .enum-told2 .given .0 .0 in
-    let e = c .enum-told2 .given .1 in
-    let ls = toldForm (a .w) (a .n) in
-    ap (λ (v : Verdict). record { answer = record { verdict = v; least = 0 }; work = a .work .now }) e
-    ∙ ap (λ (l : List ℕ). record { answer = record { verdict = Refused r; least = 0 }; work = l })
-    (sym (form-leaves ls r refl (sym (f .told .ensures) ∙ e) (a .work .now)))
-    ∙ refused-by ls (findForm (editionOf (a .w)) (a .n) (a .k) (a .t .now) (a .work .now))
-    (boundDone (a .n) (a .k) (a .t .now) (a .work .now))
-    (boundNot (a .work .now)) (f .told .result) r (f .told .ensures) e
+    form-refuses (toldForm (a .w) (a .n)) (findForm (editionOf (a .w)) (a .n) (a .k) (a .t .now) (a .work .now))
+    (boundDone (a .n) (a .k) (a .t .now) (a .work .now)) (λ (v : Verdict) (l : List ℕ). record {
+      answer = record { verdict = v; least = 0 };
+      work = l;
+    }) (a .work .now) refl (f .told .result) (c .enum-told2 .given .0 .0) (f .told .ensures) (c .enum-told2 .given .1)
 
 bound-in-requires : tie.Need-bound-in-requires
 bound-in-requires c κs = subst IsEdition (sym (c .before .numbered .ensures)) (is-edition _)
