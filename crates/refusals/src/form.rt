@@ -6,7 +6,7 @@ use crate::verdicts::refuse_at;
 use records::rules;
 use records::rules::Looked;
 use sheets::kinds::Edition;
-use unread::reading::first_unread;
+use unread::reading::who_reads;
 ghost use mathlib.Core.Path.{_≡_};
 ghost use mathlib.Core.Bool.{not, _&&_};
 ghost use mathlib.Core.List.{[], _∷_};
@@ -141,7 +141,7 @@ pub fn all_read(e: Edition, d: u8, n: u32, s: &[u8]) -> Verdict
     ensures { λ r. ⌜ r ≡ verdict (unreadRecord e n (now (s .entry)) ∷ []) ⌝ }
 {
     let m = s.len() / e.size;
-    let i = first_unread(e, n, s, m);
+    let i = who_reads(e, n, s, m).first;
     if i < m - 1 {
         return refuse_at(Refusal::UNREAD, i as u64);
     }

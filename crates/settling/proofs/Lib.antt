@@ -1,4 +1,3 @@
--- Which inputs no cell reads, what the lines leave for times, and that in sixteenths settle and slack are exact.
-pub mod Unread
+-- What the lines leave for times, and that in sixteenths settle and slack are exact.
 pub mod Kept
 pub mod Slacking

@@ -1,5 +1,4 @@
 -- The lines on times of the table of refusals, and what settle and slack return.
-pub mod Reading
 pub mod Refusals
 pub mod Settle
 pub mod Slack

@@ -22,7 +22,8 @@ use Rattle.sheets.specs.Network.{Cell}
 use Rattle.sheets.specs.Edition.{IsEdition}
 use Rattle.sheets.specs.Record.{byteAt, cellOf, Readable}
 use Rattle.sheets.specs.Sheet.{recordBytes, recordAt, cellsFrom, AllReadable}
-use Rattle.sheets.specs.Reading.{times, reads, unread, alsoRead}
+use Rattle.sheets.specs.Reading.{times, reads, noneReads, unread, alsoRead}
+use Rattle.unread.specs.ReadMasks.{readMask}
 use Rattle.sheets.proofs.Places.{record-within, record-length}
 use Rattle.sheets.proofs.Unread.{later-cells}
 
@@ -79,9 +80,14 @@ module _ (b : ℕ → ℕ) (w : ℕ) where
 
 -- ---- the mask of what the records from i on read
 
--- bit x says that the cells read signal x
-abbrev pub readMask : List Cell → ℕ
-readMask cs = number 32 (λ x. ltb 0 (reads x cs))
+-- no cell reads a signal exactly where its bit is 0
+pub mask-none : (cs : List Cell) (x w : ℕ) → x < 32 → w ≡ readMask cs → not (bit w x) ≡ noneReads x cs
+mask-none cs x w l q = ap (λ (v : ℕ). not (bit v x)) q ∙ ap not (bit-number 32 (λ x. ltb 0 (reads x cs)) x l)
+    ∙ none (reads x cs)
+  where
+    none : (a : ℕ) → not (ltb 0 a) ≡ eqb a 0
+    none zero = refl
+    none (suc a) = ap not (lt-ltb 0 (suc a) (omega arith)) ∙ sym (ne-eqb (suc a) 0 (λ q. omega arith))
 
 or-swap : (s t : Bool) → (s || t) ≡ (t || s)
 or-swap true true = refl
@@ -124,13 +130,8 @@ module _ (e : Edition) (s : List ℕ) where
       let a : suc (i - 1) ≡ i = omega arith in
       let x = n + (i - 1) in
       let cs = cellsFrom e s i (m - i) in
-      ap (λ (ds : List Cell). eqb (reads x ds) 0) (later-cells e s (i - 1) m (omega arith)
-      ∙ ap (λ (j : ℕ). cellsFrom e s j (m - j)) a)
-      ∙ none (reads x cs) ∙ ap not (sym (ap (λ (v : ℕ). bit v x) q ∙ bit-number 32 (λ x. ltb 0 (reads x cs)) x l))
-    where
-      none : (a : ℕ) → eqb a 0 ≡ not (ltb 0 a)
-      none zero = refl
-      none (suc a) = ne-eqb (suc a) 0 (λ q. omega arith) ∙ ap not (sym (lt-ltb 0 (suc a) (omega arith)))
+      ap (noneReads x) (later-cells e s (i - 1) m (omega arith) ∙ ap (λ (j : ℕ). cellsFrom e s j (m - j)) a)
+      ∙ sym (mask-none cs x w l q)
 
   -- so, looking back from record i to the one before it, the first unread one is found
   module _ (n m i w f : ℕ) (some : 0 < i) (most : i < m) (low : n + (i - 1) < 32)

@@ -7,8 +7,9 @@ ghost use lib.ListN.{length};
 ghost use Rattle.tables.specs.Table.{mostInputs};
 ghost use Rattle.sheets.specs.Edition.{IsEdition, mostRecords};
 ghost use Rattle.sheets.specs.Record.{byteAt};
-ghost use Rattle.sheets.specs.Sheet.{AllReadable};
+ghost use Rattle.sheets.specs.Sheet.{AllReadable, sheetCells};
 ghost use Rattle.sheets.specs.Reading.{alsoRead, firstUnread};
+ghost use Rattle.unread.specs.ReadMasks.{readMask};
 
 // The mask w with a bit besides for each signal that a record names.
 fn also_read(b: &[u8], w: u32) -> u32
@@ -27,15 +28,26 @@ fn also_read(b: &[u8], w: u32) -> u32
     read
 }
 
-// The first of m records but the last that no later one reads, and the last where each of them is read. From the last
-// record back, so that the mask holds what the later ones read.
-pub fn first_unread(e: Edition, n: u32, s: &[u8], m: usize) -> usize
+// What a look back over the records sees: the first of them but the last that no later one reads, and the last where
+// each of them is read; and a mask of the signals that they read.
+pub struct Readers {
+    pub first: usize,
+    pub read: u32,
+}
+
+// From the last of m records back, so that the mask holds what the later ones read.
+pub fn who_reads(e: Edition, n: u32, s: &[u8], m: usize) -> Readers
     requires { ⌜
         IsEdition e × (m ≤ mostRecords) × (n ≤ mostInputs) × (e .size * m ≤ length (now s))
         × AllReadable e (now s) m
         ⌝ }
     requires { ⌜ 1 ≤ m ⌝ }
-    ensures { λ r. ⌜ r ≡ firstUnread e n (now (s .entry)) m ⌝ }
+    ensures { λ r. ⌜
+        r ≡ record {
+          first = firstUnread e n (now (s .entry)) m;
+          read = readMask (sheetCells e (now (s .entry)) m);
+        }
+        ⌝ }
 {
     let mut i = m - 1;
     let mut first = i;
@@ -47,5 +59,8 @@ pub fn first_unread(e: Edition, n: u32, s: &[u8], m: usize) -> usize
         }
         read = also_read(record_of(e, s, i), read);
     }
-    first
+    Readers {
+        first: first,
+        read: read,
+    }
 }

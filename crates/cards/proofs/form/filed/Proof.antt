@@ -38,5 +38,6 @@ returns-2 c =
 
 pub filed-spec : {M : Type 1} → statement M
 filed-spec =
-    tie.close (tie.spec (λ c κs. search needs) (λ c κs. search needs) returns (λ c κs. search needs) (λ c. omega (arith, few c))
+    tie.close (tie.spec (λ c κs. search needs) (λ c κs. search needs) returns (λ c κs. search needs)
+    (λ c. omega (arith, few c))
     (λ c κs. (subst IsEdition (sym (c .first .ensures)) first-edition, few c)) returns-2)

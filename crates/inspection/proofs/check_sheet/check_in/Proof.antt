@@ -123,7 +123,8 @@ returns-3 c =
     let l = sheet (told f) in
     let near : x f < 2 ^ s f .args .n = omega (arith, size f, f .first-difference .ensures, c .before .if1 .taken) in
     c .refuse-at .ensures ∙ ap (λ (k : ℕ). Refused (refusal 12 k)) (f .first-difference .ensures)
-    ∙ decided (ls l) (ms l) _ (l .sheet .ensures) (told f .enum-told3 .given .1) (here (lt-ltb _ (2 ^ s f .args .n) near))
+    ∙ decided (ls l) (ms l) _ (l .sheet .ensures) (told f .enum-told3 .given .1)
+    (here (lt-ltb _ (2 ^ s f .args .n) near))
     ∙ behind l
 
 returns-4 : tie.Need-returns-4
@@ -132,7 +133,9 @@ returns-4 c =
     let l = sheet (told f) in
     let far : 2 ^ s f .args .n ≤ x f = omega (arith, size f, f .first-difference .ensures, c .before .if1 .left) in
     goes-on (ls l) (ms l) _ (l .sheet .ensures) (told f .enum-told3 .given .1)
-    (c .all-read .ensures ∙ sym (passes (tableDiffers (s f .args .e) (s f .args .n) (s f .args .t .now) (s f .args .s .now) ∷ []) (last l) (le-ltb _ (2 ^ s f .args .n) far, tt)))
+    (c .all-read .ensures ∙ sym (passes
+    (tableDiffers (s f .args .e) (s f .args .n) (s f .args .t .now) (s f .args .s .now) ∷ []) (last l)
+    (le-ltb _ (2 ^ s f .args .n) far, tt)))
     ∙ behind l
 
 pub check-in-spec : {M : Type 1} → statement M

@@ -7,7 +7,7 @@ use Rattle.sheets.specs.Edition.{IsEdition, editionOf}
 use Rattle.sheets.specs.Desk.{deskOf}
 use Rattle.sheets.proofs.Keeping.{is-edition}
 use Rattle.refusals.specs.Refusals.{toldForm}
-use Rattle.refusals.proofs.Lines.{passes, in-order, stopped}
+use Rattle.refusals.proofs.Lines.{stopped, goes-on}
 use Rattle.inspection.specs.CheckSheet.{checkLines, checkOutcome, checkOwn}
 use Rattle.inspection.proofs.check_told.check_told.Statement.{statement}
 use Rattle.inspection.proofs.check_told.check_told.Tie as tie
@@ -28,11 +28,9 @@ returns-2 c =
     let f = g .before .before in
     let a = f .before .before .before .args in
     let e = editionOf (a .w) in
-    let ls = toldForm (a .w) (a .n) in
-    c .check-own .ensures
-    ∙ ap (λ (e : Edition). checkOwn e (a .n) (a .t .now) (a .s .now)) (c .before .numbered .ensures)
-    ∙ sym (passes ls (checkLines e (deskOf e (a .s .now)) (a .n) (a .t .now) (a .s .now))
-    (in-order ls (sym (f .told .ensures) ∙ g .enum-told .given .1)))
+    goes-on (toldForm (a .w) (a .n)) (checkLines e (deskOf e (a .s .now)) (a .n) (a .t .now) (a .s .now)) _
+    (f .told .ensures) (g .enum-told .given .1) (c .check-own .ensures
+    ∙ ap (λ (e : Edition). checkOwn e (a .n) (a .t .now) (a .s .now)) (c .before .numbered .ensures))
 
 pub check-told-spec : {M : Type 1} → statement M
 check-told-spec =

@@ -84,14 +84,17 @@ write-pair-of-requires : (t : ℕ) → write-lts.Need-pair-of-requires (beside t
 write-pair-of-requires t c κs =
     pair-ready (c .before .before .before .before .before .before .before .pre .1) (c .if1 .left)
 
+-- the record is looked at
+abbrev Looked : ℕ → Type 0
+Looked t = write-lts.After-pair-of (beside t) (write-at t) write.Post
+
 module _ {t : ℕ} where
   -- where the call began
-  abbrev start : write-lts.After-pair-of (beside t) (write-at t) write.Post
-      → write-lts.Start (beside t) (write-at t) write.Post
+  abbrev start : Looked t → write-lts.Start (beside t) (write-at t) write.Post
   start k = k .before .before .before .before .before .before .before .before
 
   -- `!` or nothing is put before the cell
-  at-cell : (k : write-lts.After-pair-of (beside t) (write-at t) write.Post) → let a = start k .args in
+  at-cell : (k : Looked t) → let a = start k .args in
       let f = k .before .before .before .before .put-flip in
       AtCell (a .e) (a .n) (a .s .now) (a .x) (a .flip) (a .room .now) (a .at) (k .pair-of .result) (f .last .0)
       (f .result)
@@ -109,55 +112,68 @@ module _ {t : ℕ} where
   text s = printed (s .args .n) (sheetCells (s .args .e) (s .args .s .now) (records (s .args .e) (s .args .s .now)))
 
   -- these parts of the whole are left
-  abbrev Left : write-lts.After-pair-of (beside t) (write-at t) write.Post → List (List ℕ) → List ℕ → ℕ → Type 0
+  abbrev Left : Looked t → List (List ℕ) → List ℕ → ℕ → Type 0
   Left k rest room q = Stage (start k .args .room .now) (start k .args .at)
       (flippedText (start k .args .flip) (text (start k) (start k .args .x))) rest room q
 
   -- the other signal and `)`
-  abbrev high : write-lts.After-pair-of (beside t) (write-at t) write.Post → List (List ℕ)
+  abbrev high : Looked t → List (List ℕ)
   high k = let c = k .pair-of .result
       in flippedText (flipsHigh (c .table)) (text (start k) (c .high)) ∷ (41 ∷ []) ∷ []
 
   -- the lower signal, the mark, and those
-  abbrev low : write-lts.After-pair-of (beside t) (write-at t) write.Post → List (List ℕ)
+  abbrev low : Looked t → List (List ℕ)
   low k = let c = k .pair-of .result
       in flippedText (flipsLow (c .table)) (text (start k) (c .low)) ∷ (markOf (c .table) ∷ []) ∷ high k
 
-  opened : (c : write-lts.After-put2 (beside t) (write-at t) write.Post) → let k = c .before .before .before in
-      Left k (low k) (c .put2 .last .0) (c .put2 .result)
-  opened c = next (two-parts (at-cell (c .before .before .before)) (c .before .before .if2 .taken)) (c .put2 .ensures)
+  -- the cell, seen from after `(`, the lower signal, the mark and the other
+  abbrev open-of : write-lts.After-put2 (beside t) (write-at t) write.Post → Looked t
+  open-of c = c .before .before .before
+
+  abbrev low-of : write-lts.After-write (beside t) (write-at t) write.Post → Looked t
+  low-of c = open-of (c .before .before .before .before .before)
+
+  abbrev mark-of : write-lts.After-put3 (beside t) (write-at t) write.Post → Looked t
+  mark-of c = low-of (c .before .before .before .before .before)
+
+  abbrev high-of : write-lts.After-write2 (beside t) (write-at t) write.Post → Looked t
+  high-of c = mark-of (c .before .before .before .before .before)
+
+  opened : (c : write-lts.After-put2 (beside t) (write-at t) write.Post)
+      → Left (open-of c) (low (open-of c)) (c .put2 .last .0) (c .put2 .result)
+  opened c = next (two-parts (at-cell (open-of c)) (c .before .before .if2 .taken)) (c .put2 .ensures)
 
   low-put : (c : write-lts.After-write (beside t) (write-at t) write.Post)
-      → let k = c .before .before .before .before .before .before .before .before in
-      Left k ((markOf (k .pair-of .result .table) ∷ []) ∷ high k) (c .write .last .1 .1 .1 .1 .1 .0) (c .write .result)
-  low-put c = next-flipped _ (c .before .before .flips-low .ensures) (opened (c .before .before .before .before .before))
-      (c .write .ensures)
+      → Left (low-of c) ((markOf (low-of c .pair-of .result .table) ∷ []) ∷ high (low-of c))
+      (c .write .last .1 .1 .1 .1 .1 .0) (c .write .result)
+  low-put c = next-flipped _ (c .before .before .flips-low .ensures)
+      (opened (c .before .before .before .before .before)) (c .write .ensures)
 
   mark-put : (c : write-lts.After-put3 (beside t) (write-at t) write.Post)
-      → let k = c .before .before .before .before .before .before .before .before .before .before .before .before .before
-      in Left k (high k) (c .put3 .last .0) (c .put3 .result)
+      → Left (mark-of c) (high (mark-of c)) (c .put3 .last .0) (c .put3 .result)
   mark-put c = next-byte (c .before .mark .ensures) (low-put (c .before .before .before .before .before))
       (c .put3 .ensures)
 
   high-put : (c : write-lts.After-write2 (beside t) (write-at t) write.Post)
-      → let k = c .before .before .before .before .before .before .before .before .before .before .before .before .before
-      .before .before .before .before .before in
-      Left k ((41 ∷ []) ∷ []) (c .write2 .last .1 .1 .1 .1 .1 .0) (c .write2 .result)
-  high-put c = next-flipped _ (c .before .before .flips-high .ensures) (mark-put (c .before .before .before .before .before))
-      (c .write2 .ensures)
+      → Left (high-of c) ((41 ∷ []) ∷ []) (c .write2 .last .1 .1 .1 .1 .1 .0) (c .write2 .result)
+  high-put c = next-flipped _ (c .before .before .flips-high .ensures)
+      (mark-put (c .before .before .before .before .before)) (c .write2 .ensures)
 
   -- ---- of one input: a digit, or the signal that it reads
 
   zero-left : (c : write-lts.Then3 (beside t) (write-at t) write.Post) → let k = c .before .before .before in
       let f = k .before .before .before .before .put-flip in Left k ((48 ∷ []) ∷ []) (f .last .0) (f .result)
-  zero-left c = digit-parts (at-cell (c .before .before .before)) 48 0 refl (c .before .before .if2 .left) (c .if3 .taken)
+  zero-left c = digit-parts (at-cell (c .before .before .before)) 48 0 refl (c .before .before .if2 .left)
+      (c .if3 .taken)
 
-  one-left : (c : write-lts.Then4 (beside t) (write-at t) write.Post) → let k = c .before .before .before .before .before in
+  one-left : (c : write-lts.Then4 (beside t) (write-at t) write.Post)
+      → let k = c .before .before .before .before .before in
       let f = k .before .before .before .before .put-flip in Left k ((49 ∷ []) ∷ []) (f .last .0) (f .result)
   one-left c = digit-parts (at-cell (c .before .before .before .before .before)) 49 3 refl
       (c .before .before .before .before .if2 .left) (c .if4 .taken)
 
-  same-left : (c : write-lts.Else4 (beside t) (write-at t) write.Post) → let k = c .before .before .before .before .before in
+  same-left : (c : write-lts.Else4 (beside t) (write-at t) write.Post)
+      → let k = c .before .before .before .before .before in
       let f = k .before .before .before .before .put-flip in let r = k .pair-of .result in
       Left k (flippedText (eqb (r .table) 1) (text (start k) (r .low)) ∷ []) (f .last .0) (f .result)
   same-left c = same-parts (at-cell (c .before .before .before .before .before))
@@ -172,20 +188,17 @@ write-flips-low-requires t c κs = c .before .before .before .before .before .pa
 write-write-requires : (t : ℕ) → write-lts.Need-write-requires (beside t) (write-at t) write.Post
 write-write-requires t c κs =
     let a = c .before .before .before .before in
-    let k = a .before .before .before in
+    let k = open-of a in
     low-room (at-cell k) (start k .pre .0) (c .before .flips-low .ensures) (has-room (opened a))
 
 write-mark-requires : (t : ℕ) → write-lts.Need-mark-requires (beside t) (write-at t) write.Post
-write-mark-requires t c κs =
-    c .before .before .before .before .before .before .before .before .before .before .before .pair-of .ensures .1
+write-mark-requires t c κs = low-of (c .before .before .before) .pair-of .ensures .1
 
 write-put-requires-3 : (t : ℕ) → write-lts.Need-put-requires-3 (beside t) (write-at t) write.Post
 write-put-requires-3 t c κs = has-one (low-put (c .before .before .before .before))
 
 write-flips-high-requires : (t : ℕ) → write-lts.Need-flips-high-requires (beside t) (write-at t) write.Post
-write-flips-high-requires t c κs =
-    c .before .before .before .before .before .before .before .before .before .before .before .before .before .before
-    .before .pair-of .ensures .1
+write-flips-high-requires t c κs = mark-of (c .before .before) .pair-of .ensures .1
 
 write-write-requires-2 : (t : ℕ) → write-lts.Need-write-requires-2 (beside t) (write-at t) write.Post
 write-write-requires-2 t c κs =
@@ -198,7 +211,8 @@ write-put-requires-4 : (t : ℕ) → write-lts.Need-put-requires-4 (beside t) (w
 write-put-requires-4 t c κs = has-one (high-put (c .before .before .before))
 
 write-returns-2 : (t : ℕ) → write-lts.Need-returns-2 (beside t) (write-at t) write.Post
-write-returns-2 t c = let d = c .before .before in all-put (next (high-put (d .before .before .before .before)) (d .put4 .ensures))
+write-returns-2 t c = let d = c .before .before in
+    all-put (next (high-put (d .before .before .before .before)) (d .put4 .ensures))
 
 -- ---- of one input
 
@@ -221,7 +235,8 @@ write-write-requires-3 t c κs =
     low-room (at-cell k) (start k .pre .0) refl (has-room (same-left o))
 
 write-returns-5 : (t : ℕ) → write-lts.Need-returns-5 (beside t) (write-at t) write.Post
-write-returns-5 t c = let w = c .before .before in all-put (next (same-left (w .before .before .before)) (w .write3 .ensures))
+write-returns-5 t c = let w = c .before .before in
+    all-put (next (same-left (w .before .before .before)) (w .write3 .ensures))
 
 pub +write-spec : {M : Type 1} → statement M
 +write-spec = close μ-write λ t. write-lts.spec (beside t) (write-at t)

@@ -29,4 +29,7 @@ returns-2 c =
 pub sheet-for-spec : {M : Type 1} → statement M
 sheet-for-spec =
     tie.close (tie.spec (λ c κs. search needs) (λ c κs. search needs) returns
-    (λ c. omega (arith, few-inputs (c .before .before .before .args .n) (c .before .bad-inputs .ensures) (c .if1 .left))) sheet-requires returns-2)
+    (λ c. omega (
+      arith,
+      few-inputs (c .before .before .before .args .n) (c .before .bad-inputs .ensures) (c .if1 .left),
+    )) sheet-requires returns-2)

@@ -37,5 +37,8 @@ returns-3 c =
 pub sized-spec : {M : Type 1} → statement M
 sized-spec =
     tie.close (tie.spec (λ c κs. search needs) (λ c κs. search needs) returns
-    (λ c. omega (arith, few-inputs (c .before .before .before .args .n) (c .before .bad-inputs .ensures) (c .if1 .left))) bad-table-requires
+    (λ c. omega (
+      arith,
+      few-inputs (c .before .before .before .args .n) (c .before .bad-inputs .ensures) (c .if1 .left),
+    )) bad-table-requires
     (λ c κs. search needs) returns-2 returns-3)

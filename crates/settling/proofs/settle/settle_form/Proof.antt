@@ -9,10 +9,9 @@ use Rattle.sheets.specs.Sheet.{records}
 use Rattle.refusals.specs.Lines.{Line}
 use Rattle.refusals.specs.Refusals.{badInputs, sheetLines}
 use Rattle.refusals.proofs.Lines.{fine, here, later, stopped, decided}
-use Rattle.refusals.proofs.Sheets.{good-sheet}
+use Rattle.refusals.proofs.Sheets.{good-sheet, runnable}
 use Rattle.refusals.proofs.Tests.{sheet-through}
 use Rattle.settling.specs.Refusals.{badTimes}
-use Rattle.settling.proofs.Kept.{good-timed}
 use Rattle.settling.proofs.settle.settle_form.Statement.{statement}
 use Rattle.settling.proofs.settle.settle_form.Tie as tie
 
@@ -55,11 +54,9 @@ inputs-sound-requires c κs =
     let s = start (t .before .before) in
     let a = s .args in
     let w = sheet-through (a .e) (a .d) (a .n) (a .s .now) _ (t .before .before .sheet-for .ensures)
-    (t .enum-told .given .1) in (
-      good-timed (a .e) (s .pre) (a .d) (a .n) (a .s .now) (records (a .e) (a .s .now)) (w .0)
-          (good-sheet (a .e) (a .d) (a .n) (a .s .now) (s .pre) (w .1)),
-      w .0,
-    )
+    (t .enum-told .given .1) in
+    let g = good-sheet (a .e) (a .d) (a .n) (a .s .now) (s .pre) (w .1) in
+    (runnable (a .e) (a .d) (a .n) (a .s .now) (s .pre) (records (a .e) (a .s .now)) (w .0) g, g .some)
 
 returns-3 : tie.Need-returns-3
 returns-3 c =
@@ -84,5 +81,5 @@ pub settle-form-spec : {M : Type 1} → statement M
 settle-form-spec =
     tie.close (tie.spec (λ c κs. search needs) (λ c. search needs) (λ c. search needs) returns (λ c κs. search needs)
     (λ c κs. search needs) returns-2 div-m
-    (λ c. omega (arith, inputs-sound-requires c (c .before .before .before .before .before .before .before .κs) .1))
+    (λ c. omega (arith, inputs-sound-requires c (c .before .before .before .before .before .before .before .κs) .0 .2))
     inputs-sound-requires (λ c κs. search needs) returns-3 returns-4)

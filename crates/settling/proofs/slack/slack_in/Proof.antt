@@ -63,8 +63,8 @@ module _ (e : Edition) (d n : ℕ) (s : List ℕ) (delay : Float) (ts : List Inp
       )
 
 -- the answer a of settle, and then the look at line 14, of the deadline as the number z, which comes to v
-record Asked (e : Edition) (d n : ℕ) (s : List ℕ) (delay : Float) (ts : List InputTime) (deadline : ℤ) (a : SettleAnswer)
-    (z : ℤ) (v : Verdict) : Type 0 where
+record Asked (e : Edition) (d n : ℕ) (s : List ℕ) (delay : Float) (ts : List InputTime) (deadline : ℤ)
+    (a : SettleAnswer) (z : ℤ) (v : Verdict) : Type 0 where
   ok : IsEdition e
   settles : a ≡ settleOutcome e d n s delay ts
   fine : a .verdict ≡ Fine

@@ -1,6 +1,6 @@
--- `first_unread` meets its contract. The loop's invariant: the mask holds what the records from i on read, and `first`
+-- `who_reads` meets its contract. The loop's invariant: the mask holds what the records from i on read, and `first`
 -- is the first unread one of them, the last aside. Assumes nothing.
-use mathlib.Core.Path.{_≡_, sym, ap, _∙_, subst}
+use mathlib.Core.Path.{_≡_, sym, ap, ap₂, _∙_, subst}
 use mathlib.Core.Logic.{⊎-elim}
 use mathlib.Core.List.{List}
 use Prim.Native.Nat.{ℕ, _-_, _<_}
@@ -12,9 +12,10 @@ use Rattle.sheets.specs.Record.{byteAt}
 use Rattle.sheets.specs.Sheet.{cellsFrom}
 use Rattle.sheets.specs.Reading.{unread, alsoRead}
 use Rattle.sheets.proofs.Places.{record-within}
-use Rattle.unread.proofs.ReadMasks.{readMask, mask-last, mask-more, found-here, found-later, record-named}
-use Rattle.unread.proofs.reading.first_unread.Statement.{statement}
-use Rattle.unread.proofs.reading.first_unread.Tie as tie
+use Rattle.unread.specs.ReadMasks.{readMask}
+use Rattle.unread.proofs.ReadMasks.{mask-last, mask-more, found-here, found-later, record-named}
+use Rattle.unread.proofs.reading.who_reads.Statement.{statement}
+use Rattle.unread.proofs.reading.who_reads.Tie as tie
 
 abbrev Inv-loop : tie.InvT-loop
 Inv-loop e n s m i₀ first₀ read₀ i first read =
@@ -96,12 +97,16 @@ returns c =
     let q = c .before in
     let a = q .before .before .before .before .args in
     let z : q .loop .i ≡ 0 = omega arith in
-    from-all (a .m - 1) (unread (a .e) (a .n) (a .s .now) (a .m)) (q .loop .first)
+    let all : a .m - 0 ≡ a .m = omega arith in
+    ap₂ (λ (f w : ℕ). record { first = f; read = w })
+    (from-all (a .m - 1) (unread (a .e) (a .n) (a .s .now) (a .m)) (q .loop .first)
     (subst (λ (i : ℕ). LeastFrom i (a .m - 1) (unread (a .e) (a .n) (a .s .now) (a .m)) (q .loop .first)) z
-    (q .loop .inv .2))
+    (q .loop .inv .2)))
+    (q .loop .inv .1 ∙ ap (λ (i : ℕ). readMask (cellsFrom (a .e) (a .s .now) i (a .m - i))) z
+    ∙ ap (λ (k : ℕ). readMask (cellsFrom (a .e) (a .s .now) 0 k)) all)
 
-pub first-unread-spec : {M : Type 1} → statement M
-first-unread-spec =
+pub who-reads-spec : {M : Type 1} → statement M
+who-reads-spec =
     tie.close (tie.spec Inv-loop μ-loop (λ c. search needs) record-of-requires also-read-requires loop-holds
     (λ c. search needs) (λ c. search needs) (λ c. search needs) (λ c. search needs) record-of-requires-2
     also-read-requires-2 (λ c. search needs) loop-again returns)

@@ -1,0 +1,2 @@
+-- Which signals are read, as a mask.
+pub mod ReadMasks
