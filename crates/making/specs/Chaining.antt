@@ -1,6 +1,6 @@
 -- What the code that makes a sheet holds and promises.
 use mathlib.Core.Path.{_≡_}
-use mathlib.Core.Bool.{Bool, true, false, cond}
+use mathlib.Core.Bool.{Bool, true, false}
 use mathlib.Core.List.{List, [], _++_}
 use Prim.Native.Nat.{ℕ, _+_, _^_, _≤_}
 use lib.ListN.{length, replicate}
@@ -12,10 +12,9 @@ use Rattle.splits.specs.Split.{readsD, readsH}
 use Rattle.splits.specs.Pair.{tableD}
 use Rattle.sheets.specs.Network.{Cell}
 use Rattle.sheets.specs.Edition.{mostRecords}
-use Rattle.sheets.specs.Writing.{AtMost}
 use Rattle.sheets.specs.Held.{cellsOf}
-use Rattle.chains.specs.Chain.{pick, Made, stuck, made, chain}
-use Rattle.chains.specs.Aside.{cellsAside, sheetAside}
+use Rattle.chains.specs.Chain.{pick, Made, stuck, made}
+use Rattle.chains.specs.Aside.{cellsAside}
 use Rattle.making.specs.declared.chaining.Stage.{Stage}
 use Rattle.making.specs.declared.chaining.ChainEnd.{ChainEnd}
 use Rattle.making.specs.Stage.{signalsOf, Listed}
@@ -46,15 +45,4 @@ Tells r (made cs) = (r .finished ≡ true) × (r .count ≡ length cs) × (lengt
 -- the cells of a gate's table, with up to m first cells at each step; the work area is zeros
 pub record ChainedUpTo (m n K : ℕ) (t work : List ℕ) (r : ChainEnd) (work′ : List ℕ) : Type 0 where
   pub told : Tells r (cellsAside m n K (number (2 ^ n) (tableBit t)))
-  pub cleared : work′ ≡ replicate (length work) 0
-
--- what a chain that came to its end, as the code holds it, says
-abbrev pub endOf : ChainEnd → Made
-endOf r = cond (r .finished) (made (cellsOf (r .sheet))) stuck
-
--- the sheet of a gate's table, held so that it can be written; the work area is zeros
-pub record Chained (n K : ℕ) (t work : List ℕ) (r : ChainEnd) (work′ : List ℕ) : Type 0 where
-  pub chain : endOf r ≡ sheetAside n K (number (2 ^ n) (tableBit t))
-  pub few : r .sheet .count ≤ mostRecords
-  pub fit : AtMost K (cellsOf (r .sheet))
   pub cleared : work′ ≡ replicate (length work) 0

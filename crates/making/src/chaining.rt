@@ -29,7 +29,7 @@ ghost use Rattle.making.specs.Stage.{signalsOf, Listed};
 ghost use Rattle.making.specs.Area.{atHand};
 ghost use Rattle.tables.specs.Work.{workLength};
 ghost use Rattle.making.specs.Pile.{mostPiled, Grown};
-ghost use Rattle.making.specs.Chaining.{dCell, Stepped, Tells, ChainedUpTo, Chained};
+ghost use Rattle.making.specs.Chaining.{dCell, Stepped, Tells, ChainedUpTo};
 
 // Whether the chain came to its end; how many cells it has, and a sheet of them, if it has room for them.
 pub struct ChainEnd {
@@ -161,15 +161,4 @@ pub fn chain_upto(t: &[u8], n: u32, most: u32, k: u32, work: &mut [u8]) -> Chain
     let end = follow(n, signals, most, k, work);
     clear(work);
     end
-}
-
-// The sheet of a gate's table: one first cell at each step. It always has room for the cells.
-pub fn chain_of(t: &[u8], n: u32, k: u32, work: &mut [u8]) -> ChainEnd
-    requires { ⌜
-        (1 ≤ n) × (n ≤ mostInputs) × (2 ≤ k) × (k ≤ largestCell) × (length (now t) ≡ tableLength n)
-        × (workLength ≤ length (now work))
-        ⌝ }
-    ensures { λ r. ⌜ Chained n k (now (t .entry)) (now (work .entry)) r (now (work .exit)) ⌝ }
-{
-    chain_upto(t, n, 1, k, work)
 }
