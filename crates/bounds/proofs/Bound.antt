@@ -22,7 +22,7 @@ use Rattle.chains.proofs.Aside.{table-most}
 use Rattle.trees.proofs.Trees.{made-tree, stuck-treeless}
 use Rattle.finding.specs.FindBest.{ownOf}
 use Rattle.bounds.specs.Bound.{counted, Bound, one, two, treeless, more}
-use Rattle.bounds.specs.Least.{reaching, bySplit, byChain, leastCells}
+use Rattle.bounds.specs.Least.{reaching, bySplit, byChain, cellBound}
 use Rattle.bounds.proofs.Two.{made-carries, two-fits, fits-made}
 use Rattle.bounds.proofs.Reaching.{reached, reaching-least}
 
@@ -36,20 +36,20 @@ module _ (n K : ℕ) (F : ℕ → Bool) where
   ]
 
   least-by : (few pairs : Bool) → leb (counted n F) K ≡ few → eqb K 2 ≡ pairs
-      → leastCells n K F ≡ by few pairs (sheetAside n 2 (number (2 ^ n) F)) (bestCounting n 1 F K)
-  unfolding leastCells by
+      → cellBound n K F ≡ by few pairs (sheetAside n 2 (number (2 ^ n) F)) (bestCounting n 1 F K)
+  unfolding cellBound by
   least-by few pairs e f = ap₂ (λ (s t : Bool). by s t (sheetAside n 2 (number (2 ^ n) F)) (bestCounting n 1 F K)) e f
 
-  pub least-few : counted n F ≤ K → leastCells n K F ≡ 1
+  pub least-few : counted n F ≤ K → cellBound n K F ≡ 1
   unfolding by
   least-few h = least-by true (eqb K 2) (le-leb (counted n F) K h) refl
 
-  pub least-chain : K < counted n F → K ≡ 2 → leastCells n K F
+  pub least-chain : K < counted n F → K ≡ 2 → cellBound n K F
       ≡ byChain (counted n F) (sheetAside n 2 (number (2 ^ n) F))
   unfolding by
   least-chain h e = least-by false true (lt-leb (counted n F) K h) (eq-eqb K 2 e)
 
-  pub least-split : K < counted n F → (K ≡ 2 → ⊥) → leastCells n K F ≡ bySplit n K (counted n F) (bestCounting n 1 F K)
+  pub least-split : K < counted n F → (K ≡ 2 → ⊥) → cellBound n K F ≡ bySplit n K (counted n F) (bestCounting n 1 F K)
   unfolding by
   least-split h f = least-by false false (lt-leb (counted n F) K h) (ne-eqb K 2 f)
 
@@ -97,13 +97,13 @@ module _ (n K : ℕ) (F : ℕ → Bool) (p : 1 ≤ n) (q : 2 ≤ K) where
                 same,
           )) (λ t. absurd (f t)) (reaching-least c K q h)
 
-  pub least-bound : Bound n K F (leastCells n K F)
+  pub least-bound : Bound n K F (cellBound n K F)
   least-bound = elim (decLt K c) [
     | no h ↦ let few : c ≤ K = omega arith in subst (Bound n K F) (sym (least-few n K F few)) (one few)
     | yes h ↦ go h (eqb K 2) refl
   ]
     where
-      go : K < c → (t : Bool) → eqb K 2 ≡ t → Bound n K F (leastCells n K F)
+      go : K < c → (t : Bool) → eqb K 2 ≡ t → Bound n K F (cellBound n K F)
       go h true e =
           let k = eqb-true K 2 e in
           subst (Bound n K F) (sym (least-chain n K F h k))

@@ -12,7 +12,7 @@ use Rattle.refusals.specs.Refusals.{toldLines}
 use Rattle.refusals.specs.Lent.{workAfter}
 use Rattle.finding.specs.FindBest.{findForm}
 use Rattle.bounds.specs.declared.bound_cells.BoundAnswer.{BoundAnswer}
-use Rattle.bounds.specs.Least.{leastCells}
+use Rattle.bounds.specs.Least.{cellBound}
 
 -- the answer, and the work area afterwards
 pub record BoundOutcome : Type 0 where
@@ -22,7 +22,7 @@ pub record BoundOutcome : Type 0 where
 -- done: the bound
 abbrev pub boundDone : ℕ → ℕ → List ℕ → List ℕ → BoundOutcome
 boundDone n K t work = record {
-  answer = record { verdict = Fine; least = leastCells n K (tableBit t) };
+  answer = record { verdict = Fine; least = cellBound n K (tableBit t) };
   work = workAfter Fine work;
 }
 

@@ -25,8 +25,8 @@ byChain c stuck = c
 byChain c (made cs) = c - 1
 
 -- the bound on cells of size K for the table F of n inputs
-unfoldable pub leastCells : ℕ → ℕ → (ℕ → Bool) → ℕ
-leastCells n K F =
+unfoldable pub cellBound : ℕ → ℕ → (ℕ → Bool) → ℕ
+cellBound n K F =
     let c = counted n F in
     elim (leb c K) [
       | true ↦ 1

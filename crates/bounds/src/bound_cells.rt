@@ -1,5 +1,5 @@
 // Asking for a lower bound on the cells of a table.
-use crate::least::least_cells;
+use crate::least::cell_bound;
 use finding::find_best::find_form;
 use refusals::form;
 use refusals::verdicts::Verdict;
@@ -28,7 +28,7 @@ fn bound_in(e: Edition, n: u64, k: u64, t: &[u8], work: &mut [u8]) -> BoundAnswe
             least: 0,
         };
     };
-    let least = least_cells(t, n as u32, k as u32, work);
+    let least = cell_bound(t, n as u32, k as u32, work);
     BoundAnswer {
         verdict: Verdict::Fine,
         least: least,

@@ -17,7 +17,7 @@ ghost use Rattle.quick.specs.Counted.{splitIn};
 ghost use Rattle.chains.specs.Aside.{sheetAside};
 ghost use Rattle.tables.specs.Work.{workLength};
 ghost use Rattle.finding.specs.FindBest.{ownOf};
-ghost use Rattle.bounds.specs.Least.{reaching, bySplit, byChain, leastCells};
+ghost use Rattle.bounds.specs.Least.{reaching, bySplit, byChain, cellBound};
 
 // The greater of 3 and the least number of cells of k inputs that can bring c of them to one output.
 fn by_reach(c: u32, k: u32) -> u32
@@ -78,13 +78,13 @@ fn by_split(t: &[u8], n: u32, k: u32, counting: CountingInputs, work: &mut [u8])
 }
 
 // The bound, in a work area, which is then cleared.
-pub fn least_cells(t: &[u8], n: u32, k: u32, work: &mut [u8]) -> u32
+pub fn cell_bound(t: &[u8], n: u32, k: u32, work: &mut [u8]) -> u32
     requires { ⌜
         (1 ≤ n) × (n ≤ mostInputs) × (2 ≤ k) × (k ≤ mostInputs) × (length (now t) ≡ tableLength n)
         × (workLength ≤ length (now work))
         ⌝ }
     ensures { λ r. ⌜
-        (r ≡ leastCells n k (tableBit (now (t .entry))))
+        (r ≡ cellBound n k (tableBit (now (t .entry))))
         × (now (work .exit) ≡ replicate (length (now (work .entry))) 0)
         ⌝ }
 {

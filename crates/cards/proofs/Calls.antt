@@ -15,7 +15,7 @@ use Rattle.refusals.specs.Lines.{line, verdict, reply}
 use Rattle.refusals.proofs.Lines.{in-order}
 use Rattle.cards.specs.declared.stores.Store.{Store}
 use Rattle.cards.specs.Card.{cardBytes}
-use Rattle.cards.specs.Stores.{storing, made, loadStores, storeCount, storeAt, cutLoad, oneStore}
+use Rattle.cards.specs.Stores.{storing, stored, loadStores, storeCount, storeAt, cutLoad, oneStore}
 use Rattle.cards.specs.Refusals.{badLoad, filedLines}
 use Rattle.cards.specs.LoadDesk.{loadLines, loadDone, loadNot, partOutcome}
 use Rattle.cards.specs.Mingling.{Load, storesOf, storesInTurn, waiting, Mingling, accepted, called}
@@ -50,33 +50,34 @@ numbered (l ∷ ls) c = go (verdict (loadLines c (l .desk) (l .inputs) (l .sheet
     go (Refused r) q ih = ih
 
 -- one call after another makes the stores of those that are accepted, one after another
-calls-made : (ls : List Load) (c : List ℕ) → called ls c ≡ made (storesInTurn (accepted c ls)) c
+calls-made : (ls : List Load) (c : List ℕ) → called ls c ≡ stored (storesInTurn (accepted c ls)) c
 unfolding partOutcome
 calls-made [] c = refl
 calls-made (l ∷ ls) c = go (verdict (loadLines c (l .desk) (l .inputs) (l .sheet))) (calls-made ls)
   where
-    go : (v : Verdict) → ((e : List ℕ) → called ls e ≡ made (storesInTurn (accepted e ls)) e)
+    go : (v : Verdict) → ((e : List ℕ) → called ls e ≡ stored (storesInTurn (accepted e ls)) e)
         → called ls (reply v (loadDone (storesOf l) c) (loadNot c) .card)
-        ≡ made (storesInTurn (reply v (l ∷ accepted c ls) (λ r. accepted c ls))) c
+        ≡ stored (storesInTurn (reply v (l ∷ accepted c ls) (λ r. accepted c ls))) c
     go Fine ih =
-        let e = made (storesOf l) c in
-        ih e ∙ ap (λ (r : List Load). made (storesInTurn r) e) (accepted-alike ls e c (made-length (storesOf l) c))
+        let e = stored (storesOf l) c in
+        ih e ∙ ap (λ (r : List Load). stored (storesInTurn r) e) (accepted-alike ls e c (made-length (storesOf l) c))
         ∙ sym (made-append (storesOf l) (storesInTurn (accepted c ls)) c)
     go (Refused r) ih = ih c
 
-pub mingled-calls : (ls : List Load) (c : List ℕ) (w : List Store) → Mingling (waiting (accepted c ls)) w → made w c
+pub mingled-calls : (ls : List Load) (c : List ℕ) (w : List Store) → Mingling (waiting (accepted c ls)) w → stored w c
     ≡ called ls c
 mingled-calls ls c w m = mingled (accepted c ls) (numbered ls c) w m c ∙ sym (calls-made ls c)
 
 -- store i of a load alone is one byte
-pub one-byte : (d n : ℕ) (s c : List ℕ) (i : ℕ) → i < storeCount → made (oneStore i d n s) c
+pub one-byte : (d n : ℕ) (s c : List ℕ) (i : ℕ) → i < storeCount → stored (oneStore i d n s) c
     ≡ set c (storeAt d n s i .place) (storeAt d n s i .byte)
-one-byte d n s c i h = ap (λ (u : List Store). made (take 1 u) c)
+one-byte d n s c i h = ap (λ (u : List Store). stored (take 1 u) c)
     (drop-cons (loadStores d n s) i (storing 0 0) (omega (arith, length-load d n s)))
 
 -- the order of the stores: each beginning of a load is the one before it and the next store
 pub cut-next : (d n : ℕ) (s c : List ℕ) (k : ℕ) → k < storeCount
-    → made (cutLoad (suc k) d n s) c ≡ set (made (cutLoad k d n s) c) (storeAt d n s k .place) (storeAt d n s k .byte)
+    → stored (cutLoad (suc k) d n s) c ≡ set (stored (cutLoad k d n s) c) (storeAt d n s k .place)
+    (storeAt d n s k .byte)
 cut-next d n s c k h =
-    ap (λ (u : List Store). made u c) (take-suc (loadStores d n s) k (storing 0 0) (omega (arith, length-load d n s)))
+    ap (λ (u : List Store). stored u c) (take-suc (loadStores d n s) k (storing 0 0) (omega (arith, length-load d n s)))
     ∙ made-append (cutLoad k d n s) (storeAt d n s k ∷ []) c

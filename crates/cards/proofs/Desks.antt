@@ -26,8 +26,8 @@ use Rattle.refusals.proofs.Sheets.{good-sheet, runnable}
 use Rattle.running.specs.declared.run_sheet.RunAnswer.{RunAnswer}
 use Rattle.running.specs.RunSheet.{runDone, runNot, runOutcome}
 use Rattle.cards.specs.declared.stores.Store.{Store}
-use Rattle.cards.specs.Card.{desks, deskBytes, cardBytes, ownBytes, openMark, inputs, cells, sheetOn}
-use Rattle.cards.specs.Stores.{made, loadStores, storeCount, cutLoad, onto, Holds}
+use Rattle.cards.specs.Card.{desks, deskBytes, cardBytes, ownBytes, openMark, inputsOn, countOn, sheetOn}
+use Rattle.cards.specs.Stores.{stored, loadStores, storeCount, cutLoad, onto, Holds}
 use Rattle.cards.specs.Refusals.{badCard, noDesk, anotherDesk, missingDesk, closedDesk, badCount, filedLines}
 use Rattle.cards.specs.LoadDesk.{loadLines}
 use Rattle.cards.specs.RunDesk.{deskLines, runDeskLines, deskOutcome, runDeskOutcome}
@@ -47,7 +47,7 @@ Ready e n s x =
 
 -- a stored count is outside 1 to 15 exactly where the sheet that it cuts off has a wrong length
 pub count-line : (o : List ℕ) → length o ≡ deskBytes → badCount o ≡ badSheet firstEdition (sheetOn o)
-count-line o l = ap (line 9) (go (cells o))
+count-line o l = ap (line 9) (go (countOn o))
   where
     go : (m : ℕ) → not (leb 1 m && leb m mostRecords) ≡ badLength firstEdition (take (recordSize * m) o)
     go zero = refl
@@ -65,25 +65,25 @@ count-line o l = ap (line 9) (go (cells o))
 -- so after 19 and 18 they are those of the sheet that it holds, and 11
 pub desk-lines : (o : List ℕ) (d x : ℕ) → length o ≡ deskBytes
     → deskLines o d x ≡ missingDesk d ∷ closedDesk o ∷
-    (filedLines d (inputs o) (sheetOn o) ++ (badAssignment (inputs o) x ∷ []))
+    (filedLines d (inputsOn o) (sheetOn o) ++ (badAssignment (inputsOn o) x ∷ []))
 desk-lines o d x l =
-    ap (λ (t : Line). missingDesk d ∷ closedDesk o ∷ badInputs (inputs o) ∷ t ∷ badRecord firstEdition d (inputs o)
+    ap (λ (t : Line). missingDesk d ∷ closedDesk o ∷ badInputs (inputsOn o) ∷ t ∷ badRecord firstEdition d (inputsOn o)
     (sheetOn o)
-    ∷ unreadRecord firstEdition (inputs o) (sheetOn o) ∷ badAssignment (inputs o) x ∷ []) (count-line o l)
+    ∷ unreadRecord firstEdition (inputsOn o) (sheetOn o) ∷ badAssignment (inputsOn o) x ∷ []) (count-line o l)
 
 -- and where it is open, only those
 pub open-lines : (o : List ℕ) (d x : ℕ) → length o ≡ deskBytes → noDesk d ≡ false → openMark o ≡ 1
-    → verdict (deskLines o d x) ≡ verdict (filedLines d (inputs o) (sheetOn o) ++ (badAssignment (inputs o) x ∷ []))
+    → verdict (deskLines o d x) ≡ verdict (filedLines d (inputsOn o) (sheetOn o) ++ (badAssignment (inputsOn o) x ∷ []))
 open-lines o d x l g h =
     ap verdict (desk-lines o d x l)
-    ∙ passes (missingDesk d ∷ closedDesk o ∷ []) (filedLines d (inputs o) (sheetOn o)
-    ++ (badAssignment (inputs o) x ∷ [])) (g, (ap (λ (m : ℕ). not (eqb m 1)) h, tt))
+    ∙ passes (missingDesk d ∷ closedDesk o ∷ []) (filedLines d (inputsOn o) (sheetOn o)
+    ++ (badAssignment (inputsOn o) x ∷ [])) (g, (ap (λ (m : ℕ). not (eqb m 1)) h, tt))
 
 -- a desk whose lines are in order can be run
 pub ready : (o : List ℕ) (d x : ℕ) → length o ≡ deskBytes → verdict (deskLines o d x) ≡ Fine
-    → Ready firstEdition (inputs o) (sheetOn o) x
+    → Ready firstEdition (inputsOn o) (sheetOn o) x
 ready o d x l e =
-    let n = inputs o in
+    let n = inputsOn o in
     let s = sheetOn o in
     let w = in-order (missingDesk d ∷ closedDesk o ∷ (filedLines d n s ++ (badAssignment n x ∷ [])))
     (sym (ap verdict (desk-lines o d x l)) ∙ e) .1 .1 in (
@@ -109,41 +109,43 @@ run-short c d x h =
 pub no-such-desk : (o : List ℕ) (d x : ℕ) → noDesk d ≡ true → deskOutcome o d x ≡ runNot (refusal 19 0)
 unfolding deskOutcome
 no-such-desk o d x h =
-    ap (λ (v : Verdict). reply v (runDone firstEdition (inputs o) (sheetOn o) x) runNot)
+    ap (λ (v : Verdict). reply v (runDone firstEdition (inputsOn o) (sheetOn o) x) runNot)
     (sym (decides (deskLines o d x) (here h)))
 
 -- a desk answers as the stores into it alone would have it
-pub answers-own : (u : List Store) (c : List ℕ) (d x : ℕ) → runDeskOutcome (made u c) d x
-    ≡ runDeskOutcome (made (onto d u) c) d x
+pub answers-own : (u : List Store) (c : List ℕ) (d x : ℕ) → runDeskOutcome (stored u c) d x
+    ≡ runDeskOutcome (stored (onto d u) c) d x
 answers-own u c d x = go (eqb (length c) cardBytes) refl (noDesk d) refl
   where
     v : List Store
     v = onto d u
 
-    go : (a : Bool) → eqb (length c) cardBytes ≡ a → (b : Bool) → noDesk d ≡ b → runDeskOutcome (made u c) d x
-        ≡ runDeskOutcome (made v c) d x
+    go : (a : Bool) → eqb (length c) cardBytes ≡ a → (b : Bool) → noDesk d ≡ b → runDeskOutcome (stored u c) d x
+        ≡ runDeskOutcome (stored v c) d x
     go false p b q =
         let h = eqb-false (length c) cardBytes p in
-        run-short (made u c) d x (λ e. h (sym (made-length u c) ∙ e))
-        ∙ sym (run-short (made v c) d x (λ e. h (sym (made-length v c) ∙ e)))
-    go true p b q = let h = eqb-true (length c) cardBytes p in run-own (made u c) d x (made-length u c ∙ h) ∙ same b q h
-        ∙ sym (run-own (made v c) d x (made-length v c ∙ h))
+        run-short (stored u c) d x (λ e. h (sym (made-length u c) ∙ e))
+        ∙ sym (run-short (stored v c) d x (λ e. h (sym (made-length v c) ∙ e)))
+    go true p b q = let h = eqb-true (length c) cardBytes p in
+        run-own (stored u c) d x (made-length u c ∙ h) ∙ same b q h
+        ∙ sym (run-own (stored v c) d x (made-length v c ∙ h))
       where
-        same : (b : Bool) → noDesk d ≡ b → length c ≡ cardBytes → deskOutcome (ownBytes (made u c) d) d x
-            ≡ deskOutcome (ownBytes (made v c) d) d x
-        same true q h = no-such-desk (ownBytes (made u c) d) d x q ∙ sym (no-such-desk (ownBytes (made v c) d) d x q)
+        same : (b : Bool) → noDesk d ≡ b → length c ≡ cardBytes → deskOutcome (ownBytes (stored u c) d) d x
+            ≡ deskOutcome (ownBytes (stored v c) d) d x
+        same true q h = no-such-desk (ownBytes (stored u c) d) d x q
+            ∙ sym (no-such-desk (ownBytes (stored v c) d) d x q)
         same false q h = let w = inside 1 d desks q in ap (λ (o : List ℕ). deskOutcome o d x)
             (own-made u c d h (w .0) (w .1))
 
 -- 20 is a line before its own
 pub run-by-lines : (c : List ℕ) (d x : ℕ)
     → runDeskOutcome c d x ≡ reply (verdict (runDeskLines c d x))
-    (runDone firstEdition (inputs (ownBytes c d)) (sheetOn (ownBytes c d)) x) runNot
+    (runDone firstEdition (inputsOn (ownBytes c d)) (sheetOn (ownBytes c d)) x) runNot
 unfolding runDeskOutcome deskOutcome
 run-by-lines c d x = go (badCard c .holds) (verdict (deskLines (ownBytes c d) d x))
   where
     done : RunAnswer
-    done = runDone firstEdition (inputs (ownBytes c d)) (sheetOn (ownBytes c d)) x
+    done = runDone firstEdition (inputsOn (ownBytes c d)) (sheetOn (ownBytes c d)) x
 
     go : (t : Bool) (v : Verdict) → reply (cond t (Refused (refusal 20 0)) Fine) (reply v done runNot) runNot
         ≡ reply (cond t (Refused (refusal 20 0)) v) done runNot
@@ -156,7 +158,7 @@ pub closed-answer : (o : List ℕ) (d x : ℕ) → noDesk d ≡ false → openMa
     ≡ runNot (refusal 18 0)
 unfolding deskOutcome
 closed-answer o d x g h =
-    ap (λ (v : Verdict). reply v (runDone firstEdition (inputs o) (sheetOn o) x) runNot)
+    ap (λ (v : Verdict). reply v (runDone firstEdition (inputsOn o) (sheetOn o) x) runNot)
     (sym (decides (deskLines o d x) (later g (here (ap (λ (m : ℕ). not (eqb m 1)) h)))))
 
 -- what a load lets through
@@ -203,7 +205,7 @@ pub holding-answer : (o : List ℕ) (d n : ℕ) (s : List ℕ) (x : ℕ) → len
     → InOrder (filedLines d n s) → deskOutcome o d x ≡ runOutcome firstEdition d n s x
 unfolding deskOutcome
 holding-answer o d n s x l g h k w =
-    ap (λ (v : Verdict). reply v (runDone firstEdition (inputs o) (sheetOn o) x) runNot)
+    ap (λ (v : Verdict). reply v (runDone firstEdition (inputsOn o) (sheetOn o) x) runNot)
     (open-lines o d x l g (h .marked))
     ∙ ap₂ (λ (i : ℕ) (t : List ℕ). reply (verdict (filedLines d i t ++ (badAssignment i x ∷ [])))
     (runDone firstEdition i t x) runNot)
@@ -212,24 +214,24 @@ holding-answer o d n s x l g h k w =
 
 module _ (c : List ℕ) (d n : ℕ) (s : List ℕ) (a : Accepted c d n s) (x : ℕ) where
   -- from the first store to before the last the desk is closed
-  pub cut-closed : (k : ℕ) → 1 ≤ k → k < storeCount → runDeskOutcome (made (cutLoad k d n s) c) d x
+  pub cut-closed : (k : ℕ) → 1 ≤ k → k < storeCount → runDeskOutcome (stored (cutLoad k d n s) c) d x
       ≡ runNot (refusal 18 0)
   cut-closed k h g =
-      run-own (made (cutLoad k d n s) c) d x (made-length (cutLoad k d n s) c ∙ a .long)
-      ∙ closed-answer (ownBytes (made (cutLoad k d n s) c) d) d x (a .desk)
+      run-own (stored (cutLoad k d n s) c) d x (made-length (cutLoad k d n s) c ∙ a .long)
+      ∙ closed-answer (ownBytes (stored (cutLoad k d n s) c) d) d x (a .desk)
       (mark-zero d n s c (a .long) (a .least) (a .most) k h g)
 
   -- after the last it answers as the new sheet does on the bench
-  pub load-answers : runDeskOutcome (made (loadStores d n s) c) d x ≡ runOutcome firstEdition d n s x
+  pub load-answers : runDeskOutcome (stored (loadStores d n s) c) d x ≡ runOutcome firstEdition d n s x
   load-answers =
       let l = made-length (loadStores d n s) c ∙ a .long in
-      run-own (made (loadStores d n s) c) d x l
-      ∙ holding-answer (ownBytes (made (loadStores d n s) c) d) d n s x
-      (own-length (made (loadStores d n s) c) d l (a .most)) (a .desk)
+      run-own (stored (loadStores d n s) c) d x l
+      ∙ holding-answer (ownBytes (stored (loadStores d n s) c) d) d n s x
+      (own-length (stored (loadStores d n s) c) d l (a .most)) (a .desk)
       (desk-holds d n s c (a .long) (a .least) (a .most)) (a .good) (a .filed)
 
 -- a store into one desk changes no answer of another's
 pub others-answer : (d f : ℕ) (u : List Store) (c : List ℕ) (x : ℕ) → (d ≡ f → ⊥) → Every (Into d) u
-    → runDeskOutcome (made u c) f x ≡ runDeskOutcome c f x
+    → runDeskOutcome (stored u c) f x ≡ runDeskOutcome c f x
 others-answer d f u c x e h = answers-own u c f x
-    ∙ ap (λ (v : List Store). runDeskOutcome (made v c) f x) (onto-other d f u e h)
+    ∙ ap (λ (v : List Store). runDeskOutcome (stored v c) f x) (onto-other d f u e h)

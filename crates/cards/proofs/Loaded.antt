@@ -8,22 +8,22 @@ use lib.ListN.{length, getD, set, take, length-set}
 use lib.Seq.{ext-getD, getD-set-same, getD-set-other, getD-take, length-take-le, take-append-le}
 use Rattle.sheets.specs.Edition.{recordSize, mostRecords, firstEdition}
 use Rattle.sheets.specs.Sheet.{records}
-use Rattle.cards.specs.Card.{desks, placeBytes, deskBytes, cardBytes, base, ownBytes, openMark, inputs, cells}
+use Rattle.cards.specs.Card.{desks, placeBytes, deskBytes, cardBytes, base, ownBytes, openMark, inputsOn, countOn}
 use Rattle.cards.specs.Card.{sheetOn}
-use Rattle.cards.specs.Stores.{made, placeByte, statusByte, marking, filling, loadStores, storeCount, cutLoad}
+use Rattle.cards.specs.Stores.{stored, placeByte, statusByte, marking, filling, loadStores, storeCount, cutLoad}
 use Rattle.cards.specs.Stores.{Holds}
 use Rattle.cards.proofs.Making.{every-take, made-append, made-length, untouched, upward-out, upward-in, own-at}
 use Rattle.cards.proofs.Order.{places, status, length-filling, avoids-mark}
 
 module _ (d n : ℕ) (s c : List ℕ) (long : length c ≡ cardBytes) (least : 1 ≤ d) (most : d ≤ desks) where
   -- from the first store to before the last the mark is 0
-  pub mark-zero : (k : ℕ) → 1 ≤ k → k < storeCount → openMark (ownBytes (made (cutLoad k d n s) c) d) ≡ 0
+  pub mark-zero : (k : ℕ) → 1 ≤ k → k < storeCount → openMark (ownBytes (stored (cutLoad k d n s) c) d) ≡ 0
   unfolding loadStores
   mark-zero zero h g = absurd (not-suc-le-zero h)
   mark-zero (suc k) h g =
       let a = base d + placeBytes in
-      own-at (made (take k (filling d n s ++ (marking d 1 ∷ []))) (set c a 0)) d placeBytes (omega arith)
-      ∙ ap (λ u. getD (made u (set c a 0)) a 0) (take-append-le k (filling d n s) (marking d 1 ∷ [])
+      own-at (stored (take k (filling d n s ++ (marking d 1 ∷ []))) (set c a 0)) d placeBytes (omega arith)
+      ∙ ap (λ u. getD (stored u (set c a 0)) a 0) (take-append-le k (filling d n s) (marking d 1 ∷ [])
       (omega (arith, length-filling d n s)))
       ∙ untouched (take k (filling d n s)) (set c a 0) a
       (every-take (λ t. a ≡ t .place → ⊥) k (filling d n s) (avoids-mark d n s))
@@ -35,37 +35,37 @@ module _ (d n : ℕ) (s c : List ℕ) (long : length c ≡ cardBytes) (least : 1
   first = set c (base d + placeBytes) 0
 
   abbrev filled : List ℕ
-  filled = made (status d n s) (made (places d n s) first)
+  filled = stored (status d n s) (stored (places d n s) first)
 
-  pub whole-made : made (loadStores d n s) c ≡ set filled (base d + placeBytes) 1
+  pub whole-made : stored (loadStores d n s) c ≡ set filled (base d + placeBytes) 1
   unfolding loadStores filling
   whole-made =
       made-append (places d n s ++ status d n s) (marking d 1 ∷ []) first
       ∙ ap (λ (l : List ℕ). set l (base d + placeBytes) 1) (made-append (places d n s) (status d n s) first)
 
-  long-places : length (made (places d n s) first) ≡ cardBytes
+  long-places : length (stored (places d n s) first) ≡ cardBytes
   long-places = made-length (places d n s) first ∙ length-set c (base d + placeBytes) 0 ∙ long
 
   -- every byte is the new sheet's
-  pub desk-holds : Holds (ownBytes (made (loadStores d n s) c) d) n s
+  pub desk-holds : Holds (ownBytes (stored (loadStores d n s) c) d) n s
   desk-holds = record {
     places = λ j h. at j (omega arith) ∙ getD-set-other filled (base d + placeBytes) (base d + j) 1 0 (λ q. omega arith)
         ∙ upward-out (base d + (placeBytes + 1)) (statusByte n s) (recordSize - 1) (base d + j)
-        (made (places d n s) first) (λ i l q. omega arith)
+        (stored (places d n s) first) (λ i l q. omega arith)
         ∙ upward-in (base d) (placeByte s) placeBytes j first h (omega (arith, length-set c (base d + placeBytes) 0));
     marked = at placeBytes (omega arith)
         ∙ getD-set-same filled (base d + placeBytes) 1 0
-        (omega (arith, made-length (status d n s) (made (places d n s) first), long-places));
+        (omega (arith, made-length (status d n s) (stored (places d n s) first), long-places));
     status = λ j h. at (placeBytes + 1 + j) (omega arith)
         ∙ getD-set-other filled (base d + placeBytes) (base d + (placeBytes + 1 + j)) 1 0 (λ q. omega arith)
         ∙ ap (λ (a : ℕ). getD filled a 0) (over j)
-        ∙ upward-in (base d + (placeBytes + 1)) (statusByte n s) (recordSize - 1) j (made (places d n s) first) h
+        ∙ upward-in (base d + (placeBytes + 1)) (statusByte n s) (recordSize - 1) j (stored (places d n s) first) h
         (omega (arith, long-places));
   }
     where
-      at : (j : ℕ) → j < deskBytes → getD (ownBytes (made (loadStores d n s) c) d) j 0
+      at : (j : ℕ) → j < deskBytes → getD (ownBytes (stored (loadStores d n s) c) d) j 0
           ≡ getD (set filled (base d + placeBytes) 1) (base d + j) 0
-      at j h = own-at (made (loadStores d n s) c) d j h ∙ ap (λ (l : List ℕ). getD l (base d + j) 0) whole-made
+      at j h = own-at (stored (loadStores d n s) c) d j h ∙ ap (λ (l : List ℕ). getD l (base d + j) 0) whole-made
 
       over : (j : ℕ) → base d + (placeBytes + 1 + j) ≡ base d + (placeBytes + 1) + j
       over j = omega arith
@@ -73,10 +73,10 @@ module _ (d n : ℕ) (s c : List ℕ) (long : length c ≡ cardBytes) (least : 1
 -- ---- what such a desk says of itself
 
 module _ (o : List ℕ) (n : ℕ) (s : List ℕ) (h : Holds o n s) where
-  pub says-inputs : inputs o ≡ n
+  pub says-inputs : inputsOn o ≡ n
   says-inputs = h .status 0 (omega arith)
 
-  pub says-cells : cells o ≡ records firstEdition s
+  pub says-cells : countOn o ≡ records firstEdition s
   says-cells = h .status 1 (omega arith)
 
   pub says-sheet : length o ≡ deskBytes → recordSize * records firstEdition s ≡ length s → records firstEdition s

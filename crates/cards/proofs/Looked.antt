@@ -14,7 +14,7 @@ use Rattle.refusals.specs.Lines.{line, verdict, reply}
 use Rattle.refusals.specs.Refusals.{badInputs, badRecord, unreadRecord, badAssignment}
 use Rattle.running.specs.declared.run_sheet.RunAnswer.{RunAnswer}
 use Rattle.running.specs.RunSheet.{runDone, runNot}
-use Rattle.cards.specs.Card.{openMark, inputs, cells, sheetOn, SameUse}
+use Rattle.cards.specs.Card.{openMark, inputsOn, countOn, sheetOn, SameUse}
 use Rattle.cards.specs.Refusals.{noDesk}
 use Rattle.cards.specs.RunDesk.{deskOutcome}
 
@@ -49,17 +49,17 @@ module _ (d x : ℕ) where
   pub looks-used : (o p : List ℕ) → SameUse o p → deskOutcome o d x ≡ deskOutcome p d x
   unfolding deskOutcome says
   looks-used o p u =
-      ap₂ (λ (m n : ℕ). says m n (wrong (cells o)) (sheetOn o)) (u .marks) (u .ns) ∙ sheets
-      ∙ ap (λ (k : ℕ). says (openMark p) (inputs p) (wrong k) (take (recordSize * k) p)) (u .counts)
+      ap₂ (λ (m n : ℕ). says m n (wrong (countOn o)) (sheetOn o)) (u .marks) (u .ns) ∙ sheets
+      ∙ ap (λ (k : ℕ). says (openMark p) (inputsOn p) (wrong k) (take (recordSize * k) p)) (u .counts)
     where
-      sheets : says (openMark p) (inputs p) (wrong (cells o)) (take (recordSize * cells o) o)
-          ≡ says (openMark p) (inputs p) (wrong (cells o)) (take (recordSize * cells o) p)
-      sheets = elim (decLt mostRecords (cells o)) [
-        | yes h ↦ let w : wrong (cells o) ≡ true = many (cells o) h in
-            ap (λ (t : Bool). says (openMark p) (inputs p) t (take (recordSize * cells o) o)) w
-            ∙ no-sheet (openMark p) (inputs p) (take (recordSize * cells o) o) (take (recordSize * cells o) p)
-            ∙ sym (ap (λ (t : Bool). says (openMark p) (inputs p) t (take (recordSize * cells o) p)) w)
-        | no h ↦ ap (says (openMark p) (inputs p) (wrong (cells o))) (alike (omega arith))
+      sheets : says (openMark p) (inputsOn p) (wrong (countOn o)) (take (recordSize * countOn o) o)
+          ≡ says (openMark p) (inputsOn p) (wrong (countOn o)) (take (recordSize * countOn o) p)
+      sheets = elim (decLt mostRecords (countOn o)) [
+        | yes h ↦ let w : wrong (countOn o) ≡ true = many (countOn o) h in
+            ap (λ (t : Bool). says (openMark p) (inputsOn p) t (take (recordSize * countOn o) o)) w
+            ∙ no-sheet (openMark p) (inputsOn p) (take (recordSize * countOn o) o) (take (recordSize * countOn o) p)
+            ∙ sym (ap (λ (t : Bool). says (openMark p) (inputsOn p) t (take (recordSize * countOn o) p)) w)
+        | no h ↦ ap (says (openMark p) (inputsOn p) (wrong (countOn o))) (alike (omega arith))
       ]
         where
           many : (i : ℕ) → mostRecords < i → wrong i ≡ true
@@ -69,9 +69,9 @@ module _ (d x : ℕ) where
               none true = refl
               none false = refl
 
-          alike : cells o ≤ mostRecords → take (recordSize * cells o) o ≡ take (recordSize * cells o) p
+          alike : countOn o ≤ mostRecords → take (recordSize * countOn o) o ≡ take (recordSize * countOn o) p
           alike h =
-              let m = recordSize * cells o in
+              let m = recordSize * countOn o in
               ext-getD 0 (take m o) (take m p) (length-take m o ∙ ap (min m) (u .lengths) ∙ sym (length-take m p))
               (λ j l. let i : j < m = short m o j l in getD-take m o j 0 i ∙ u .used j i (omega arith)
               ∙ sym (getD-take m p j 0 i))

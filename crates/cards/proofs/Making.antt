@@ -13,7 +13,7 @@ use borrow.Author.Tests.{eqb-true, eqb-false}
 use Rattle.bits.specs.Lists.{listOf}
 use Rattle.cards.specs.declared.stores.Store.{Store}
 use Rattle.cards.specs.Card.{desks, deskBytes, cardBytes, base, holder, ownBytes}
-use Rattle.cards.specs.Stores.{storing, made, upward, onto}
+use Rattle.cards.specs.Stores.{storing, stored, upward, onto}
 
 -- ---- all of some stores
 
@@ -53,16 +53,16 @@ module _ (P : Store → Type 0) where
 
 -- ---- stores one after another
 
-pub made-append : (u w : List Store) (c : List ℕ) → made (u ++ w) c ≡ made w (made u c)
+pub made-append : (u w : List Store) (c : List ℕ) → stored (u ++ w) c ≡ stored w (stored u c)
 made-append [] w c = refl
 made-append (t ∷ u) w c = made-append u w (set c (t .place) (t .byte))
 
-pub made-length : (u : List Store) (c : List ℕ) → length (made u c) ≡ length c
+pub made-length : (u : List Store) (c : List ℕ) → length (stored u c) ≡ length c
 made-length [] c = refl
 made-length (t ∷ u) c = made-length u (set c (t .place) (t .byte)) ∙ length-set c (t .place) (t .byte)
 
 -- a byte to which no store goes stays
-pub untouched : (u : List Store) (c : List ℕ) (a : ℕ) → Every (λ t. a ≡ t .place → ⊥) u → getD (made u c) a 0
+pub untouched : (u : List Store) (c : List ℕ) (a : ℕ) → Every (λ t. a ≡ t .place → ⊥) u → getD (stored u c) a 0
     ≡ getD c a 0
 untouched [] c a h = refl
 untouched (t ∷ u) c a h = untouched u (set c (t .place) (t .byte)) a (h .1)
@@ -72,23 +72,23 @@ untouched (t ∷ u) c a h = untouched u (set c (t .place) (t .byte)) a (h .1)
 
 module _ (a : ℕ) (f : ℕ → ℕ) where
   -- before them and past them nothing changes
-  pub upward-out : (k b : ℕ) (c : List ℕ) → ((j : ℕ) → j < k → b ≡ a + j → ⊥) → getD (made (upward a k f) c) b 0
+  pub upward-out : (k b : ℕ) (c : List ℕ) → ((j : ℕ) → j < k → b ≡ a + j → ⊥) → getD (stored (upward a k f) c) b 0
       ≡ getD c b 0
   upward-out k b c h = untouched (upward a k f) c b
       (every-list (λ t. b ≡ t .place → ⊥) k (λ j. storing (a + j) (f j)) h)
 
   -- and there they leave the values
-  pub upward-in : (k j : ℕ) (c : List ℕ) → j < k → a + k ≤ length c → getD (made (upward a k f) c) (a + j) 0 ≡ f j
+  pub upward-in : (k j : ℕ) (c : List ℕ) → j < k → a + k ≤ length c → getD (stored (upward a k f) c) (a + j) 0 ≡ f j
   unfolding listOf
   upward-in zero j c h g = absurd (not-suc-le-zero h)
   upward-in (suc k) j c h g =
       ap (λ (l : List ℕ). getD l (a + j) 0) (made-append (upward a k f) (storing (a + k) (f k) ∷ []) c)
       ∙ elim (decLt j k) [
-        | yes l ↦ getD-set-other (made (upward a k f) c) (a + k) (a + j) (f k) 0 (λ q. omega arith)
+        | yes l ↦ getD-set-other (stored (upward a k f) c) (a + k) (a + j) (f k) 0 (λ q. omega arith)
             ∙ upward-in k j c l (omega arith)
         | no l ↦ let q : j ≡ k = omega arith in
-            ap (λ (i : ℕ). getD (set (made (upward a k f) c) (a + k) (f k)) (a + i) 0) q
-            ∙ getD-set-same (made (upward a k f) c) (a + k) (f k) 0 (omega (arith, made-length (upward a k f) c))
+            ap (λ (i : ℕ). getD (set (stored (upward a k f) c) (a + k) (f k)) (a + i) 0) q
+            ∙ getD-set-same (stored (upward a k f) c) (a + k) (f k) 0 (omega (arith, made-length (upward a k f) c))
             ∙ ap f (sym q)
       ]
 
@@ -108,23 +108,23 @@ set-agree c e p b j l h = go (eqb j p) refl
           ∙ sym (ap (λ (x : List ℕ). getD x j 0) (set-out e p b (omega arith)))
     ]
 
-agree : (u : List Store) (c e : List ℕ) (j : ℕ) → length c ≡ length e → getD c j 0 ≡ getD e j 0 → getD (made u c) j 0
-    ≡ getD (made u e) j 0
+agree : (u : List Store) (c e : List ℕ) (j : ℕ) → length c ≡ length e → getD c j 0 ≡ getD e j 0 → getD (stored u c) j 0
+    ≡ getD (stored u e) j 0
 agree [] c e j l h = h
 agree (t ∷ u) c e j l h =
     agree u (set c (t .place) (t .byte)) (set e (t .place) (t .byte)) j
     (length-set c (t .place) (t .byte) ∙ l ∙ sym (length-set e (t .place) (t .byte)))
     (set-agree c e (t .place) (t .byte) j l h)
 
-by-own : (u : List Store) (c : List ℕ) (j : ℕ) → getD (made u c) j 0 ≡ getD (made (onto (holder j) u) c) j 0
+by-own : (u : List Store) (c : List ℕ) (j : ℕ) → getD (stored u c) j 0 ≡ getD (stored (onto (holder j) u) c) j 0
 by-own [] c j = refl
 by-own (t ∷ u) c j = go (eqb (holder (t .place)) (holder j)) refl (by-own u (set c (t .place) (t .byte)) j)
   where
     go : (r : Bool) → eqb (holder (t .place)) (holder j) ≡ r
-        → getD (made u (set c (t .place) (t .byte))) j 0
-        ≡ getD (made (onto (holder j) u) (set c (t .place) (t .byte))) j 0
-        → getD (made u (set c (t .place) (t .byte))) j 0
-        ≡ getD (made (cond r (t ∷ onto (holder j) u) (onto (holder j) u)) c) j 0
+        → getD (stored u (set c (t .place) (t .byte))) j 0
+        ≡ getD (stored (onto (holder j) u) (set c (t .place) (t .byte))) j 0
+        → getD (stored u (set c (t .place) (t .byte))) j 0
+        ≡ getD (stored (cond r (t ∷ onto (holder j) u) (onto (holder j) u)) c) j 0
     go true q ih = ih
     go false q ih =
         ih ∙ agree (onto (holder j) u) (set c (t .place) (t .byte)) c j (length-set c (t .place) (t .byte))
@@ -132,10 +132,10 @@ by-own (t ∷ u) c j = go (eqb (holder (t .place)) (holder j)) refl (by-own u (s
         (ap holder (sym e))))
 
 -- two lists of stores that each desk sees alike make the same card
-pub alike : (u w : List Store) (c : List ℕ) → ((d : ℕ) → onto d u ≡ onto d w) → made u c ≡ made w c
+pub alike : (u w : List Store) (c : List ℕ) → ((d : ℕ) → onto d u ≡ onto d w) → stored u c ≡ stored w c
 alike u w c h =
-    ext-getD 0 (made u c) (made w c) (made-length u c ∙ sym (made-length w c))
-    (λ j l. by-own u c j ∙ ap (λ (v : List Store). getD (made v c) j 0) (h (holder j)) ∙ sym (by-own w c j))
+    ext-getD 0 (stored u c) (stored w c) (made-length u c ∙ sym (made-length w c))
+    (λ j l. by-own u c j ∙ ap (λ (v : List Store). getD (stored v c) j 0) (h (holder j)) ∙ sym (by-own w c j))
 
 -- ---- a desk's own bytes
 
@@ -156,8 +156,9 @@ pub held-by : (d j : ℕ) → 1 ≤ d → j < deskBytes → holder (base d + j) 
 held-by d j h g = omega arith
 
 -- they are as its own stores alone leave them
-pub own-made : (u : List Store) (c : List ℕ) (d : ℕ) → length c ≡ cardBytes → 1 ≤ d → d ≤ desks → ownBytes (made u c) d
-    ≡ ownBytes (made (onto d u) c) d
+pub own-made : (u : List Store) (c : List ℕ) (d : ℕ) → length c ≡ cardBytes → 1 ≤ d → d ≤ desks
+    → ownBytes (stored u c) d
+    ≡ ownBytes (stored (onto d u) c) d
 own-made u c d h l m =
-    own-ext (made u c) (made (onto d u) c) d (made-length u c ∙ h) (made-length (onto d u) c ∙ h) m
-    (λ j g. by-own u c (base d + j) ∙ ap (λ (f : ℕ). getD (made (onto f u) c) (base d + j) 0) (held-by d j l g))
+    own-ext (stored u c) (stored (onto d u) c) d (made-length u c ∙ h) (made-length (onto d u) c ∙ h) m
+    (λ j g. by-own u c (base d + j) ∙ ap (λ (f : ℕ). getD (stored (onto f u) c) (base d + j) 0) (held-by d j l g))

@@ -10,7 +10,7 @@ use lib.Seq.{take-append-seam}
 use borrow.Author.Tests.{eq-eqb, ne-eqb, eqb-true, eqb-false}
 use Rattle.cards.specs.declared.stores.Store.{Store}
 use Rattle.cards.specs.Card.{holder}
-use Rattle.cards.specs.Stores.{made, onto}
+use Rattle.cards.specs.Stores.{stored, onto}
 use Rattle.cards.specs.Mingling.{Load, storesOf, storesInTurn, loadsOf, waiting, left, Mingling, over, next}
 use Rattle.cards.proofs.Making.{Every, every-append, alike}
 use Rattle.cards.proofs.Order.{Into, onto-append, onto-own, onto-other, all-into}
@@ -107,6 +107,6 @@ beginning-seen {q} {w} m own k f =
     ∙ mingling-seen m own f)
 
 -- so it ends in the card of the loads one after another
-pub mingled : (ls : List Load) → Numbered ls → (w : List Store) → Mingling (waiting ls) w → (c : List ℕ) → made w c
-    ≡ made (storesInTurn ls) c
+pub mingled : (ls : List Load) → Numbered ls → (w : List Store) → Mingling (waiting ls) w → (c : List ℕ) → stored w c
+    ≡ stored (storesInTurn ls) c
 mingled ls h w m c = alike w (storesInTurn ls) c (λ d. mingling-seen m (waits-own ls h) d ∙ sym (turn-seen ls h d))

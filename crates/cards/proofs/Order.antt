@@ -13,7 +13,7 @@ use Rattle.bits.proofs.Lists.{length-list, list-at}
 use Rattle.sheets.specs.Edition.{recordSize}
 use Rattle.cards.specs.declared.stores.Store.{Store}
 use Rattle.cards.specs.Card.{desks, placeBytes, deskBytes, cardBytes, base, holder}
-use Rattle.cards.specs.Stores.{storing, made, upward, placeByte, statusByte, marking, filling, loadStores}
+use Rattle.cards.specs.Stores.{storing, stored, upward, placeByte, statusByte, marking, filling, loadStores}
 use Rattle.cards.specs.Stores.{storeCount, storeAt, onto}
 use Rattle.cards.proofs.Making.{Every, every-map, every-append, every-list, every-at, made-append}
 
@@ -90,8 +90,8 @@ module _ (d n : ℕ) (s : List ℕ) where
 
   -- one store more
   pub made-next : (c o : List ℕ) (t : Store) (first i : ℕ) → first ≤ i → i < storeCount → t ≡ storeAt d n s i
-      → o ≡ made (take (i - first) (drop first (loadStores d n s))) c
-      → set o (t .place) (t .byte) ≡ made (take (i + 1 - first) (drop first (loadStores d n s))) c
+      → o ≡ stored (take (i - first) (drop first (loadStores d n s))) c
+      → set o (t .place) (t .byte) ≡ stored (take (i + 1 - first) (drop first (loadStores d n s))) c
   made-next c o t first i h g q e =
       let l = drop first (loadStores d n s) in
       let j = i - first in
@@ -100,11 +100,11 @@ module _ (d n : ℕ) (s : List ℕ) where
       let w : getD l j (storing 0 0) ≡ t = getD-drop first (loadStores d n s) j (storing 0 0) ∙ ap (storeAt d n s) at
       ∙ sym q in
       ap (λ (y : List ℕ). set y (t .place) (t .byte)) e
-      ∙ sym (ap (λ (m : ℕ). made (take m l) c) k
-      ∙ ap (λ (u : List Store). made u c) (take-suc l j (storing 0 0)
+      ∙ sym (ap (λ (m : ℕ). stored (take m l) c) k
+      ∙ ap (λ (u : List Store). stored u c) (take-suc l j (storing 0 0)
       (omega (arith, length-drop first (loadStores d n s), length-load)))
       ∙ made-append (take j l) (getD l j (storing 0 0) ∷ []) c
-      ∙ ap (λ (y : Store). set (made (take j l) c) (y .place) (y .byte)) w)
+      ∙ ap (λ (y : Store). set (stored (take j l) c) (y .place) (y .byte)) w)
 
   -- ---- where they go
 

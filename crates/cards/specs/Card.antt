@@ -36,24 +36,26 @@ ownBytes c d = take deskBytes (drop (base d) c)
 
 -- ---- what a desk's own bytes say
 
--- the open mark comes first in the status record, then n, then the count of cells
+-- the open mark, which comes first in the status record
 abbrev pub openMark : List ℕ → ℕ
 openMark o = getD o placeBytes 0
 
-abbrev pub inputs : List ℕ → ℕ
-inputs o = getD o (placeBytes + 1) 0
+-- n, which comes next
+abbrev pub inputsOn : List ℕ → ℕ
+inputsOn o = getD o (placeBytes + 1) 0
 
-abbrev pub cells : List ℕ → ℕ
-cells o = getD o (placeBytes + 2) 0
+-- and the count of cells
+abbrev pub countOn : List ℕ → ℕ
+countOn o = getD o (placeBytes + 2) 0
 
 -- the sheet that it holds: as many records as the count says, from its first place on
 abbrev pub sheetOn : List ℕ → List ℕ
-sheetOn o = take (recordSize * cells o) o
+sheetOn o = take (recordSize * countOn o) o
 
 -- two desks agree in what is used: mark, n, count, and the places that the count says are used
 pub record SameUse (o p : List ℕ) : Type 0 where
   pub lengths : length o ≡ length p
   pub marks : openMark o ≡ openMark p
-  pub ns : inputs o ≡ inputs p
-  pub counts : cells o ≡ cells p
-  pub used : (j : ℕ) → j < recordSize * cells o → j < placeBytes → getD o j 0 ≡ getD p j 0
+  pub ns : inputsOn o ≡ inputsOn p
+  pub counts : countOn o ≡ countOn p
+  pub used : (j : ℕ) → j < recordSize * countOn o → j < placeBytes → getD o j 0 ≡ getD p j 0

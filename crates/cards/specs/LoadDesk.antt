@@ -6,7 +6,7 @@ use Rattle.refusals.specs.declared.verdicts.Verdict.{Verdict}
 use Rattle.refusals.specs.declared.verdicts.Verdict.the-variants.{Fine, Refused}
 use Rattle.refusals.specs.Lines.{Line, verdict, reply}
 use Rattle.cards.specs.declared.stores.Store.{Store}
-use Rattle.cards.specs.Stores.{made, loadStores}
+use Rattle.cards.specs.Stores.{stored, loadStores}
 use Rattle.cards.specs.Refusals.{badCard, badLoad, filedLines}
 
 -- 20, 19, 1, 9, 10 and 15
@@ -20,7 +20,7 @@ pub record LoadOutcome : Type 0 where
 
 -- done: the stores are made
 abbrev pub loadDone : List Store → List ℕ → LoadOutcome
-loadDone ts c = record { verdict = Fine; card = made ts c }
+loadDone ts c = record { verdict = Fine; card = stored ts c }
 
 -- refused: the card is as it was
 abbrev pub loadNot : List ℕ → Refusal → LoadOutcome

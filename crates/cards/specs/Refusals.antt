@@ -8,7 +8,7 @@ use lib.ListN.{length, getD}
 use Rattle.sheets.specs.Edition.{recordSize, mostRecords, firstEdition}
 use Rattle.refusals.specs.Lines.{Line, line}
 use Rattle.refusals.specs.Refusals.{badInputs, sheetLines, unreadRecord}
-use Rattle.cards.specs.Card.{desks, cardBytes, openMark, cells}
+use Rattle.cards.specs.Card.{desks, cardBytes, openMark, countOn}
 
 -- 20: a card of another length
 abbrev pub badCard : List ℕ → Line
@@ -36,7 +36,7 @@ closedDesk o = line 18 (not (eqb (openMark o) 1))
 
 -- 9 on running: a stored count outside 1 to 15
 abbrev pub badCount : List ℕ → Line
-badCount o = line 9 (not (leb 1 (cells o) && leb (cells o) mostRecords))
+badCount o = line 9 (not (leb 1 (countOn o) && leb (countOn o) mostRecords))
 
 -- a sheet for desk d and n inputs: 1, 9, 10 and 15
 abbrev pub filedLines : ℕ → ℕ → List ℕ → List Line

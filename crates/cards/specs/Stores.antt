@@ -16,9 +16,9 @@ abbrev pub storing : ℕ → ℕ → Store
 storing a b = record { place = a; byte = b }
 
 -- a card after some stores, the first of them made first
-abbrev pub made : List Store → List ℕ → List ℕ
-made [] c = c
-made (t ∷ ts) c = made ts (set c (t .place) (t .byte))
+abbrev pub stored : List Store → List ℕ → List ℕ
+stored [] c = c
+stored (t ∷ ts) c = stored ts (set c (t .place) (t .byte))
 
 -- k stores upward from place a: the values of f
 abbrev pub upward : ℕ → ℕ → (ℕ → ℕ) → List Store

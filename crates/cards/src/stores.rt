@@ -7,7 +7,7 @@ ghost use mathlib.Core.Path.{_≡_};
 ghost use Prim.Native.Nat.{_-_, _<_, _≤_};
 ghost use lib.ListN.{length, take, drop};
 ghost use Rattle.cards.specs.Card.{desks, placeBytes, cardBytes};
-ghost use Rattle.cards.specs.Stores.{placeByte, statusByte, storeCount, storeAt, loadStores, made};
+ghost use Rattle.cards.specs.Stores.{placeByte, statusByte, storeCount, storeAt, loadStores, stored};
 
 // One byte goes to one place of a card.
 pub struct Store {
@@ -76,7 +76,8 @@ pub fn make_stores(card: &mut [u8], d: usize, n: u8, s: &[u8], first: usize, end
         × (first ≤ end) × (end ≤ storeCount)
         ⌝ }
     ensures { λ r. ⌜
-        now (card .exit) ≡ made (take (end - first) (drop first (loadStores d n (now (s .entry))))) (now (card .entry))
+        now (card .exit)
+        ≡ stored (take (end - first) (drop first (loadStores d n (now (s .entry))))) (now (card .entry))
         ⌝ }
 {
     let mut i = first;

@@ -17,10 +17,10 @@ use Rattle.tables.proofs.Keeping.{kept-sees, two-kept, all-kept}
 use Rattle.choices.specs.Search.{choice, bestUpTo}
 use Rattle.choices.proofs.Best.{upto-best}
 use Rattle.choices.proofs.Counts.{upto-counts}
-use Rattle.chains.specs.Chain.{pick, signalsAfter, tableAfter, turn, chain}
+use Rattle.chains.specs.Chain.{pick, signalsAfter, tableAfter, step, chain}
 use Rattle.chains.specs.Aside.{keptSignals, keptTable, chainAside}
 use Rattle.chains.proofs.Lists.{pick-length}
-use Rattle.chains.proofs.View.{after-inputs, after-small, turn-same}
+use Rattle.chains.proofs.View.{after-inputs, after-small, step-same}
 
 pick-all : (n : ℕ) (s : ℕ → Bool) (l : List ℕ) → n ≤ length l → ((j : ℕ) → j < n → s j ≡ true) → pick n s l ≡ take n l
 unfolding pick
@@ -76,8 +76,8 @@ pub aside-plain : (m k K i : ℕ) (l : List ℕ) (T : ℕ) → T < 2 ^ (2 ^ leng
 unfolding chainAside chain
 aside-plain m zero K i l T small all = refl
 aside-plain m (suc k) K i l T small all =
-    ap₂ (turn m K i (chainAside m k K)) (signals-all l T all) (table-all l T all small)
-    ∙ turn-same m K i (chainAside m k K) (chain m k K) l T (λ _ r A B e.
+    ap₂ (step m K i (chainAside m k K)) (signals-all l T all) (table-all l T all small)
+    ∙ step-same m K i (chainAside m k K) (chain m k K) l T (λ _ r A B e.
     aside-plain m k K (i + r) (signalsAfter l r A B i) (tableAfter l T r A B) (after-small l T r A B i)
     (next-all m K i l T r A B all e))
 
@@ -88,6 +88,6 @@ unfolding chainAside chain
 aside-once m k K i l T p =
     let s = keptSignals l T in
     let U = keptTable l T in
-    turn-same m K i (chainAside m k K) (chain m k K) s U (λ h r A B e.
+    step-same m K i (chainAside m k K) (chain m k K) s U (λ h r A B e.
     aside-plain m k K (i + r) (signalsAfter s r A B i) (tableAfter s U r A B) (after-small s U r A B i)
     (next-all m K i s U r A B (kept-counts l T (omega arith)) e))

@@ -25,7 +25,7 @@ use Rattle.sheets.specs.declared.kinds.Edition.{Edition}
 use Rattle.sheets.specs.Edition.{IsEdition, editionOf}
 use Rattle.sheets.specs.Network.{Cell, output, run, Gives, Carries}
 use Rattle.sheets.proofs.Wiring.{cells-length}
-use Rattle.chains.specs.Chain.{pick, turn, stuck, made}
+use Rattle.chains.specs.Chain.{pick, step, stuck, made}
 use Rattle.chains.specs.Aside.{keptSignals, keptTable, chainAside, cellsAside}
 use Rattle.fewest.specs.Fewest.{Fewest}
 use Rattle.chains.proofs.Aside.{sheet-stuck}
@@ -37,7 +37,7 @@ use Rattle.refusals.proofs.Lent.{form-leaves}
 use Rattle.refusals.proofs.Tests.{Sound, sound}
 use Rattle.bounds.specs.declared.bound_cells.BoundAnswer.{BoundAnswer}
 use Rattle.bounds.specs.Bound.{counted, Bound}
-use Rattle.bounds.specs.Least.{leastCells}
+use Rattle.bounds.specs.Least.{cellBound}
 use Rattle.bounds.specs.BoundCells.{BoundOutcome, boundDone, boundNot, boundLines, boundOutcome}
 use Rattle.bounds.proofs.Bound.{least-bound}
 use Rattle.bounds.proofs.Sound.{bound-sound, bound-once, bound-reaches, bound-asks, bound-fewest, bound-made}
@@ -247,8 +247,8 @@ five-carried = record {
 }
 
 -- the bound is 3: they are the fewest
-five-bound : leastCells 5 3 (tableBit five) ≡ 3
-unfolding leastCells bestCounting spread best first tryA tryB disjoint fewColumns columns column assign firsts number
+five-bound : cellBound 5 3 (tableBit five) ≡ 3
+unfolding cellBound bestCounting spread best first tryA tryB disjoint fewColumns columns column assign firsts number
     size gather support counts tableOver least
 five-bound = refl
 
@@ -261,7 +261,7 @@ five-fewest =
 
 -- and make is refused as 8, in every edition and for every desk
 five-stuck : sheetFor 5 3 five ≡ stuck
-unfolding cellsAside chainAside turn firstOver keptSignals keptTable kept support counts tableOver pick listOf best
+unfolding cellsAside chainAside step firstOver keptSignals keptTable kept support counts tableOver pick listOf best
     first tryA tryB disjoint fewColumns tableD tableH codeAt code bitH columns column assign firsts number size gather
     spread least
 five-stuck = refl

@@ -15,7 +15,7 @@ use Rattle.refusals.specs.Lines.{refusal}
 use Rattle.running.specs.RunSheet.{runNot, runOutcome, runOwn}
 use Rattle.cards.specs.declared.stores.Store.{Store}
 use Rattle.cards.specs.Card.{desks, cardBytes, ownBytes, SameUse}
-use Rattle.cards.specs.Stores.{made, loadStores, storeCount, storeAt, cutLoad, oneStore, onto, Holds}
+use Rattle.cards.specs.Stores.{stored, loadStores, storeCount, storeAt, cutLoad, oneStore, onto, Holds}
 use Rattle.cards.specs.LoadDesk.{partOutcome, loadOutcome}
 use Rattle.cards.specs.LoadCut.{cutOutcome}
 use Rattle.cards.specs.LoadStore.{storeOutcome}
@@ -34,7 +34,7 @@ use Rattle.claims.proofs.CardsLoad.{load-says, load-made, load-accepted
 
 -- Loads are asked for, each of any desk, any n and any sheet. Let the stores of those that are accepted come in any
 -- order that keeps each desk's own, one load after another: the card ends as one call after another leaves it.
-pub mingled-loads : (ls : List Load) (c : List ℕ) (w : List Store) → Mingling (waiting (accepted c ls)) w → made w c
+pub mingled-loads : (ls : List Load) (c : List ℕ) (w : List Store) → Mingling (waiting (accepted c ls)) w → stored w c
     ≡ called ls c
 mingled-loads = mingled-calls
 
@@ -54,12 +54,12 @@ pub accepted-anyhow : (ts us : List Store) (c e : List ℕ) (d n : ℕ) (s : Lis
 accepted-anyhow ts us c e d n s q = load-says ts c d n s ∙ load-verdict c e d n s q ∙ sym (load-says us e d n s)
 
 -- So in the midst of a mingling the same loads are accepted as before it.
-pub accepted-midway : (ls : List Load) (c : List ℕ) (u : List Store) → accepted (made u c) ls ≡ accepted c ls
-accepted-midway ls c u = accepted-alike ls (made u c) c (made-length u c)
+pub accepted-midway : (ls : List Load) (c : List ℕ) (u : List Store) → accepted (stored u c) ls ≡ accepted c ls
+accepted-midway ls c u = accepted-alike ls (stored u c) c (made-length u c)
 
 -- After any stores, from anywhere, a desk answers as if only those into it had been made,
-pub answers-alone : (u : List Store) (c : List ℕ) (d x : ℕ) → runDeskOutcome (made u c) d x
-    ≡ runDeskOutcome (made (onto d u) c) d x
+pub answers-alone : (u : List Store) (c : List ℕ) (d x : ℕ) → runDeskOutcome (stored u c) d x
+    ≡ runDeskOutcome (stored (onto d u) c) d x
 answers-alone = answers-own
 
 -- and in the midst of a mingling these are the beginning of its own loads.
@@ -69,10 +69,10 @@ midway ls c w m k d = beginning-seen m (waits-own (accepted c ls) (numbered ls c
 
 -- So it answers as if a beginning of its own loads had been made, and nothing else.
 pub midway-answers : (ls : List Load) (c : List ℕ) (w : List Store) → Mingling (waiting (accepted c ls)) w → (k d x : ℕ)
-    → runDeskOutcome (made (take k w) c) d x ≡ runDeskOutcome
-    (made (take (length (onto d (take k w))) (waiting (accepted c ls) d)) c) d x
+    → runDeskOutcome (stored (take k w) c) d x ≡ runDeskOutcome
+    (stored (take (length (onto d (take k w))) (waiting (accepted c ls) d)) c) d x
 midway-answers ls c w m k d x = answers-own (take k w) c d x
-    ∙ ap (λ (u : List Store). runDeskOutcome (made u c) d x) (midway ls c w m k d)
+    ∙ ap (λ (u : List Store). runDeskOutcome (stored u c) d x) (midway ls c w m k d)
 
 -- ---- a desk's own bytes
 
@@ -104,7 +104,7 @@ module _ (a b : ℕ) (c : List ℕ) (d n : ℕ) (s : List ℕ) (f : ℕ) (other 
   pub bytes-stay : 1 ≤ f → f ≤ desks → ownBytes (partOutcome part c d n s .card) f ≡ ownBytes c f
   bytes-stay l m =
       load-either part c d n s (λ e. ownBytes e f ≡ ownBytes c f) refl
-      (λ w. own-made part c f (w .long) l m ∙ ap (λ (v : List Store). ownBytes (made v c) f)
+      (λ w. own-made part c f (w .long) l m ∙ ap (λ (v : List Store). ownBytes (stored v c) f)
       (onto-other d f part other (elsewhere (w .least))))
 
 -- ---- a load that is accepted, and cut
@@ -113,7 +113,7 @@ module _ (c : List ℕ) (d n : ℕ) (s : List ℕ) (done : loadOutcome c d n s .
   okay : Accepted c d n s
   okay = load-accepted (loadStores d n s) c d n s done
 
-  cut-made : (ts : List Store) → partOutcome ts c d n s .card ≡ made ts c
+  cut-made : (ts : List Store) → partOutcome ts c d n s .card ≡ stored ts c
   cut-made ts = load-made ts c d n s (accepted-anyhow ts (loadStores d n s) c c d n s refl ∙ done)
 
   -- Where no store was made the card is as before.
@@ -131,7 +131,7 @@ module _ (c : List ℕ) (d n : ℕ) (s : List ℕ) (done : loadOutcome c d n s .
       ≡ runOutcome firstEdition d n s x
   cut-opened k x h =
       ap (λ (e : List ℕ). runDeskOutcome e d x) (cut-made (cutLoad k d n s)
-      ∙ ap (λ (u : List Store). made u c) (take-all k (loadStores d n s) (omega (arith, length-load d n s))))
+      ∙ ap (λ (u : List Store). stored u c) (take-all k (loadStores d n s) (omega (arith, length-load d n s))))
       ∙ load-answers c d n s okay x
 
   pub loaded-answers : (x : ℕ) → runDeskOutcome (loadOutcome c d n s .card) d x ≡ runOutcome firstEdition d n s x

@@ -17,7 +17,7 @@ use Rattle.refusals.specs.Lines.{refusal, InOrder, verdict, numberOf, placeOf}
 use Rattle.refusals.specs.Refusals.{badInputs, badSheet, sheetLines, unreadRecord}
 use Rattle.refusals.proofs.Lines.{in-order}
 use Rattle.cards.specs.declared.stores.Store.{Store}
-use Rattle.cards.specs.Stores.{made}
+use Rattle.cards.specs.Stores.{stored}
 use Rattle.cards.specs.Refusals.{badCard, badLoad}
 use Rattle.cards.specs.LoadDesk.{LoadOutcome, loadLines, loadDone, loadNot, partOutcome}
 use Rattle.cards.proofs.Desks.{Accepted, accepts}
@@ -43,7 +43,7 @@ module _ (ts : List Store) (c : List ℕ) (d n : ℕ) (s : List ℕ) where
       (verdict (loadLines c d n s)) r h)
 
   -- done: the stores are made
-  pub load-made : partOutcome ts c d n s .verdict ≡ Fine → partOutcome ts c d n s .card ≡ made ts c
+  pub load-made : partOutcome ts c d n s .verdict ≡ Fine → partOutcome ts c d n s .card ≡ stored ts c
   unfolding partOutcome
   load-made h = ap (λ o. o .card) (is-done (λ (o : LoadOutcome). o .verdict) (loadDone ts c) (loadNot c) refl
       (λ q. refl) (verdict (loadLines c d n s)) h)
@@ -53,7 +53,8 @@ module _ (ts : List Store) (c : List ℕ) (d n : ℕ) (s : List ℕ) where
   load-accepted h = accepts c d n s (in-order (loadLines c d n s) (sym load-says ∙ h))
 
   -- so what holds of the card as it was, and of an accepted load's stores made on it, holds of the card afterwards
-  pub load-either : (P : List ℕ → Type 0) → P c → (Accepted c d n s → P (made ts c)) → P (partOutcome ts c d n s .card)
+  pub load-either : (P : List ℕ → Type 0) → P c → (Accepted c d n s → P (stored ts c))
+      → P (partOutcome ts c d n s .card)
   load-either P same new = go (partOutcome ts c d n s .verdict) refl
     where
       go : (v : Verdict) → partOutcome ts c d n s .verdict ≡ v → P (partOutcome ts c d n s .card)

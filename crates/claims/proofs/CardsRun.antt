@@ -17,7 +17,7 @@ use Rattle.refusals.proofs.Lines.{held}
 use Rattle.refusals.proofs.Sheets.{unread-named}
 use Rattle.running.specs.declared.run_sheet.RunAnswer.{RunAnswer}
 use Rattle.running.specs.RunSheet.{runDone, runNot}
-use Rattle.cards.specs.Card.{ownBytes, inputs, sheetOn}
+use Rattle.cards.specs.Card.{ownBytes, inputsOn, sheetOn}
 use Rattle.cards.specs.Refusals.{badCard, missingDesk, closedDesk, badCount}
 use Rattle.cards.specs.RunDesk.{runDeskLines, runDeskOutcome}
 use Rattle.cards.proofs.Desks.{run-by-lines}
@@ -28,7 +28,7 @@ use Rattle.claims.proofs.Sheets.{index-first}
 module _ (c : List ℕ) (d x : ℕ) where
   -- n and the sheet, as the desk's own bytes say
   abbrev n : ℕ
-  n = inputs (ownBytes c d)
+  n = inputsOn (ownBytes c d)
 
   abbrev s : List ℕ
   s = sheetOn (ownBytes c d)

@@ -37,7 +37,7 @@ use Rattle.settling.specs.Slack.{slackLines, slackOutcome, slackOwn}
 use Rattle.printing.specs.Printable.{notPrinted}
 use Rattle.printing.specs.WriteFormula.{shortText, writeLines, writeOutcome, writeOwn}
 use Rattle.inspection.specs.CheckSheet.{tableLines, checkOutcome, checkOwn}
-use Rattle.comparing.specs.Shorter.{kept, keptOutcome}
+use Rattle.comparing.specs.Shorter.{whichKept, keptOutcome}
 use Rattle.claims.specs.Words.{AllBytes, recordsOf, OtherDesk}
 use Rattle.claims.specs.Before.{makeDeskless, keptDeskless}
 use Rattle.claims.proofs.Sheets.{amiss-exactly}
@@ -168,7 +168,8 @@ module _ (e : Edition) (n : ℕ) (s : List ℕ) (bench : deskAt e s 0 ≡ 0) whe
 pub kept-deskless : (e : Edition) (n : ℕ) (t x y : List ℕ) → deskAt e x 0 ≡ 0 → deskAt e y 0 ≡ 0 → keptOutcome e n t x y
     ≡ keptDeskless e n t x y
 unfolding keptOutcome
-kept-deskless e n t x y p q = ap₂ (λ (v w : Verdict). kept v w (records e x) (records e y)) (check-deskless e n x p t)
+kept-deskless e n t x y p q =
+    ap₂ (λ (v w : Verdict). whichKept v w (records e x) (records e y)) (check-deskless e n x p t)
     (check-deskless e n y q t)
 
 -- and make for bench use is make as it was

@@ -23,7 +23,7 @@ use Rattle.sheets.specs.Record.{cellOf, spareOk, byteOk, keeps}
 use Rattle.sheets.specs.Sheet.{cellsFrom, sheetBit, rebuilt}
 use Rattle.sheets.specs.Writing.{recordByte, encode}
 use Rattle.choices.specs.Search.{firstOver}
-use Rattle.chains.specs.Chain.{pick, turn}
+use Rattle.chains.specs.Chain.{pick, step}
 use Rattle.chains.specs.Aside.{keptSignals, keptTable, chainAside, cellsAside}
 use Rattle.splitting.specs.TrySplit.{tryOutcome}
 use Rattle.finding.specs.FindBest.{findOutcome}
@@ -33,7 +33,7 @@ use Rattle.rebuilding.specs.RebuildTable.{rebuildOutcome}
 use Rattle.bench.specs.MakeSheet.{makeOutcome}
 use Rattle.programs.specs.BenchProgram.{asked}
 use Rattle.values.specs.Formula.{value}
-use Rattle.formulas.specs.Reading.{reads, textOf}
+use Rattle.formulas.specs.Reading.{reader, textOf}
 use Rattle.formulas.specs.ReadFormula.{readOutcome}
 use Rattle.printing.specs.Print.{inTurn, printed}
 use Rattle.printing.specs.WriteFormula.{writeOutcome}
@@ -143,8 +143,8 @@ listing =
     ∷ []
 
 pub examples : answers listing ≡ expected listing
-unfolding listing asked deskOf readOutcome textOf reads value writeOutcome inTurn printed tryOutcome findOutcome
-    makeOutcome runOutcome rebuildOutcome cellsAside chainAside turn firstOver keptSignals keptTable kept support counts
+unfolding listing asked deskOf readOutcome textOf reader value writeOutcome inTurn printed tryOutcome findOutcome
+    makeOutcome runOutcome rebuildOutcome cellsAside chainAside step firstOver keptSignals keptTable kept support counts
     tableOver bestCounting pick listOf best first tryA tryB disjoint fewColumns firstBroken tableD tableH bytesH codeAt
     code bitH columns column assign firsts number size gather spread least spareClear tableOf joined output run cellOf
     spareOk byteOk keeps cellsFrom sheetBit rebuilt recordByte encode

@@ -20,7 +20,7 @@ use Rattle.refusals.proofs.Sheets.{counted, sheet-fine}
 use Rattle.bench.specs.MakeSheet.{makeOutcome}
 use Rattle.values.specs.Formula.{Formula, value}
 use Rattle.formulas.specs.Text.{mostText, ReadAs}
-use Rattle.formulas.specs.Reading.{Answer, textOf, valueIn}
+use Rattle.formulas.specs.Reading.{TextAnswer, textOf, valueIn}
 use Rattle.formulas.specs.ReadFormula.{readOutcome}
 use Rattle.formulas.proofs.Place.{read-as}
 use Rattle.printing.specs.Print.{sheetText, formulaOf}
@@ -52,7 +52,7 @@ module _ (e : Edition) (ok : IsEdition e) (d n : ℕ) (s room : List ℕ)
     where
       back : (F : Formula) → ReadAs n (sheetText e n s) F → ((x : ℕ) → value F x ≡ sheetBit e n s (records e s) x)
           → tableOf n (valueIn (textOf n (sheetText e n s))) ≡ rebuilt e n s (records e s)
-      back F r worth = same (ap (λ (a : Answer). valueIn a) (read-as n (sheetText e n s) F .1 r) ∙ fun-ext worth)
+      back F r worth = same (ap (λ (a : TextAnswer). valueIn a) (read-as n (sheetText e n s) F .1 r) ∙ fun-ext worth)
         where
           same : valueIn (textOf n (sheetText e n s)) ≡ sheetBit e n s (records e s)
               → tableOf n (valueIn (textOf n (sheetText e n s))) ≡ rebuilt e n s (records e s)

@@ -16,7 +16,7 @@ use Rattle.refusals.specs.Refusals.{badInputs, badTable}
 use Rattle.refusals.proofs.Lines.{passes, not-fine}
 use Rattle.values.specs.Formula.{Formula, value}
 use Rattle.formulas.specs.Text.{ReadAs, RefusedAt}
-use Rattle.formulas.specs.Reading.{Answer, formula, refused, textOf, valueIn}
+use Rattle.formulas.specs.Reading.{TextAnswer, formula, refused, textOf, valueIn}
 use Rattle.formulas.specs.Refusals.{isRefused, placeIn, badText}
 use Rattle.formulas.specs.ReadFormula.{ReadOutcome, readLines, readDone, readNot, readOutcome}
 use Rattle.formulas.proofs.Place.{read-as, refused-at, one-formula}
@@ -25,15 +25,15 @@ use Rattle.claims.proofs.Verdicts.{says-verdict, is-done, is-refused, b
 use Rattle.claims.proofs.Tables.{spare-zero}
 
 -- line 16 of an answer
-line16 : Answer → Verdict
+line16 : TextAnswer → Verdict
 line16 a = verdict (naming 16 (placeIn a) (isRefused a) ∷ [])
 
-fine-formula : (a : Answer) → line16 a ≡ Fine → (F : Formula) × (a ≡ formula F)
+fine-formula : (a : TextAnswer) → line16 a ≡ Fine → (F : Formula) × (a ≡ formula F)
 unfolding line16
 fine-formula (formula F) e = (F, refl)
 fine-formula (refused p) e = absurd (not-fine (refusal 16 p) (sym e))
 
-refused-place : (a : Answer) (p : ℕ) → line16 a ≡ Refused (refusal 16 p) → a ≡ refused p
+refused-place : (a : TextAnswer) (p : ℕ) → line16 a ≡ Refused (refusal 16 p) → a ≡ refused p
 unfolding line16
 refused-place (formula F) p e = absurd (not-fine (refusal 16 p) e)
 refused-place (refused q) p e = ap (λ (v : Verdict). refused (placeOf v)) e
@@ -108,7 +108,7 @@ module _ (n : ℕ) (s table : List ℕ) where
         ≡ value F x
     read-table F r x h =
         ap (λ (l : List ℕ). tableBit l x) read-whole ∙ table-of n (valueIn (textOf n s)) x h
-        ∙ ap (λ (a : Answer). valueIn a x) (read-as n s F .1 r)
+        ∙ ap (λ (a : TextAnswer). valueIn a x) (read-as n s F .1 r)
 
     -- it is written whole
     pub read-length : length (readOutcome n s table .table) ≡ tableLength n

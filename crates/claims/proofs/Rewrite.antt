@@ -21,7 +21,7 @@ use Rattle.refusals.specs.declared.verdicts.Refusal.{Refusal}
 use Rattle.refusals.specs.declared.verdicts.Verdict.{Verdict}
 use Rattle.refusals.specs.declared.verdicts.Verdict.the-variants.{Fine, Refused}
 use Rattle.refusals.specs.Lines.{refusal, InOrder, verdict, numberOf, placeOf, reply}
-use Rattle.refusals.specs.Refusals.{badInputs, badTable, badSheet, shortRecords, unreadRecord, readLines}
+use Rattle.refusals.specs.Refusals.{badInputs, badTable, badSheet, shortRecords, unreadRecord, readSheetLines}
 use Rattle.refusals.proofs.Lines.{passes, lapses, in-order}
 use Rattle.refusals.proofs.Sheets.{good-sheet, sheet-fine, counted, all-read, read-fine}
 use Rattle.rebuilding.specs.RebuildTable.{rebuildDone, rebuildNot, rebuildOutcome, rebuildOwn}
@@ -53,8 +53,8 @@ module _ (e f : Edition) (d n : ℕ) (s room : List ℕ) where
       → rewriteOutcome e f d n s room .answer .verdict ≡ rebuildOutcome e d n s table .verdict
   rewrite-as-rebuild table h g =
       let after : Verdict → Verdict = λ v. cond (badInputs n .holds) (Refused (badInputs n .gives)) v in
-      rewrite-says ∙ ap after (passes (shortRecords f room ∷ []) (readLines e d n s) (h, tt)
-      ∙ sym (passes (badTable n table ∷ []) (readLines e d n s) (g, tt)))
+      rewrite-says ∙ ap after (passes (shortRecords f room ∷ []) (readSheetLines e d n s) (h, tt)
+      ∙ sym (passes (badTable n table ∷ []) (readSheetLines e d n s) (g, tt)))
       ∙ sym (rebuild-says e d n s table)
 
   -- refused: the count is 0, and the room is as it was lent
@@ -131,8 +131,8 @@ good-rebuilt e ok d n s m inputs g r table =
     let w = sheet-fine e d n s ok m g in
     let u = read-fine e n s (subst (EachRead e n s) (sym q) r) in
     ap (λ (v : Verdict). reply v (rebuildDone e n s) (rebuildNot table))
-    (passes (badInputs n ∷ []) (badTable n table ∷ readLines e d n s) (inputs, tt)
-    ∙ lapses (badTable n table ∷ []) (readLines e d n s) (w .0, (w .1 .0, (u, tt))))
+    (passes (badInputs n ∷ []) (badTable n table ∷ readSheetLines e d n s) (inputs, tt)
+    ∙ lapses (badTable n table ∷ []) (readSheetLines e d n s) (w .0, (w .1 .0, (u, tt))))
     ∙ ap (λ (k : ℕ). reply (verdict (badTable n table ∷ [])) (record { verdict = Fine; table = rebuilt e n s k })
     (rebuildNot table)) q
 

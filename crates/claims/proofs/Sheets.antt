@@ -17,7 +17,7 @@ use Rattle.sheets.specs.Record.{keeps}
 use Rattle.sheets.specs.Sheet.{records, recordAt, bad, firstBad, sheetBit, rebuilt, Good}
 use Rattle.sheets.specs.Desk.{deskOf, FirstAmiss}
 use Rattle.sheets.specs.Reading.{EachRead, IsFirstUnread, firstUnread}
-use Rattle.sheets.proofs.Keeping.{rules, kept}
+use Rattle.sheets.proofs.Keeping.{rules, rules-kept}
 use Rattle.sheets.proofs.Desks.{bad-amiss, amiss-bad}
 use Rattle.sheets.proofs.Unread.{unread-first}
 use Rattle.refusals.specs.declared.verdicts.Verdict.{Verdict}
@@ -40,7 +40,7 @@ module _ (e : Edition) (ok : IsEdition e) (d n : ℕ) (s : List ℕ) where
       let l = ltb-true i m h in
       record {
         within = l;
-        breaks = λ r. clash (w .here l) (ap not (kept e ok d (n + i) (recordAt e s i) r));
+        breaks = λ r. clash (w .here l) (ap not (rules-kept e ok d (n + i) (recordAt e s i) r));
         before = λ j g. rules e ok d (n + j) (recordAt e s j)
             (not-false (keeps e d (n + j) (recordAt e s j)) (w .before j g));
       }

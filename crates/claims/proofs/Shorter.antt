@@ -18,7 +18,7 @@ use Rattle.refusals.specs.Lines.{numberOf}
 use Rattle.refusals.proofs.Lines.{not-fine, another}
 use Rattle.comparing.specs.declared.shorter.Kept.{Kept}
 use Rattle.inspection.specs.CheckSheet.{checkLines, checkOutcome, checkOwn}
-use Rattle.comparing.specs.Shorter.{kept, keptOutcome, partOf, shorterOutcome, Shortest}
+use Rattle.comparing.specs.Shorter.{whichKept, keptOutcome, partOf, shorterOutcome, Shortest}
 
 -- the three ways it can go, by the verdicts a and b and the numbers of records i and j: which is kept, and what the
 -- call beside says
@@ -27,7 +27,7 @@ data Goes (a b : Verdict) (i j : ℕ) : ℕ → Verdict → Type 0 where
   second : b ≡ Fine → (a ≡ Fine → j < i) → Goes a b i j 2 Fine
   neither : (r s : Refusal) → a ≡ Refused r → b ≡ Refused s → Goes a b i j 0 (Refused r)
 
-goes : (a b : Verdict) (i j : ℕ) → Goes a b i j (kept a b i j .which) (kept a b i j .verdict)
+goes : (a b : Verdict) (i j : ℕ) → Goes a b i j (whichKept a b i j .which) (whichKept a b i j .verdict)
 goes Fine Fine i j = go (leb i j) refl
   where
     go : (t : Bool) → leb i j ≡ t → Goes Fine Fine i j (cond t 1 2) Fine

@@ -21,7 +21,7 @@ use Rattle.rebuilding.specs.RebuildTable.{RebuildOutcome, rebuildForm, rebuildD
 use Rattle.bench.specs.MakeSheet.{MakeOutcome, sheetFor, cellsIn, makeForm, makeDone, makeNot}
 use Rattle.comparing.specs.declared.shorter.Kept.{Kept}
 use Rattle.inspection.specs.CheckSheet.{tableLines, againstLines, checkOutcome}
-use Rattle.comparing.specs.Shorter.{kept}
+use Rattle.comparing.specs.Shorter.{whichKept}
 
 -- 7 where n is at most K, and the best split of the whole table
 abbrev pub findBefore : Edition → ℕ → ℕ → List ℕ → List ℕ → FindOutcome
@@ -57,4 +57,4 @@ makeDeskless e n K t sheet work =
 
 -- both sheets for bench use
 abbrev pub keptDeskless : Edition → ℕ → List ℕ → List ℕ → List ℕ → Kept
-keptDeskless e n t x y = kept (checkOutcome e 0 n t x) (checkOutcome e 0 n t y) (records e x) (records e y)
+keptDeskless e n t x y = whichKept (checkOutcome e 0 n t x) (checkOutcome e 0 n t y) (records e x) (records e y)

@@ -10,7 +10,7 @@ use lib.Bits.{bitAnd}
 use lib.Dec.{lit<}
 use lib.Pow.{pow-add, pow-pos}
 use Rattle.bits.specs.Numbers.{bit}
-use Rattle.bits.specs.Sets.{wordPositions, partOf, size, gather, spread}
+use Rattle.bits.specs.Sets.{wordPositions, isSubset, size, gather, spread}
 use Rattle.bits.proofs.Below.{every-at, every-all}
 use Rattle.bits.proofs.Bools.{clash, false-of, beq-same, same-beq}
 use Rattle.bits.proofs.Machine.{part-spread, masked-bits, bits-masked}
@@ -31,11 +31,11 @@ step n L v = spread n (bit (highPart L)) v
 -- two columns agree in word v
 abbrev pub Even : ℕ → ℕ → (ℕ → Bool) → ℕ → ℕ → ℕ → Type 0
 Even n L F x y v =
-    (k : ℕ) → k < 64 → partOf wordPositions (bit L) k ≡ true → F (x + step n L v + k) ≡ F (y + step n L v + k)
+    (k : ℕ) → k < 64 → isSubset wordPositions (bit L) k ≡ true → F (x + step n L v + k) ≡ F (y + step n L v + k)
 
 module _ (n L : ℕ) (below : L < 2 ^ n) where
   -- with a place within the word it is a part of all
-  module _ (v k : ℕ) (l : k < 64) (part : partOf wordPositions (bit L) k ≡ true) where
+  module _ (v k : ℕ) (l : k < 64) (part : isSubset wordPositions (bit L) k ≡ true) where
     z-part : (j : ℕ) → bit (step n L v + k) j ≡ true → bit L j ≡ true
     z-part j e = elim (decLt j wordPositions) [
       | yes h ↦
@@ -62,7 +62,7 @@ module _ (n L : ℕ) (below : L < 2 ^ n) where
     abbrev word : ℕ
     word = gather n (bit (highPart L)) (highPart z)
 
-    place-part : partOf wordPositions (bit L) (z % 64) ≡ true
+    place-part : isSubset wordPositions (bit L) (z % 64) ≡ true
     place-part = part-all wordPositions (bit L) (z % 64)
         (λ j l e. spread-part n L c j (sym (bit-mod z wordPositions j l) ∙ e))
 
@@ -112,7 +112,7 @@ module _ (n L : ℕ) (below : L < 2 ^ n) where
           omega (arith, at, read-lt n (highPart L) x clear v)
 
       -- a place is within the word
-      place-fits : (k : ℕ) → k < 64 → partOf wordPositions (bit L) k ≡ true → (x + f) % 64 + k < 64
+      place-fits : (k : ℕ) → k < 64 → isSubset wordPositions (bit L) k ≡ true → (x + f) % 64 + k < 64
       place-fits k l part =
           omega (
             arith,
@@ -136,11 +136,11 @@ module _ (n L : ℕ) (below : L < 2 ^ n) where
         (at-y : (k : ℕ) → (y + f) % 64 + k < 64 → bit b k ≡ F (y + f + k)) where
       low-lt : low < 2 ^ 64
       unfolding lowPlaces
-      low-lt = omega (arith, is, number-lt 64 (partOf wordPositions (bit L)))
+      low-lt = omega (arith, is, number-lt 64 (isSubset wordPositions (bit L)))
 
-      low-bit : (k : ℕ) → k < 64 → bit low k ≡ partOf wordPositions (bit L) k
+      low-bit : (k : ℕ) → k < 64 → bit low k ≡ isSubset wordPositions (bit L) k
       unfolding lowPlaces
-      low-bit k l = ap (λ (m : ℕ). bit m k) is ∙ bit-number 64 (partOf wordPositions (bit L)) k l
+      low-bit k l = ap (λ (m : ℕ). bit m k) is ∙ bit-number 64 (isSubset wordPositions (bit L)) k l
 
       pub equal-even : bitAnd a low ≡ bitAnd b low → Even n L F x y v
       equal-even e k l part =
@@ -151,6 +151,6 @@ module _ (n L : ℕ) (below : L < 2 ^ n) where
       pub even-equal : Even n L F x y v → bitAnd a low ≡ bitAnd b low
       even-equal h =
           bits-masked 64 low a b low-lt (λ k l e.
-          let part : partOf wordPositions (bit L) k ≡ true = sym (low-bit k l) ∙ e in
+          let part : isSubset wordPositions (bit L) k ≡ true = sym (low-bit k l) ∙ e in
           at-x k (place-fits wx k l part) ∙ ap (λ (g : ℕ). F (x + g + k)) at ∙ h k l part
           ∙ ap (λ (g : ℕ). F (y + g + k)) (sym at) ∙ sym (at-y k (place-fits wy k l part)))

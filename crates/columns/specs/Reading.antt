@@ -5,7 +5,7 @@ use mathlib.Core.List.{List, map}
 use Prim.Native.Nat.{ℕ, _+_, _*_, _/_, _^_, _<_, _≤_}
 use lib.ListN.{length, getD, take}
 use Rattle.bits.specs.Numbers.{bit, number}
-use Rattle.bits.specs.Sets.{wordPositions, partOf, rest, Apart, size, gather, spread}
+use Rattle.bits.specs.Sets.{wordPositions, isSubset, rest, Apart, size, gather, spread}
 use Rattle.bits.specs.Below.{every}
 use Rattle.tables.specs.Table.{mostInputs}
 use Rattle.columns.specs.declared.split.Split.{Split}
@@ -18,7 +18,7 @@ highPart L = L / 2 ^ wordPositions * 2 ^ wordPositions
 
 -- and the places within a word that the members below 6 make
 unfoldable pub lowPlaces : ℕ → ℕ
-lowPlaces L = number (2 ^ wordPositions) (partOf wordPositions (bit L))
+lowPlaces L = number (2 ^ wordPositions) (isSubset wordPositions (bit L))
 
 -- a split of masks: the free mask follows from the two, and how the free inputs are read by words follows from it
 pub record Held (s : Split) : Type 0 where

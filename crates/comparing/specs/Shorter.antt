@@ -14,15 +14,15 @@ use Rattle.inspection.specs.CheckSheet.{checkOwn}
 
 -- which of two sheets is kept (0 none, 1 the first, 2 the second), and the verdict of the call beside, by what the
 -- check says of each and by their numbers of records: of those accepted the one with fewer, the first on a tie
-abbrev pub kept : Verdict → Verdict → ℕ → ℕ → Kept
-kept Fine Fine i j = record { which = cond (leb i j) 1 2; verdict = Fine }
-kept Fine (Refused s) i j = record { which = 1; verdict = Fine }
-kept (Refused r) Fine i j = record { which = 2; verdict = Fine }
-kept (Refused r) (Refused s) i j = record { which = 0; verdict = Refused r }
+abbrev pub whichKept : Verdict → Verdict → ℕ → ℕ → Kept
+whichKept Fine Fine i j = record { which = cond (leb i j) 1 2; verdict = Fine }
+whichKept Fine (Refused s) i j = record { which = 1; verdict = Fine }
+whichKept (Refused r) Fine i j = record { which = 2; verdict = Fine }
+whichKept (Refused r) (Refused s) i j = record { which = 0; verdict = Refused r }
 
 -- the same of two sheets x and y for the table t, each for its own desk, whatever is handed over
 unfoldable pub keptOutcome : Edition → ℕ → List ℕ → List ℕ → List ℕ → Kept
-keptOutcome e n t x y = kept (checkOwn e n t x) (checkOwn e n t y) (records e x) (records e y)
+keptOutcome e n t x y = whichKept (checkOwn e n t x) (checkOwn e n t y) (records e x) (records e y)
 
 -- the bytes of the one named, and none where none is
 abbrev pub partOf : ℕ → List ℕ → List ℕ → List ℕ

@@ -4,7 +4,7 @@ use refusals::verdicts::Verdict;
 use sheets::kinds::Edition;
 ghost use mathlib.Core.Path.{_≡_};
 ghost use Rattle.sheets.specs.Edition.{IsEdition, firstEdition};
-ghost use Rattle.comparing.specs.Shorter.{kept, keptOutcome, partOf, shorterOutcome};
+ghost use Rattle.comparing.specs.Shorter.{whichKept, keptOutcome, partOf, shorterOutcome};
 
 // Which of two sheets is kept, and what the call beside says.
 pub struct Kept {
@@ -16,7 +16,7 @@ pub struct Kept {
 
 // By what the check says of each, and their numbers of records.
 fn keep(first: Verdict, second: Verdict, i: usize, j: usize) -> Kept
-    ensures { λ r. ⌜ r ≡ kept first second i j ⌝ }
+    ensures { λ r. ⌜ r ≡ whichKept first second i j ⌝ }
 {
     let Verdict::Fine = first else {
         let Verdict::Fine = second else {

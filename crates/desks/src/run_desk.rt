@@ -56,7 +56,7 @@ fn own_form(o: &[u8], d: u8, x: u64) -> Verdict
 }
 
 // What desk d with the bytes o answers at the assignment x.
-fn run_own(o: &[u8], d: u8, x: u64) -> RunAnswer
+fn run_bytes(o: &[u8], d: u8, x: u64) -> RunAnswer
     requires { ⌜ (length (now o) ≡ deskBytes) × (noDesk d ≡ false) ⌝ }
     ensures { λ r. ⌜ r ≡ deskOutcome (now (o .entry)) d x ⌝ }
 {
@@ -93,5 +93,5 @@ pub fn run_desk(card: &[u8], d: u64, x: u64) -> RunAnswer
     }
     let base = DESK * (d as usize - 1);
     let end = base + DESK;
-    run_own(&card[base..end], d as u8, x)
+    run_bytes(&card[base..end], d as u8, x)
 }

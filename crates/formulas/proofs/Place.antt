@@ -13,8 +13,8 @@ use lib.Seq.{length-take-le, getD-take, getD-append-add, take-add}
 use borrow.Author.Tests.{eq-eqb, eqb-true, eqb-false, lt-ltb, le-ltb}
 use Rattle.values.specs.Formula.{Formula}
 use Rattle.formulas.specs.Text.{Spells, byteAt, IsFormula, IsPlace, ReadAs, RefusedAt, mostLevels, mostText}
-use Rattle.formulas.specs.Reading.{Reading, upTo, stuck, reads, Answer, formula, refused, ended, textOf, Told}
-use Rattle.formulas.specs.Reading.{enough}
+use Rattle.formulas.specs.Reading.{Reading, upTo, stuck, reader, TextAnswer, formula, refused, ended, textOf}
+use Rattle.formulas.specs.Reading.{TextSays, enough}
 use Rattle.formulas.proofs.Steps.{Run, run, runs}
 use Rattle.formulas.proofs.Grammar.{spells-bytes, spells-same, sound, complete, zero-stops}
 use Rattle.formulas.proofs.Reaching.{fuel, local, reach}
@@ -148,7 +148,7 @@ unfolding textOf
 too-long n s h = rw (lt-ltb mostText (length s) h)
 
 pub text-of : (n : ℕ) (s : List ℕ) → length s ≤ mostText → textOf n s
-    ≡ ended (length s) (reads (byteAt s) n enough 3 mostLevels 0)
+    ≡ ended (length s) (reader (byteAt s) n enough 3 mostLevels 0)
 unfolding textOf
 text-of n s h = rw (le-ltb mostText (length s) h)
 
@@ -156,17 +156,17 @@ pub is-formula : (n : ℕ) (s : List ℕ) (F : Formula) → length s ≤ mostTex
 is-formula n s F h f =
     text-of n s h ∙ rw (runs (byteAt s) n (whole-run n s F f enough (omega arith)), eq-eqb (length s) (length s) refl)
 
-pub told : (n : ℕ) (s : List ℕ) → length s ≤ mostText → Told n s (textOf n s)
-told n s h = subst (Told n s) (sym (text-of n s h))
-    (go (reads (byteAt s) n enough 3 mostLevels 0) (run (byteAt s) n enough 3 mostLevels 0))
+pub told : (n : ℕ) (s : List ℕ) → length s ≤ mostText → TextSays n s (textOf n s)
+told n s h = subst (TextSays n s) (sym (text-of n s h))
+    (go (reader (byteAt s) n enough 3 mostLevels 0) (run (byteAt s) n enough 3 mostLevels 0))
   where
     end : (F : Formula) (q : ℕ) → Run (byteAt s) n enough 3 mostLevels 0 (upTo F q) → (t : Bool) → eqb q (length s) ≡ t
-        → Told n s (cond t (formula F) (refused q))
+        → TextSays n s (cond t (formula F) (refused q))
     end F q r true e = subst (λ (k : ℕ). Spells (byteAt s) n 3 mostLevels F 0 k) (eqb-true q (length s) e)
         (sound (byteAt s) n r)
     end F q r false e = left-place n s F q h (eqb-false q (length s) e) r
 
-    go : (g : Reading) → Run (byteAt s) n enough 3 mostLevels 0 g → Told n s (ended (length s) g)
+    go : (g : Reading) → Run (byteAt s) n enough 3 mostLevels 0 g → TextSays n s (ended (length s) g)
     go (upTo F q) r = end F q r (eqb q (length s)) refl
     go (stuck p) r = bad-place n s p h r
 
@@ -208,7 +208,7 @@ no-place n s p F a f =
 pub is-place : (n : ℕ) (s : List ℕ) (p : ℕ) → length s ≤ mostText → IsPlace n s p → textOf n s ≡ refused p
 is-place n s p h a = go (textOf n s) (told n s h)
   where
-    go : (x : Answer) → Told n s x → x ≡ refused p
+    go : (x : TextAnswer) → TextSays n s x → x ≡ refused p
     go (formula F) t = absurd (no-place n s p F a t)
     go (refused q) t = ap refused (one-place n s q p t a)
 
@@ -224,7 +224,7 @@ short-text n s F e = elim (decLt mostText (length s))
 -- text is read exactly when the grammar has it, and is not too long
 pub read-as : (n : ℕ) (s : List ℕ) (F : Formula) → (textOf n s ≡ formula F) ↔ ReadAs n s F
 read-as n s F = (
-  λ e. let l = short-text n s F e in record { short = l; stands = subst (Told n s) e (told n s l) },
+  λ e. let l = short-text n s F e in record { short = l; stands = subst (TextSays n s) e (told n s l) },
   λ r. is-formula n s F (r .short) (r .stands),
 )
 
@@ -233,7 +233,7 @@ pub refused-at : (n : ℕ) (s : List ℕ) (p : ℕ) → (textOf n s ≡ refused 
 refused-at n s p = (
   λ e. elim (decLt mostText (length s)) [
     | yes l ↦ let q = sym e ∙ too-long n s l in let z : p ≡ length s = cc in inl (l, z)
-    | no l ↦ let k : length s ≤ mostText = omega arith in inr (k, subst (Told n s) e (told n s k))
+    | no l ↦ let k : length s ≤ mostText = omega arith in inr (k, subst (TextSays n s) e (told n s k))
   ],
   λ r. ⊎-elim (λ a. too-long n s (a .0) ∙ ap refused (sym (a .1))) (λ a. is-place n s p (a .0) (a .1)) r,
 )

@@ -7,7 +7,7 @@ use borrow.Author.Tests.{eq-eqb, ne-eqb, eqb-true, eqb-false}
 use Rattle.values.specs.Formula.{Formula, letter, constant, negated, joined}
 use Rattle.formulas.specs.Text.{mark}
 use Rattle.formulas.specs.Reading.{Kind, bang, opening, digit, input, other, kind, Reading, upTo, stuck, after}
-use Rattle.formulas.specs.Reading.{deeper, closed, begun, continued, reads}
+use Rattle.formulas.specs.Reading.{deeper, closed, begun, continued, reader}
 
 -- `Run c n m k d p g`: the reading from p gives g, step by step
 pub data Run (c : ℕ → ℕ) (n : ℕ) : ℕ → ℕ → ℕ → ℕ → Reading → Type 0 where
@@ -39,9 +39,9 @@ pub data Run (c : ℕ → ℕ) (n : ℕ) : ℕ → ℕ → ℕ → ℕ → Readi
 module _ (c : ℕ → ℕ) (n : ℕ) where
   -- each step of the reader is one of them
   join-run : (m k d p : ℕ) (g : Reading) → Run c n m k d p g
-      → ((r : ℕ) → Run c n m (suc k) d r (reads c n m (suc k) d r))
+      → ((r : ℕ) → Run c n m (suc k) d r (reader c n m (suc k) d r))
       → Run c n (suc m) (suc k) d p (after g (λ F q. continued k (eqb (c q) (mark k)) F q
-      (λ r. reads c n m (suc k) d r)))
+      (λ r. reader c n m (suc k) d r)))
   join-run m k d p (stuck q) h f = r-first-bad h
   join-run m k d p (upTo F q) h f = go (eqb (c q) (mark k)) refl
     where
@@ -51,23 +51,23 @@ module _ (c : ℕ → ℕ) (n : ℕ) where
       then e (stuck r) i = r-next-bad F h e i
 
       go : (t : Bool) → eqb (c q) (mark k) ≡ t → Run c n (suc m) (suc k) d p
-          (continued k t F q (λ r. reads c n m (suc k) d r))
-      go true e = then (eqb-true (c q) (mark k) e) (reads c n m (suc k) d (suc q)) (f (suc q))
+          (continued k t F q (λ r. reader c n m (suc k) d r))
+      go true e = then (eqb-true (c q) (mark k) e) (reader c n m (suc k) d (suc q)) (f (suc q))
       go false e = r-last h (eqb-false (c q) (mark k) e)
 
-  not-run : (m d p : ℕ) → kind n (c p) ≡ bang → ((e : ℕ) → Run c n m 0 e (suc p) (reads c n m 0 e (suc p)))
-      → Run c n (suc m) 0 d p (deeper d p (λ e. after (reads c n m 0 e (suc p)) (λ F q. upTo (negated F) q)))
+  not-run : (m d p : ℕ) → kind n (c p) ≡ bang → ((e : ℕ) → Run c n m 0 e (suc p) (reader c n m 0 e (suc p)))
+      → Run c n (suc m) 0 d p (deeper d p (λ e. after (reader c n m 0 e (suc p)) (λ F q. upTo (negated F) q)))
   not-run m zero p h f = r-deep-not h
-  not-run m (suc d) p h f = go (reads c n m 0 d (suc p)) (f d)
+  not-run m (suc d) p h f = go (reader c n m 0 d (suc p)) (f d)
     where
       go : (g : Reading) → Run c n m 0 d (suc p) g → Run c n (suc m) 0 (suc d) p (after g (λ F q. upTo (negated F) q))
       go (upTo F q) i = r-not h i
       go (stuck q) i = r-not-bad h i
 
-  open-run : (m d p : ℕ) → kind n (c p) ≡ opening → ((e : ℕ) → Run c n m 3 e (suc p) (reads c n m 3 e (suc p)))
-      → Run c n (suc m) 0 d p (deeper d p (λ e. after (reads c n m 3 e (suc p)) (closed c)))
+  open-run : (m d p : ℕ) → kind n (c p) ≡ opening → ((e : ℕ) → Run c n m 3 e (suc p) (reader c n m 3 e (suc p)))
+      → Run c n (suc m) 0 d p (deeper d p (λ e. after (reader c n m 3 e (suc p)) (closed c)))
   open-run m zero p h f = r-deep-open h
-  open-run m (suc d) p h f = go (reads c n m 3 d (suc p)) (f d)
+  open-run m (suc d) p h f = go (reader c n m 3 d (suc p)) (f d)
     where
       end : (F : Formula) (q : ℕ) → Run c n m 3 d (suc p) (upTo F q) → (t : Bool) → eqb (c q) 41 ≡ t
           → Run c n (suc m) 0 (suc d) p (cond t (upTo F (suc q)) (stuck q))
@@ -79,24 +79,24 @@ module _ (c : ℕ → ℕ) (n : ℕ) where
       go (stuck q) i = r-open-bad h i
 
   factor-run : (m d p : ℕ) → (t : Kind) → kind n (c p) ≡ t
-      → ((e : ℕ) → Run c n m 0 e (suc p) (reads c n m 0 e (suc p)))
-      → ((e : ℕ) → Run c n m 3 e (suc p) (reads c n m 3 e (suc p)))
-      → Run c n (suc m) 0 d p (begun t d p (λ e. reads c n m 0 e (suc p)) (λ e. reads c n m 3 e (suc p)) c)
+      → ((e : ℕ) → Run c n m 0 e (suc p) (reader c n m 0 e (suc p)))
+      → ((e : ℕ) → Run c n m 3 e (suc p) (reader c n m 3 e (suc p)))
+      → Run c n (suc m) 0 d p (begun t d p (λ e. reader c n m 0 e (suc p)) (λ e. reader c n m 3 e (suc p)) c)
   factor-run m d p bang h f g = not-run m d p h f
   factor-run m d p opening h f g = open-run m d p h g
   factor-run m d p (digit t) h f g = r-digit t h
   factor-run m d p (input j) h f g = r-input j h
   factor-run m d p other h f g = r-other h
 
-  pub run : (m k d p : ℕ) → Run c n m k d p (reads c n m k d p)
-  unfolding reads
+  pub run : (m k d p : ℕ) → Run c n m k d p (reader c n m k d p)
+  unfolding reader
   run zero k d p = r-tired
   run (suc m) zero d p = factor-run m d p (kind n (c p)) refl (λ e. run m 0 e (suc p)) (λ e. run m 3 e (suc p))
-  run (suc m) (suc k) d p = join-run m k d p (reads c n m k d p) (run m k d p) (λ r. run m (suc k) d r)
+  run (suc m) (suc k) d p = join-run m k d p (reader c n m k d p) (run m k d p) (λ r. run m (suc k) d r)
 
   -- and what goes step by step is the reader's
-  pub runs : {m k d p : ℕ} {g : Reading} → Run c n m k d p g → reads c n m k d p ≡ g
-  unfolding reads
+  pub runs : {m k d p : ℕ} {g : Reading} → Run c n m k d p g → reader c n m k d p ≡ g
+  unfolding reader
   runs r-tired = refl
   runs (r-other h) = rw (h, begun)
   runs (r-digit t h) = rw h

@@ -55,22 +55,22 @@ continued k true F q rest = after (rest (suc q)) (λ G r. upTo (joined k F G) r)
 continued k false F q rest = upTo F q
 
 -- the reader at level k, from place p, with d levels left; m bounds how deep the calls go
-unfoldable pub reads : (ℕ → ℕ) → ℕ → ℕ → ℕ → ℕ → ℕ → Reading
-reads c n zero k d p = stuck p
-reads c n (suc m) zero d p =
-    begun (kind n (c p)) d p (λ e. reads c n m 0 e (suc p)) (λ e. reads c n m 3 e (suc p)) c
-reads c n (suc m) (suc k) d p =
-    after (reads c n m k d p) (λ F q. continued k (eqb (c q) (mark k)) F q (λ r. reads c n m (suc k) d r))
+unfoldable pub reader : (ℕ → ℕ) → ℕ → ℕ → ℕ → ℕ → ℕ → Reading
+reader c n zero k d p = stuck p
+reader c n (suc m) zero d p =
+    begun (kind n (c p)) d p (λ e. reader c n m 0 e (suc p)) (λ e. reader c n m 3 e (suc p)) c
+reader c n (suc m) (suc k) d p =
+    after (reader c n m k d p) (λ F q. continued k (eqb (c q) (mark k)) F q (λ r. reader c n m (suc k) d r))
 
 -- ---- a text
 
 -- a text is a formula, or refused at a place
-pub data Answer : Type 0 where
-  formula : Formula → Answer
-  refused : ℕ → Answer
+pub data TextAnswer : Type 0 where
+  formula : Formula → TextAnswer
+  refused : ℕ → TextAnswer
 
 -- a text of l bytes is a formula if the reading ends where it does
-abbrev pub ended : ℕ → Reading → Answer
+abbrev pub ended : ℕ → Reading → TextAnswer
 ended l (upTo F q) = cond (eqb q l) (formula F) (refused q)
 ended l (stuck p) = refused p
 
@@ -79,16 +79,16 @@ abbrev pub enough : ℕ
 enough = 4100
 
 -- what the text is with n inputs; too long comes first, at its length
-unfoldable pub textOf : ℕ → List ℕ → Answer
+unfoldable pub textOf : ℕ → List ℕ → TextAnswer
 textOf n s =
-    cond (ltb mostText (length s)) (refused (length s)) (ended (length s) (reads (byteAt s) n enough 3 mostLevels 0))
+    cond (ltb mostText (length s)) (refused (length s)) (ended (length s) (reader (byteAt s) n enough 3 mostLevels 0))
 
 -- the values of a text; a text that is no formula has none, and counts as 0
-abbrev pub valueIn : Answer → ℕ → Bool
+abbrev pub valueIn : TextAnswer → ℕ → Bool
 valueIn (formula F) x = value F x
 valueIn (refused p) x = false
 
 -- what an answer claims of a text that is not too long
-abbrev pub Told : ℕ → List ℕ → Answer → Type 0
-Told n s (formula F) = IsFormula n s F
-Told n s (refused p) = IsPlace n s p
+abbrev pub TextSays : ℕ → List ℕ → TextAnswer → Type 0
+TextSays n s (formula F) = IsFormula n s F
+TextSays n s (refused p) = IsPlace n s p

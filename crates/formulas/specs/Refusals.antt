@@ -3,15 +3,15 @@ use mathlib.Core.Bool.{Bool, true, false}
 use mathlib.Core.List.{List}
 use Prim.Native.Nat.{ℕ}
 use Rattle.refusals.specs.Lines.{Line, naming}
-use Rattle.formulas.specs.Reading.{Answer, formula, refused, textOf}
+use Rattle.formulas.specs.Reading.{TextAnswer, formula, refused, textOf}
 
 -- whether a text is refused
-abbrev pub isRefused : Answer → Bool
+abbrev pub isRefused : TextAnswer → Bool
 isRefused (formula F) = false
 isRefused (refused p) = true
 
 -- the place of a refused text, else 0
-abbrev pub placeIn : Answer → ℕ
+abbrev pub placeIn : TextAnswer → ℕ
 placeIn (formula F) = 0
 placeIn (refused p) = p
 

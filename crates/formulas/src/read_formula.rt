@@ -1,5 +1,5 @@
 // Reading a formula into a table.
-use crate::reading::Found;
+use crate::reading::TextRead;
 use crate::reading::sum;
 use refusals::form;
 use refusals::verdicts::Refusal;
@@ -27,7 +27,7 @@ const MOST_TEXT: usize = 1024;
 const MOST_LEVELS: usize = 32;
 
 // Line 16: the text is read once, at the first stretch.
-fn look(n: u32, t: &[u8]) -> Verdict
+fn look_at_text(n: u32, t: &[u8]) -> Verdict
     requires { ⌜ n ≤ mostInputs ⌝ }
     ensures { λ r. ⌜ r ≡ verdict (badText n (now (t .entry)) ∷ []) ⌝ }
 {
@@ -36,10 +36,10 @@ fn look(n: u32, t: &[u8]) -> Verdict
         return refuse_at(Refusal::TEXT, len as u64);
     }
     match sum(t, 0, MOST_LEVELS, n, 0) {
-        Found::Stuck(p) => {
+        TextRead::Stuck(p) => {
             return refuse_at(Refusal::TEXT, p as u64);
         }
-        Found::Read(_, q) => {
+        TextRead::Read(_, q) => {
             if q < len {
                 return refuse_at(Refusal::TEXT, q as u64);
             }
@@ -54,10 +54,10 @@ fn text_stretch(n: u32, t: &[u8], w: u32) -> Stretch
     ensures { λ r. ⌜ r ≡ stretchOf (valueIn (textOf n (now (t .entry)))) w ⌝ }
 {
     match sum(t, 0, MOST_LEVELS, n, w) {
-        Found::Stuck(_) => {
+        TextRead::Stuck(_) => {
             return same(0);
         }
-        Found::Read(v, _) => {
+        TextRead::Read(v, _) => {
             return v;
         }
     }
@@ -90,7 +90,7 @@ fn read_form<'a>(n: u64, t: &'a [u8], table: &'a [u8]) -> Verdict
     let Verdict::Fine = seen else {
         return seen;
     };
-    look(n as u32, t)
+    look_at_text(n as u32, t)
 }
 
 // Reads a formula of n inputs into a lent table.

@@ -15,8 +15,8 @@ pub record Learned (n : ℕ) (F : ℕ → Bool) (m : ℕ) (l : List ℕ) : Type 
   pub each : (i : ℕ) → i < 64 → RulesOut n F m (bit (getD l i 0)) (bit (getD l (64 + i) 0))
 
 -- what was true of the pairs of masks stays true, of every table and every number of columns
-abbrev pub Keeps : List ℕ → List ℕ → Type 0
-Keeps l l′ = (n m : ℕ) (F : ℕ → Bool) → Learned n F m l → Learned n F m l′
+abbrev pub StaysLearned : List ℕ → List ℕ → Type 0
+StaysLearned l l′ = (n m : ℕ) (F : ℕ → Bool) → Learned n F m l → Learned n F m l′
 
 -- the mask P is inside `own`, and Q has no position of `both`
 pub record Meets (P Q own both : ℕ) : Type 0 where

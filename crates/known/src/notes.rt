@@ -5,7 +5,7 @@ ghost use Prim.Native.Nat.{ℕ, _+_, _<_};
 ghost use lib.ListN.{length, getD};
 ghost use Rattle.bits.specs.Numbers.{bit};
 ghost use Rattle.witness.specs.Witness.{RulesOut};
-ghost use Rattle.known.specs.Notes.{Learned, Keeps, Meets, Skips};
+ghost use Rattle.known.specs.Notes.{Learned, StaysLearned, Meets, Skips};
 
 // Room for 64 pairs and how many were kept so far. At first each pair has a position both own and free, and rules out
 // nothing.
@@ -28,7 +28,7 @@ pub fn meets(p: u32, q: u32, own: u32, both: u32) -> bool
 // Moves pair i halfway to the front, and the pair that was there to its place: what helped comes first.
 fn raise(notes: &mut [u32], i: usize)
     requires { ⌜ (length (now notes) ≡ 130) × (i < 64) ⌝ }
-    ensures { λ r. ⌜ Keeps (now (notes .entry)) (now (notes .exit)) ⌝ }
+    ensures { λ r. ⌜ StaysLearned (now (notes .entry)) (now (notes .exit)) ⌝ }
 {
     let k = i / 2;
     let own = notes[i];
@@ -66,7 +66,7 @@ fn ruling(notes: &[u32], own: u32, both: u32) -> usize
 pub fn ruled(notes: &mut [u32], own: u32, both: u32) -> bool
     requires { ⌜ length (now notes) ≡ 130 ⌝ }
     ensures { λ r. ⌜ (r ≡ true → Skips (now (notes .entry)) own both) ⌝ }
-    ensures { λ r. ⌜ Keeps (now (notes .entry)) (now (notes .exit)) ⌝ }
+    ensures { λ r. ⌜ StaysLearned (now (notes .entry)) (now (notes .exit)) ⌝ }
 {
     let i = ruling(notes, own, both);
     if i >= 64 {

@@ -13,7 +13,7 @@ use lib.Dec.{eqb}
 use lib.ListN.{length, getD}
 use borrow.Author.Tests.{eq-eqb, ne-eqb}
 use Rattle.sheets.specs.Network.{Cell}
-use Rattle.times.specs.Signals.{kept, cellTime, outputTime}
+use Rattle.times.specs.Signals.{keptTime, cellTime, outputTime}
 use Rattle.times.proofs.Passing.{kept-ext}
 use Rattle.paths.specs.Paths.{readBy, Leads, begins, goes, along, BestPath}
 
@@ -57,7 +57,7 @@ module _ {A : Type 0} (pick : A → A → A) (after : A → A) where
 
   -- a cell's time by the signals that it reads
   by-reads : List ℕ → (ℕ → A) → A
-  by-reads l v = after (kept pick (λ p. v (getD l p 0)) (length l - 1))
+  by-reads l v = after (keptTime pick (λ p. v (getD l p 0)) (length l - 1))
 
   reads-ext : (l : List ℕ) (v w : ℕ → A) → 1 ≤ length l → ((p : ℕ) → p < length l → v (getD l p 0) ≡ w (getD l p 0))
       → by-reads l v ≡ by-reads l w
@@ -102,30 +102,30 @@ module _ {A : Type 0} (pick : A → A → A) (after : A → A) where
     record Chosen (v : ℕ → A) (k : ℕ) : Type 0 where
       pub at : ℕ
       pub within : at ≤ k
-      pub is : kept pick v k ≡ v at
+      pub is : keptTime pick v k ≡ v at
 
     chosen : (v : ℕ → A) (k : ℕ) → Chosen v k
-    unfolding kept
+    unfolding keptTime
     chosen v zero = record { at = 0; within = omega arith; is = refl }
-    chosen v (suc k) = elim (either (kept pick v k) (v (suc k))) [
+    chosen v (suc k) = elim (either (keptTime pick v k) (v (suc k))) [
       | inl q ↦ let c = chosen v k in record { at = c .at; within = omega (arith, c .within); is = q ∙ c .is }
       | inr q ↦ record { at = suc k; within = omega arith; is = q }
     ]
 
-    kept-good : (v : ℕ → A) (k : ℕ) → ((t : ℕ) → P (v t)) → P (kept pick v k)
+    kept-good : (v : ℕ → A) (k : ℕ) → ((t : ℕ) → P (v t)) → P (keptTime pick v k)
     kept-good v k h = let c = chosen v k in subst P (sym (c .is)) (h (c .at))
 
     -- and at least as good as each of them
-    kept-best : (v : ℕ → A) (k p : ℕ) → p ≤ k → ((t : ℕ) → P (v t)) → kept pick v k ⊑ v p
-    unfolding kept
+    kept-best : (v : ℕ → A) (k p : ℕ) → p ≤ k → ((t : ℕ) → P (v t)) → keptTime pick v k ⊑ v p
+    unfolding keptTime
     kept-best v zero p h g = let z : p ≡ 0 = omega arith in subst (λ (q : ℕ). v 0 ⊑ v q) (sym z) (same (v 0) (g 0))
     kept-best v (suc k) p h g = elim (decLt p (suc k)) [
-      | yes l ↦ through (pick (kept pick v k) (v (suc k))) (kept pick v k) (v p) (kept-good v (suc k) g)
+      | yes l ↦ through (pick (keptTime pick v k) (v (suc k))) (keptTime pick v k) (v p) (kept-good v (suc k) g)
           (kept-good v k g) (g p)
-          (left (kept pick v k) (v (suc k)) (kept-good v k g) (g (suc k))) (kept-best v k p (omega arith) g)
+          (left (keptTime pick v k) (v (suc k)) (kept-good v k g) (g (suc k))) (kept-best v k p (omega arith) g)
       | no l ↦ let z : p ≡ suc k = omega arith in
-          subst (λ (q : ℕ). pick (kept pick v k) (v (suc k)) ⊑ v q) (sym z)
-          (right (kept pick v k) (v (suc k)) (kept-good v k g) (g (suc k)))
+          subst (λ (q : ℕ). pick (keptTime pick v k) (v (suc k)) ⊑ v q) (sym z)
+          (right (keptTime pick v k) (v (suc k)) (kept-good v k g) (g (suc k)))
     ]
 
     all-good : (i : ℕ) (cs : List Cell) (v : ℕ → A) → ((t : ℕ) → P (v t)) → (t : ℕ) → P (allTimes i cs v t)
@@ -157,7 +157,7 @@ module _ {A : Type 0} (pick : A → A → A) (after : A → A) where
           let b : (r : ℕ) → P (u r) = λ r. all-good n cs v g (getD (readBy cs i) r 0) in
           let a : W (getD (readBy cs i) p 0) ⊑ along after m (v j) = subst (λ (r : ℕ). W r ⊑ along after m (v j))
           (sym e) (along-path j s m l) in
-          let x = kept pick u (length (readBy cs i) - 1) in
+          let x = keptTime pick u (length (readBy cs i) - 1) in
           subst (λ (y : A). y ⊑ after (along after m (v j))) (sym (equation n cs v fed i h))
           (mono x (along after m (v j)) (kept-good u (length (readBy cs i) - 1) b) (along-good m (v j) (g j))
           (through x (u p) (along after m (v j)) (kept-good u (length (readBy cs i) - 1) b) (b p)

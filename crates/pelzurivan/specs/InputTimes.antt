@@ -16,5 +16,5 @@ abbrev pub timeOfKind : ℕ → Float → Float → InputTime
 timeOfKind kind first second = cond (eqb kind 1) (Arrival first) (cond (eqb kind 2) (Between first second) NotRead)
 
 -- what is said of each of the 16 inputs
-unfoldable pub inputTimes : TimesC → List InputTime
-inputTimes c = listOf mostInputs (λ j. timeOfKind (getD (c .kind) j 0) (getD (c .first) j nan) (getD (c .second) j nan))
+unfoldable pub timesFromC : TimesC → List InputTime
+timesFromC c = listOf mostInputs (λ j. timeOfKind (getD (c .kind) j 0) (getD (c .first) j nan) (getD (c .second) j nan))

@@ -1,7 +1,7 @@
 // The inputs' times as C hands them over.
 use times::input_time::InputTime;
 ghost use mathlib.Core.Path.{_≡_};
-ghost use Rattle.pelzurivan.specs.InputTimes.{timeOfKind, inputTimes};
+ghost use Rattle.pelzurivan.specs.InputTimes.{timeOfKind, timesFromC};
 
 // Kind 1 is one arrival (first), 2 an earliest (first) and a latest (second), any other is not read.
 #[repr(C)]
@@ -25,7 +25,7 @@ fn time_of_kind(kind: u8, first: f64, second: f64) -> InputTime
 
 // The same as the calls take them.
 pub fn input_times(c: TimesC) -> [InputTime; 16]
-    ensures { λ r. ⌜ r ≡ inputTimes c ⌝ }
+    ensures { λ r. ⌜ r ≡ timesFromC c ⌝ }
 {
     let mut times = [InputTime::NotRead; 16];
     let mut j = 0;

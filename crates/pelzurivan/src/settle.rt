@@ -7,7 +7,7 @@ use settling::settle::settle;
 ghost use mathlib.Core.Path.{_≡_};
 ghost use Rattle.sheets.specs.Edition.{firstEdition};
 ghost use Rattle.settling.specs.Settle.{settleOwn};
-ghost use Rattle.pelzurivan.specs.InputTimes.{inputTimes};
+ghost use Rattle.pelzurivan.specs.InputTimes.{timesFromC};
 ghost use Rattle.pelzurivan.specs.Settle.{settledC};
 
 // The number, the first bad record, the output's earliest and latest time.
@@ -22,7 +22,7 @@ pub struct SettledC {
 // When the output settles, where each cell takes the same delay.
 #[no_mangle]
 pub extern "C" fn pelzurivan_settle(n: u64, s: &[u8], delay: f64, c: TimesC) -> SettledC
-    ensures { λ r. ⌜ r ≡ settledC (settleOwn firstEdition n (now (s .entry)) delay (inputTimes c)) ⌝ }
+    ensures { λ r. ⌜ r ≡ settledC (settleOwn firstEdition n (now (s .entry)) delay (timesFromC c)) ⌝ }
 {
     let answer = settle(n, s, delay, input_times(c));
     let verdict = answer.verdict;

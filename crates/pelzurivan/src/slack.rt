@@ -7,7 +7,7 @@ use settling::slack::slack;
 ghost use mathlib.Core.Path.{_≡_};
 ghost use Rattle.sheets.specs.Edition.{firstEdition};
 ghost use Rattle.settling.specs.Slack.{slackOwn};
-ghost use Rattle.pelzurivan.specs.InputTimes.{inputTimes};
+ghost use Rattle.pelzurivan.specs.InputTimes.{timesFromC};
 ghost use Rattle.pelzurivan.specs.Slack.{slackC};
 
 // The number, the first bad record, the slack in sixteenths.
@@ -21,7 +21,7 @@ pub struct SlackC {
 // A deadline in sixteenths less the output's latest time.
 #[no_mangle]
 pub extern "C" fn pelzurivan_slack(n: u64, s: &[u8], delay: f64, c: TimesC, deadline: i64) -> SlackC
-    ensures { λ r. ⌜ r ≡ slackC (slackOwn firstEdition n (now (s .entry)) delay (inputTimes c) deadline) ⌝ }
+    ensures { λ r. ⌜ r ≡ slackC (slackOwn firstEdition n (now (s .entry)) delay (timesFromC c) deadline) ⌝ }
 {
     let answer = slack(n, s, delay, input_times(c), deadline);
     let verdict = answer.verdict;

@@ -19,7 +19,7 @@ pub record Put (before : List ℕ) (p : ℕ) (w : List ℕ) (after : List ℕ) (
   pub next : q ≡ p + length w
 
 -- a sheet whose cells can be written: plain ones, wired
-pub record Written (e : Edition) (n : ℕ) (s : List ℕ) : Type 0 where
+pub record Writable (e : Edition) (n : ℕ) (s : List ℕ) : Type 0 where
   pub sound : IsEdition e
   pub inputs : n ≤ mostInputs
   pub most : records e s ≤ mostRecords
@@ -29,6 +29,6 @@ pub record Written (e : Edition) (n : ℕ) (s : List ℕ) : Type 0 where
 
 -- signal x, flipped or not, has room at p
 pub record Room (e : Edition) (n : ℕ) (s : List ℕ) (x : ℕ) (flip : Bool) (room : List ℕ) (p : ℕ) : Type 0 where
-  pub sheet : Written e n s
+  pub sheet : Writable e n s
   pub signal : x < n + records e s
   pub fits : p + length (flippedText flip (printed n (sheetCells e s (records e s)) x)) ≤ length room

@@ -128,8 +128,8 @@ abbrev pub sheetLines : Edition → ℕ → ℕ → List ℕ → List Line
 sheetLines e d n s = badSheet e s ∷ badRecord e d n s ∷ []
 
 -- a sheet each of whose records but the last is read: 9, 10 and 15
-abbrev pub readLines : Edition → ℕ → ℕ → List ℕ → List Line
-readLines e d n s = sheetLines e d n s ++ (unreadRecord e n s ∷ [])
+abbrev pub readSheetLines : Edition → ℕ → ℕ → List ℕ → List Line
+readSheetLines e d n s = sheetLines e d n s ++ (unreadRecord e n s ∷ [])
 
 -- a call that is told the edition: n, then the edition
 abbrev pub toldForm : ℕ → ℕ → List Line

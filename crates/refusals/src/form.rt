@@ -16,7 +16,8 @@ ghost use Rattle.tables.specs.Table.{mostInputs};
 ghost use Rattle.sheets.specs.Edition.{IsEdition};
 ghost use Rattle.refusals.specs.Lines.{verdict, InOrder};
 ghost use Rattle.refusals.specs.Refusals.{badInputs, badCell, badEdition, badTable};
-ghost use Rattle.refusals.specs.Refusals.{sizedLines, tableLines, gateLines, sheetLines, unreadRecord, readLines};
+ghost use Rattle.refusals.specs.Refusals.{sizedLines, tableLines, gateLines};
+ghost use Rattle.refusals.specs.Refusals.{sheetLines, unreadRecord, readSheetLines};
 ghost use Rattle.refusals.specs.Refusals.{toldForm};
 
 // Whether a number is outside its limits.
@@ -151,7 +152,7 @@ pub fn all_read(e: Edition, d: u8, n: u32, s: &[u8]) -> Verdict
 // Lines 9, 10 and 15.
 pub fn read_sheet(e: Edition, d: u8, n: u32, s: &[u8]) -> Verdict
     requires { ⌜ IsEdition e × (n ≤ mostInputs) ⌝ }
-    ensures { λ r. ⌜ r ≡ verdict (readLines e d n (now (s .entry))) ⌝ }
+    ensures { λ r. ⌜ r ≡ verdict (readSheetLines e d n (now (s .entry))) ⌝ }
 {
     let seen = sheet(e, d, n, s);
     let Verdict::Fine = seen else {

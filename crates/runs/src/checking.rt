@@ -1,5 +1,5 @@
 // A sheet held against a table, 64 assignments at a time.
-use crate::words::word_of;
+use crate::words::sheet_word;
 use sheets::kinds::Edition;
 use tables::words::bits_from;
 ghost use mathlib.Core.Path.{_≡_};
@@ -46,7 +46,7 @@ pub fn first_difference<'a>(e: Edition, n: u32, s: &'a [u8], m: usize, t: &'a [u
     let all: u32 = 1 << n;
     let mut from: u32 = 0;
     while from < all {
-        let given = word_of(e, n, s, m, from / 64);
+        let given = sheet_word(e, n, s, m, from / 64);
         let asked = bits_from(t, from);
         if given != asked {
             let i = first_apart(given, asked);

@@ -1,5 +1,5 @@
 // Running a sheet at an assignment, and rebuilding its table.
-use crate::words::word_of;
+use crate::words::sheet_word;
 use bits::patterns::half;
 use records::rules;
 use sheets::kinds::Edition;
@@ -89,7 +89,7 @@ pub fn rebuild(e: Edition, n: u32, s: &[u8], m: usize, out: &mut [u8])
     while i < out.len() {
         let j = i % 8;
         if j == 0 {
-            o = word_of(e, n, s, m, (i / 8) as u32);
+            o = sheet_word(e, n, s, m, (i / 8) as u32);
         }
         out[i] = ((o >> (8 * j)) % 256) as u8;
         i += 1;

@@ -158,7 +158,7 @@ pub fn first_bits(n: u32, o: u64) -> u64
 }
 
 // Word w of the table of a sheet of m records.
-pub fn word_of(e: Edition, n: u32, s: &[u8], m: usize, w: u32) -> u64
+pub fn sheet_word(e: Edition, n: u32, s: &[u8], m: usize, w: u32) -> u64
     requires { ⌜
         IsEdition e × (m ≤ mostRecords) × (n ≤ mostInputs) × (e .size * m ≤ length (now s))
         × AllReadable e (now s) m

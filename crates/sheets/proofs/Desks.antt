@@ -20,7 +20,7 @@ use Rattle.sheets.specs.Record.{byteAt, Keeps, keeps}
 use Rattle.sheets.specs.Sheet.{recordAt, bad, firstBad, Good}
 use Rattle.sheets.specs.Writing.{recordByte, encode, sheetBytes}
 use Rattle.sheets.specs.Desk.{deskAt, Belongs, FirstAmiss, OneDesk, deskOf}
-use Rattle.sheets.proofs.Keeping.{rules, kept}
+use Rattle.sheets.proofs.Keeping.{rules, rules-kept}
 use Rattle.sheets.proofs.Looks.{record-keeps}
 use Rattle.sheets.proofs.Wholes.{first-record, next-record}
 
@@ -76,7 +76,7 @@ module _ (e : Edition) (n : ℕ) (s : List ℕ) where
         record {
           within = h;
           amiss = λ b.
-              clash (kept e ok (deskOf e s) (n + i) (recordAt e s i) (belongs-keeps i b))
+              clash (rules-kept e ok (deskOf e s) (n + i) (recordAt e s i) (belongs-keeps i b))
               (not-true (keeps e (deskOf e s) (n + i) (recordAt e s i)) (l .here h));
           before = λ j g. keeps-belongs j (k 0 (omega arith)) (k j g);
         }
@@ -90,7 +90,7 @@ module _ (e : Edition) (n : ℕ) (s : List ℕ) where
     pub amiss-bad : (i : ℕ) → FirstAmiss e n s m i → firstBad e (deskOf e s) n s m ≡ i
     amiss-bad i w = least-of m (bad e (deskOf e s) n s) i (record {
       within = omega (arith, w .within);
-      before = λ j g. ap not (kept e ok (deskOf e s) (n + j) (recordAt e s j) (belongs-keeps j (w .before j g)));
+      before = λ j g. ap not (rules-kept e ok (deskOf e s) (n + j) (recordAt e s j) (belongs-keeps j (w .before j g)));
       here = λ h. broken (keeps e (deskOf e s) (n + i) (recordAt e s i)) refl;
     })
       where

@@ -16,7 +16,7 @@ use lib.Ieee.Order.{transfer}
 use lib.ListN.{length, getD}
 use borrow.Author.Tests.{lt-ltb, le-ltb}
 use Rattle.sheets.specs.Network.{Cell}
-use Rattle.times.specs.Signals.{kept, cellTime, outputTime, keepBy, keeping, delayed}
+use Rattle.times.specs.Signals.{keptTime, cellTime, outputTime, keepBy, keeping, delayed}
 use Rattle.times.specs.Whole.{keepingWhole}
 use Rattle.times.proofs.Sums.{value, add-at}
 
@@ -28,10 +28,10 @@ module _ {A B : Type 0} (R : ℕ → A → B → Type 0) (K : ℕ) (pick : A →
     (picks : (k : ℕ) (x y : A) (i j : B) → k ≤ K → R k x i → R k y j → R k (pick x y) (pick′ i j))
     (afters : (k : ℕ) (x : A) (i : B) → k < K → R k x i → R (suc k) (after x) (after′ i)) where
   kept-related : (k j : ℕ) (v : ℕ → A) (w : ℕ → B) → k ≤ K → ((t : ℕ) → R k (v t) (w t))
-      → R k (kept pick v j) (kept pick′ w j)
-  unfolding kept
+      → R k (keptTime pick v j) (keptTime pick′ w j)
+  unfolding keptTime
   kept-related k zero v w h r = r 0
-  kept-related k (suc j) v w h r = picks k (kept pick v j) (v (suc j)) (kept pick′ w j) (w (suc j)) h
+  kept-related k (suc j) v w h r = picks k (keptTime pick v j) (v (suc j)) (keptTime pick′ w j) (w (suc j)) h
       (kept-related k j v w h r) (r (suc j))
 
   cell-related : (k : ℕ) (c : Cell) (v : ℕ → A) (w : ℕ → B) → k < K → ((t : ℕ) → R k (v t) (w t))

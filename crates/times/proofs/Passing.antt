@@ -18,7 +18,7 @@ use Rattle.sheets.specs.Record.{cellOf}
 use Rattle.sheets.specs.Sheet.{recordAt, cellsFrom, sheetCells}
 use Rattle.times.specs.declared.input_time.InputTime.{InputTime}
 use Rattle.times.specs.InputTimes.{zeroTime, timeOf, timeAt, inputTimes}
-use Rattle.times.specs.Signals.{kept, cellTime, outputTime}
+use Rattle.times.specs.Signals.{keptTime, cellTime, outputTime}
 
 -- ---- a list of times
 
@@ -65,26 +65,26 @@ one-input late ts l j o k q f h = written-at l j o zeroTime h k ∙ go (eqb h j)
 -- ---- a cell
 
 module _ {A : Type 0} (pick : A → A → A) where
-  pub kept-ext : (k : ℕ) (v w : ℕ → A) → ((j : ℕ) → j ≤ k → v j ≡ w j) → kept pick v k ≡ kept pick w k
-  unfolding kept
+  pub kept-ext : (k : ℕ) (v w : ℕ → A) → ((j : ℕ) → j ≤ k → v j ≡ w j) → keptTime pick v k ≡ keptTime pick w k
+  unfolding keptTime
   kept-ext zero v w h = h 0 (omega arith)
   kept-ext (suc k) v w h = ap₂ pick (kept-ext k v w (λ j l. h j (omega arith))) (h (suc k) (omega arith))
 
-  pub kept-more : (k : ℕ) (v : ℕ → A) → 1 ≤ k → pick (kept pick v (k - 1)) (v k) ≡ kept pick v (k + 1 - 1)
-  unfolding kept
+  pub kept-more : (k : ℕ) (v : ℕ → A) → 1 ≤ k → pick (keptTime pick v (k - 1)) (v k) ≡ keptTime pick v (k + 1 - 1)
+  unfolding keptTime
   kept-more zero v h = absurd (omega arith)
   kept-more (suc k) v h =
       let p : suc k - 1 ≡ k = omega arith in
       let q : suc k + 1 - 1 ≡ suc k = omega arith in
-      ap (λ (i : ℕ). pick (kept pick v i) (v (suc k))) p ∙ sym (ap (kept pick v) q)
+      ap (λ (i : ℕ). pick (keptTime pick v i) (v (suc k))) p ∙ sym (ap (keptTime pick v) q)
 
   -- a record's cell, by its bytes
   pub cell-at : (after : A → A) (e : Edition) (b : ℕ → ℕ) (v : ℕ → A) → 1 ≤ b 0 → cellTime pick after (cellOf e b) v
-      ≡ after (kept pick (λ j. v (b (j + 1))) (b 0 - 1))
+      ≡ after (keptTime pick (λ j. v (b (j + 1))) (b 0 - 1))
   unfolding cellTime cellOf
   cell-at after e b v h =
       let l = listOf (b 0) (λ j. b (j + 1)) in
-      ap after (ap (λ (k : ℕ). kept pick (λ j. v (getD l j 0)) (k - 1)) (length-list (b 0) (λ j. b (j + 1)))
+      ap after (ap (λ (k : ℕ). keptTime pick (λ j. v (getD l j 0)) (k - 1)) (length-list (b 0) (λ j. b (j + 1)))
       ∙ kept-ext (b 0 - 1) (λ j. v (getD l j 0)) (λ j. v (b (j + 1)))
       (λ j g. ap v (list-at (b 0) (λ j. b (j + 1)) j 0 (omega arith))))
 

@@ -13,7 +13,7 @@ abbrev pub mostSignals : ℕ
 mostSignals = 31
 
 -- the bytes r of a record whose cell reads some signals, few, each of a gate's
-pub record Reads (e : Edition) (r : List ℕ) : Type 0 where
+pub record Timeable (e : Edition) (r : List ℕ) : Type 0 where
   pub sound : IsEdition e
   pub long : length r ≡ e .size
   pub some : 1 ≤ byteAt r 0
@@ -25,4 +25,4 @@ pub record Timed (e : Edition) (s : List ℕ) (m : ℕ) : Type 0 where
   pub sound : IsEdition e
   pub most : m ≤ mostRecords
   pub long : e .size * m ≤ length s
-  pub reads : (i : ℕ) → i < m → Reads e (recordBytes e s i)
+  pub reads : (i : ℕ) → i < m → Timeable e (recordBytes e s i)

@@ -12,13 +12,13 @@ use Rattle.times.specs.declared.input_time.InputTime.{InputTime}
 use Rattle.times.specs.InputTimes.{zeroTime, plainZero, inputTimes}
 
 -- the one that `pick` keeps of the first k + 1 times
-unfoldable pub kept : {A : Type 0} → (A → A → A) → (ℕ → A) → ℕ → A
-kept pick v zero = v 0
-kept pick v (suc k) = pick (kept pick v k) (v (suc k))
+unfoldable pub keptTime : {A : Type 0} → (A → A → A) → (ℕ → A) → ℕ → A
+keptTime pick v zero = v 0
+keptTime pick v (suc k) = pick (keptTime pick v k) (v (suc k))
 
 -- a cell settles the delay after the time that is kept of those of its inputs, where signal s settles at v s
 unfoldable pub cellTime : {A : Type 0} → (A → A → A) → (A → A) → Cell → (ℕ → A) → A
-cellTime pick after c v = after (kept pick (λ j. v (getD (c .signals) j 0)) (length (c .signals) - 1))
+cellTime pick after c v = after (keptTime pick (λ j. v (getD (c .signals) j 0)) (length (c .signals) - 1))
 
 -- the cells in turn, the first of them giving signal i; the last cell's time is the output's
 unfoldable pub outputTime : {A : Type 0} → (A → A → A) → (A → A) → A → ℕ → List Cell → (ℕ → A) → A

@@ -10,7 +10,7 @@ ghost use Rattle.tables.specs.Table.{mostInputs};
 ghost use Rattle.sheets.specs.Record.{byteAt, cellOf};
 ghost use Rattle.sheets.specs.Sheet.{sheetCells};
 ghost use Rattle.times.specs.InputTimes.{zeroTime, inputTimes};
-ghost use Rattle.times.specs.Reading.{Reads, Timed, mostSignals};
+ghost use Rattle.times.specs.Reading.{Timeable, Timed, mostSignals};
 ghost use Rattle.times.specs.Signals.{keeping, delayed, cellTime, outputTime};
 
 // Signal j settles at the time at place j.
@@ -66,7 +66,7 @@ pub fn times_of_inputs(late: bool, n: u32, said: [InputTime; 16]) -> SignalTimes
 
 // When the cell of a record settles.
 fn cell_time(e: Edition, b: &[u8], late: bool, delay: f64, signals: SignalTimes) -> f64
-    requires { ⌜ Reads e (now b) × (length (signals .times) ≡ mostSignals) ⌝ }
+    requires { ⌜ Timeable e (now b) × (length (signals .times) ≡ mostSignals) ⌝ }
     ensures { λ r. ⌜
         r ≡ cellTime (keeping late) (delayed delay) (cellOf e (byteAt (now (b .entry))))
         (λ t. getD (signals .times) t zeroTime)

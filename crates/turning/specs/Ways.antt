@@ -42,14 +42,14 @@ pub record Reachable (f g : ℕ) : Type 0 where
 -- ---- which way is first
 
 -- p0 p1 p2 read as one number
-abbrev pub digits : Way → ℕ
-digits w = w .p0 * 100 + w .p1 * 10 + w .p2
+abbrev pub orderOf : Way → ℕ
+orderOf w = w .p0 * 100 + w .p1 * 10 + w .p2
 
 -- by output flip, then the mask of input flips, then p0 p1 p2 read as one number
 abbrev pub before : Way → Way → Bool
 before v w =
     ltb (val (v .flip)) (val (w .flip)) || (eqb (val (v .flip)) (val (w .flip)) &&
-    (ltb (v .mask) (w .mask) || (eqb (v .mask) (w .mask) && ltb (digits v) (digits w))))
+    (ltb (v .mask) (w .mask) || (eqb (v .mask) (w .mask) && ltb (orderOf v) (orderOf w))))
 
 -- the first way of all that turn f into g
 pub record FirstWay (f g : ℕ) (w : Way) : Type 0 where

@@ -9,7 +9,7 @@ use Rattle.bits.specs.Sets.{Apart}
 use Rattle.tables.specs.Table.{tableBit}
 use Rattle.splits.specs.Columns.{fewColumns}
 use Rattle.witness.specs.Witness.{RulesOut}
-use Rattle.known.specs.Notes.{Learned, Keeps, Meets}
+use Rattle.known.specs.Notes.{Learned, StaysLearned, Meets}
 use Rattle.known.proofs.Keeping.{meets-fails}
 use Rattle.walks.specs.Known.{Known}
 
@@ -18,7 +18,7 @@ module _ {n r : ℕ} {t notes left : List ℕ} (w : Known n r t notes) where
   known-left : Learned n (tableBit t) (2 ^ r) left → Known n r t left
   known-left l = record { most = w .most; first = w .first; long = w .long; learned = l }
 
-  pub still-known : Keeps notes left → Known n r t left
+  pub still-known : StaysLearned notes left → Known n r t left
   still-known keeps = known-left (keeps n (2 ^ r) (tableBit t) (w .learned))
 
   -- what rules out p own and q free was kept; where it meets the pair of masks, the pair is none

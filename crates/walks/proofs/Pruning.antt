@@ -20,7 +20,7 @@ use Rattle.bits.proofs.Sums.{bit-not}
 use Rattle.bits.proofs.Machine.{ones-size, bit-and}
 use Rattle.splits.specs.Columns.{fewColumns}
 use Rattle.splits.proofs.Possible.{possible-iff}
-use Rattle.best.specs.Search.{Answer, none, split, inRange, tryA, tryB}
+use Rattle.best.specs.Search.{Answer, none, split, overMasks, tryA, tryB}
 use Rattle.best.specs.Walk.{Range, SharedRange}
 use Rattle.best.proofs.First.{first-nothing}
 use Rattle.best.proofs.Tries.{tryB-split, tryA-size, tryA-is}
@@ -140,7 +140,7 @@ module _ (n r : ℕ) (F : ℕ → Bool) where
         apart)
 
     pub shared-crowded : k < size 16 (bit (bitAnd need (65535 - acc)))
-        → inRange p acc (tryB n r F (size n (bit acc) + k) own) ≡ none
+        → overMasks p acc (tryB n r F (size n (bit acc) + k) own) ≡ none
     shared-crowded h = first-nothing (2 ^ p) _ (λ i l. tryB-never (size n (bit acc) + k) own (acc + i)
         (λ s apart. at i l s apart))
       where
@@ -157,7 +157,7 @@ module _ (n r : ℕ) (F : ℕ → Bool) where
             )) apart
 
     pub shared-passed : need < 65536 → bit (bitAnd need (65535 - acc)) p ≡ true
-        → inRange p acc (tryB n r F (size n (bit acc) + k) own) ≡ none
+        → overMasks p acc (tryB n r F (size n (bit acc) + k) own) ≡ none
     shared-passed small h =
         let p-lt : p < 16 = bit-within (bitAnd need (65535 - acc)) 16 p
         (lt-of-le-of-lt (and-le-l need (65535 - acc)) small) h in
@@ -168,7 +168,7 @@ module _ (n r : ℕ) (F : ℕ → Bool) where
   -- ---- own masks
   module _ (need : ℕ) {p acc : ℕ} (w : Needs n F (2 ^ r) (bit acc) need) (g : Range n p acc) (q k : ℕ) where
     pub own-crowded : q + k < size 16 (bit (bitAnd need (65535 - acc)))
-        → inRange p acc (tryA n r F (size n (bit acc) + k) q) ≡ none
+        → overMasks p acc (tryA n r F (size n (bit acc) + k) q) ≡ none
     own-crowded h = first-nothing (2 ^ p) _ (λ i l. tried i l
         (ℕ-discrete (size n (bit (acc + i))) (size n (bit acc) + k)))
       where

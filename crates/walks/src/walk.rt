@@ -7,7 +7,7 @@ ghost use Rattle.bits.specs.Numbers.{bit};
 ghost use Rattle.bits.specs.Sets.{Apart, size};
 ghost use Rattle.tables.specs.Table.{mostInputs, tableBit};
 ghost use Rattle.splits.specs.Columns.{fewColumns};
-ghost use Rattle.best.specs.Search.{tryA, tryB, inRange};
+ghost use Rattle.best.specs.Search.{tryA, tryB, overMasks};
 ghost use Rattle.best.specs.Answers.{answerOf};
 ghost use Rattle.best.specs.Walk.{Range, SharedRange};
 ghost use Rattle.walks.specs.Known.{Known};
@@ -127,7 +127,7 @@ fn walk_shared(
     requires { ⌜ Known n r (now t) (now notes) ⌝ }
     requires { ⌜ SharedRange n own p acc × Needs n (tableBit (now t)) (2 ^ r) (bit own) need × Outside need own ⌝ }
     ensures { λ f. ⌜
-        (answerOf f ≡ inRange p acc (tryB n r (tableBit (now (t .entry))) (size n (bit acc) + k) own))
+        (answerOf f ≡ overMasks p acc (tryB n r (tableBit (now (t .entry))) (size n (bit acc) + k) own))
         × Known n r (now (t .entry)) (now (notes .exit))
         ⌝ }
 {
@@ -173,7 +173,7 @@ pub fn walk_own<'a>(
     requires { ⌜ Known n r (now t) (now notes) × BadPairs n (tableBit (now t)) (2 ^ r) (now pairs) ⌝ }
     requires { ⌜ Range n p acc × Needs n (tableBit (now t)) (2 ^ r) (bit acc) need × (q ≤ mostInputs) ⌝ }
     ensures { λ f. ⌜
-        (answerOf f ≡ inRange p acc (tryA n r (tableBit (now (t .entry))) (size n (bit acc) + k) q))
+        (answerOf f ≡ overMasks p acc (tryA n r (tableBit (now (t .entry))) (size n (bit acc) + k) q))
         × Known n r (now (t .entry)) (now (notes .exit))
         ⌝ }
 {

@@ -35,13 +35,13 @@ returns c =
     }) (a .work .now) refl (f .find-form .result) (c .enum-told2 .given .0 .0) (f .find-form .ensures)
     (c .enum-told2 .given .1)
 
-cast-least-cells-2 : tie.Need-cast-least-cells-2
-cast-least-cells-2 c =
+cast-cell-bound-2 : tie.Need-cast-cell-bound-2
+cast-cell-bound-2 c =
     let f = c .before .before in
     omega (arith, through f (c .enum-told .given .1) .gate .largest, g f .pre .eight)
 
-least-cells-requires : tie.Need-least-cells-requires
-least-cells-requires c κs =
+cell-bound-requires : tie.Need-cell-bound-requires
+cell-bound-requires c κs =
     let f = c .before .before .before in
     let r = through f (c .before .enum-told .given .1) in
     let w = r .gate in
@@ -54,12 +54,12 @@ returns-2 c =
     let a = g f .args in
     let q = sym (f .find-form .ensures) ∙ r .before .before .enum-told .given .1 in
     ap₂ (λ (m : ℕ) (l : List ℕ). record { answer = record { verdict = Fine; least = m }; work = l })
-    (r .least-cells .ensures .0) (r .least-cells .ensures .1)
+    (r .cell-bound .ensures .0) (r .cell-bound .ensures .1)
     ∙ ap (λ (v : Verdict). reply v (boundDone (a .n) (a .k) (a .t .now) (a .work .now)) (boundNot (a .work .now)))
     (sym q)
 
 pub bound-in-spec : {M : Type 1} → statement M
 bound-in-spec =
     tie.close (tie.spec (λ c κs. search needs) (λ c. search needs) (λ c. search needs) (λ c. search needs) returns
-    (λ c. omega (arith, through (c .before .before) (c .enum-told .given .1) .gate .most)) cast-least-cells-2
-    least-cells-requires (λ c. search needs) returns-2)
+    (λ c. omega (arith, through (c .before .before) (c .enum-told .given .1) .gate .most)) cast-cell-bound-2
+    cell-bound-requires (λ c. search needs) returns-2)

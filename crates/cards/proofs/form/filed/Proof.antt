@@ -10,7 +10,7 @@ use Rattle.sheets.specs.declared.kinds.Edition.{Edition}
 use Rattle.sheets.specs.Edition.{IsEdition, firstEdition}
 use Rattle.sheets.proofs.Keeping.{first-edition}
 use Rattle.refusals.specs.Lines.{verdict}
-use Rattle.refusals.specs.Refusals.{badInputs, readLines}
+use Rattle.refusals.specs.Refusals.{badInputs, readSheetLines}
 use Rattle.refusals.proofs.Lines.{here, decides, passes}
 use Rattle.refusals.proofs.Tests.{few-inputs}
 use Rattle.cards.specs.Refusals.{filedLines}
@@ -32,8 +32,8 @@ returns-2 c =
     let i = c .before .before in
     let a = i .before .before .before .args in
     c .read-sheet .ensures
-    ∙ ap (λ (e : Edition). verdict (readLines e (a .d) (a .n) (a .s .now))) (c .before .first .ensures)
-    ∙ sym (passes (badInputs (a .n) ∷ []) (readLines firstEdition (a .d) (a .n) (a .s .now))
+    ∙ ap (λ (e : Edition). verdict (readSheetLines e (a .d) (a .n) (a .s .now))) (c .before .first .ensures)
+    ∙ sym (passes (badInputs (a .n) ∷ []) (readSheetLines firstEdition (a .d) (a .n) (a .s .now))
     (sym (i .before .bad-inputs .ensures) ∙ i .if1 .left, tt))
 
 pub filed-spec : {M : Type 1} → statement M

@@ -5,7 +5,7 @@ use native.Mathlib.Omega.{arith}
 use lib.ListN.{length, take, drop, length-set}
 use borrow.Author.Needs.{needs}
 use Rattle.cards.specs.declared.stores.Store.{Store}
-use Rattle.cards.specs.Stores.{loadStores, storeAt, made}
+use Rattle.cards.specs.Stores.{loadStores, storeAt, stored}
 use Rattle.cards.proofs.Order.{made-next, on-card}
 use Rattle.cards.proofs.stores.make_stores.Statement.{statement}
 use Rattle.cards.proofs.stores.make_stores.Tie as tie
@@ -13,7 +13,7 @@ use Rattle.cards.proofs.stores.make_stores.Tie as tie
 abbrev Inv-loop : tie.InvT-loop
 Inv-loop card₀ d n s first end i₀ card i =
     (first ≤ i) × (i ≤ end) × (length card ≡ length card₀)
-    × (card ≡ made (take (i - first) (drop first (loadStores d n s))) card₀)
+    × (card ≡ stored (take (i - first) (drop first (loadStores d n s))) card₀)
 
 abbrev μ-loop : tie.MeasureT-loop
 μ-loop card₀ d n s first end i₀ card i = end - i
@@ -25,7 +25,7 @@ loop-holds c =
       omega arith,
       omega arith,
       refl,
-      ap (λ (k : ℕ). made
+      ap (λ (k : ℕ). stored
           (take k (drop (a .first) (loadStores (a .d) (a .n) (a .s .now)))) (a .card .now)) none,
     )
 
@@ -58,7 +58,8 @@ returns c =
     let q = c .before in
     let a = q .before .before .before .args in
     let e : q .loop .i ≡ a .end = omega arith in
-    q .loop .inv .3 ∙ ap (λ (k : ℕ). made (take (k - a .first) (drop (a .first) (loadStores (a .d) (a .n) (a .s .now))))
+    q .loop .inv .3
+    ∙ ap (λ (k : ℕ). stored (take (k - a .first) (drop (a .first) (loadStores (a .d) (a .n) (a .s .now))))
     (a .card .now)) e
 
 pub make-stores-spec : {M : Type 1} → statement M

@@ -4,7 +4,7 @@ use mathlib.Core.Path.{ap₂, _∙_}
 use borrow.Author.Needs.{needs}
 use Rattle.sheets.specs.Sheet.{records}
 use Rattle.refusals.specs.declared.verdicts.Verdict.{Verdict}
-use Rattle.comparing.specs.Shorter.{kept, keptOutcome}
+use Rattle.comparing.specs.Shorter.{whichKept, keptOutcome}
 use Rattle.comparing.proofs.shorter.keep_in.Statement.{statement}
 use Rattle.comparing.proofs.shorter.keep_in.Tie as tie
 
@@ -14,7 +14,7 @@ returns c =
     let l = c .before .before .before in
     let a = l .before .before .before .before .before .args in
     c .keep .ensures
-    ∙ ap₂ (λ (v w : Verdict). kept v w (records (a .e) (a .first .now)) (records (a .e) (a .second .now)))
+    ∙ ap₂ (λ (v w : Verdict). whichKept v w (records (a .e) (a .first .now)) (records (a .e) (a .second .now)))
     (l .before .check-own .ensures) (l .check-own2 .ensures)
 
 pub keep-in-spec : {M : Type 1} → statement M

@@ -13,7 +13,7 @@ use Rattle.refusals.specs.Lines.{Line, verdict}
 use Rattle.refusals.specs.Refusals.{badAssignment}
 use Rattle.refusals.proofs.Lines.{fine, here, later, decides, in-order, stopped, decided}
 use Rattle.refusals.proofs.Tests.{inside}
-use Rattle.cards.specs.Card.{openMark, inputs, sheetOn}
+use Rattle.cards.specs.Card.{openMark, inputsOn, sheetOn}
 use Rattle.cards.specs.Refusals.{filedLines}
 use Rattle.cards.specs.RunDesk.{deskLines}
 use Rattle.cards.proofs.Desks.{open-lines}
@@ -36,13 +36,13 @@ module _ (c : tie.After-filed) where
   o = start .args .o .now
 
   abbrev ls : List Line
-  ls = filedLines (start .args .d) (inputs o) (sheetOn o)
+  ls = filedLines (start .args .d) (inputsOn o) (sheetOn o)
 
   abbrev ms : List Line
-  ms = badAssignment (inputs o) (start .args .x) ∷ []
+  ms = badAssignment (inputsOn o) (start .args .x) ∷ []
 
   seen : c .filed .result ≡ verdict ls
-  seen = c .filed .ensures ∙ ap (λ (t : List ℕ). verdict (filedLines (start .args .d) (inputs o) t))
+  seen = c .filed .ensures ∙ ap (λ (t : List ℕ). verdict (filedLines (start .args .d) (inputsOn o) t))
       (c .before .sheet-on .ensures)
 
   -- only its lines and 11 are left
@@ -50,8 +50,8 @@ module _ (c : tie.After-filed) where
   opened = sym (open-lines o (start .args .d) (start .args .x) (start .pre .0) (start .pre .1)
       (c .before .before .before .if1 .left))
 
-  few : c .filed .result ≡ Fine → inputs o < 64
-  few e = omega (arith, inside 1 (inputs o) mostInputs (in-order ls (sym seen ∙ e) .0))
+  few : c .filed .result ≡ Fine → inputsOn o < 64
+  few e = omega (arith, inside 1 (inputsOn o) mostInputs (in-order ls (sym seen ∙ e) .0))
 
 returns-2 : tie.Need-returns-2
 returns-2 c = let l = c .before .before in stopped (ls l) (ms l) _ (seen l) (c .enum-told2 .given .0 .0)
@@ -65,16 +65,16 @@ returns-3 c =
     let l = c .before .before .before .before in
     let e = c .before .before .enum-told .given .1 in
     let x = start l .args .x in
-    let far : 2 ^ inputs (o l) ≤ x = omega (arith, c .before .if2 .taken, shl-one 64 (inputs (o l)) (few l e)) in
-    c .refuse2 .ensures ∙ decided (ls l) (ms l) _ (seen l) e (here (le-leb (2 ^ inputs (o l)) x far)) ∙ opened l
+    let far : 2 ^ inputsOn (o l) ≤ x = omega (arith, c .before .if2 .taken, shl-one 64 (inputsOn (o l)) (few l e)) in
+    c .refuse2 .ensures ∙ decided (ls l) (ms l) _ (seen l) e (here (le-leb (2 ^ inputsOn (o l)) x far)) ∙ opened l
 
 returns-4 : tie.Need-returns-4
 returns-4 c =
     let l = c .before .before .before in
     let e = c .before .enum-told .given .1 in
     let x = start l .args .x in
-    let near : x < 2 ^ inputs (o l) = omega (arith, c .if2 .left, shl-one 64 (inputs (o l)) (few l e)) in
-    decided (ls l) (ms l) _ (seen l) e (later (lt-leb (2 ^ inputs (o l)) x near) fine) ∙ opened l
+    let near : x < 2 ^ inputsOn (o l) = omega (arith, c .if2 .left, shl-one 64 (inputsOn (o l)) (few l e)) in
+    decided (ls l) (ms l) _ (seen l) e (later (lt-leb (2 ^ inputsOn (o l)) x near) fine) ∙ opened l
 
 pub own-form-spec : {M : Type 1} → statement M
 own-form-spec =

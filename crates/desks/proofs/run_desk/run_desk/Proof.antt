@@ -46,8 +46,8 @@ module _ (c : tie.Else2) where
   pub cut : base d + deskBytes - base d ≡ deskBytes
   cut = omega arith
 
-run-own-requires : tie.Need-run-own-requires
-run-own-requires c κs =
+run-bytes-requires : tie.Need-run-bytes-requires
+run-bytes-requires c κs =
     let p = c .before in
     let l = p .before .before .before .before .args .card .now in (
       ap (λ (k : ℕ). length (take k (drop (base (d p)) l))) (cut p)
@@ -59,11 +59,12 @@ returns-3 : tie.Need-returns-3
 returns-3 c =
     let p = c .before .before in
     let a = p .before .before .before .before .args in
-    c .run-own .ensures ∙ ap (λ (k : ℕ). deskOutcome (take k (drop (base (a .d)) (a .card .now))) (a .d) (a .x)) (cut p)
+    c .run-bytes .ensures
+    ∙ ap (λ (k : ℕ). deskOutcome (take k (drop (base (a .d)) (a .card .now))) (a .d) (a .x)) (cut p)
     ∙ sym (run-own (a .card .now) (a .d) (a .x) (p .before .before .if1 .left))
 
 pub run-desk-spec : {M : Type 1} → statement M
 run-desk-spec =
     tie.close (tie.spec (λ c κs. search needs) returns (λ c κs. search needs) (λ c κs. search needs) returns-2 least
     (λ c. omega (arith, most c)) (λ c. omega (arith, most c)) (λ c. search needs) (λ c. search needs)
-    (λ c. omega (arith, least c, most c)) (λ c. omega (arith, most (c .before))) run-own-requires returns-3)
+    (λ c. omega (arith, least c, most c)) (λ c. omega (arith, most (c .before))) run-bytes-requires returns-3)

@@ -16,8 +16,8 @@ returns c =
     stopped (sizedLines (a .n) (a .table .now)) (badText (a .n) (a .t .now) ∷ []) _ (l .sized .ensures)
     (c .enum-told2 .given .0 .0) (c .enum-told2 .given .1)
 
-look-requires : tie.Need-look-requires
-look-requires c κs = let l = c .before .before in
+look-at-text-requires : tie.Need-look-at-text-requires
+look-at-text-requires c κs = let l = c .before .before in
     sized-through _ (l .before .before .before .args .table .now) _ (l .sized .ensures) (c .enum-told .given .1) .0
 
 returns-2 : tie.Need-returns-2
@@ -26,9 +26,10 @@ returns-2 c =
     let l = t .before .before in
     let a = l .before .before .before .args in
     goes-on (sizedLines (a .n) (a .table .now)) (badText (a .n) (a .t .now) ∷ []) _ (l .sized .ensures)
-    (t .enum-told .given .1) (c .look .ensures)
+    (t .enum-told .given .1) (c .look-at-text .ensures)
 
 pub read-form-spec : {M : Type 1} → statement M
 read-form-spec =
     tie.close (tie.spec (λ c κs. search needs) (λ c. search needs) (λ c. search needs) returns
-    (λ c. omega (arith, look-requires c (c .before .before .before .before .before .κs))) look-requires returns-2)
+    (λ c. omega (arith, look-at-text-requires c (c .before .before .before .before .before .κs))) look-at-text-requires
+    returns-2)

@@ -15,7 +15,7 @@ use Rattle.tables.specs.Table.{mostInputs}
 use Rattle.times.specs.declared.input_time.InputTime.{InputTime}
 use Rattle.times.specs.declared.input_time.InputTime.the-variants.{NotRead}
 use Rattle.pelzurivan.specs.declared.input_times.TimesC.{TimesC}
-use Rattle.pelzurivan.specs.InputTimes.{timeOfKind, inputTimes}
+use Rattle.pelzurivan.specs.InputTimes.{timeOfKind, timesFromC}
 use Rattle.pelzurivan.proofs.input_times.input_times.Statement.{statement}
 use Rattle.pelzurivan.proofs.input_times.input_times.Tie as tie
 
@@ -58,7 +58,7 @@ loop-again c =
     )
 
 returns : tie.Need-returns Inv-loop μ-loop
-unfolding inputTimes
+unfolding timesFromC
 returns c =
     let q = c .before in
     sym (list-of mostInputs (said (q .before .args .t1)) (q .loop .times) NotRead (q .loop .inv .1)

@@ -2,7 +2,7 @@
 -- nothing.
 use native.Mathlib.Omega.{arith}
 use borrow.Author.Needs.{needs}
-use Rattle.refusals.specs.Refusals.{sizedLines, readLines}
+use Rattle.refusals.specs.Refusals.{sizedLines, readSheetLines}
 use Rattle.refusals.proofs.Lines.{stopped, goes-on}
 use Rattle.refusals.proofs.Tests.{sized-through}
 use Rattle.rebuilding.proofs.rebuild_table.rebuild_form.Statement.{statement}
@@ -12,7 +12,8 @@ returns : tie.Need-returns
 returns c =
     let l = c .before .before in
     let a = l .before .before .before .args in
-    stopped (sizedLines (a .n) (a .table .now)) (readLines (a .e) (a .d) (a .n) (a .s .now)) _ (l .sized .ensures)
+    stopped (sizedLines (a .n) (a .table .now))
+    (readSheetLines (a .e) (a .d) (a .n) (a .s .now)) _ (l .sized .ensures)
     (c .enum-told2 .given .0 .0) (c .enum-told2 .given .1)
 
 read-sheet-requires : tie.Need-read-sheet-requires
@@ -26,7 +27,7 @@ returns-2 c =
     let t = c .before in
     let l = t .before .before in
     let a = l .before .before .before .args in
-    goes-on (sizedLines (a .n) (a .table .now)) (readLines (a .e) (a .d) (a .n) (a .s .now)) _ (l .sized .ensures)
+    goes-on (sizedLines (a .n) (a .table .now)) (readSheetLines (a .e) (a .d) (a .n) (a .s .now)) _ (l .sized .ensures)
     (t .enum-told .given .1) (c .read-sheet .ensures)
 
 pub rebuild-form-spec : {M : Type 1} → statement M

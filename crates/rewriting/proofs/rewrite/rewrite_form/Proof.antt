@@ -8,7 +8,7 @@ use borrow.Author.Needs.{needs}
 use borrow.Author.Tests.{lt-ltb, le-ltb}
 use Rattle.tables.specs.Table.{mostInputs}
 use Rattle.sheets.specs.Edition.{mostRecords}
-use Rattle.refusals.specs.Refusals.{badInputs, shortRecords, readLines}
+use Rattle.refusals.specs.Refusals.{badInputs, shortRecords, readSheetLines}
 use Rattle.refusals.proofs.Lines.{here, later, decides, passes}
 use Rattle.refusals.proofs.Tests.{few-inputs}
 use Rattle.rewriting.specs.Rewrite.{rewriteLines}
@@ -42,7 +42,7 @@ returns-3 c =
     let a = i .before .before .before .before .args in
     c .read-sheet .ensures
     ∙ sym (passes (badInputs (a .n) ∷ shortRecords (a .f) (a .room .now) ∷ [])
-    (readLines (a .e) (a .d) (a .n) (a .s .now)) (
+    (readSheetLines (a .e) (a .d) (a .n) (a .s .now)) (
       sym (i .before .bad-inputs .ensures) ∙ i .if1 .left,
       (le-ltb (length (a .room .now)) (a .f .size * mostRecords) (b .if2 .left), tt),
     ))

@@ -35,8 +35,8 @@ loop-holds c =
           absurd (not-suc-le-zero h),
     )
 
-word-of-requires : tie.Need-word-of-requires Inv-loop μ-loop
-word-of-requires c κs =
+sheet-word-requires : tie.Need-sheet-word-requires Inv-loop μ-loop
+sheet-word-requires c κs =
     let q = c .before .loop in
     let s = c .before .before .before .before in
     (s .pre .0, omega (arith, q .inv .0, q .inv .2, c .loop-test .taken))
@@ -61,8 +61,8 @@ returns c =
     let a = s .args in
     ap (λ (i : ℕ). q .from + i) (c .first-apart .ensures .0)
     ∙ apart-word (a .e) (a .n) (a .s .now) (a .m) (a .t .now) (s .pre .1 .0) (s .pre .1 .1) (q .from)
-    (w .word-of .result) (b .bits-from .result) (q .inv .2)
-    (w .word-of .ensures) (b .bits-from .ensures) (c .before .if1 .taken) (omega arith) (q .inv .4)
+    (w .sheet-word .result) (b .bits-from .result) (q .inv .2)
+    (w .sheet-word .ensures) (b .bits-from .ensures) (c .before .if1 .taken) (omega arith) (q .inv .4)
 
 loop-again : tie.Need-loop-again Inv-loop μ-loop
 loop-again c =
@@ -72,8 +72,8 @@ loop-again c =
     let s = w .before .before .before .before .before in
     let a = s .args in
     let same = same-word (a .e) (a .n) (a .s .now) (a .m) (a .t .now) (s .pre .1 .0) (s .pre .1 .1) (q .from)
-    (w .word-of .result) (b .bits-from .result) (q .inv .2)
-    (w .word-of .ensures) (b .bits-from .ensures) (c .if1 .left) in (
+    (w .sheet-word .result) (b .bits-from .result) (q .inv .2)
+    (w .sheet-word .ensures) (b .bits-from .ensures) (c .if1 .left) in (
       q .inv .0,
       q .inv .1,
       omega (arith, q .inv .2),
@@ -94,5 +94,5 @@ returns-2 c =
 
 pub first-difference-spec : {M : Type 1} → statement M
 first-difference-spec =
-    tie.close (tie.spec Inv-loop μ-loop (λ c. search needs) loop-holds word-of-requires bits-from-requires
+    tie.close (tie.spec Inv-loop μ-loop (λ c. search needs) loop-holds sheet-word-requires bits-from-requires
     (λ c κs. search needs) add-result returns (λ c. search needs) (λ c. search needs) loop-again returns-2)

@@ -32,13 +32,13 @@ Inv-loop e n s m out₀ o₀ i₀ out o i =
 abbrev μ-loop : tie.MeasureT-loop
 μ-loop e n s m out₀ o₀ i₀ out o i = length out₀ - i
 
-cast-word-of : tie.Need-cast-word-of Inv-loop μ-loop
-cast-word-of c =
+cast-sheet-word : tie.Need-cast-sheet-word Inv-loop μ-loop
+cast-sheet-word c =
     let t = c .before .before .before .before .before in
     omega (arith, pow-mono {i = t .args .n - 3} {j = 13} (omega (arith, t .pre .0 .2)), t .pre .1)
 
-word-of-requires : tie.Need-word-of-requires Inv-loop μ-loop
-word-of-requires c κs =
+sheet-word-requires : tie.Need-sheet-word-requires Inv-loop μ-loop
+sheet-word-requires c κs =
     let q = c .before .before in
     let t = q .before .before .before in
     (t .pre .0, word-starts (t .args .n) (q .loop .i) (omega (arith, t .pre .1)))
@@ -66,6 +66,6 @@ returns c =
 
 pub rebuild-spec : {M : Type 1} → statement M
 rebuild-spec =
-    tie.close (tie.spec Inv-loop μ-loop (λ c. (filled-none (omega arith), λ h. absurd (h refl))) cast-word-of
-    word-of-requires (λ c. search needs) (λ c. search needs) (λ c. search needs) (λ c. search needs)
+    tie.close (tie.spec Inv-loop μ-loop (λ c. (filled-none (omega arith), λ h. absurd (h refl))) cast-sheet-word
+    sheet-word-requires (λ c. search needs) (λ c. search needs) (λ c. search needs) (λ c. search needs)
     (λ c. search needs) (λ c. search needs) loop-again (λ c. search needs) returns)

@@ -9,7 +9,7 @@ use borrow.Author.Needs.{needs}
 use Rattle.bits.proofs.Lists.{default}
 use Rattle.sheets.specs.Record.{byteAt}
 use Rattle.times.specs.InputTimes.{zeroTime}
-use Rattle.times.specs.Signals.{keeping, kept, delayed}
+use Rattle.times.specs.Signals.{keeping, keptTime, delayed}
 use Rattle.times.proofs.Passing.{kept-more, cell-at}
 use Rattle.times.proofs.signals.cell_time.Statement.{statement}
 use Rattle.times.proofs.signals.cell_time.Tie as tie
@@ -20,7 +20,7 @@ timeHere times b j = getD times (byteAt b (j + 1)) zeroTime
 
 abbrev Inv-loop : tie.InvT-loop
 Inv-loop b late delay signals k first time₀ j₀ time j =
-    (1 ≤ j) × (j ≤ byteAt b 0) × (time ≡ kept (keeping late) (timeHere (signals .times) b) (j - 1))
+    (1 ≤ j) × (j ≤ byteAt b 0) × (time ≡ keptTime (keeping late) (timeHere (signals .times) b) (j - 1))
 
 abbrev μ-loop : tie.MeasureT-loop
 μ-loop b late delay signals k first time₀ j₀ time j = byteAt b 0 - j
@@ -39,7 +39,7 @@ element-copy-out-time : tie.Need-element-copy-out-time Inv-loop μ-loop
 element-copy-out-time c = let r = c .before .before .before .pre .0 in r .known 0 (r .some)
 
 loop-holds : tie.Need-loop-holds Inv-loop μ-loop
-unfolding kept
+unfolding keptTime
 loop-holds c =
     let t = c .before .before .before .before in
     let r = t .pre .0 in
@@ -92,7 +92,7 @@ returns c =
     let b = t .args .b .now in
     let z : q .loop .j ≡ byteAt b 0 = omega arith in
     ap (delayed (t .args .delay)) (q .loop .inv .2
-    ∙ ap (λ (k : ℕ). kept (keeping (t .args .late)) (timeHere l b) (k - 1)) z)
+    ∙ ap (λ (k : ℕ). keptTime (keeping (t .args .late)) (timeHere l b) (k - 1)) z)
     ∙ sym (cell-at (keeping (t .args .late)) (delayed (t .args .delay)) (t .args .e) (byteAt b) (λ h. getD l h zeroTime)
     (t .pre .0 .some))
 

@@ -10,7 +10,7 @@ use Rattle.sheets.specs.Record.{byteAt, cellOf}
 use Rattle.sheets.specs.Sheet.{sheetCells}
 use Rattle.sheets.proofs.Places.{record-within}
 use Rattle.times.specs.InputTimes.{zeroTime}
-use Rattle.times.specs.Reading.{Reads, mostSignals}
+use Rattle.times.specs.Reading.{Timeable, mostSignals}
 use Rattle.times.specs.Signals.{keeping, delayed, cellTime, outputTime}
 use Rattle.times.proofs.Passing.{written-at, Passed, passed-none, passed-more, passed-all}
 use Rattle.times.proofs.signals.output_time.Statement.{statement}
@@ -50,7 +50,7 @@ cell-time-requires : tie.Need-cell-time-requires Inv-loop μ-loop
 cell-time-requires c κs =
     let t = c .before .before .before .before in
     let q = c .before .before in (
-      subst (λ (r : List ℕ). Reads (t .args .e) r) (sym (c .record-of .ensures))
+      subst (λ (r : List ℕ). Timeable (t .args .e) r) (sym (c .record-of .ensures))
           (t .pre .0 .reads (q .loop .i) (omega arith)),
       q .loop .inv .1,
     )

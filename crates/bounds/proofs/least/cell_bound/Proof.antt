@@ -1,4 +1,4 @@
--- `least_cells` meets its contract: few inputs count, or whether there is a tree tells, or the best split. Assumes
+-- `cell_bound` meets its contract: few inputs count, or whether there is a tree tells, or the best split. Assumes
 -- nothing.
 use mathlib.Core.Path.{sym, ap, _∙_}
 use Prim.Native.Nat.{ℕ, _^_}
@@ -10,8 +10,8 @@ use Rattle.best.specs.Counting.{bestCounting}
 use Rattle.chains.specs.Aside.{sheetAside}
 use Rattle.bounds.specs.Least.{bySplit, byChain}
 use Rattle.bounds.proofs.Bound.{least-few, least-chain, least-split}
-use Rattle.bounds.proofs.least.least_cells.Statement.{statement}
-use Rattle.bounds.proofs.least.least_cells.Tie as tie
+use Rattle.bounds.proofs.least.cell_bound.Statement.{statement}
+use Rattle.bounds.proofs.least.cell_bound.Tie as tie
 
 returns : tie.Need-returns
 returns c =
@@ -56,7 +56,7 @@ returns-3 c =
       r .by-split .ensures .1,
     )
 
-pub least-cells-spec : {M : Type 1} → statement M
-least-cells-spec =
+pub cell-bound-spec : {M : Type 1} → statement M
+cell-bound-spec =
     tie.close (tie.spec (λ c κs. search needs) (λ c κs. search needs) (λ c. search needs) returns (λ c κs. search needs)
     by-tree-requires (λ c. search needs) returns-2 (λ c κs. search needs) (λ c. search needs) returns-3)

@@ -1,10 +1,10 @@
--- `look` meets its contract: too long comes first, then what the reader of sums found. Assumes nothing.
+-- `look_at_text` meets its contract: too long comes first, then what the reader of sums found. Assumes nothing.
 use mathlib.Core.Path.{_∙_}
 use borrow.Author.Needs.{needs}
 use Rattle.formulas.proofs.Place.{too-long}
 use Rattle.formulas.proofs.Table.{text-refused, text-fine, text-bad, text-left, text-good}
-use Rattle.formulas.proofs.read_formula.look.Statement.{statement}
-use Rattle.formulas.proofs.read_formula.look.Tie as tie
+use Rattle.formulas.proofs.read_formula.look_at_text.Statement.{statement}
+use Rattle.formulas.proofs.read_formula.look_at_text.Tie as tie
 
 returns : tie.Need-returns
 returns c =
@@ -37,7 +37,7 @@ returns-4 c =
     text-fine (a .n) (a .t .now) (text-good (a .n) (a .t .now) (s .before .if1 .left) (m .q .given .1) (s .sum .ensures)
     (c .if2 .left))
 
-pub look-spec : {M : Type 1} → statement M
-look-spec =
+pub look-at-text-spec : {M : Type 1} → statement M
+look-at-text-spec =
     tie.close (tie.spec (λ c κs. search needs) returns (λ c κs. search needs) (λ c. search needs) (λ c κs. search needs)
     returns-2 (λ c. search needs) (λ c κs. search needs) returns-3 returns-4)

@@ -1,5 +1,5 @@
--- `word_of` meets its contract. The loop's invariant: at each of the 64 assignments that there are, what is left to run
--- gives the sheet's bit. Assumes nothing.
+-- `sheet_word` meets its contract. The loop's invariant: at each of the 64 assignments that there are, what is left
+-- to run gives the sheet's bit. Assumes nothing.
 use mathlib.Core.Path.{_≡_, sym, ap, subst, _∙_}
 use mathlib.Core.Bool.{Bool}
 use mathlib.Core.List.{List}
@@ -17,8 +17,8 @@ use Rattle.runs.specs.Words.{lane}
 use Rattle.runs.proofs.Runs.{record-read, Ran, ran-none, ran-more, ran-all}
 use Rattle.sheets.proofs.Places.{record-within}
 use Rattle.runs.proofs.Choosing.{lane-set, first-of}
-use Rattle.runs.proofs.words.word_of.Statement.{statement}
-use Rattle.runs.proofs.words.word_of.Tie as tie
+use Rattle.runs.proofs.words.sheet_word.Statement.{statement}
+use Rattle.runs.proofs.words.sheet_word.Tie as tie
 
 abbrev AllRan : Edition → ℕ → List ℕ → ℕ → ℕ → List ℕ → ℕ → ℕ → Type 0
 AllRan e n s m w words o i = (j : ℕ) → j < 64 → 64 * w + j < 2 ^ n
@@ -94,8 +94,8 @@ returns c =
     (λ j l h. ran-all (a .e) (a .s .now) (a .m) (F (64 * a .w + j)) (a .n) (q .loop .i) (bit (q .loop .o) j)
     (lane (q .loop .words) j) (omega arith) (q .loop .inv .3 j l h))
 
-pub word-of-spec : {M : Type 1} → statement M
-word-of-spec =
+pub sheet-word-spec : {M : Type 1} → statement M
+sheet-word-spec =
     tie.close (tie.spec Inv-loop μ-loop (λ c κs. search needs) (λ c κs. search needs) loop-holds record-of-requires
     (λ c. search needs) (λ c. search needs) cell-word-requires (λ c. search needs) (λ c. search needs)
     (λ c. search needs) (λ c. search needs) (λ c. search needs) loop-again (λ c κs. search needs) returns)
