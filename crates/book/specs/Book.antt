@@ -1,9 +1,9 @@
 -- The book: for each three-input table the least number reachable.
-use mathlib.Core.Bool.{Bool, false, cond, _||_}
+use mathlib.Core.Bool.{cond}
 use mathlib.Core.List.{List, [], _∷_}
 use Prim.Native.Nat.{ℕ, suc, _<_, _≤_}
-use lib.Dec.{eqb}
 use Rattle.bits.specs.Below.{least}
+use Rattle.bits.specs.Lists.{member}
 use Rattle.turning.specs.Ways.{Reachable}
 use Rattle.turning.specs.Reach.{reaches}
 
@@ -23,10 +23,6 @@ entry f = least tableCount (reaches f)
 
 -- ---- how many different numbers a list has
 
-abbrev pub appears : ℕ → List ℕ → Bool
-appears x [] = false
-appears x (y ∷ l) = eqb x y || appears x l
-
 abbrev pub different : List ℕ → ℕ
 different [] = 0
-different (x ∷ l) = cond (appears x l) (different l) (suc (different l))
+different (x ∷ l) = cond (member x l) (different l) (suc (different l))

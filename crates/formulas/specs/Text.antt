@@ -4,7 +4,8 @@ use mathlib.Core.Logic.{_⊎_}
 use mathlib.Core.Bool.{true, false}
 use mathlib.Core.List.{List, _++_}
 use Prim.Native.Nat.{ℕ, zero, suc, _+_, _<_, _≤_}
-use lib.ListN.{length, getD, take}
+use lib.ListN.{length, take}
+pub use Rattle.bits.specs.Lists.{byteAt}
 use Rattle.values.specs.Formula.{Formula, letter, constant, negated, joined}
 
 -- the byte between two that are joined at a level: `&`, `^`, `|`
@@ -26,10 +27,6 @@ pub data Spells (c : ℕ → ℕ) (n : ℕ) : ℕ → ℕ → Formula → ℕ �
   only : {k d p q : ℕ} {F : Formula} → Spells c n k d F p q → Spells c n (suc k) d F p q
   more : {k d p q r : ℕ} {F G : Formula} → Spells c n k d F p q → c q ≡ mark k → Spells c n (suc k) d G (suc q) r
       → Spells c n (suc k) d (joined k F G) p r
-
--- the byte at a place of a text; past its end 0, which no formula has
-abbrev pub byteAt : List ℕ → ℕ → ℕ
-byteAt s i = getD s i 0
 
 -- nesting, `!` and parentheses counted together, goes to 32
 abbrev pub mostLevels : ℕ

@@ -22,7 +22,7 @@ ghost use Rattle.formulas.specs.Refusals.{badText};
 ghost use Rattle.formulas.specs.ReadFormula.{readLines, readOutcome};
 
 // A text has at most so many bytes.
-const MOST_TEXT: usize = 1024;
+pub const MOST_TEXT: usize = 1024;
 // Nesting goes to so many levels.
 const MOST_LEVELS: usize = 32;
 

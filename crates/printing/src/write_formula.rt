@@ -1,6 +1,7 @@
 // Writing a sheet as a formula into a lent room.
 use crate::printed::is_printed;
 use crate::signals::write;
+use formulas::read_formula::MOST_TEXT;
 use records::desk::desk_of;
 use refusals::form;
 use refusals::verdicts::Refusal;
@@ -11,9 +12,6 @@ ghost use mathlib.Core.Path.{_≡_};
 ghost use Rattle.sheets.specs.Edition.{IsEdition, firstEdition};
 ghost use Rattle.refusals.specs.Lines.{verdict};
 ghost use Rattle.printing.specs.WriteFormula.{writeLines, writeOutcome, writeOwn};
-
-// A text has at most so many bytes.
-const MOST_TEXT: usize = 1024;
 
 // The text's length, if nothing is wrong.
 pub struct WriteAnswer {

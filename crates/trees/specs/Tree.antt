@@ -1,9 +1,10 @@
 -- Trees of two-input nodes, said without splits, cells or the search.
 use mathlib.Core.Path.{_≡_}
-use mathlib.Core.Bool.{Bool, true, false, not}
+use mathlib.Core.Bool.{Bool}
 use Prim.Native.Nat.{ℕ, _+_, _^_, _<_}
 use lib.Dec.{eqb}
 use Rattle.bits.specs.Numbers.{bit, val}
+pub use Rattle.bits.specs.Numbers.{flipped}
 use Rattle.tables.specs.Depends.{DependsOn}
 
 -- a tree is a constant, an input plain or flipped, or a node: any function of two trees
@@ -11,11 +12,6 @@ pub data Tree : Type 0 where
   constant : Bool → Tree
   input : Bool → ℕ → Tree
   node : (Bool → Bool → Bool) → Tree → Tree → Tree
-
--- a bit flipped (true) or plain (false)
-abbrev pub flipped : Bool → Bool → Bool
-flipped true b = not b
-flipped false b = b
 
 -- what a tree gives where input j is v j
 abbrev pub value : Tree → (ℕ → Bool) → Bool

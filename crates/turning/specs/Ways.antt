@@ -2,16 +2,12 @@
 -- number below 256: its bit x is its value at the assignment x.
 use mathlib.Core.Path.{_≡_}
 use mathlib.Core.Logic.{_⊎_}
-use mathlib.Core.Bool.{Bool, true, false, not, _&&_, _||_}
+use mathlib.Core.Bool.{Bool, true, false, _&&_, _||_}
 use Prim.Native.Nat.{ℕ, zero, suc, _+_, _*_, _<_}
 use lib.Dec.{eqb, ltb}
 use Rattle.bits.specs.Numbers.{bit, val, number}
+pub use Rattle.bits.specs.Numbers.{flipped}
 use Rattle.turning.specs.declared.ways.Way.{Way}
-
--- a bit, flipped if so said
-abbrev pub flipped : Bool → Bool → Bool
-flipped true b = not b
-flipped false b = b
 
 -- pj
 abbrev pub place : Way → ℕ → ℕ
