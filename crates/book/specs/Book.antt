@@ -23,10 +23,12 @@ entry f = least tableCount (reaches f)
 
 -- ---- how many different numbers a list has
 
+-- whether x is in the list
 abbrev pub appears : ℕ → List ℕ → Bool
 appears x [] = false
 appears x (y ∷ l) = eqb x y || appears x l
 
+-- how many different numbers it has
 abbrev pub different : List ℕ → ℕ
 different [] = 0
 different (x ∷ l) = cond (appears x l) (different l) (suc (different l))
