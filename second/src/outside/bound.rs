@@ -52,9 +52,7 @@ pub fn bound(arguments: &Arguments) -> Result<(), String> {
     let wanted = arguments.wanted_command()?;
     let seed = arguments.seed()?;
     let sample = arguments.number("--cases", 1000)? as usize;
-    println!(
-        "the lower bound on cells: seed {seed}, about {sample} tables for each small n and K"
-    );
+    println!("the lower bound on cells: seed {seed}, about {sample} tables for each small n and K");
     let mut random = Random::new(seed);
     let small = small(&mut random, sample);
     let planted = planted_parts(&mut random, sample / 100 + 1);
