@@ -16,7 +16,7 @@ pub struct Shown {
     pub table: Table,
     /// The gate as it was handed over; none where only the sheet was.
     pub said: Option<String>,
-    /// The number of inputs of a cell that the least number of cells is for.
+    /// The number of inputs of a cell that the lower bound on cells is for.
     pub k: u64,
     pub least: usize,
     pub asked: Vec<Asked>,

@@ -1,5 +1,5 @@
-//! The calls beside those of raw.rs that came with the second edition of the sheet, with the least
-//! number of cells and with several first cells in one chain.
+//! The calls beside those of raw.rs that came with the second edition of the sheet, with the lower
+//! bound on cells and with several first cells in one chain.
 
 use crate::raw::{In, Made, Out, Placed, Ran, Sought};
 

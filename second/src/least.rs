@@ -1,4 +1,4 @@
-//! The least number of cells that a table is known to need.
+//! A lower bound on the cells of a table: so many it is known to need.
 
 use crate::carry::Networks;
 use crate::sets::size;

@@ -1,4 +1,4 @@
-//! The least number of cells.
+//! The lower bound on cells.
 
 use std::collections::HashMap;
 

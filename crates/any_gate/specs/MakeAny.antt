@@ -21,11 +21,13 @@ cellsAny (sheet cs) = cs
 cellsAny unsplit = []
 cellsAny overlong = []
 
+-- a table of the chain has no split
 abbrev pub isUnsplit : Any → Bool
 isUnsplit (sheet cs) = false
 isUnsplit unsplit = true
 isUnsplit overlong = false
 
+-- the cells are too many for a sheet
 abbrev pub isOverlong : Any → Bool
 isOverlong (sheet cs) = false
 isOverlong unsplit = false

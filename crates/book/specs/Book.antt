@@ -21,8 +21,7 @@ pub record LeastReachable (f e : ℕ) : Type 0 where
 unfoldable pub entry : ℕ → ℕ
 entry f = least tableCount (reaches f)
 
--- ---- how many different numbers a list has
-
+-- how many different numbers a list has
 abbrev pub different : List ℕ → ℕ
 different [] = 0
 different (x ∷ l) = cond (member x l) (different l) (suc (different l))

@@ -70,7 +70,7 @@ pub record Holds (o : List ℕ) (n : ℕ) (s : List ℕ) : Type 0 where
   pub marked : openMark o ≡ 1
   pub status : (j : ℕ) → j < recordSize - 1 → getD o (placeBytes + 1 + j) 0 ≡ statusByte n s j
 
--- ---- of any stores those into desk d, in their order
+-- of any stores those into desk d, in their order
 abbrev pub onto : ℕ → List Store → List Store
 onto d [] = []
 onto d (t ∷ ts) = cond (eqb (holder (t .place)) d) (t ∷ onto d ts) (onto d ts)

@@ -27,5 +27,6 @@ abbrev pub either : Made → Made → Any
 either (made cs) x = sheet cs
 either stuck x = severally x
 
+-- the answer for the table T of a gate of n inputs, with what does not count set aside
 unfoldable pub anyAside : ℕ → ℕ → ℕ → Any
 anyAside n K T = either (sheetAside n K T) (cellsAside mostFirst n K T)

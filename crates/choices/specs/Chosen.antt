@@ -41,6 +41,7 @@ pub record Whole (n K m : ℕ) (F : ℕ → Bool) (r A B : ℕ) : Type 0 where
   pub answer : best n r F K ≡ split A B
   pub whole : size n (bit A) ≡ K
 
+-- nothing was found at once, or a whole split
 abbrev pub AtOnce : ℕ → ℕ → ℕ → (ℕ → Bool) → Choice → Type 0
 AtOnce n K m F nothing = Unit {0}
 AtOnce n K m F (choice r A B) = Whole n K m F r A B

@@ -87,7 +87,7 @@ module _ (e : Edition) (n K r A B : ℕ) (t room : List ℕ) where
           (ne-eqb (why .number) 8 g)
 
   -- 8 names the least b that has more than 2 ^ r different columns, and tells how many it has (`broken-there`,
-  -- `broken-before`, splits)
+  -- `broken-before`, columns)
   pub try-breaks : numberOf (tryOutcome e n K r A B t room .answer .verdict) ≡ 8
       → Breaks n (tableBit t) (bit A) (bit B) (2 ^ r) (placeOf (tryOutcome e n K r A B t room .answer .verdict))
       (tryOutcome e n K r A B t room .answer .columns)
@@ -105,7 +105,7 @@ module _ (e : Edition) (n K r A B : ℕ) (t room : List ℕ) where
       })
 
   -- which is a proof that it is impossible: 2 ^ r + 1 assignments of A (three, with one first cell) have pairwise
-  -- different columns there (`firsts-several`, splits)
+  -- different columns there (`columns-several`, columns)
   pub break-proves : numberOf (tryOutcome e n K r A B t room .answer .verdict) ≡ 8
       → Several (column n (tableBit t) (bit A) (bit B) (placeOf (tryOutcome e n K r A B t room .answer .verdict)))
       (2 ^ size n (bit A)) (2 ^ r)

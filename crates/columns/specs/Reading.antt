@@ -43,17 +43,19 @@ pub record Without (n L x : ℕ) : Type 0 where
 abbrev pub Within : ℕ → ℕ → ℕ → Type 0
 Within n m x = x ≡ spread n (bit m) (gather n (bit m) x)
 
--- what the first cells of a split of masks read, and what its last cell reads besides their outputs
+-- what the first cells of a split of masks read
 abbrev pub firstReads : Split → ℕ → Bool
 firstReads s = readsD (bit (s .own)) (bit (s .shared))
 
+-- what H reads besides their outputs
 abbrev pub lastReads : Split → ℕ → Bool
 lastReads s = readsH (bit (s .own)) (bit (s .shared))
 
--- what x has at the own inputs, and at the shared ones, read in increasing position
+-- what x has at the own inputs, read in increasing position
 abbrev pub ownPart : Split → ℕ → ℕ
 ownPart s x = gather (s .n) (bit (s .own)) x
 
+-- and at the shared ones
 abbrev pub sharedPart : Split → ℕ → ℕ
 sharedPart s x = gather (s .n) (bit (s .shared)) x
 

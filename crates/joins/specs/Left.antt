@@ -28,7 +28,7 @@ pub record Fixing (n : ℕ) (g : Left) : Type 0 where
   pub below : g .fixed < 2 ^ n
   pub within : Within n (g .fixed) (g .at)
 
--- the decided input i fixed at v, and input j decided
+-- the decided input i is fixed at v
 abbrev pub oneFixed : Left → ℕ → Bool → Left
 oneFixed g i v = record {
   fixed = g .fixed + 2 ^ i;
@@ -36,6 +36,7 @@ oneFixed g i v = record {
   decided = g .decided - 2 ^ i;
 }
 
+-- input j is decided too
 abbrev pub oneDecided : Left → ℕ → Left
 oneDecided g j = record { fixed = g .fixed; at = g .at; decided = g .decided + 2 ^ j }
 

@@ -37,6 +37,7 @@ oneText t l = cond (eqb t 0) (48 ∷ []) (cond (eqb t 3) (49 ∷ []) (flippedTex
 abbrev pub twoText : ℕ → List ℕ → List ℕ → List ℕ
 twoText t l r = 40 ∷ (flippedText (flipsLow t) l ++ (markOf t ∷ (flippedText (flipsHigh t) r ++ (41 ∷ []))))
 
+-- a cell's text, by its signals
 abbrev pub cellText : Cell → (ℕ → List ℕ) → List ℕ
 cellText c v = bySides [] oneText twoText (c .signals) (c .table) v
 
@@ -54,10 +55,12 @@ sheetText e n s = printed n (sheetCells e s (records e s)) (n + (records e s - 1
 
 -- ---- the formulas, in the same way
 
+-- `!` before a formula, if so said
 abbrev pub negatedIf : Bool → Formula → Formula
 negatedIf true F = negated F
 negatedIf false F = F
 
+-- of a cell of one signal
 abbrev pub oneFormula : ℕ → Formula → Formula
 oneFormula t F = cond (eqb t 0) (constant false) (cond (eqb t 3) (constant true) (negatedIf (eqb t 1) F))
 
@@ -65,9 +68,11 @@ oneFormula t F = cond (eqb t 0) (constant false) (cond (eqb t 3) (constant true)
 abbrev pub levelOf : ℕ → ℕ
 levelOf t = cond (eqb (markOf t) 38) 0 (cond (eqb (markOf t) 94) 1 2)
 
+-- of a cell of two
 abbrev pub twoFormula : ℕ → Formula → Formula → Formula
 twoFormula t F G = joined (levelOf t) (negatedIf (flipsLow t) F) (negatedIf (flipsHigh t) G)
 
+-- of a cell, by its signals
 abbrev pub cellFormula : Cell → (ℕ → Formula) → Formula
 cellFormula c v = bySides (constant false) oneFormula twoFormula (c .signals) (c .table) v
 

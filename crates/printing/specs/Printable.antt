@@ -21,6 +21,7 @@ pub record Plain (c : Cell) : Type 0 where
   pub few : length (c .signals) ≤ 2
   pub both : length (c .signals) ≡ 2 → (j : ℕ) → j < 2 → DependsOn 2 (bit (c .table)) j
 
+-- every cell is plain
 abbrev pub AllPlain : List Cell → Type 0
 AllPlain [] = Unit {0}
 AllPlain (c ∷ cs) = Plain c × AllPlain cs
@@ -33,9 +34,11 @@ pub record Printable (n : ℕ) (cs : List Cell) : Type 0 where
 
 -- ---- the same as tests
 
+-- whether a cell is plain: it reads one signal, or two and has a printed form
 abbrev pub plainCell : Cell → Bool
 plainCell c = eqb (length (c .signals)) 1 || (eqb (length (c .signals)) 2 && ltb 0 (markOf (c .table)))
 
+-- whether all are
 abbrev pub allPlain : List Cell → Bool
 allPlain [] = true
 allPlain (c ∷ cs) = plainCell c && allPlain cs

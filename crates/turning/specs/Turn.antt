@@ -13,6 +13,7 @@ use Rattle.turning.specs.Reach.{reaches}
 abbrev pub noWay : ℕ → ℕ → Line
 noWay f g = line 21 (not (reaches f g))
 
+-- the call's one line
 abbrev pub turnLines : ℕ → ℕ → List Line
 turnLines f g = noWay f g ∷ []
 

@@ -10,6 +10,7 @@ flip (tree.constant b) = tree.constant (not b)
 flip (tree.input f j) = tree.input (not f) j
 flip (tree.node g s t) = tree.node (λ p q. not (g p q)) s t
 
+-- the tree of a formula
 abbrev pub treeOf : Formula → Tree
 treeOf (letter j) = tree.input false j
 treeOf (constant b) = tree.constant b

@@ -20,10 +20,11 @@ stretchOf F w = four (wordOf F) w
 abbrev pub alike : ℕ → Stretch
 alike x = record { a = x; b = x; c = x; d = x }
 
--- the same of each word of a stretch, and of the words of two
+-- f of each word of a stretch
 abbrev pub inEach : (ℕ → ℕ) → Stretch → Stretch
 inEach f v = record { a = f (v .a); b = f (v .b); c = f (v .c); d = f (v .d) }
 
+-- f of each word of a stretch and the one at its place in another
 abbrev pub inBoth : (ℕ → ℕ → ℕ) → Stretch → Stretch → Stretch
 inBoth f v x = record { a = f (v .a) (x .a); b = f (v .b) (x .b); c = f (v .c) (x .c); d = f (v .d) (x .d) }
 

@@ -54,7 +54,7 @@ fn make(gate: &Gate, edition: Edition, k: u64, desk: u64) -> Result<Vec<u8>, Tro
     Ok(sheet)
 }
 
-/// The made sheet checked again, with the least number of cells.
+/// The made sheet checked again, with the lower bound on its cells.
 fn judged(
     gate: Gate,
     edition: Edition,

@@ -1,4 +1,4 @@
-//! The least number of cells that a table needs.
+//! A lower bound on the cells of a table.
 
 use crate::case::{Call, Case, Field, Part, TABLE_BUFFER, WORK_BUFFER};
 use crate::fresh::gate::{self, Ask};

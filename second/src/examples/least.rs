@@ -1,4 +1,4 @@
-//! Some examples for the least number of cells, worked out by hand.
+//! Some examples for the lower bound on cells, worked out by hand.
 
 use super::*;
 use crate::calls::least_cells;

@@ -1,4 +1,4 @@
-//! Tables for which the least number of cells is asked: of two cells wired in any
+//! Tables for which the lower bound on cells is asked: of two cells wired in any
 //! way, of trees, near misses of either, and of every other kind.
 
 use super::gate::{self, Ask};
@@ -25,7 +25,7 @@ pub fn draw(random: &mut Random) -> Ask {
         _ => return gate::draw_in(random, false),
     };
     let mut ask = about(random, table, k);
-    ask.tags = vec![format!("least number of cells of: {name}")];
+    ask.tags = vec![format!("lower bound on the cells of: {name}")];
     ask
 }
 
@@ -72,7 +72,7 @@ pub fn cases(random: &mut Random) -> Vec<Fresh> {
     let mut push = |k: usize, table: &Table, name: &str| {
         let numbers = [SECOND.told, table.inputs as u64, k as u64];
         let case = calls::least_cells::case(numbers, table.to_bytes(), WORK_BYTES);
-        list.push(Fresh { case, tags: vec![format!("least number of cells of: {name}")] });
+        list.push(Fresh { case, tags: vec![format!("lower bound on the cells of: {name}")] });
     };
     for k in 2..=SECOND.most_reads {
         for n in 1..=MOST_INPUTS {

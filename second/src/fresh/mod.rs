@@ -41,7 +41,7 @@ pub struct Fresh {
 /// tables with several first cells, tables that ignore inputs in every place, every
 /// rule of the records broken, every bit of some sheets flipped, cells that nobody
 /// reads at every place, records of other desks, cuts of a load and damaged cards,
-/// sheets rewritten for every desk, counting gates and the least number of cells for
+/// sheets rewritten for every desk, counting gates and the lower bound on cells for
 /// every K and n.
 pub fn cases(random: &mut Random, count: usize) -> Vec<Fresh> {
     let mut list = in_turn(random, count);

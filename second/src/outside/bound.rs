@@ -1,4 +1,4 @@
-//! The least number of cells from outside: never above the fewest that every
+//! The lower bound on cells from outside: never above the fewest that every
 //! network of small cells takes, nor above the cells that a table was made of.
 
 use super::arguments::Arguments;
@@ -52,9 +52,7 @@ pub fn bound(arguments: &Arguments) -> Result<(), String> {
     let wanted = arguments.wanted_command()?;
     let seed = arguments.seed()?;
     let sample = arguments.number("--cases", 1000)? as usize;
-    println!(
-        "the least number of cells: seed {seed}, about {sample} tables for each small n and K"
-    );
+    println!("the lower bound on cells: seed {seed}, about {sample} tables for each small n and K");
     let mut random = Random::new(seed);
     let small = small(&mut random, sample);
     let planted = planted_parts(&mut random, sample / 100 + 1);
@@ -75,7 +73,7 @@ pub fn bound(arguments: &Arguments) -> Result<(), String> {
 fn plant_fault(part: &Small, output: &mut [u8]) -> String {
     let asked = &part.list[0x80];
     output[answer_length(&case(part.k, &asked.table)) * 0x80 + 1] += 1;
-    println!("a fault: the least number of cells of one table is one more");
+    println!("a fault: the lower bound on the cells of one table is one more");
     about(part.k, &asked.table)
 }
 
@@ -153,7 +151,7 @@ fn judge(small: &[Small], planted: &[Planted], output: &[u8]) -> Result<(), Stri
     }
     judge_planted(planted, &mut left)?;
     nothing_left(left)?;
-    println!("no table has fewer cells than the least number");
+    println!("no table has fewer cells than the bound");
     Ok(())
 }
 
