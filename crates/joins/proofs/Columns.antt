@@ -1,5 +1,5 @@
--- Two inputs i and j of what is left of a gate: one can stand for both, the other being fixed at v, exactly where the two
--- columns at v are all that there are. Assumes nothing.
+-- Two inputs i and j of what is left of a gate: one can stand for both, the other being fixed at v, exactly where the
+-- two columns at v are all that there are. Assumes nothing.
 use mathlib.Core.Path.{_≡_, refl, sym, ap, ap₂, _∙_}
 use mathlib.Core.Logic.{_⊎_, inl, inr, ⊎-elim}
 use mathlib.Core.Bool.{Bool, true, false, cond, not, _||_}
@@ -84,7 +84,8 @@ module _ (s : Split) (h : Held s) (F : ℕ → Bool) (at i j : ℕ) (li : i < s 
 
   free-same : (p q : Bool) (x : ℕ) → gather n C (point p q x) ≡ gather n C x
   free-same p q x = gather-ext n C (point p q x) x (λ m l e.
-      set-off n i q (setTo n j p x) m l (λ z. off (bit (s .own) m) (B m) e (ap (bit (s .own)) z ∙ own-i n i j (s .own) li lj is))
+      set-off n i q (setTo n j p x) m l (λ z. off (bit (s .own) m) (B m) e (ap (bit (s .own)) z
+      ∙ own-i n i j (s .own) li lj is))
       ∙ set-off n j p x m l (λ z. off (bit (s .own) m) (B m) e (ap (bit (s .own)) z ∙ own-j n i j (s .own) li lj is)))
     where
       off : (u w : Bool) → not (u || w) ≡ true → u ≡ true → ⊥

@@ -1,5 +1,5 @@
--- Where one input can stand for two, the other may be fixed: the gate is a tree exactly if what is left is one, what is
--- left counts its inputs, and two others of which one stands for both in what is left are such inputs of the gate. And a
+-- Where one input can stand for two, the other may be fixed: the gate is a tree exactly if what is left is one; what is
+-- left counts its inputs; and two others of which one stands for both in what is left are such inputs of the gate. A
 -- tree of which two inputs count has such inputs. Assumes nothing.
 use mathlib.Core.Path.{_≡_, refl, sym, ap, ap₂, _∙_}
 use mathlib.Core.Bool.{Bool, true, false, cond}
@@ -45,7 +45,8 @@ module _ (n : ℕ) (G : ℕ → Bool) (i : ℕ) (v : Bool) where
       none q p h l false = ap val (ne-eqb p q (λ e. omega arith))
 
 -- ---- input j stands for i and j, where i is fixed at v
-module _ (n : ℕ) (G : ℕ → Bool) (i j : ℕ) (v : Bool) (li : i < n) (lj : j < n) (ne : i ≡ j → ⊥) (J : StandsFor n G i j v)
+module _ (n : ℕ) (G : ℕ → Bool) (i j : ℕ) (v : Bool) (li : i < n) (lj : j < n) (ne : i ≡ j → ⊥)
+    (J : StandsFor n G i j v)
   where
     abbrev left : ℕ → Bool
     left = fixedAt n G i v
@@ -110,7 +111,8 @@ module _ (n : ℕ) (G : ℕ → Bool) (i j : ℕ) (v : Bool) (li : i < n) (lj : 
 
         none : (q p : ℕ) → n ≤ q → p < n → (s t : Bool) → uses q (by s t p) ≡ 0
         none q p h l true t = refl
-        none q p h l false true = ap₂ _+_ (ap val (ne-eqb j q (λ z. omega arith))) (ap val (ne-eqb i q (λ z. omega arith)))
+        none q p h l false true = ap₂ _+_ (ap val (ne-eqb j q (λ z. omega arith)))
+            (ap val (ne-eqb i q (λ z. omega arith)))
         none q p h l false false = ap val (ne-eqb p q (λ z. omega arith))
 
     -- what counts still counts

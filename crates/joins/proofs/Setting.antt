@@ -36,7 +36,8 @@ set-twice n i v w x =
     go false b = refl
 
 -- two inputs, in either order
-pub set-swap : (n i j : ℕ) (v w : Bool) (x : ℕ) → (i ≡ j → ⊥) → setTo n i v (setTo n j w x) ≡ setTo n j w (setTo n i v x)
+pub set-swap : (n i j : ℕ) (v w : Bool) (x : ℕ) → (i ≡ j → ⊥) → setTo n i v (setTo n j w x)
+    ≡ setTo n j w (setTo n i v x)
 set-swap n i j v w x ne =
     same-bits n (setTo n i v (setTo n j w x)) (setTo n j w (setTo n i v x)) (set-lt n i v (setTo n j w x))
     (set-lt n j w (setTo n i v x)) (λ p l.

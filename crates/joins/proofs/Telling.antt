@@ -1,5 +1,5 @@
--- What four columns tell of two inputs: at which value of the higher one its two columns are all that there are. Assumes
--- nothing.
+-- What four columns tell of two inputs: at which value of the higher one its two columns are all that there are.
+-- Assumes nothing.
 use mathlib.Core.Path.{_≡_, refl, sym, ap, ap₂, _∙_, subst}
 use mathlib.Core.Logic.{_⊎_, inl, inr, ⊎-elim}
 use mathlib.Core.Bool.{Bool, true, false, cond, _||_}
@@ -36,13 +36,26 @@ pub value-as : (same : ℕ → ℕ → Bool) (pt c : ℕ → ℕ)
     → ((k l : ℕ) → k < 4 → l < 4 → same (pt k) (pt l) ≡ eqb (c k) (c l))
     → valueBy same (pt 0) (pt 1) (pt 2) (pt 3) ≡ valueBy eqb (c 0) (c 1) (c 2) (c 3)
 value-as same pt c is =
-    ap₂ (λ (s t : Bool). cond s (cond t 1 2) (cond (or 2 0 1) (cond (or 3 0 1) 0 2) 2)) (is 0 1 (omega arith) (omega arith)) (ap₂ _||_ (is 0 2 (omega arith) (omega arith)) (is 0 3 (omega arith) (omega arith)))
+    ap₂ (λ (s t : Bool). cond s (cond t 1 2) (cond (or 2 0 1) (cond (or 3 0 1) 0 2) 2)) (is 0 1 l0 l1)
+    (ap₂ _||_ (is 0 2 l0 l2) (is 0 3 l0 l3))
     ∙ ap₂ (λ (s t : Bool).
     cond (eqb (c 0) (c 1)) (cond (eqb (c 0) (c 2) || eqb (c 0) (c 3)) 1 2) (cond s (cond t 0 2) 2))
-    (ap₂ _||_ (is 2 0 (omega arith) (omega arith)) (is 2 1 (omega arith) (omega arith))) (ap₂ _||_ (is 3 0 (omega arith) (omega arith)) (is 3 1 (omega arith) (omega arith)))
+    (ap₂ _||_ (is 2 0 l2 l0) (is 2 1 l2 l1)) (ap₂ _||_ (is 3 0 l3 l0) (is 3 1 l3 l1))
   where
     or : ℕ → ℕ → ℕ → Bool
     or k l m = same (pt k) (pt l) || same (pt k) (pt m)
+
+    l0 : 0 < 4
+    l0 = omega arith
+
+    l1 : 1 < 4
+    l1 = omega arith
+
+    l2 : 2 < 4
+    l2 = omega arith
+
+    l3 : 3 < 4
+    l3 = omega arith
 
 -- the ways out of telling: r tells a from b, q the third column and p the fourth
 module _ (same : ℕ → ℕ → Bool) (a b c d : ℕ) {r : Bool} (is : r ≡ same a b) where

@@ -1,110 +1,26 @@
--- The turns of deciding: at the start what does not count is fixed; an input for which another stands is fixed; an input
--- that stands for no decided one is decided; and at the end the decided inputs tell. Assumes nothing.
+-- The turns of deciding: an input for which another stands is fixed, and an input that stands for no decided one is
+-- decided. Assumes nothing.
 use mathlib.Core.Path.{_≡_, refl, sym, ap, ap₂, _∙_, subst}
-use mathlib.Core.Logic.{_↔_, _⊎_, inl, inr, ⊎-elim}
-use mathlib.Core.Bool.{Bool, true, false, cond, not, _&&_, _||_}
-use Prim.Native.Nat.{ℕ, _+_, _-_, _*_, _^_, _<_, _≤_}
+use mathlib.Core.Logic.{_⊎_, inl, inr, ⊎-elim}
+use mathlib.Core.Bool.{Bool, true, false, not, _&&_, _||_}
+use Prim.Native.Nat.{ℕ, _+_, _-_, _^_, _<_, _≤_}
 use native.Mathlib.Decide.{ℕ-discrete, decLt}
 use native.Mathlib.Omega.{arith}
 use lib.Dec.{eqb}
-use lib.Pow.{pow-pos}
 use borrow.Author.Tests.{eq-eqb, ne-eqb, eqb-true}
-use Rattle.bits.specs.Numbers.{bit, val, number}
-use Rattle.bits.specs.Sets.{size, spread}
+use Rattle.bits.specs.Numbers.{bit}
 use Rattle.bits.proofs.Bools.{clash, false-of, or-left, or-right, and-left}
-use Rattle.bits.proofs.Numbers.{number-lt, bit-number, bit-high, bit-zero}
-use Rattle.bits.proofs.Sums.{off-sum}
-use Rattle.bits.proofs.Spreading.{spread-zero, gather-zero}
+use Rattle.bits.proofs.Numbers.{bit-high}
 use Rattle.bits.proofs.Single.{plus-bit, plus-lt}
-use Rattle.bits.proofs.Members.{Place, place, same-bits}
 use Rattle.tables.specs.Depends.{DependsOn}
-use Rattle.tables.specs.Counting.{Sees, counts, support}
-use Rattle.tables.proofs.Depending.{support-sees, support-counting}
-use Rattle.trees.specs.Tree.{Tree, uses, TreeOf, IsTree}
-use Rattle.trees.proofs.Graft.{graft, Computes}
-use Rattle.trees.proofs.Prune.{computes-tree, tree-computes}
-use Rattle.trees.proofs.Small.{small-tree}
-use Rattle.trees.proofs.Over.{wide, tree-whole}
-use Rattle.trees.proofs.Shape.{Joined}
-use Rattle.trees.proofs.Splits.{two-joined}
+use Rattle.trees.specs.Tree.{Tree, IsTree}
+use Rattle.trees.proofs.Graft.{Computes}
 use Rattle.joins.specs.declared.pairs.Left.{Left}
 use Rattle.joins.specs.StandsFor.{fixedAt, StandsFor}
-use Rattle.joins.specs.Left.{withFixed, gateLeft, Unfixed, Fixing, oneFixed, oneDecided, Reduced, DecidedFrom}
-use Rattle.joins.proofs.Joining.{tree-left, tree-joined, counts-left, stands-before, stands-of}
-use Rattle.joins.proofs.Leaving.{fixed-lt, fixed-bit, less-bit, fixing-more, left-more}
-
--- some tree that reads each input at most once computes the gate: what inductions carry, and what it is
-to-tree : (n : ℕ) (F : ℕ → Bool) → (t : Tree) × Computes n F t → IsTree n F
-to-tree n F w = computes-tree n F (w .0) (w .1)
-
-of-tree : (n : ℕ) (F : ℕ → Bool) → IsTree n F → (t : Tree) × Computes n F t
-of-tree n F w = (w .0, tree-computes n F (w .0) (w .1))
-
--- the inputs that count are a mask of n places
-pub support-lt : (n : ℕ) (F : ℕ → Bool) → support n F < 2 ^ n
-unfolding support
-support-lt n F = number-lt n (counts n F)
-
--- ---- the start: what does not count is fixed at 0, and nothing is decided
-module _ (n : ℕ) (F : ℕ → Bool) (idle : ℕ) (sum : idle + support n F + 1 ≡ 2 ^ n) where
-  abbrev start : Left
-  start = record { fixed = idle; at = 0; decided = 0 }
-
-  idle-is : idle ≡ number n (λ p. not (bit (support n F) p))
-  idle-is = omega (arith, off-sum n (support n F) (support-lt n F))
-
-  idle-bit : (p : ℕ) → p < n → bit idle p ≡ not (bit (support n F) p)
-  idle-bit p l = ap (λ (m : ℕ). bit m p) idle-is ∙ bit-number n (λ p. not (bit (support n F) p)) p l
-
-  -- what is left is the gate
-  same : (x : ℕ) → x < 2 ^ n → gateLeft n F start x ≡ F x
-  same x h = support-sees n F (withFixed n idle 0 x) x (fixed-lt n idle 0 x) h (λ p l e.
-      fixed-bit n idle 0 x p l ∙ ap (λ (t : Bool). cond t (bit 0 p) (bit x p)) (idle-bit p l ∙ ap not e))
-
-  tree-ext : (G K : ℕ → Bool) → ((x : ℕ) → x < 2 ^ n → G x ≡ K x) → IsTree n G → IsTree n K
-  tree-ext G K e w =
-      let u = of-tree n G w in
-      to-tree n K (
-        u .0,
-        record {
-          most = u .1 .most;
-          within = u .1 .within;
-          computes = λ x h. u .1 .computes x h ∙ e x h;
-        },
-      )
-
-  pub reduced-start : Reduced n F start
-  reduced-start = record {
-    fixing = record {
-      below = omega (arith, sum);
-      within = sym (ap (spread n (bit idle)) (gather-zero n (bit idle)) ∙ spread-zero n (bit idle));
-    };
-    below = pow-pos n;
-    tree = (tree-ext F (gateLeft n F start) (λ x h. sym (same x h)), tree-ext (gateLeft n F start) F same);
-    counts = λ j w. let c = support-counting n F j (w .0) (counting j w) in record {
-      x = c .x;
-      y = c .y;
-      belowX = c .belowX;
-      belowY = c .belowY;
-      alike = c .alike;
-      differ = λ e. c .differ (sym (same (c .x) (c .belowX)) ∙ e ∙ same (c .y) (c .belowY));
-    };
-    free = λ j e. absurd (clash e (bit-zero j));
-    apart = λ i j e. absurd (clash e (bit-zero i));
-  }
-    where
-      counting : (j : ℕ) → Unfixed n start j → bit (support n F) j ≡ true
-      counting j w = go (bit (support n F) j) (sym (idle-bit j (w .0)) ∙ w .1)
-        where
-          go : (t : Bool) → not t ≡ false → t ≡ true
-          go true e = refl
-          go false e = sym e
-
-  pub from-start : DecidedFrom n start n
-  from-start = record {
-    all = λ i l w. absurd (omega (arith, w .0));
-    above = λ i e. absurd (clash e (bit-zero i));
-  }
+use Rattle.joins.specs.Left.{gateLeft, Unfixed, oneFixed, oneDecided, Reduced, DecidedFrom}
+use Rattle.joins.proofs.Joining.{tree-left, tree-joined, counts-left, stands-before}
+use Rattle.joins.proofs.Leaving.{less-bit, fixing-more, left-more}
+use Rattle.joins.proofs.Starting.{to-tree, of-tree}
 
 -- ---- input i goes: j stands for it too
 module _ (n : ℕ) (F : ℕ → Bool) (g : Left) (R : Reduced n F g) (i j : ℕ) (is : bit (g .decided) i ≡ true)
@@ -138,7 +54,10 @@ module _ (n : ℕ) (F : ℕ → Bool) (g : Left) (R : Reduced n F g) (i j : ℕ)
   after-below = omega (arith, R .below)
 
   within : (p : ℕ) → bit (after .decided) p ≡ true → p < n
-  within p e = elim (decLt p n) [ yes l ↦ l | no l ↦ absurd (clash e (bit-high (after .decided) n p after-below (omega arith))) ]
+  within p e = elim (decLt p n) [
+    | yes l ↦ l
+    | no l ↦ absurd (clash e (bit-high (after .decided) n p after-below (omega arith)))
+  ]
 
   -- a decided input was decided, and is another
   was : (p : ℕ) → bit (after .decided) p ≡ true → (bit (g .decided) p ≡ true) × (p ≡ i → ⊥)
@@ -206,7 +125,8 @@ pub undecided : (n : ℕ) (g : Left) (j : ℕ) → DecidedFrom n g (j + 1) → b
 undecided n g j from = false-of (bit (g .decided) j) (λ e. omega (arith, from .above j e))
 
 -- ---- input j is decided: it stands for no decided one
-module _ (n : ℕ) (F : ℕ → Bool) (g : Left) (R : Reduced n F g) (j : ℕ) (fj : Unfixed n g j) (from : DecidedFrom n g (j + 1))
+module _ (n : ℕ) (F : ℕ → Bool) (g : Left) (R : Reduced n F g) (j : ℕ) (fj : Unfixed n g j)
+    (from : DecidedFrom n g (j + 1))
     (none : (i : ℕ) → bit (g .decided) i ≡ true → (v : Bool) → StandsFor n (gateLeft n F g) i j v → ⊥) where
   abbrev decided : Left
   decided = oneDecided g j
@@ -260,89 +180,3 @@ from-passed n g j e from = record {
   ];
   above = λ p s. omega (arith, from .above p s);
 }
-
--- ---- the end: the decided inputs are all that are left
-module _ (n : ℕ) (F : ℕ → Bool) (g : Left) (R : Reduced n F g) (from : DecidedFrom n g 0) where
-  abbrev H : ℕ → Bool
-  H = gateLeft n F g
-
-  sees : Sees n H (bit (g .decided))
-  sees x y hx hy agree = ap F (
-      same-bits n (withFixed n (g .fixed) (g .at) x) (withFixed n (g .fixed) (g .at) y)
-      (fixed-lt n (g .fixed) (g .at) x) (fixed-lt n (g .fixed) (g .at) y) (λ p l.
-      fixed-bit n (g .fixed) (g .at) x p l ∙ go p l (bit (g .fixed) p) refl
-      ∙ sym (fixed-bit n (g .fixed) (g .at) y p l)))
-    where
-      go : (p : ℕ) → p < n → (s : Bool) → bit (g .fixed) p ≡ s → cond s (bit (g .at) p) (bit x p)
-          ≡ cond s (bit (g .at) p) (bit y p)
-      go p l true e = refl
-      go p l false e = agree p l (from .all p (omega arith) (l, e))
-
-  -- one: a tree
-  pub few-tree : size n (bit (g .decided)) < 2 → IsTree n F
-  few-tree h =
-      let w = small-tree (size n (bit (g .decided))) _ (omega arith) in
-      R .tree .1 (to-tree n H (
-        graft (wide n H (bit (g .decided)) sees) (w .0),
-        tree-whole n H (bit (g .decided)) sees (w .0) (w .1),
-      ))
-
-  -- a fixed input is not read by a tree that reads what counts alone
-  read-free : (t : Tree) → TreeOf n H t → (p : ℕ) → p < n → 1 ≤ uses p t → Unfixed n g p
-  read-free t I p l r = (
-    l,
-    false-of (bit (g .fixed) p) (λ e. omega (
-      arith,
-      I .only p (λ _ c. c .differ (
-          sees (c .x) (c .y) (c .belowX) (c .belowY) (λ k b s. c .alike k b (λ z.
-          clash (ap (bit (g .fixed)) z ∙ e) (R .free k s .1))))),
-    )),
-  )
-
-  -- two: no tree, since a node would join two of them
-  pub many-none : 2 ≤ size n (bit (g .decided)) → IsTree n F → ⊥
-  many-none h w = joined (R .tree .0 w)
-    where
-      p : Place n (bit (g .decided)) 0
-      p = place n (bit (g .decided)) 0 (omega arith)
-
-      q : Place n (bit (g .decided)) 1
-      q = place n (bit (g .decided)) 1 (omega arith)
-
-      joined : IsTree n H → ⊥
-      joined (t, I) = go (two-joined n H t W (p .at) (q .at) (λ e. omega (
-        arith,
-        ap (λ (i : ℕ). size i (bit (g .decided))) e,
-        p .rank,
-        q .rank,
-      )) (R .counts (p .at) (R .free (p .at) (p .member))) (R .counts (q .at) (R .free (q .at) (q .member))))
-        where
-          W : Computes n H t
-          W = tree-computes n H t I
-
-          below : (k : ℕ) → 1 ≤ uses k t → k < n
-          below k r = elim (decLt k n) [ yes l ↦ l | no l ↦ absurd (omega (arith, W .within k (omega arith))) ]
-
-          go : Joined t → ⊥
-          go J = elim (decLt (J .a) (J .b)) [
-            | yes l ↦ never (J .b) (J .a) fb fa l (stands-of n H (J .b) (J .a) (fb .0) (fa .0) (λ e. J .differ (sym e)) (J .D)
-                (J .H) (J .others) (λ x b. sym (W .computes x b) ∙ J .gives (bit x)) (R .counts (J .a) fa))
-            | no l ↦ never (J .a) (J .b) fa fb (lower l) (stands-of n H (J .a) (J .b) (fa .0) (fb .0) (J .differ)
-                (λ s u. J .D u s) (J .H) (λ e v w f. J .others e v w (λ k a b. f k b a))
-                (λ x b. sym (W .computes x b) ∙ J .gives (bit x)) (R .counts (J .b) fb))
-          ]
-            where
-              fa : Unfixed n g (J .a)
-              fa = read-free t I (J .a) (below (J .a) (J .readA)) (J .readA)
-
-              fb : Unfixed n g (J .b)
-              fb = read-free t I (J .b) (below (J .b) (J .readB)) (J .readB)
-
-              lower : (J .a < J .b → ⊥) → J .b < J .a
-              lower l = elim (decLt (J .b) (J .a)) [
-                | yes k ↦ k
-                | no k ↦ absurd (J .differ (omega arith))
-              ]
-
-              never : (i j : ℕ) → Unfixed n g i → Unfixed n g j → j < i → (v : Bool) × StandsFor n H i j v → ⊥
-              never i j a b l N = R .apart i j (from .all i (omega arith) a) (from .all j (omega arith) b) l (N .0) (N .1)

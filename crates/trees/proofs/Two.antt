@@ -86,10 +86,14 @@ module _ (n i j own : ℕ) (li : i < n) (lj : j < n) (is : (p : ℕ) → p < n �
     pub gather-two : (x : ℕ) → gather n (bit own) x ≡ two (bit x j) (bit x i)
     gather-two x =
         gather-of n (bit own) x (two (bit x j) (bit x i)) (omega (arith, two-lt (bit x j) (bit x i), four)) (λ p l e.
-        ⊎-elim (λ z. ap (bit x) z ∙ sym (ap (bit (two (bit x j) (bit x i))) (ap (λ (m : ℕ). size m (bit own)) z ∙ size-j)
+        ⊎-elim (λ z. ap (bit x) z ∙ sym (at p 0 (ap (λ (m : ℕ). size m (bit own)) z ∙ size-j)
         ∙ two-low (bit x j) (bit x i)))
-        (λ z. ap (bit x) z ∙ sym (ap (bit (two (bit x j) (bit x i))) (ap (λ (m : ℕ). size m (bit own)) z ∙ size-i)
+        (λ z. ap (bit x) z ∙ sym (at p 1 (ap (λ (m : ℕ). size m (bit own)) z ∙ size-i)
         ∙ two-high (bit x j) (bit x i))) (own-only p l e))
       where
+        at : (p k : ℕ) → size p (bit own) ≡ k → bit (two (bit x j) (bit x i)) (size p (bit own))
+            ≡ bit (two (bit x j) (bit x i)) k
+        at p k e = ap (bit (two (bit x j) (bit x i))) e
+
         four : 2 ^ size n (bit own) ≡ 4
         four = ap (λ (m : ℕ). 2 ^ m) (own-size (λ e. omega arith))

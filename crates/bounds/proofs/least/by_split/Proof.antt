@@ -27,8 +27,8 @@ add-if1-2 c =
     let s = g .before .before .before .before in
     let a = s .args in
     let p = s .pre in
-    let m = own-few (a .n) (a .k) (a .counting .many) (tableBit (a .t .now)) (g .search-counting .result) (g .search-counting .ensures .1) _ _
-    (o .own-in .ensures) (c .members .ensures) in
+    let m = own-few (a .n) (a .k) (a .counting .many) (tableBit (a .t .now)) (g .search-counting .result)
+    (g .search-counting .ensures .1) _ _ (o .own-in .ensures) (c .members .ensures) in
     omega (arith, m, p .0, p .2, p .5 .few)
 
 returns : tie.Need-returns
@@ -36,8 +36,8 @@ returns c =
     let o = c .before .before in
     let g = o .before .before .before in
     let a = g .before .before .before .before .args in (
-      fits (a .n) (a .k) (a .counting .many) (tableBit (a .t .now)) (g .search-counting .result) (g .search-counting .ensures .1) _ _
-          (o .own-in .ensures) (c .before .members .ensures) (c .if1 .taken),
+      fits (a .n) (a .k) (a .counting .many) (tableBit (a .t .now)) (g .search-counting .result)
+          (g .search-counting .ensures .1) _ _ (o .own-in .ensures) (c .before .members .ensures) (c .if1 .taken),
       g .search-counting .ensures .2,
     )
 
@@ -52,8 +52,8 @@ returns-2 c =
     let g = o .before .before .before in
     let a = g .before .before .before .before .args in (
       c .by-reach .ensures
-          ∙ fits-not (a .n) (a .k) (a .counting .many) (tableBit (a .t .now)) (g .search-counting .result) (g .search-counting .ensures .1) _ _
-          (o .own-in .ensures) (c .before .before .members .ensures) (c .before .if1 .left),
+          ∙ fits-not (a .n) (a .k) (a .counting .many) (tableBit (a .t .now)) (g .search-counting .result)
+          (g .search-counting .ensures .1) _ _ (o .own-in .ensures) (c .before .before .members .ensures) (c .before .if1 .left),
       g .search-counting .ensures .2,
     )
 

@@ -27,7 +27,8 @@ looked-fixed : (n : ℕ) (F : ℕ → Bool) (g : Left) (j : ℕ) (p : Partner) �
 looked-fixed n F g j p w l P = record {
   reduced = reduced-fixed n F g (w .reduced) (p .input) j (P .member l) (w .unfixed) (w .from) (bit (p .value) 0)
       (P .joins l);
-  from = from-fixed n F g (w .reduced) (p .input) j (P .member l) (w .unfixed) (w .from) (bit (p .value) 0) (P .joins l);
+  from = from-fixed n F g (w .reduced) (p .input) j (P .member l) (w .unfixed) (w .from) (bit (p .value) 0)
+      (P .joins l);
   unfixed = open-fixed n F g (w .reduced) (p .input) j (P .member l) (w .unfixed) (w .from) (bit (p .value) 0)
       (P .joins l);
 }

@@ -23,7 +23,8 @@ module _ (c : tie.Start) where
   value = value-shl (c .args .v) (c .args .i) (c .pre .1 .1) (omega (arith, c .pre .0 .0, c .pre .0 .2 .0))
 
   mask-lt : c .args .g .fixed + 2 ^ c .args .i < 2 ^ c .args .n
-  mask-lt = plus-lt (c .args .n) (c .args .g .fixed) (c .args .i) (c .pre .0 .1 .below) (c .pre .0 .2 .0) (c .pre .0 .2 .1)
+  mask-lt = plus-lt (c .args .n) (c .args .g .fixed) (c .args .i) (c .pre .0 .1 .below) (c .pre .0 .2 .0)
+      (c .pre .0 .2 .1)
 
   at-lt : c .args .g .at + val (bit (c .args .v) 0) * 2 ^ c .args .i < 2 ^ c .args .n
   at-lt = value-lt (c .args .n) (λ x. bit 0 0) (c .args .g .fixed) (c .args .g .at) (c .pre .0 .1 .below)

@@ -10,7 +10,9 @@ use Rattle.bits.proofs.Machine.{shl-one, bit-set, bit-clear}
 use Rattle.tables.specs.Table.{tableBit}
 use Rattle.tables.specs.Counting.{support}
 use Rattle.joins.specs.Left.{Reduced, DecidedFrom}
-use Rattle.joins.proofs.Turns.{support-lt, reduced-start, from-start, from-passed, few-tree, many-none}
+use Rattle.joins.proofs.Starting.{support-lt, reduced-start, from-start}
+use Rattle.joins.proofs.Turns.{from-passed}
+use Rattle.joins.proofs.Ending.{few-tree, many-none}
 use Rattle.joins.proofs.deciding.is_tree.Statement.{statement}
 use Rattle.joins.proofs.deciding.is_tree.Tie as tie
 
@@ -60,7 +62,8 @@ decide-requires c κs =
     let i = c .before .before in
     let l = i .before .loop in
     let g = i .before .before .before in
-    (g .pre .0, l .inv .1, above i, (omega (arith, l .inv .0), bit-clear (l .g .fixed) (l .j - 1) (c .if1 .taken)), g .pre .1)
+    let f = bit-clear (l .g .fixed) (l .j - 1) (c .if1 .taken) in
+    (g .pre .0, l .inv .1, above i, (omega (arith, l .inv .0), f), g .pre .1)
 
 loop-again : tie.Need-loop-again Inv-loop μ-loop
 loop-again c = (
@@ -98,5 +101,5 @@ returns c =
 pub is-tree-spec : {M : Type 1} → statement M
 is-tree-spec =
     tie.close (tie.spec Inv-loop μ-loop (λ c. search needs) sub-all sub-idle cast-t9 loop-holds (λ c. search needs)
-    (λ c. search needs) (λ c. search needs) decide-requires (λ c. search needs) loop-again (λ c. search needs) loop-again-2
-    (λ c κs. search needs) returns)
+    (λ c. search needs) (λ c. search needs) decide-requires (λ c. search needs) loop-again (λ c. search needs)
+    loop-again-2 (λ c κs. search needs) returns)

@@ -51,7 +51,8 @@ joint-requires : tie.Need-joint-requires Inv-loop μ-loop
 joint-requires c κs =
     let g = c .before .before .before .before .before in
     let R = g .pre .1 in
-    (g .pre .0, R .fixing, omega (arith, g .pre .2 .above (i c) (member c)), R .free (i c) (member c), g .pre .3, g .pre .4)
+    let m = member c in
+    (g .pre .0, R .fixing, omega (arith, g .pre .2 .above (i c) m), R .free (i c) m, g .pre .3, g .pre .4)
 
 returns : tie.Need-returns Inv-loop μ-loop
 returns c =
@@ -93,5 +94,5 @@ returns-2 c = record {
 
 pub partner-of-spec : {M : Type 1} → statement M
 partner-of-spec =
-    tie.close (tie.spec Inv-loop μ-loop loop-holds (λ c. search needs) (λ c. search needs) (λ c. search needs) joint-requires
-    returns (λ c. search needs) loop-again (λ c. search needs) loop-again-2 returns-2)
+    tie.close (tie.spec Inv-loop μ-loop loop-holds (λ c. search needs) (λ c. search needs) (λ c. search needs)
+    joint-requires returns (λ c. search needs) loop-again (λ c. search needs) loop-again-2 returns-2)

@@ -111,10 +111,10 @@ returns c =
     let w = d .before .before .before .of .ensures in
     let s = g d in
     asking.asked (s .args .n) (s .args .g) (s .pre .1) (s .pre .0) (s .args .i) (s .args .j) (s .pre .2) (s .pre .3)
-    (s .pre .4) (split d) (w .0) (w .1) (w .2) (w .3) (tableBit (s .args .t .now)) _ _ _ _ (first d) (second d) (third d)
-    (c .value-by .ensures)
+    (s .pre .4) (split d) (w .0) (w .1) (w .2) (w .3) (tableBit (s .args .t .now)) _ _ _ _ (first d) (second d)
+    (third d) (c .value-by .ensures)
 
 pub joint-spec : {M : Type 1} → statement M
 joint-spec =
-    tie.close (tie.spec (λ c. search needs) (λ c. search needs) (λ c. search needs) (λ c. search needs) add-own of-requires
-    next-requires next-requires-2 next-requires-3 add-value-by add-value-by-2 add-value-by-3 value-by-requires returns)
+    tie.close (tie.spec (λ c. search needs) (λ c. search needs) (λ c. search needs) (λ c. search needs) add-own
+    of-requires next-requires next-requires-2 next-requires-3 add-value-by add-value-by-2 add-value-by-3 value-by-requires returns)

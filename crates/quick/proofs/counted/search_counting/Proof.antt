@@ -46,5 +46,5 @@ returns c =
 
 pub search-counting-spec : {M : Type 1} → statement M
 search-counting-spec =
-    tie.close (tie.spec (λ c κs. search needs) find-with-requires (λ c κs. search needs) (λ c κs. search needs) same-length
-    returns)
+    tie.close (tie.spec (λ c κs. search needs) find-with-requires (λ c κs. search needs) (λ c κs. search needs)
+    same-length returns)
