@@ -36,11 +36,11 @@ pub value-as : (same : ℕ → ℕ → Bool) (pt c : ℕ → ℕ)
     → ((k l : ℕ) → k < 4 → l < 4 → same (pt k) (pt l) ≡ eqb (c k) (c l))
     → valueBy same (pt 0) (pt 1) (pt 2) (pt 3) ≡ valueBy eqb (c 0) (c 1) (c 2) (c 3)
 value-as same pt c is =
-    ap₂ (λ (s t : Bool). cond s (cond t 1 2) (cond (or 2 0 1) (cond (or 3 0 1) 0 2) 2)) (is 0 1 l0 l1)
+    ap₂ (λ (s t : Bool). cond s (cond t 1 2) (cond (or 3 0 1) (cond (or 2 0 1) 0 2) 2)) (is 0 1 l0 l1)
     (ap₂ _||_ (is 0 2 l0 l2) (is 0 3 l0 l3))
     ∙ ap₂ (λ (s t : Bool).
     cond (eqb (c 0) (c 1)) (cond (eqb (c 0) (c 2) || eqb (c 0) (c 3)) 1 2) (cond s (cond t 0 2) 2))
-    (ap₂ _||_ (is 2 0 l2 l0) (is 2 1 l2 l1)) (ap₂ _||_ (is 3 0 l3 l0) (is 3 1 l3 l1))
+    (ap₂ _||_ (is 3 0 l3 l0) (is 3 1 l3 l1)) (ap₂ _||_ (is 2 0 l2 l0) (is 2 1 l2 l1))
   where
     or : ℕ → ℕ → ℕ → Bool
     or k l m = same (pt k) (pt l) || same (pt k) (pt m)
@@ -57,24 +57,24 @@ value-as same pt c is =
     l3 : 3 < 4
     l3 = omega arith
 
--- the ways out of telling: r tells a from b, q the third column and p the fourth
+-- the ways out of telling: r tells a from b, q the fourth column and p the third
 module _ (same : ℕ → ℕ → Bool) (a b c d : ℕ) {r : Bool} (is : r ≡ same a b) where
   abbrev told : Bool → Bool → Bool → Bool → ℕ
   told s t u w = cond s (cond t 1 2) (cond u (cond w 0 2) 2)
 
   pub value-high : (t : Bool) {q : Bool} → r ≡ true → q ≡ (same a c || same a d) → q ≡ t → cond t 1 2
       ≡ valueBy same a b c d
-  value-high t e f g = sym (ap₂ (λ (x y : Bool). told x y (same c a || same c b) (same d a || same d b)) (sym is ∙ e)
+  value-high t e f g = sym (ap₂ (λ (x y : Bool). told x y (same d a || same d b) (same c a || same c b)) (sym is ∙ e)
       (sym f ∙ g))
 
-  pub value-third : {q : Bool} → r ≡ false → q ≡ (same c a || same c b) → q ≡ false → 2 ≡ valueBy same a b c d
-  value-third e f g = sym (ap₂ (λ (x y : Bool). told x (same a c || same a d) y (same d a || same d b)) (sym is ∙ e)
+  pub value-fourth : {q : Bool} → r ≡ false → q ≡ (same d a || same d b) → q ≡ false → 2 ≡ valueBy same a b c d
+  value-fourth e f g = sym (ap₂ (λ (x y : Bool). told x (same a c || same a d) y (same c a || same c b)) (sym is ∙ e)
       (sym f ∙ g))
 
-  pub value-low : (t : Bool) {q p : Bool} → r ≡ false → q ≡ (same c a || same c b) → q ≡ true
-      → p ≡ (same d a || same d b) → p ≡ t → cond t 0 2 ≡ valueBy same a b c d
+  pub value-low : (t : Bool) {q p : Bool} → r ≡ false → q ≡ (same d a || same d b) → q ≡ true
+      → p ≡ (same c a || same c b) → p ≡ t → cond t 0 2 ≡ valueBy same a b c d
   value-low t e f g h k =
-      sym (ap₂ (λ (x y : Bool). told x (same a c || same a d) y (same d a || same d b)) (sym is ∙ e) (sym f ∙ g)
+      sym (ap₂ (λ (x y : Bool). told x (same a c || same a d) y (same c a || same c b)) (sym is ∙ e) (sym f ∙ g)
       ∙ ap (λ (x : Bool). cond x 0 2) (sym h ∙ k))
 
 module _ (s : Split) (h : Held s) (F : ℕ → Bool) (at i j : ℕ) (li : i < s .n) (lt : j < i)
@@ -137,7 +137,7 @@ module _ (s : Split) (h : Held s) (F : ℕ → Bool) (at i j : ℕ) (li : i < s 
       go false = f
 
   pub told-value : Told (valueBy eqb a b c d)
-  told-value = go (eqb a b) (eqb a c || eqb a d) (eqb c a || eqb c b) (eqb d a || eqb d b) refl refl refl refl
+  told-value = go (eqb a b) (eqb a c || eqb a d) (eqb d a || eqb d b) (eqb c a || eqb c b) refl refl refl refl
     where
       -- where a and b differ, c and d can be all only if they are a and b
       both : (a ≡ b → ⊥) → J true → ((c ≡ a) ⊎ (c ≡ b)) × ((d ≡ a) ⊎ (d ≡ b))
@@ -147,18 +147,18 @@ module _ (s : Split) (h : Held s) (F : ℕ → Bool) (at i j : ℕ) (li : i < s 
           (λ e. (⊎-elim {C = (c ≡ a) ⊎ (c ≡ b)} (λ f. inr (sym f)) (λ f. absurd (ne (e ∙ sym f))) (q .1), inl (sym e)))
           (q .0)
 
-      go : (t u v w : Bool) → eqb a b ≡ t → (eqb a c || eqb a d) ≡ u → (eqb c a || eqb c b) ≡ v
-          → (eqb d a || eqb d b) ≡ w → Told (cond t (cond u 1 2) (cond v (cond w 0 2) 2))
+      go : (t u v w : Bool) → eqb a b ≡ t → (eqb a c || eqb a d) ≡ u → (eqb d a || eqb d b) ≡ v
+          → (eqb c a || eqb c b) ≡ w → Told (cond t (cond u 1 2) (cond v (cond w 0 2) 2))
       go true true v w p q r z = high (either a c d q) (eqb-true a b p)
       go true false v w p q r z =
           let e = eqb-true a b p in
           no-value (λ y. neither a c d q (⊎-elim {C = (a ≡ c) ⊎ (a ≡ d)} (λ f. inl (sym f)) (λ f. inl (e ∙ sym f))
           (at-low y .0))) (λ y. neither a c d q (at-high y .0))
-      go false u true true p q r z = low (either c a b r) (either d a b z)
+      go false u true true p q r z = low (either c a b z) (either d a b r)
       go false u true false p q r z =
-          no-value (λ y. neither d a b z (at-low y .1)) (λ y. neither d a b z (both (eqb-false a b p) y .1))
+          no-value (λ y. neither c a b z (at-low y .0)) (λ y. neither c a b z (both (eqb-false a b p) y .0))
       go false u false w p q r z =
-          no-value (λ y. neither c a b r (at-low y .0)) (λ y. neither c a b r (both (eqb-false a b p) y .0))
+          no-value (λ y. neither d a b r (at-low y .1)) (λ y. neither d a b r (both (eqb-false a b p) y .1))
 
   -- as the code asks: from the points that the two inputs make beside what is fixed
   module _ (within : Within (s .n) (s .shared) at) where

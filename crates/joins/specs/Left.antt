@@ -44,7 +44,7 @@ oneDecided g j = record { fixed = g .fixed; at = g .at; decided = g .decided + 2
 -- those where it is 1 (c and d). 0 and 1: at that value of i there are all of them; 2: at neither
 abbrev pub valueBy : (ℕ → ℕ → Bool) → ℕ → ℕ → ℕ → ℕ → ℕ
 valueBy same a b c d =
-    cond (same a b) (cond (same a c || same a d) 1 2) (cond (same c a || same c b) (cond (same d a || same d b) 0 2) 2)
+    cond (same a b) (cond (same a c || same a d) 1 2) (cond (same d a || same d b) (cond (same c a || same c b) 0 2) 2)
 
 -- a value at which i can be fixed so that j stands for both, or 2 where there is none
 pub record Valued (n : ℕ) (G : ℕ → Bool) (i j v : ℕ) : Type 0 where

@@ -50,10 +50,10 @@ fn value_by(t: &[u8], s: Split, a: u32, b: u32, c: u32, d: u32) -> u32
         }
         return 2;
     }
-    if !among(t, s, c, a, b) {
+    if !among(t, s, d, a, b) {
         return 2;
     }
-    if !among(t, s, d, a, b) {
+    if !among(t, s, c, a, b) {
         return 2;
     }
     0

@@ -7,7 +7,7 @@ use borrow.Author.Tests.{not-true, not-false}
 use Rattle.tables.specs.Table.{tableBit}
 use Rattle.columns.specs.Reading.{alike}
 use Rattle.joins.specs.Left.{valueBy}
-use Rattle.joins.proofs.Telling.{value-high, value-third, value-low}
+use Rattle.joins.proofs.Telling.{value-high, value-fourth, value-low}
 use Rattle.joins.proofs.pairs.value_by.Statement.{statement}
 use Rattle.joins.proofs.pairs.value_by.Tie as tie
 
@@ -26,7 +26,7 @@ first c t e =
     value-high (same g) (g .args .a) (g .args .b) (g .args .c) (g .args .d) (s .same-column .ensures) t
     (c .before .if1 .taken) (c .among .ensures) e
 
--- the third is one of the first two: the fourth tells
+-- the fourth is one of the first two: the third tells
 last : (c : tie.After-among3) (t : Bool) → c .among3 .result ≡ t → cond t 0 2
     ≡ told (c .before .before .before .before .before .before)
 last c t e =
@@ -41,7 +41,7 @@ returns-3 : tie.Need-returns-3
 returns-3 c =
     let s = c .before .before .before in
     let g = s .before .before in
-    value-third (same g) (g .args .a) (g .args .b) (g .args .c) (g .args .d) (s .same-column .ensures)
+    value-fourth (same g) (g .args .a) (g .args .b) (g .args .c) (g .args .d) (s .same-column .ensures)
     (c .before .before .if1 .left) (c .before .among2 .ensures) (not-true (c .before .among2 .result) (c .if3 .taken))
 
 pub value-by-spec : {M : Type 1} → statement M
