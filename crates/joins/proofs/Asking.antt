@@ -1,14 +1,14 @@
 -- Two inputs asked about: their mask as the machine makes it, where the columns are read from, and what they tell.
 -- Assumes nothing.
-use mathlib.Core.Path.{_≡_, refl, sym, ap, ap₂, _∙_, subst}
-use mathlib.Core.Bool.{Bool, true, false, _||_}
+use mathlib.Core.Path.{_≡_, sym, ap, ap₂, _∙_, subst}
+use mathlib.Core.Bool.{Bool, false, _||_}
 use Prim.Native.Nat.{ℕ, _+_, _*_, _%_, _^_, _<_, _≤_}
 use native.Mathlib.Nat.{add-zero}
 use native.Mathlib.Omega.{arith}
 use lib.Dec.{eqb}
 use borrow.Author.Tests.{ne-eqb}
 use Rattle.bits.specs.Numbers.{bit}
-use Rattle.bits.specs.Sets.{maskWidth, Apart, size, spread}
+use Rattle.bits.specs.Sets.{maskWidth, Apart, spread}
 use Rattle.bits.proofs.Bools.{clash}
 use Rattle.bits.proofs.Numbers.{number-lt, bit-number}
 use Rattle.bits.proofs.Single.{single, plus-bit, plus-lt}

@@ -19,7 +19,7 @@ use Rattle.columns.specs.declared.split.Split.{Split}
 use Rattle.columns.specs.Reading.{Held, columnOf}
 use Rattle.joins.specs.StandsFor.{setTo, StandsFor}
 use Rattle.joins.specs.Left.{withFixed}
-use Rattle.joins.proofs.Setting.{set-lt, set-bit, set-here, set-off}
+use Rattle.joins.proofs.Setting.{set-lt, set-here, set-off}
 
 -- ---- the columns of a split with these two as own inputs, the fixed ones being shared
 module _ (s : Split) (h : Held s) (F : ℕ → Bool) (at i j : ℕ) (li : i < s .n) (lt : j < i)

@@ -2,13 +2,12 @@
 use mathlib.Core.Path.{_≡_, refl, sym, ap, ap₂, _∙_, fun-ext}
 use mathlib.Core.Bool.{Bool, true, false, cond, not, _&&_, _||_}
 use Prim.Native.Nat.{ℕ, zero, suc, _+_, _-_, _*_, _%_, _^_, _<_}
-use native.Mathlib.Nat.{add-zero}
 use native.Mathlib.Omega.{arith}
 use lib.Dec.{eqb}
-use borrow.Author.Tests.{eq-eqb, ne-eqb, eqb-true}
+use borrow.Author.Tests.{eqb-true}
 use Rattle.bits.specs.Numbers.{bit, val, number}
-use Rattle.bits.specs.Sets.{gather, spread}
-use Rattle.bits.proofs.Bools.{clash, false-of, or-left, or-right}
+use Rattle.bits.specs.Sets.{gather}
+use Rattle.bits.proofs.Bools.{clash, false-of}
 use Rattle.bits.proofs.Numbers.{number-lt, number-bit, number-ext, bit-number}
 use Rattle.bits.proofs.Sums.{number-join}
 use Rattle.bits.proofs.Machine.{shl-one}
@@ -17,10 +16,9 @@ use Rattle.bits.proofs.Members.{same-bits, inside-spread}
 use Rattle.bits.proofs.Spreading.{spread-lt}
 use Rattle.tables.proofs.Pieces.{spread-part}
 use Rattle.columns.specs.Reading.{Within}
-use Rattle.joins.specs.declared.pairs.Left.{Left}
 use Rattle.joins.specs.StandsFor.{setTo, fixedAt}
-use Rattle.joins.specs.Left.{withFixed, gateLeft, Unfixed, Fixing}
-use Rattle.joins.proofs.Setting.{set-lt, set-bit}
+use Rattle.joins.specs.Left.{withFixed, gateLeft, Fixing}
+use Rattle.joins.proofs.Setting.{set-bit}
 
 pub fixed-lt : (n f a x : ℕ) → withFixed n f a x < 2 ^ n
 unfolding withFixed

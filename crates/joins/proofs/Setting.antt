@@ -4,7 +4,7 @@ use mathlib.Core.Bool.{Bool, true, false, cond}
 use Prim.Native.Nat.{ℕ, _^_, _<_}
 use lib.Dec.{eqb}
 use borrow.Author.Tests.{eq-eqb, ne-eqb, eqb-true}
-use Rattle.bits.specs.Numbers.{bit, number}
+use Rattle.bits.specs.Numbers.{bit}
 use Rattle.bits.proofs.Numbers.{number-lt, bit-number}
 use Rattle.bits.proofs.Members.{same-bits}
 use Rattle.joins.specs.StandsFor.{setTo}

@@ -1,9 +1,8 @@
 // Two inputs of what is left of a gate, of which one may stand for both.
 ghost use mathlib.Core.Path.{_≡_};
-ghost use mathlib.Core.Bool.{_||_, false};
+ghost use mathlib.Core.Bool.{_||_};
 ghost use Prim.Native.Nat.{_*_, _^_, _<_, _≤_};
 ghost use lib.ListN.{length};
-ghost use Rattle.bits.specs.Numbers.{bit};
 ghost use Rattle.tables.specs.Table.{mostInputs, tableBit};
 ghost use Rattle.columns.specs.Reading.{Held, Without, alike};
 ghost use Rattle.joins.specs.Left.{gateLeft, Unfixed, Fixing, valueBy, Valued};

@@ -2,8 +2,7 @@
 use crate::input_time::InputTime;
 use crate::input_time::plain_zero;
 ghost use mathlib.Core.Path.{_≡_};
-ghost use Prim.Native.Nat.{ℕ, _≤_};
-ghost use lib.Dec.{T};
+ghost use Prim.Native.Nat.{_≤_};
 ghost use lib.Ieee.Exact.{HasValue};
 ghost use mathlib.Core.Bool.{true, false};
 ghost use Rattle.bits.specs.Below.{every};

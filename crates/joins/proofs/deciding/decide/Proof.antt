@@ -1,10 +1,9 @@
 -- The loop keeps what is left reduced, and the partner of j that was found there. Assumes nothing.
-use mathlib.Core.Path.{_≡_, sym, ap, subst}
+use mathlib.Core.Path.{sym, ap, subst}
 use mathlib.Core.Bool.{Bool}
 use Prim.Native.Nat.{ℕ, _+_, _<_}
 use native.Mathlib.Omega.{arith}
 use lib.Pow.{pow-pos}
-use borrow.Author.Needs.{needs}
 use Rattle.bits.specs.Numbers.{bit}
 use Rattle.tables.specs.Table.{tableBit}
 use Rattle.joins.specs.declared.pairs.Left.{Left}

@@ -1,7 +1,7 @@
 -- Every decided input from i on was asked about. Assumes nothing.
 use mathlib.Core.Path.{_≡_, sym, ap, _∙_, subst}
 use mathlib.Core.Bool.{Bool, true}
-use Prim.Native.Nat.{ℕ, _+_, _-_, _<_, _≤_}
+use Prim.Native.Nat.{ℕ, _-_, _≤_}
 use native.Mathlib.Decide.{ℕ-discrete}
 use native.Mathlib.Omega.{arith}
 use borrow.Author.Needs.{needs}
@@ -10,7 +10,6 @@ use Rattle.bits.proofs.Bools.{clash}
 use Rattle.bits.proofs.Numbers.{bit-high}
 use Rattle.bits.proofs.Machine.{bit-set, bit-clear}
 use Rattle.tables.specs.Table.{tableBit}
-use Rattle.joins.specs.declared.pairs.Left.{Left}
 use Rattle.joins.specs.StandsFor.{StandsFor}
 use Rattle.joins.specs.Left.{gateLeft}
 use Rattle.joins.proofs.deciding.partner_of.Statement.{statement}
