@@ -1,6 +1,6 @@
 -- Running a desk looks at its mark, n, count and used places, and at nothing else of its bytes. Assumes nothing.
 use mathlib.Core.Path.{_≡_, refl, sym, ap, ap₂, _∙_}
-use mathlib.Core.Bool.{Bool, true, false, not, _&&_}
+use mathlib.Core.Bool.{Bool, true, false, not, _&&_, and-false}
 use mathlib.Core.List.{List, [], _∷_}
 use Prim.Native.Nat.{ℕ, _*_, _<_, _≤_, min}
 use native.Mathlib.Decide.{decLt}
@@ -63,11 +63,7 @@ module _ (d x : ℕ) where
       ]
         where
           many : (i : ℕ) → mostRecords < i → wrong i ≡ true
-          many i h = ap not (ap (λ (b : Bool). leb 1 i && b) (lt-leb i mostRecords h) ∙ none (leb 1 i))
-            where
-              none : (b : Bool) → (b && false) ≡ false
-              none true = refl
-              none false = refl
+          many i h = ap not (ap (λ (b : Bool). leb 1 i && b) (lt-leb i mostRecords h) ∙ and-false (leb 1 i))
 
           alike : countOn o ≤ mostRecords → take (recordSize * countOn o) o ≡ take (recordSize * countOn o) p
           alike h =

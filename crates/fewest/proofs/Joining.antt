@@ -3,7 +3,8 @@
 -- made, and is the fewest. Assumes nothing.
 use mathlib.Core.Path.{_≡_, refl, sym, ap, ap₂, _∙_, subst}
 use mathlib.Core.Logic.{⊎-elim}
-use mathlib.Core.Bool.{Bool, true, false, cond, not, _&&_, _||_, or-false, xor}
+use mathlib.Core.Bool.{Bool, true, false, cond, not, _&&_, _||_, xor}
+use mathlib.Core.Bool.{and-true, and-comm, and-assoc, or-false, or-comm, or-assoc}
 use mathlib.Core.List.{List, [], _∷_}
 use Prim.Native.Nat.{ℕ, zero, suc, _+_, _-_, _*_, _^_, _<_, _≤_}
 use native.Mathlib.Nat.{not-suc-le-zero}
@@ -163,34 +164,10 @@ module _ (op : Bool → Bool → Bool) (e : Bool) (J : Joining op e) where
 -- ---- the three
 
 pub and-joins : Joining _&&_ true
-and-joins = record { neutral = neutral; order = order; grouping = grouping }
-  where
-    neutral : (a : Bool) → (a && true) ≡ a
-    neutral true = refl
-    neutral false = refl
-
-    order : (a b : Bool) → (a && b) ≡ (b && a)
-    order true true = refl
-    order true false = refl
-    order false true = refl
-    order false false = refl
-
-    grouping : (a b c : Bool) → ((a && b) && c) ≡ (a && (b && c))
-    grouping true b c = refl
-    grouping false b c = refl
+and-joins = record { neutral = and-true; order = and-comm; grouping = and-assoc }
 
 pub or-joins : Joining _||_ false
-or-joins = record { neutral = or-false; order = order; grouping = grouping }
-  where
-    order : (a b : Bool) → (a || b) ≡ (b || a)
-    order true true = refl
-    order true false = refl
-    order false true = refl
-    order false false = refl
-
-    grouping : (a b c : Bool) → ((a || b) || c) ≡ (a || (b || c))
-    grouping true b c = refl
-    grouping false b c = refl
+or-joins = record { neutral = or-false; order = or-comm; grouping = or-assoc }
 
 pub xor-joins : Joining xor false
 unfolding xor

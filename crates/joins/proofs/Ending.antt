@@ -50,14 +50,14 @@ module _ (n : ℕ) (F : ℕ → Bool) (g : Left) (R : Reduced n F g) (from : Dec
       ))
 
   -- a fixed input is not read by a tree that reads what counts alone
-  read-free : (t : Tree) → TreeOf n H t → (p : ℕ) → p < n → 1 ≤ uses p t → Unfixed n g p
-  read-free t I p l r = (
+  read-unfixed : (t : Tree) → TreeOf n H t → (p : ℕ) → p < n → 1 ≤ uses p t → Unfixed n g p
+  read-unfixed t I p l r = (
     l,
     false-of (bit (g .fixed) p) (λ e. omega (
       arith,
       I .only p (λ _ c. c .differ (
           sees (c .x) (c .y) (c .belowX) (c .belowY) (λ k b s. c .alike k b (λ z.
-          clash (ap (bit (g .fixed)) z ∙ e) (R .free k s .1))))),
+          clash (ap (bit (g .fixed)) z ∙ e) (R .unfixed k s .1))))),
     )),
   )
 
@@ -77,7 +77,7 @@ module _ (n : ℕ) (F : ℕ → Bool) (g : Left) (R : Reduced n F g) (from : Dec
         ap (λ (i : ℕ). size i (bit (g .decided))) e,
         p .rank,
         q .rank,
-      )) (R .counts (p .at) (R .free (p .at) (p .member))) (R .counts (q .at) (R .free (q .at) (q .member))))
+      )) (R .counts (p .at) (R .unfixed (p .at) (p .member))) (R .counts (q .at) (R .unfixed (q .at) (q .member))))
         where
           W : Computes n H t
           W = tree-computes n H t I
@@ -88,17 +88,18 @@ module _ (n : ℕ) (F : ℕ → Bool) (g : Left) (R : Reduced n F g) (from : Dec
           go : Joined t → ⊥
           go J = elim (decLt (J .a) (J .b)) [
             | yes l ↦ never (J .b) (J .a) fb fa l (stands-of n H (J .b) (J .a) (fb .0) (fa .0)
-                (λ e. J .differ (sym e)) (J .D) (J .H) (J .others) (λ x b. sym (W .computes x b) ∙ J .gives (bit x)) (R .counts (J .a) fa))
+                (λ e. J .differ (sym e)) (J .D) (J .H) (J .others) (λ x b. sym (W .computes x b) ∙ J .gives (bit x))
+                (R .counts (J .a) fa))
             | no l ↦ never (J .a) (J .b) fa fb (lower l) (stands-of n H (J .a) (J .b) (fa .0) (fb .0) (J .differ)
                 (λ s u. J .D u s) (J .H) (λ e v w f. J .others e v w (λ k a b. f k b a))
                 (λ x b. sym (W .computes x b) ∙ J .gives (bit x)) (R .counts (J .b) fb))
           ]
             where
               fa : Unfixed n g (J .a)
-              fa = read-free t I (J .a) (below (J .a) (J .readA)) (J .readA)
+              fa = read-unfixed t I (J .a) (below (J .a) (J .readA)) (J .readA)
 
               fb : Unfixed n g (J .b)
-              fb = read-free t I (J .b) (below (J .b) (J .readB)) (J .readB)
+              fb = read-unfixed t I (J .b) (below (J .b) (J .readB)) (J .readB)
 
               lower : (J .a < J .b → ⊥) → J .b < J .a
               lower l = elim (decLt (J .b) (J .a)) [

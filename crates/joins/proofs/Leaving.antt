@@ -1,6 +1,6 @@
 -- What is left of a gate as one input more is fixed: it is what was left with that input at its value. Assumes nothing.
 use mathlib.Core.Path.{_≡_, refl, sym, ap, ap₂, _∙_, fun-ext}
-use mathlib.Core.Bool.{Bool, true, false, cond, not, _&&_, _||_}
+use mathlib.Core.Bool.{Bool, true, false, cond, not, _&&_, _||_, and-true, and-false, or-false}
 use Prim.Native.Nat.{ℕ, zero, suc, _+_, _-_, _*_, _%_, _^_, _<_}
 use native.Mathlib.Omega.{arith}
 use lib.Dec.{eqb}
@@ -64,7 +64,7 @@ value-shl (suc (suc v)) i h l = absurd (omega arith)
 
 -- ---- input i, which is not fixed yet, at v
 module _ (n : ℕ) (F : ℕ → Bool) (f a : ℕ) (below : f < 2 ^ n) (within : Within n f a) (i : ℕ) (l : i < n)
-    (free : bit f i ≡ false) (v : Bool) where
+    (unfixed : bit f i ≡ false) (v : Bool) where
   abbrev f′ : ℕ
   f′ = f + 2 ^ i
 
@@ -80,36 +80,29 @@ module _ (n : ℕ) (F : ℕ → Bool) (f a : ℕ) (below : f < 2 ^ n) (within : 
       clash (spread-part n f (gather n (bit f) a) p (ap (λ (y : ℕ). bit y p) (sym within) ∙ t)) e)
 
   mask-bit : (p : ℕ) → p < n → bit f′ p ≡ (bit f p || eqb p i)
-  mask-bit = plus-bit n f i below l free
+  mask-bit = plus-bit n f i below l unfixed
 
   value-bit : (p : ℕ) → p < n → bit a′ p ≡ (bit a p || (eqb p i && v))
   value-bit p b = go v
     where
       go : (v : Bool) → bit (a + val v * 2 ^ i) p ≡ (bit a p || (eqb p i && v))
       go true = let e : a + 1 * 2 ^ i ≡ a + 2 ^ i = omega arith in
-          ap (λ (y : ℕ). bit y p) e ∙ plus-bit n a i values-lt l (no-value i free) p b
+          ap (λ (y : ℕ). bit y p) e ∙ plus-bit n a i values-lt l (no-value i unfixed) p b
           ∙ ap (λ (t : Bool). bit a p || t) (sym (and-true (eqb p i)))
-        where
-          and-true : (s : Bool) → (s && true) ≡ s
-          and-true true = refl
-          and-true false = refl
-      go false = let e : a + 0 * 2 ^ i ≡ a = omega arith in ap (λ (y : ℕ). bit y p) e ∙ plain (bit a p) (eqb p i)
-        where
-          plain : (s t : Bool) → s ≡ (s || (t && false))
-          plain true t = refl
-          plain false true = refl
-          plain false false = refl
+      go false = let e : a + 0 * 2 ^ i ≡ a = omega arith in
+          ap (λ (y : ℕ). bit y p) e
+          ∙ sym (ap (λ (t : Bool). bit a p || t) (and-false (eqb p i)) ∙ or-false (bit a p))
 
   pub value-lt : a′ < 2 ^ n
   value-lt = go v
     where
       go : (v : Bool) → a + val v * 2 ^ i < 2 ^ n
-      go true = omega (arith, plus-lt n a i values-lt l (no-value i free))
+      go true = omega (arith, plus-lt n a i values-lt l (no-value i unfixed))
       go false = omega (arith, values-lt)
 
   pub fixing-more : (s : ℕ) → Fixing n (record { fixed = f′; at = a′; decided = s })
   fixing-more s = record {
-    below = plus-lt n f i below l free;
+    below = plus-lt n f i below l unfixed;
     within = sym (inside-spread n (bit f′) a′ value-lt (λ p b e. mask-bit p b ∙ go p (bit f p) (eqb p i) refl refl
         (sym (value-bit p b) ∙ e)));
   }
@@ -132,11 +125,7 @@ module _ (n : ℕ) (F : ℕ → Bool) (f a : ℕ) (below : f < 2 ^ n) (within : 
     where
       go : (p : ℕ) (s t : Bool) → bit f p ≡ s → eqb p i ≡ t → (b : Bool)
           → cond (s || t) (bit a p || (t && v)) b ≡ cond s (bit a p) (cond t v b)
-      go p true true e g b = absurd (clash (ap (bit f) (sym (eqb-true p i g)) ∙ e) free)
-      go p true false e g b = or-none (bit a p)
-        where
-          or-none : (t : Bool) → (t || false) ≡ t
-          or-none true = refl
-          or-none false = refl
+      go p true true e g b = absurd (clash (ap (bit f) (sym (eqb-true p i g)) ∙ e) unfixed)
+      go p true false e g b = or-false (bit a p)
       go p false true e g b = ap (λ (t : Bool). t || v) (no-value p e)
       go p false false e g b = refl

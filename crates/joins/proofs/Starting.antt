@@ -75,7 +75,7 @@ module _ (n : ℕ) (F : ℕ → Bool) (idle : ℕ) (sum : idle + support n F + 1
       alike = c .alike;
       differ = λ e. c .differ (sym (same (c .x) (c .belowX)) ∙ e ∙ same (c .y) (c .belowY));
     };
-    free = λ j e. absurd (clash e (bit-zero j));
+    unfixed = λ j e. absurd (clash e (bit-zero j));
     apart = λ i j e. absurd (clash e (bit-zero i));
   }
     where

@@ -2,7 +2,7 @@
 -- decided. Assumes nothing.
 use mathlib.Core.Path.{_≡_, refl, sym, ap, ap₂, _∙_, subst}
 use mathlib.Core.Logic.{_⊎_, inl, inr, ⊎-elim}
-use mathlib.Core.Bool.{Bool, true, false, not, _&&_, _||_}
+use mathlib.Core.Bool.{Bool, true, false, not, _&&_, _||_, and-false}
 use Prim.Native.Nat.{ℕ, _+_, _-_, _^_, _<_, _≤_}
 use native.Mathlib.Decide.{ℕ-discrete, decLt}
 use native.Mathlib.Omega.{arith}
@@ -32,7 +32,7 @@ module _ (n : ℕ) (F : ℕ → Bool) (g : Left) (R : Reduced n F g) (i j : ℕ)
   after = oneFixed g i v
 
   fi : Unfixed n g i
-  fi = R .free i is
+  fi = R .unfixed i is
 
   lt : j < i
   lt = omega (arith, from .above i is)
@@ -67,21 +67,17 @@ module _ (n : ℕ) (F : ℕ → Bool) (g : Left) (R : Reduced n F g) (i j : ℕ)
         λ z.
             clash h (ap (λ (t : Bool). bit (g .decided) p && not t) (eq-eqb p i z) ∙ and-false (bit (g .decided) p)),
       )
-    where
-      and-false : (s : Bool) → (s && false) ≡ false
-      and-false true = refl
-      and-false false = refl
 
-  free-was : (p : ℕ) → Unfixed n after p → Unfixed n g p × (p ≡ i → ⊥)
-  free-was p w =
+  unfixed-was : (p : ℕ) → Unfixed n after p → Unfixed n g p × (p ≡ i → ⊥)
+  unfixed-was p w =
       let h = sym (fixed-after p (w .0)) ∙ w .1 in (
         (w .0, false-of (bit (g .fixed) p) (λ e. clash (or-left (bit (g .fixed) p) (eqb p i) e) h)),
         λ z.
             clash (or-right (bit (g .fixed) p) (eqb p i) (eq-eqb p i z)) h,
       )
 
-  free-is : (p : ℕ) → Unfixed n g p → (p ≡ i → ⊥) → Unfixed n after p
-  free-is p w f = (w .0, fixed-after p (w .0) ∙ ap₂ _||_ (w .1) (ne-eqb p i f))
+  unfixed-is : (p : ℕ) → Unfixed n g p → (p ≡ i → ⊥) → Unfixed n after p
+  unfixed-is p w f = (w .0, fixed-after p (w .0) ∙ ap₂ _||_ (w .1) (ne-eqb p i f))
 
   pub reduced-fixed : Reduced n F after
   reduced-fixed = record {
@@ -91,10 +87,10 @@ module _ (n : ℕ) (F : ℕ → Bool) (g : Left) (R : Reduced n F g) (i j : ℕ)
       λ w. subst (IsTree n) (sym left-is) (to-tree n (fixedAt n G i v) (go (of-tree n G (R .tree .0 w)))),
       λ w. R .tree .1 (to-tree n G (back (of-tree n (fixedAt n G i v) (subst (IsTree n) left-is w)))),
     );
-    counts = λ p w. let u = free-was p w in
+    counts = λ p w. let u = unfixed-was p w in
         subst (λ (K : ℕ → Bool). DependsOn n K p) (sym left-is)
         (counts-left n G i j v (fi .0) (fj .0) differ J p (u .1) (R .counts p (u .0)));
-    free = λ p e. let u = was p e in free-is p (R .free p (u .0)) (u .1);
+    unfixed = λ p e. let u = was p e in unfixed-is p (R .unfixed p (u .0)) (u .1);
     apart = λ k l ek el lk w N.
         let u = was k ek in
         let x = was l el in
@@ -112,13 +108,13 @@ module _ (n : ℕ) (F : ℕ → Bool) (g : Left) (R : Reduced n F g) (i j : ℕ)
 
   pub from-fixed : DecidedFrom n after (j + 1)
   from-fixed = record {
-    all = λ p l w. let u = free-was p w in
+    all = λ p l w. let u = unfixed-was p w in
         decided-after p (w .0) ∙ ap₂ (λ (s t : Bool). s && not t) (from .all p l (u .0)) (ne-eqb p i (u .1));
     above = λ p e. from .above p (was p e .0);
   }
 
   pub open-fixed : Unfixed n after j
-  open-fixed = free-is j fj (λ e. differ (sym e))
+  open-fixed = unfixed-is j fj (λ e. differ (sym e))
 
 -- an input below the decided ones is none of them
 pub undecided : (n : ℕ) (g : Left) (j : ℕ) → DecidedFrom n g (j + 1) → bit (g .decided) j ≡ false
@@ -155,7 +151,7 @@ module _ (n : ℕ) (F : ℕ → Bool) (g : Left) (R : Reduced n F g) (j : ℕ) (
     below = decided-lt;
     tree = R .tree;
     counts = R .counts;
-    free = λ p e. ⊎-elim {C = Unfixed n g p} (R .free p) (λ z. subst (Unfixed n g) (sym z) fj) (either p e);
+    unfixed = λ p e. ⊎-elim {C = Unfixed n g p} (R .unfixed p) (λ z. subst (Unfixed n g) (sym z) fj) (either p e);
     apart = λ k l ek el lk v N.
         ⊎-elim {C = ⊥} (λ sk. ⊎-elim {C = ⊥} (λ sl. R .apart k l sk sl lk v N)
         (λ z. none k sk v (subst (λ (m : ℕ). StandsFor n (gateLeft n F g) k m v) z N)) (either l el))

@@ -66,7 +66,7 @@ pub record Reduced (n : ℕ) (F : ℕ → Bool) (g : Left) : Type 0 where
   pub below : g .decided < 2 ^ n
   pub tree : IsTree n F ↔ IsTree n (gateLeft n F g)
   pub counts : (j : ℕ) → Unfixed n g j → DependsOn n (gateLeft n F g) j
-  pub free : (j : ℕ) → bit (g .decided) j ≡ true → Unfixed n g j
+  pub unfixed : (j : ℕ) → bit (g .decided) j ≡ true → Unfixed n g j
   pub apart : (i j : ℕ) → bit (g .decided) i ≡ true → bit (g .decided) j ≡ true → j < i → (v : Bool)
       → StandsFor n (gateLeft n F g) i j v → ⊥
 

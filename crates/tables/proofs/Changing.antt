@@ -10,7 +10,7 @@ use native.Mathlib.Omega.{arith}
 use lib.Dec.{ltb, eqb}
 use lib.Bits.{bitAnd, and-le-l}
 use lib.Pow.{pow-add, pow-mono}
-use borrow.Author.Tests.{lt-ltb, le-ltb, eq-eqb, ne-eqb, eqb-true}
+use borrow.Author.Tests.{lt-ltb, le-ltb, eq-eqb, ne-eqb, eqb-true, not-false}
 use Rattle.bits.specs.Numbers.{bit}
 use Rattle.bits.specs.Sets.{size, gather, spread}
 use Rattle.bits.proofs.Bools.{clash, and-left}
@@ -70,13 +70,9 @@ module _ (n : ℕ) (F : ℕ → Bool) (j : ℕ) (l : j < n) where
       → (a ≡ b → (i : ℕ) → i < 64 → Steady n F j (64 * w + i)) → Compared n F j w (not (eqb a b))
   compared w a b there back = record {
     changes = λ e. go (counts n F j) refl e;
-    steady = λ e. back (eqb-true a b (turn (eqb a b) e));
+    steady = λ e. back (eqb-true a b (not-false (eqb a b) e));
   }
     where
-      turn : (t : Bool) → not t ≡ false → t ≡ true
-      turn true e = refl
-      turn false e = sym e
-
       go : (t : Bool) → counts n F j ≡ t → not (eqb a b) ≡ true → t ≡ true
       go true q e = refl
       go false q e = sym (ap not (eq-eqb a b (there (idle-steady n F j l q)))) ∙ e

@@ -7,7 +7,7 @@ use Prim.Native.Nat.{ℕ, zero, suc, _+_, _^_, _<_, _≤_}
 use native.Mathlib.Decide.{decLt}
 use native.Mathlib.Omega.{arith}
 use lib.Dec.{eqb, ltb}
-use borrow.Author.Tests.{ne-eqb, eqb-true, eqb-false, lt-ltb, le-ltb}
+use borrow.Author.Tests.{ne-eqb, eqb-true, eqb-false, lt-ltb, le-ltb, not-true, not-false}
 use Rattle.bits.specs.Numbers.{bit, number}
 use Rattle.bits.specs.Below.{every}
 use Rattle.bits.proofs.Bools.{clash, beq-same, same-beq}
@@ -77,12 +77,8 @@ module _ (n : ℕ) (F : ℕ → Bool) (j : ℕ) (l : j < n) where
   -- the test says which
   pub counts-depends : counts n F j ≡ true → DependsOn n F j
   unfolding counts test
-  counts-depends e = go (every-fails (2 ^ n) test (turn (every (2 ^ n) test) e))
+  counts-depends e = go (every-fails (2 ^ n) test (not-true (every (2 ^ n) test) e))
     where
-      turn : (t : Bool) → not t ≡ true → t ≡ false
-      turn true e = sym e
-      turn false e = refl
-
       go : (x : ℕ) × (x < 2 ^ n) × (test x ≡ false) → DependsOn n F j
       go w = from (bit (w .0) j) refl (w .2)
         where
@@ -94,11 +90,7 @@ module _ (n : ℕ) (F : ℕ → Bool) (j : ℕ) (l : j < n) where
   unfolding counts test
   idle-steady e x h off =
       beq-same (F x) (F (x + 2 ^ j)) (ap (λ (t : Bool). t || Bool·beq (F x) (F (x + 2 ^ j))) (sym off)
-      ∙ every-at (2 ^ n) test (turn (every (2 ^ n) test) e) x h)
-    where
-      turn : (t : Bool) → not t ≡ false → t ≡ true
-      turn true e = refl
-      turn false e = sym e
+      ∙ every-at (2 ^ n) test (not-false (every (2 ^ n) test) e) x h)
 
   pub idle-ignores : counts n F j ≡ false → Ignores n F j
   idle-ignores e = unset-ignores (idle-steady e)

@@ -1,7 +1,7 @@
 -- Two inputs as a mask: its members, its size, and what it gathers. Assumes nothing.
 use mathlib.Core.Path.{_≡_, refl, sym, ap, ap₂, _∙_}
 use mathlib.Core.Logic.{_⊎_, inl, inr, ⊎-elim}
-use mathlib.Core.Bool.{Bool, true, false, _||_}
+use mathlib.Core.Bool.{Bool, true, false, _||_, or-false}
 use Prim.Native.Nat.{ℕ, _+_, _*_, _^_, _<_}
 use native.Mathlib.Omega.{arith}
 use lib.Dec.{eqb}
@@ -76,12 +76,8 @@ module _ (n i j own : ℕ) (li : i < n) (lj : j < n) (is : (p : ℕ) → p < n �
     size-i : size i (bit own) ≡ 1
     size-i =
         let low : size i (bit own) ≡ size i (λ p. eqb p j) = size-ext i (bit own) (λ p. eqb p j) (λ p l.
-        is p (omega arith) ∙ ap (λ (t : Bool). eqb p j || t) (ne-eqb p i (λ e. omega arith)) ∙ plain (eqb p j)) in
+        is p (omega arith) ∙ ap (λ (t : Bool). eqb p j || t) (ne-eqb p i (λ e. omega arith)) ∙ or-false (eqb p j)) in
         omega (arith, low, size-one i j, size-lt i (λ p. eqb p j) j lt (eq-eqb j j refl))
-      where
-        plain : (s : Bool) → (s || false) ≡ s
-        plain true = refl
-        plain false = refl
 
     pub gather-two : (x : ℕ) → gather n (bit own) x ≡ two (bit x j) (bit x i)
     gather-two x =

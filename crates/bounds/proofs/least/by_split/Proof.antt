@@ -53,7 +53,8 @@ returns-2 c =
     let a = g .before .before .before .before .args in (
       c .by-reach .ensures
           ∙ fits-not (a .n) (a .k) (a .counting .many) (tableBit (a .t .now)) (g .search-counting .result)
-          (g .search-counting .ensures .1) _ _ (o .own-in .ensures) (c .before .before .members .ensures) (c .before .if1 .left),
+          (g .search-counting .ensures .1) _ _ (o .own-in .ensures)
+          (c .before .before .members .ensures) (c .before .if1 .left),
       g .search-counting .ensures .2,
     )
 

@@ -51,7 +51,7 @@ fix-requires c κs =
     let p = c .before .before .before .before .before .pre in
     let w = l .inv .0 in
     let m = l .inv .1 .member (c .if1 .taken) in
-    ((p .0, w .reduced .fixing, w .reduced .free _ m, w .reduced .below), (m, c .if1 .taken))
+    ((p .0, w .reduced .fixing, w .reduced .unfixed _ m, w .reduced .below), (m, c .if1 .taken))
 
 -- after it is fixed
 module _ (c : tie.After-fix Inv-loop μ-loop) where
@@ -79,7 +79,7 @@ loop-less c =
     omega (
       arith,
       ap (λ (r : Left). r .decided) (d .fix .ensures),
-      less-sum (g d .args .n) (l .g .decided) (l .p .input) (R .below) (R .free (l .p .input) m .0) m,
+      less-sum (g d .args .n) (l .g .decided) (l .p .input) (R .below) (R .unfixed (l .p .input) m .0) m,
       pow-pos (l .p .input),
     )
 

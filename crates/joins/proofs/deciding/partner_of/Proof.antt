@@ -51,7 +51,7 @@ joint-requires c κs =
     let g = c .before .before .before .before .before in
     let R = g .pre .1 in
     let m = member c in
-    (g .pre .0, R .fixing, omega (arith, g .pre .2 .above (i c) m), R .free (i c) m, g .pre .3, g .pre .4)
+    (g .pre .0, R .fixing, omega (arith, g .pre .2 .above (i c) m), R .unfixed (i c) m, g .pre .3, g .pre .4)
 
 returns : tie.Need-returns Inv-loop μ-loop
 returns c =

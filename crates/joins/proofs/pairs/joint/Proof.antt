@@ -117,4 +117,5 @@ returns c =
 pub joint-spec : {M : Type 1} → statement M
 joint-spec =
     tie.close (tie.spec (λ c. search needs) (λ c. search needs) (λ c. search needs) (λ c. search needs) add-own
-    of-requires next-requires next-requires-2 next-requires-3 add-value-by add-value-by-2 add-value-by-3 value-by-requires returns)
+    of-requires next-requires next-requires-2 next-requires-3 add-value-by add-value-by-2 add-value-by-3
+    value-by-requires returns)
