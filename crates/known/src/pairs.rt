@@ -16,8 +16,19 @@ pub fn unknown() -> [u16; 256]
     [0; 256]
 }
 
+// How far a triple is looked for where so many inputs may be needed. Where none may, two own inputs are ended by one
+// triple, which most show early, and the test of their columns takes no longer than one look to the end.
+fn reach_for(most: u32) -> u32
+    ensures { λ r. ⊤ₛ }
+{
+    if most == 0 {
+        return 4;
+    }
+    1024
+}
+
 // The mask, and c besides where it cannot be free.
-fn with_bad(t: &[u8], n: u32, places: u64, i: u32, j: u32, c: u32, mask: u16) -> u16
+fn with_bad(t: &[u8], n: u32, places: u64, i: u32, j: u32, c: u32, reach: u32, mask: u16) -> u16
     requires { ⌜ Wide n (now t) × (i < n) × (j < n) × (c < n) × Off i places × Off j places ⌝ }
     requires { ⌜ Needs n (tableBit (now t)) 2 (both i j) mask ⌝ }
     ensures { λ r. ⌜ Needs n (tableBit (now (t .entry))) 2 (both i j) r ⌝ }
@@ -28,7 +39,7 @@ fn with_bad(t: &[u8], n: u32, places: u64, i: u32, j: u32, c: u32, mask: u16) ->
     if c == j {
         return mask;
     }
-    if bad(t, n, places, i, j, c) {
+    if bad(t, n, places, i, j, c, reach) {
         return mask | (1 << c);
     }
     mask
@@ -40,11 +51,12 @@ fn bad_inputs(t: &[u8], n: u32, most: u32, i: u32, j: u32) -> u16
     ensures { λ r. ⌜ Needs n (tableBit (now (t .entry))) 2 (both i j) r ⌝ }
 {
     let places = off(i) & off(j);
+    let reach = reach_for(most);
     let mut mask: u16 = 0;
     let mut c: u32 = n;
     while c > 0 {
         c -= 1;
-        mask = with_bad(t, n, places, i, j, c, mask);
+        mask = with_bad(t, n, places, i, j, c, reach, mask);
         if members(mask) > most {
             return mask;
         }

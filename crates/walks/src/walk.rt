@@ -57,6 +57,16 @@ fn learn_many(t: &[u8], n: u32, r: u32, own: u16, shared: u16, notes: &mut [u32]
     meets(p as u32, e | f, own as u32, both)
 }
 
+// Two own inputs and nothing shared: what six bits say of them tells of hardly another pair.
+fn two_alone(own: u16, shared: u16) -> bool
+    ensures { λ r. ⊤ₛ }
+{
+    if shared != 0 {
+        return false;
+    }
+    members(own) == 2
+}
+
 // Looks for six bits against a pair of masks, and keeps what they rule out, made small; whether that is the pair
 // itself. Of more first cells than one six bits say nothing: there many points are asked.
 fn learn(t: &[u8], n: u32, r: u32, own: u16, shared: u16, notes: &mut [u32]) -> bool
@@ -69,6 +79,9 @@ fn learn(t: &[u8], n: u32, r: u32, own: u16, shared: u16, notes: &mut [u32]) -> 
 {
     if r != 1 {
         return learn_many(t, n, r, own, shared, notes);
+    }
+    if two_alone(own, shared) {
+        return false;
     }
     let found = look(t, Split::of(n, own, shared));
     if found.d == NONE {

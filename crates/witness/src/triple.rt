@@ -61,8 +61,8 @@ fn clash(t: &[u8], n: u32, x: u32, d: u32, p: u32, q: u32) -> u64
 }
 
 // Whether eight bits of the table rule out every split with i and j own and c free. The places are those without i and
-// j.
-pub fn bad(t: &[u8], n: u32, places: u64, i: u32, j: u32, c: u32) -> bool
+// j. No more than `reach` places to step to are looked at.
+pub fn bad(t: &[u8], n: u32, places: u64, i: u32, j: u32, c: u32, reach: u32) -> bool
     requires { ⌜ Wide n (now t) × (i < n) × (j < n) × (c < n) × Off i places × Off j places ⌝ }
     ensures { λ r. ⌜ (r ≡ true → RulesOut n (tableBit (now (t .entry))) 2 (both i j) (single c)) ⌝ }
 {
@@ -75,6 +75,9 @@ pub fn bad(t: &[u8], n: u32, places: u64, i: u32, j: u32, c: u32) -> bool
     let mut x: u32 = 0;
     let mut v: u32 = 0;
     while v < many {
+        if v == reach {
+            return false;
+        }
         if clash(t, n, x, d, p, q) & here != 0 {
             return true;
         }

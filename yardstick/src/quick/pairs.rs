@@ -43,9 +43,11 @@ impl Pairs {
 /// The inputs that can't be free where i and j are own; no more of them than one above `most`.
 fn bad_inputs(t: &[u8], n: u32, most: u32, i: u32, j: u32) -> u16 {
     let places = off(i) & off(j);
+    // With none that may be needed one witness ends the two, and most show it early.
+    let reach = if most == 0 { 4 } else { usize::MAX };
     let mut mask = 0u16;
     for c in (0..n).rev() {
-        if c != i && c != j && bad(t, n, places, i, j, c) {
+        if c != i && c != j && bad(t, n, places, i, j, c, reach) {
             mask |= 1 << c;
         }
         if mask.count_ones() > most {
@@ -55,13 +57,13 @@ fn bad_inputs(t: &[u8], n: u32, most: u32, i: u32, j: u32) -> u16 {
     mask
 }
 
-/// Whether eight bits rule out every split with i and j own and c free, 64 places at a time.
-fn bad(t: &[u8], n: u32, places: u64, i: u32, j: u32, c: u32) -> bool {
+/// Whether eight bits rule out every split with i and j own and c free, 64 places at a time, `reach` times at most.
+fn bad(t: &[u8], n: u32, places: u64, i: u32, j: u32, c: u32, reach: usize) -> bool {
     let (p, q, d) = (1 << i, 1 << j, 1 << c);
     let here = places & off(c);
     let high = ((1u32 << n) - 64) & !(p | q | d);
     let mut x = 0u32;
-    loop {
+    for _ in 0..reach {
         if clash(t, x, d, p, q) & here != 0 {
             return true;
         }
@@ -70,6 +72,7 @@ fn bad(t: &[u8], n: u32, places: u64, i: u32, j: u32, c: u32) -> bool {
             return false;
         }
     }
+    false
 }
 
 /// Where, from x on, the four points with p, q, both and neither have three columns over d: some point changes without

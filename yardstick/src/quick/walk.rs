@@ -13,8 +13,12 @@ pub struct Walk<'a> {
 }
 
 impl Walk<'_> {
-    /// Looks for a witness and keeps what it rules out; whether that is this split.
+    /// Looks for a witness and keeps what it rules out; whether that is this split. Of two own inputs with nothing
+    /// shared it would tell of hardly another.
     fn learn(&mut self, s: &Split) -> bool {
+        if s.shared == 0 && s.own.count_ones() == 2 {
+            return false;
+        }
         let w = match look(s) {
             Some(found) => found.shrunk(self.t, self.n),
             None => return false,
