@@ -134,17 +134,17 @@ pelzurivan_shorter_answer pelzurivan_shorter(uint64_t n, const uint8_t *table, s
                                              const uint8_t *first, size_t first_length, const uint8_t *second,
                                              size_t second_length);
 
-/* Reads a formula of n inputs, letters a to p, into a table, written whole, spare bits zero. A sum is terms joined by |,
- * a term parts by ^, a part factors by &; a factor is a letter, 0, 1, ! before a factor, or a sum in parentheses. 1, 3,
- * 16. */
+/* Reads a formula of n inputs, letters a to p, into a table, written whole, spare bits zero. A sum is terms joined by
+ * |, a term parts by ^, a part factors by &; a factor is a letter, 0, 1, ! before a factor, or a sum in parentheses.
+ * 1, 3, 16. */
 pelzurivan_formula_read pelzurivan_read_formula(uint64_t n, const uint8_t *text, size_t text_length, uint8_t *table,
                                                 size_t table_length);
 
 /* Writes a sheet as a formula: length bytes of room, the bytes after them stay. Printed is every sheet whose records
  * read one or two signals, whose two-signal tables depend on both, and whose records but the last are each read once;
  * so is every sheet made with k = 2. place is the index of a bad record (10). 1, 6, 9, 10, 16. */
-pelzurivan_formula_written pelzurivan_write_formula(uint64_t n, const uint8_t *sheet, size_t sheet_length, uint8_t *room,
-                                                    size_t room_length);
+pelzurivan_formula_written pelzurivan_write_formula(uint64_t n, const uint8_t *sheet, size_t sheet_length,
+                                                    uint8_t *room, size_t room_length);
 
 /* Loads a sheet onto a desk, 1 to 4, of a card, in 257 stores of a byte: mark to 0; the 240 bytes of the record places
  * upward, unused places zero; the rest of the status upward; mark to 1. Each store changes the desk's own bytes alone.

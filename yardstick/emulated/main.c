@@ -61,9 +61,9 @@ int main(int count, char **words) {
         }
         fclose(file);
         double ours = timed(OURS, 15), quick = timed(QUICK, 15), plain = timed(PLAIN, 2);
-        printf("%s, n = %d, K = %d, %d stored, emulated: ours %.1f us a table, quick in Rust %.1f, plain in Rust %.1f\n",
-               names[kind], N, K, TABLES, ours, quick, plain);
-        printf("%s: ours takes %.2f times the quick search in Rust; %.0f times quicker than the plain one\n", names[kind],
-               ours / quick, plain / ours);
+        printf("%s, n = %d, K = %d, %d stored, emulated: ours %.1f us a table, ", names[kind], N, K, TABLES, ours);
+        printf("quick in Rust %.1f, plain in Rust %.1f\n", quick, plain);
+        printf("%s: ours takes %.2f times the quick search in Rust; %.0f times quicker than the plain one\n",
+               names[kind], ours / quick, plain / ours);
     }
 }

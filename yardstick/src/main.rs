@@ -101,7 +101,8 @@ fn stored() {
         assert!(answers.iter().all(Option::is_none), "a stored table has a split");
         let each = 1000.0 * STORED as f64;
         println!(
-            "{name}, n = {N}, K = {K}, {STORED} stored: ours {:.1} us a table, quick in Rust {:.1}, plain in Rust {:.1}",
+            "{name}, n = {N}, K = {K}, {STORED} stored: ours {:.1} us a table, quick in Rust {:.1}, \
+             plain in Rust {:.1}",
             ours / each,
             quick / each,
             plain / each

@@ -9,6 +9,7 @@ const LEFT: f64 = 80.0;
 const RIGHT: f64 = 560.0;
 const TOP: f64 = 40.0;
 const BOTTOM: f64 = 400.0;
+const FONT: &str = r#"font-family="sans-serif" font-size="12""#;
 /// The kinds that are drawn, each in its colour.
 const KINDS: [(&str, &str); 4] = [
     ("random", "#1b6ca8"),
@@ -99,7 +100,7 @@ pub fn drawing(lines: &str) -> String {
     let mut out = String::new();
     let _ = writeln!(
         out,
-        r#"<svg xmlns="http://www.w3.org/2000/svg" viewBox="0 0 {WIDTH} {HEIGHT}" font-family="sans-serif" font-size="12">"#
+        r#"<svg xmlns="http://www.w3.org/2000/svg" viewBox="0 0 {WIDTH} {HEIGHT}" {FONT}>"#
     );
     let _ = writeln!(out, r#"<rect width="{WIDTH}" height="{HEIGHT}" fill="white"/>"#);
     axes(&mut out);

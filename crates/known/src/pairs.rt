@@ -17,7 +17,8 @@ pub fn unknown() -> [u16; 256]
 }
 
 // How far a triple is looked for where so many inputs may be needed. Where none may, two own inputs are ended by one
-// triple, which most show early, and the test of their columns takes no longer than one look to the end.
+// triple, which most show early, and the test of their columns takes no longer than one look to the end. The largest
+// table has 1,024 words, so that is as far as a look can go.
 fn reach_for(most: u32) -> u32
     ensures { λ r. ⊤ₛ }
 {
