@@ -1,19 +1,19 @@
 -- The printed book, and its rule: each entry is reachable and no smaller number is, by one test over the whole book.
 -- Assumes nothing.
 use mathlib.Core.Path.{_≡_, refl, sym, ap, subst, _∙_}
-use mathlib.Core.Bool.{Bool, true, _&&_}
+use mathlib.Core.Bool.{Bool, true, cond, _&&_}
 use mathlib.Core.List.{List, [], _∷_}
 use Prim.Native.Nat.{ℕ, _<_, _≤_}
 use native.Mathlib.Omega.{arith}
-use lib.Dec.{leb}
+use lib.Dec.{leb, ltb, eqb}
 use lib.ListN.{getD}
-use borrow.Author.Tests.{leb-true}
+use borrow.Author.Tests.{leb-true, ltb-true}
 use Rattle.bits.specs.Numbers.{bit, number}
 use Rattle.bits.specs.Below.{every, least}
 use Rattle.bits.specs.Lists.{listOf}
 use Rattle.bits.proofs.Bools.{and-left, and-right}
 use Rattle.bits.proofs.Below.{every-at}
-use Rattle.bits.proofs.Lists.{list-at, list-of}
+use Rattle.bits.proofs.Lists.{list-of}
 use Rattle.bits.proofs.Numbers.{number-ext, number-bit}
 use Rattle.turning.specs.declared.ways.Way.{Way}
 use Rattle.turning.specs.Ways.{flipped, moved, Turns, Reachable, wayCount}
@@ -21,7 +21,7 @@ use Rattle.turning.specs.Listing.{wayAt, turns, firstWay}
 use Rattle.book.specs.Book.{tableCount, LeastReachable, entry, different}
 use Rattle.turning.specs.Reach.{reaches}
 use Rattle.turning.proofs.Listed.{rank, rank-lt, listed}
-use Rattle.turning.proofs.Group.{reach-same}
+use Rattle.turning.proofs.Group.{reach-same, reach-back, reach-on}
 use Rattle.book.proofs.Entries.{reaches-exactly, entry-least, least-once}
 
 unfoldable pub book : List ℕ
@@ -44,49 +44,62 @@ book =
     0x0F ∷ 0x07 ∷ 0x07 ∷ 0x03 ∷ 0x07 ∷ 0x03 ∷ 0x06 ∷ 0x01 ∷ 0x07 ∷ 0x06 ∷ 0x03 ∷ 0x01 ∷ 0x03 ∷ 0x01 ∷ 0x01 ∷ 0x00 ∷
     []
 
--- the table that is f at the assignments ys, flipped if so said
-turnedAt : List ℕ → Bool → ℕ → ℕ
-turnedAt ys s f = number 8 (λ x. flipped s (bit f (getD ys x 0)))
+abbrev printedAt : ℕ → ℕ
+printedAt f = getD book f 0
 
--- where each assignment comes from is tabulated once for a way, and then serves the whole book
-abbrev noneLower : List ℕ → Bool → Bool
-noneLower ys s = every tableCount (λ f. leb (getD book f 0) (turnedAt ys s f))
+-- the table that a way turns f into
+turned : Way → ℕ → ℕ
+turned w f = number 8 (λ x. flipped (w .flip) (bit f (moved w x)))
 
-abbrev allReached : Bool
-allReached = every tableCount (λ f. reaches f (getD book f 0))
+-- whether a table is its own entry
+abbrev first : ℕ → Bool
+first e = ltb e tableCount && eqb (printedAt e) e
 
-abbrev allLow : Bool
-allLow = every wayCount (λ i. noneLower (listOf 8 (moved (wayAt i))) (wayAt i .flip))
+-- whether no way turns it into a smaller one
+abbrev lowest : ℕ → Bool
+lowest e = every wayCount (λ i. leb e (turned (wayAt i) e))
 
-rule : (allReached && allLow) ≡ true
-unfolding book firstWay least turns turnedAt listOf wayAt moved number
+-- Only the fourteen tables that are their own entries are turned in every way: what can be reached from any other can be
+-- reached from its entry.
+abbrev reachedAt : ℕ → Bool
+reachedAt f = first (printedAt f) && reaches f (printedAt f)
+
+abbrev lowAt : ℕ → Bool
+lowAt e = cond (first e) (lowest e) true
+
+rule : (every tableCount reachedAt && every tableCount lowAt) ≡ true
+unfolding book firstWay least turns turned wayAt moved number
 rule = refl
 
-turned-is : (w : Way) (f g : ℕ) → g < tableCount → Turns w f g → turnedAt (listOf 8 (moved w)) (w .flip) f ≡ g
-unfolding turnedAt
-turned-is w f g l t =
-    number-ext 8 _ (bit g) (λ x b. ap (λ (y : ℕ). flipped (w .flip) (bit f y)) (list-at 8 (moved w) x 0 b)
-    ∙ sym (t x b))
-    ∙ number-bit 8 g l
+turned-is : (w : Way) (f g : ℕ) → g < tableCount → Turns w f g → turned w f ≡ g
+unfolding turned
+turned-is w f g l t = number-ext 8 _ (bit g) (λ x b. sym (t x b)) ∙ number-bit 8 g l
+
+low-at : (e : ℕ) → first e ≡ true → lowest e ≡ true
+low-at e p =
+    sym (ap (λ (b : Bool). cond b (lowest e) true) p)
+    ∙ every-at tableCount lowAt (and-right (every tableCount reachedAt) (every tableCount lowAt) rule) e
+    (ltb-true e tableCount (and-left (ltb e tableCount) (eqb (printedAt e) e) p))
+
+-- a table that is its own entry is the least of all that it can be turned into
+least-of : (e g : ℕ) → first e ≡ true → g < tableCount → Reachable e g → e ≤ g
+least-of e g p l r =
+    let w = r .way in
+    let t = subst (λ (v : Way). Turns v e g) (sym (listed w (r .is))) (r .turns) in
+    subst (λ (m : ℕ). e ≤ m) (turned-is (wayAt (rank w)) e g l t)
+    (leb-true _ _ (every-at wayCount (λ i. leb e (turned (wayAt i) e)) (low-at e p) (rank w) (rank-lt w (r .is))))
 
 module _ (f : ℕ) (h : f < tableCount) where
-  reached : Reachable f (getD book f 0)
-  reached =
-      reaches-exactly f (getD book f 0) .0
-      (every-at tableCount (λ f. reaches f (getD book f 0)) (and-left allReached allLow rule) f h)
+  here : reachedAt f ≡ true
+  here = every-at tableCount reachedAt (and-left (every tableCount reachedAt) (every tableCount lowAt) rule) f h
 
-  low-at : (i : ℕ) → i < wayCount → getD book f 0 ≤ turnedAt (listOf 8 (moved (wayAt i))) (wayAt i .flip) f
-  low-at i l =
-      let ys = listOf 8 (moved (wayAt i)) in
-      leb-true _ _ (every-at tableCount (λ f. leb (getD book f 0) (turnedAt ys (wayAt i .flip) f))
-      (every-at wayCount (λ i. noneLower (listOf 8 (moved (wayAt i))) (wayAt i .flip))
-      (and-right allReached allLow rule) i l) f h)
+  reached : Reachable f (printedAt f)
+  reached = reaches-exactly f (printedAt f) .0 (and-right (first (printedAt f)) (reaches f (printedAt f)) here)
 
-  none-lower : (g : ℕ) → g < tableCount → Reachable f g → getD book f 0 ≤ g
+  none-lower : (g : ℕ) → g < tableCount → Reachable f g → printedAt f ≤ g
   none-lower g l r =
-      let w = r .way in
-      let t = subst (λ (v : Way). Turns v f g) (sym (listed w (r .is))) (r .turns) in
-      subst (λ (m : ℕ). getD book f 0 ≤ m) (turned-is (wayAt (rank w)) f g l t) (low-at (rank w) (rank-lt w (r .is)))
+      least-of (printedAt f) g (and-left (first (printedAt f)) (reaches f (printedAt f)) here) l
+      (reach-on (reach-back reached) r)
 
   pub book-rule : LeastReachable f (getD book f 0)
   book-rule = record { table = omega (arith, none-lower f h (reach-same f)); reachable = reached; least = none-lower }
