@@ -54,7 +54,7 @@ pub fn read_hex(digits: &str, n: Option<usize>) -> Result<Table, Trouble> {
     Ok(table)
 }
 
-/// The bytes of a table in document 01's order.
+/// The bytes of a table: assignment x in bit x mod 8 of byte x div 8.
 pub fn read_bytes(digits: &str, n: Option<usize>) -> Result<Table, Trouble> {
     let values = digits_of(digits)?;
     if values.len() % 2 == 1 {

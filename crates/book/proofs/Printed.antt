@@ -52,20 +52,20 @@ turned : Way → ℕ → ℕ
 turned w f = number 8 (λ x. flipped (w .flip) (bit f (moved w x)))
 
 -- whether a table is its own entry
-abbrev first : ℕ → Bool
-first e = ltb e tableCount && eqb (printedAt e) e
+abbrev isEntry : ℕ → Bool
+isEntry e = ltb e tableCount && eqb (printedAt e) e
 
 -- whether no way turns it into a smaller one
 abbrev lowest : ℕ → Bool
 lowest e = every wayCount (λ i. leb e (turned (wayAt i) e))
 
--- Only the fourteen tables that are their own entries are turned in every way: what can be reached from any other can be
--- reached from its entry.
 abbrev reachedAt : ℕ → Bool
-reachedAt f = first (printedAt f) && reaches f (printedAt f)
+reachedAt f = isEntry (printedAt f) && reaches f (printedAt f)
 
+-- Only the fourteen tables that are their own entries are turned in every way: what can be reached from any other can
+-- be reached from its entry.
 abbrev lowAt : ℕ → Bool
-lowAt e = cond (first e) (lowest e) true
+lowAt e = cond (isEntry e) (lowest e) true
 
 rule : (every tableCount reachedAt && every tableCount lowAt) ≡ true
 unfolding book firstWay least turns turned wayAt moved number
@@ -75,14 +75,14 @@ turned-is : (w : Way) (f g : ℕ) → g < tableCount → Turns w f g → turned 
 unfolding turned
 turned-is w f g l t = number-ext 8 _ (bit g) (λ x b. sym (t x b)) ∙ number-bit 8 g l
 
-low-at : (e : ℕ) → first e ≡ true → lowest e ≡ true
+low-at : (e : ℕ) → isEntry e ≡ true → lowest e ≡ true
 low-at e p =
     sym (ap (λ (b : Bool). cond b (lowest e) true) p)
     ∙ every-at tableCount lowAt (and-right (every tableCount reachedAt) (every tableCount lowAt) rule) e
     (ltb-true e tableCount (and-left (ltb e tableCount) (eqb (printedAt e) e) p))
 
 -- a table that is its own entry is the least of all that it can be turned into
-least-of : (e g : ℕ) → first e ≡ true → g < tableCount → Reachable e g → e ≤ g
+least-of : (e g : ℕ) → isEntry e ≡ true → g < tableCount → Reachable e g → e ≤ g
 least-of e g p l r =
     let w = r .way in
     let t = subst (λ (v : Way). Turns v e g) (sym (listed w (r .is))) (r .turns) in
@@ -94,11 +94,11 @@ module _ (f : ℕ) (h : f < tableCount) where
   here = every-at tableCount reachedAt (and-left (every tableCount reachedAt) (every tableCount lowAt) rule) f h
 
   reached : Reachable f (printedAt f)
-  reached = reaches-exactly f (printedAt f) .0 (and-right (first (printedAt f)) (reaches f (printedAt f)) here)
+  reached = reaches-exactly f (printedAt f) .0 (and-right (isEntry (printedAt f)) (reaches f (printedAt f)) here)
 
   none-lower : (g : ℕ) → g < tableCount → Reachable f g → printedAt f ≤ g
   none-lower g l r =
-      least-of (printedAt f) g (and-left (first (printedAt f)) (reaches f (printedAt f)) here) l
+      least-of (printedAt f) g (and-left (isEntry (printedAt f)) (reaches f (printedAt f)) here) l
       (reach-on (reach-back reached) r)
 
   pub book-rule : LeastReachable f (getD book f 0)

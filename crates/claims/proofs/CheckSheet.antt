@@ -31,7 +31,7 @@ use Rattle.refusals.proofs.Tests.{Sound, inside, right-table, spare-line}
 use Rattle.refusals.proofs.Sheets.{good-sheet, sheet-fine, counted, all-read, read-fine}
 use Rattle.running.specs.declared.run_sheet.RunAnswer.{RunAnswer}
 use Rattle.rebuilding.specs.RebuildTable.{RebuildOutcome, rebuildOutcome}
-use Rattle.bench.specs.MakeSheet.{makeOutcome}
+use Rattle.bench.specs.MakeSheet.{MakeOutcome, makeOutcome}
 use Rattle.inspection.specs.CheckSheet.{tableLines, againstLines, checkLines, checkOutcome, Accepted, FirstDifferent}
 use Rattle.claims.specs.Words.{ByLines, AllBytes, FirstBad, recordsOf}
 use Rattle.claims.specs.Before.{checkBefore}
@@ -39,8 +39,8 @@ use Rattle.claims.proofs.Verdicts.{by-lines}
 use Rattle.claims.proofs.Tables.{table-back}
 use Rattle.claims.proofs.Sheets.{index-first, good-run, good-rebuild, unread-exactly, read-never}
 use Rattle.claims.proofs.RebuildTable.{rebuilt-good}
-use Rattle.claims.proofs.Made.{is-made, made-records, made-good}
-use Rattle.claims.proofs.MakeSheet.{made-runs, records-read}
+use Rattle.claims.proofs.Written.{IsWritten, outcome-records, outcome-good, outcome-each-read, outcome-runs}
+use Rattle.claims.proofs.Made.{is-made, made-written}
 
 -- a gate that is sound has its table in order
 table-fine : (e : Edition) (n K : ℕ) (t : List ℕ) → Sound e n K t → InOrder (tableLines n t)
@@ -227,30 +227,45 @@ module _ (e : Edition) (d n : ℕ) (t s : List ℕ) where
       };
     }
 
--- every sheet that make writes is accepted
-pub made-accepted : (e : Edition) → IsEdition e → (d n K : ℕ) (t sheet work : List ℕ)
-    → makeOutcome e d n K t sheet work .answer .verdict ≡ Fine
-    → checkOutcome e d n t (recordsOf e (makeOutcome e d n K t sheet work)) ≡ Fine
-made-accepted e ok d n K t sheet work done =
-    let w = is-made e d n K t sheet work done in
-    let s = recordsOf e (makeOutcome e d n K t sheet work) in
-    let good = subst (λ (l : List ℕ). Good e d n l (length (w .cells))) (sym (made-records e d n K t sheet work w))
-    (made-good e d n K t sheet work w ok) in
-    let m = counted e d n s ok (length (w .cells)) good in
-    let read = records-read e d n K t sheet work ok done in
-    let run : (x : ℕ) → x < 2 ^ n → _≡_ {A = RunAnswer}
-    (record { verdict = Fine; bit = sheetBit e n s (records e s) x })
-    (record { verdict = Fine; bit = tableBit t x }) =
-    λ x h. sym (good-run e ok d n s (records e s) (w .gate .some) (w .gate .most) (subst (Good e d n s) (sym m) good)
-    read x h) ∙ made-runs e d n K t sheet work ok done x h in
-    accepted-exactly e d n t s ok (table-fine e n K t (w .gate)) .1
-    (record { rules = subst (Good e d n s) (sym m) good; gives = λ x h. ap (λ a. a .bit) (run x h); read = read })
+-- every sheet that is written of cells that fit, are read and give the table is accepted
+module _ (e : Edition) (ok : IsEdition e) (d n K : ℕ) (t sheet work : List ℕ) (o : MakeOutcome)
+    (w : IsWritten e d n K t sheet work o) where
+  abbrev s : List ℕ
+  s = recordsOf e o
 
--- nor is it refused as 15 against any other table
-pub check-never-unread : (e : Edition) → IsEdition e → (d n K : ℕ) (t sheet work : List ℕ)
-    → makeOutcome e d n K t sheet work .answer .verdict ≡ Fine
-    → (t′ : List ℕ) → numberOf (checkOutcome e d n t′ (recordsOf e (makeOutcome e d n K t sheet work))) ≡ 15 → ⊥
-check-never-unread e ok d n K t sheet work done t′ =
-    let s = recordsOf e (makeOutcome e d n K t sheet work) in
-    read-never e n s (tableLines n t′ ++ againstLines e d n t′ s) refl (checkOutcome e d n t′ s) (check-says e d n t′ s)
-    (records-read e d n K t sheet work ok done)
+  -- its records are good, as many as there are
+  pub outcome-rules : Good e d n (recordsOf e o) (records e (recordsOf e o))
+  outcome-rules =
+      let good = subst (λ (l : List ℕ). Good e d n l (length (w .cells)))
+      (sym (outcome-records e d n K t sheet work o w)) (outcome-good e d n K t sheet work o w ok) in
+      subst (Good e d n s) (sym (counted e d n s ok (length (w .cells)) good)) good
+
+  pub outcome-accepted : checkOutcome e d n t (recordsOf e o) ≡ Fine
+  outcome-accepted =
+      let read = outcome-each-read e d n K t sheet work o w ok in
+      let run : (x : ℕ) → x < 2 ^ n → _≡_ {A = RunAnswer}
+      (record { verdict = Fine; bit = sheetBit e n s (records e s) x })
+      (record { verdict = Fine; bit = tableBit t x }) =
+      λ x h. sym (good-run e ok d n s (records e s) (w .gate .some) (w .gate .most) outcome-rules read x h)
+      ∙ outcome-runs e d n K t sheet work o w ok x h in
+      accepted-exactly e d n t s ok (table-fine e n K t (w .gate)) .1
+      (record { rules = outcome-rules; gives = λ x h. ap (λ a. a .bit) (run x h); read = read })
+
+  -- nor is it refused as 15 against any other table
+  pub outcome-check-read : (t′ : List ℕ) → numberOf (checkOutcome e d n t′ (recordsOf e o)) ≡ 15 → ⊥
+  outcome-check-read t′ =
+      read-never e n s (tableLines n t′ ++ againstLines e d n t′ s) refl (checkOutcome e d n t′ s)
+      (check-says e d n t′ s) (outcome-each-read e d n K t sheet work o w ok)
+
+-- so every sheet that make writes is
+module _ (e : Edition) (ok : IsEdition e) (d n K : ℕ) (t sheet work : List ℕ)
+    (done : makeOutcome e d n K t sheet work .answer .verdict ≡ Fine) where
+  written : IsWritten e d n K t sheet work (makeOutcome e d n K t sheet work)
+  written = made-written e d n K t sheet work (is-made e d n K t sheet work done)
+
+  pub made-accepted : checkOutcome e d n t (recordsOf e (makeOutcome e d n K t sheet work)) ≡ Fine
+  made-accepted = outcome-accepted e ok d n K t sheet work (makeOutcome e d n K t sheet work) written
+
+  pub check-never-unread : (t′ : List ℕ)
+      → numberOf (checkOutcome e d n t′ (recordsOf e (makeOutcome e d n K t sheet work))) ≡ 15 → ⊥
+  check-never-unread = outcome-check-read e ok d n K t sheet work (makeOutcome e d n K t sheet work) written

@@ -43,12 +43,14 @@ use Rattle.claims.specs.Before.{makeDeskless, keptDeskless}
 use Rattle.claims.proofs.Sheets.{amiss-exactly}
 use Rattle.claims.proofs.RunSheet.{run-says}
 use Rattle.claims.proofs.RebuildTable.{rebuild-says}
-use Rattle.claims.proofs.CheckSheet.{check-says, check-accepted, made-accepted}
+use Rattle.claims.proofs.CheckSheet.{check-says, check-accepted}
 use Rattle.claims.proofs.Settle.{settle-says}
 use Rattle.claims.proofs.Slack.{slack-says}
 use Rattle.claims.proofs.WriteFormula.{write-says}
-use Rattle.claims.proofs.Made.{IsMade, make-says, is-made, made-records, made-good}
-use Rattle.claims.proofs.MakeSheet.{made-runs, made-rebuilds}
+use Rattle.claims.proofs.Made.{make-says, is-made, made-written}
+use Rattle.claims.proofs.Written.{IsWritten}
+use Rattle.claims.proofs.WrittenOwn.{outcome-desk, outcome-one-desk, outcome-runs-own, outcome-rebuilds-own}
+use Rattle.claims.proofs.WrittenOwn.{outcome-accepted-own}
 
 -- ---- every reader of sheets refuses as 10 at i exactly where its lines before 10 are in order and record i is the
 -- first that doesn't belong:
@@ -199,39 +201,28 @@ made-five e d n K t sheet work =
 
 module _ (e : Edition) (ok : IsEdition e) (d n K : ℕ) (t sheet work : List ℕ)
     (done : makeOutcome e d n K t sheet work .answer .verdict ≡ Fine) where
-  abbrev s : List ℕ
-  s = recordsOf e (makeOutcome e d n K t sheet work)
-
-  w : IsMade e d n K t sheet work
-  w = is-made e d n K t sheet work done
-
-  its-good : Good e d n s (length (w .cells))
-  its-good = subst (λ (l : List ℕ). Good e d n l (length (w .cells))) (sym (made-records e d n K t sheet work w))
-      (made-good e d n K t sheet work w ok)
+  written : IsWritten e d n K t sheet work (makeOutcome e d n K t sheet work)
+  written = made-written e d n K t sheet work (is-made e d n K t sheet work done)
 
   -- each record is for that desk
   pub made-desk : deskOf e (recordsOf e (makeOutcome e d n K t sheet work)) ≡ d
-  made-desk = good-desk e n s ok (length (w .cells)) d (w .desk) its-good
+  made-desk = outcome-desk e ok d n K t sheet work (makeOutcome e d n K t sheet work) written
 
   pub made-one-desk : OneDesk e (recordsOf e (makeOutcome e d n K t sheet work))
       (records e (recordsOf e (makeOutcome e d n K t sheet work))) d
-  made-one-desk =
-      subst (OneDesk e s (records e s)) made-desk
-      (good-one-desk e n s ok (records e s) (subst (λ (x : ℕ). Good e x n s (records e s)) (sym made-desk)
-      (subst (Good e d n s) (sym (counted e d n s ok (length (w .cells)) its-good)) its-good)))
+  made-one-desk = outcome-one-desk e ok d n K t sheet work (makeOutcome e d n K t sheet work) written
 
   -- demand 2, whatever the desk: run and rebuild give the table back, and check accepts
   pub made-runs-own : (x : ℕ) → x < 2 ^ n → runOwn e n (recordsOf e (makeOutcome e d n K t sheet work)) x
       ≡ record { verdict = Fine; bit = tableBit t x }
-  made-runs-own x h = ap (λ (k : ℕ). runOutcome e k n s x) made-desk ∙ made-runs e d n K t sheet work ok done x h
+  made-runs-own = outcome-runs-own e ok d n K t sheet work (makeOutcome e d n K t sheet work) written
 
   pub made-rebuilds-own : AllBytes t → (table : List ℕ) → length table ≡ tableLength n
       → rebuildOwn e n (recordsOf e (makeOutcome e d n K t sheet work)) table ≡ record { verdict = Fine; table = t }
-  made-rebuilds-own bytes table h = ap (λ (k : ℕ). rebuildOutcome e k n s table) made-desk
-      ∙ made-rebuilds e d n K t sheet work ok done bytes table h
+  made-rebuilds-own = outcome-rebuilds-own e ok d n K t sheet work (makeOutcome e d n K t sheet work) written
 
   pub made-accepted-own : checkOwn e n t (recordsOf e (makeOutcome e d n K t sheet work)) ≡ Fine
-  made-accepted-own = ap (λ (k : ℕ). checkOutcome e k n t s) made-desk ∙ made-accepted e ok d n K t sheet work done
+  made-accepted-own = outcome-accepted-own e ok d n K t sheet work (makeOutcome e d n K t sheet work) written
 
 -- ---- what is made for two desks differs in the desk's byte alone
 

@@ -1,5 +1,5 @@
--- What an inspector reads: one file a call, the five tries, the examples. Verdicts, Sheets, Tables, MakeReply and
--- Written are the steps that these share.
+-- What an inspector reads: one file a call, the five tries, the examples. Verdicts, Sheets, Tables, MakeReply, Written
+-- and WrittenOwn are the steps that these share.
 pub mod Verdicts
 pub mod Tables
 pub mod Sheets
@@ -17,8 +17,9 @@ pub mod MakeReply
 pub mod Written
 pub mod Made
 pub mod MakeSheet
-pub mod MakeAny
 pub mod CheckSheet
+pub mod WrittenOwn
+pub mod MakeAny
 pub mod CheckTold
 pub mod Shorter
 pub mod Settle
@@ -38,5 +39,6 @@ pub mod Trees
 pub mod Bound
 pub mod BenchProgram
 pub mod InspectProgram
+pub mod Lowest
 pub mod Tries
 pub mod Examples

@@ -90,6 +90,7 @@ module _ (e : Edition) (d n K : ℕ) (t sheet work : List ℕ) where
     pub made-written : IsWritten e d n K t sheet work (makeOutcome e d n K t sheet work)
     made-written = record {
       gate = w .gate;
+      desk = w .desk;
       cells = w .cells;
       outcome = w .outcome;
       fits = table-fits n K (tableBit t) (w .gate .some) one (w .cells) (w .chain) e (w .gate .largest);

@@ -16,6 +16,7 @@ use Rattle.sheets.specs.Edition.{IsEdition, mostRecords}
 use Rattle.sheets.specs.Network.{Cell, Gives}
 use Rattle.sheets.specs.Sheet.{records}
 use Rattle.sheets.specs.Reading.{EachRead}
+use Rattle.sheets.specs.Desk.{deskOf}
 use Rattle.chains.specs.Chain.{pick, inputs}
 use Rattle.chains.specs.Words.{Blocked}
 use Rattle.chains.specs.Over.{MakesOver, BlockedOver}
@@ -30,11 +31,12 @@ use Rattle.refusals.specs.Lent.{workAfter}
 use Rattle.refusals.proofs.Lines.{in-order, passes, passed, held}
 use Rattle.refusals.proofs.Lent.{work-found}
 use Rattle.refusals.proofs.Tests.{Sound}
-use Rattle.running.specs.RunSheet.{runOutcome}
-use Rattle.rebuilding.specs.RebuildTable.{rebuildOutcome}
+use Rattle.running.specs.RunSheet.{runOutcome, runOwn}
+use Rattle.rebuilding.specs.RebuildTable.{rebuildOutcome, rebuildOwn}
+use Rattle.inspection.specs.CheckSheet.{checkOutcome, checkOwn}
 use Rattle.bench.specs.declared.make_sheet.MakeAnswer.{MakeAnswer}
 use Rattle.bench.specs.MakeSheet.{MakeOutcome, makeForm, makeDone, makeOutcome}
-use Rattle.bench.proofs.Ready.{ready}
+use Rattle.bench.proofs.Ready.{Ready, ready}
 use Rattle.any_gate.specs.MakeAny.{anyFor, cellsAny, isUnsplit, isOverlong, noneAny, tooLong, anySays, anyLines}
 use Rattle.any_gate.specs.MakeAny.{anyOutcome}
 use Rattle.any_gate.proofs.Answers.{as-make}
@@ -43,6 +45,8 @@ use Rattle.claims.proofs.Verdicts.{by-lines, order-before, work-cleared
 use Rattle.claims.proofs.MakeReply.{reply-says, reply-done, reply-refused, reply-left, parts-once}
 use Rattle.claims.proofs.Written.{IsWritten, outcome-network, outcome-runs, outcome-rebuilds}
 use Rattle.claims.proofs.Written.{outcome-each-read, outcome-never-unread, outcome-gives}
+use Rattle.claims.proofs.CheckSheet.{outcome-accepted, outcome-check-read}
+use Rattle.claims.proofs.WrittenOwn.{outcome-desk, outcome-runs-own, outcome-rebuilds-own, outcome-accepted-own}
 
 module _ (e : Edition) (d n K : ℕ) (t s work : List ℕ) where
   abbrev o : MakeOutcome
@@ -101,7 +105,7 @@ module _ (e : Edition) (d n K : ℕ) (t s work : List ℕ) where
   -- ---- demand 2: done; the records that it wrote
 
   record IsAny : Type 0 where
-    sound-gate : Sound e n K t
+    form : Ready e d n K t s work
     cells : List Cell
     answer : anyFor n K t ≡ sheet cells
     outcome : anyOutcome e d n K t s work ≡ makeDone e d cells s work
@@ -118,8 +122,7 @@ module _ (e : Edition) (d n K : ℕ) (t s work : List ℕ) where
         go unsplit q g h = absurd (clash refl g)
         go overlong q g h = absurd (clash refl h)
         go (sheet cs) q g h = record {
-          sound-gate = ready e d n K t s work (order-before (makeForm e d n K t s work) (anySays (anyFor n K t)) w)
-              .gate;
+          form = ready e d n K t s work (order-before (makeForm e d n K t s work) (anySays (anyFor n K t)) w);
           cells = cs;
           answer = q;
           outcome =
@@ -128,14 +131,15 @@ module _ (e : Edition) (d n K : ℕ) (t s work : List ℕ) where
         }
 
     abbrev one : 1 ≤ K
-    one = omega (arith, is-any .sound-gate .two)
+    one = omega (arith, is-any .form .gate .two)
 
     written : IsWritten e d n K t s work (anyOutcome e d n K t s work)
     written =
         let w = is-any in
-        let g = w .sound-gate in
+        let g = w .form .gate in
         record {
           gate = g;
+          desk = w .form .desk;
           cells = w .cells;
           outcome = w .outcome;
           fits = any-fits n K (tableBit t) (g .some) one (w .cells) (w .answer) e (g .largest);
@@ -166,6 +170,29 @@ module _ (e : Edition) (d n K : ℕ) (t s work : List ℕ) where
           × (numberOf (rebuildOutcome e d n (recordsOf e (anyOutcome e d n K t s work)) table .verdict) ≡ 15 → ⊥)
       any-never-unread = outcome-never-unread e d n K t s work o written ok
 
+      -- nor does check, against any table, and against its own it accepts them
+      pub any-check-read : (t′ : List ℕ)
+          → numberOf (checkOutcome e d n t′ (recordsOf e (anyOutcome e d n K t s work))) ≡ 15 → ⊥
+      any-check-read = outcome-check-read e ok d n K t s work o written
+
+      pub any-accepted : checkOutcome e d n t (recordsOf e (anyOutcome e d n K t s work)) ≡ Fine
+      any-accepted = outcome-accepted e ok d n K t s work o written
+
+      -- each record is for the desk d, and so the calls that read the sheet's own desk say the same
+      pub any-desk : deskOf e (recordsOf e (anyOutcome e d n K t s work)) ≡ d
+      any-desk = outcome-desk e ok d n K t s work o written
+
+      pub any-runs-own : (x : ℕ) → x < 2 ^ n → runOwn e n (recordsOf e (anyOutcome e d n K t s work)) x
+          ≡ record { verdict = Fine; bit = tableBit t x }
+      any-runs-own = outcome-runs-own e ok d n K t s work o written
+
+      pub any-rebuilds-own : AllBytes t → (table : List ℕ) → length table ≡ tableLength n
+          → rebuildOwn e n (recordsOf e (anyOutcome e d n K t s work)) table ≡ record { verdict = Fine; table = t }
+      any-rebuilds-own = outcome-rebuilds-own e ok d n K t s work o written
+
+      pub any-accepted-own : checkOwn e n t (recordsOf e (anyOutcome e d n K t s work)) ≡ Fine
+      any-accepted-own = outcome-accepted-own e ok d n K t s work o written
+
       -- they are a network of cells of at most K inputs, each reading signals given before it, that gives the table
       -- (`any-gives`, chains)
       pub any-network-gives : Gives n K (tableBit t) (networkOf e (anyOutcome e d n K t s work))
@@ -178,7 +205,7 @@ module _ (e : Edition) (d n K : ℕ) (t s work : List ℕ) where
       any-fewest h =
           let w = is-any in
           rw (outcome-network e d n K t s work o written ok)
-          (any-three n K (tableBit t) (w .sound-gate .some) one (w .cells) (w .answer)
+          (any-three n K (tableBit t) (w .form .gate .some) one (w .cells) (w .answer)
           (omega (arith, ap (λ o. o .answer .count) (w .outcome))))
 
   -- ---- 8 and 17

@@ -131,3 +131,7 @@ module _ (e : Edition) (n : ℕ) (t x y : List ℕ) where
   -- and so with which, and what the call beside says
   pub kept-once : (k k′ : Kept) → k ≡ keptOutcome e n t x y → k′ ≡ keptOutcome e n t x y → k ≡ k′
   kept-once k k′ p q = p ∙ sym q
+
+  pub beside-once : (v v′ : Verdict) → v ≡ keptOutcome e n t x y .verdict → v′ ≡ keptOutcome e n t x y .verdict
+      → v ≡ v′
+  beside-once v v′ p q = p ∙ sym q

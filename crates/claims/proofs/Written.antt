@@ -8,7 +8,7 @@ use lib.ListN.{length, drop}
 use lib.Seq.{take-at}
 use Rattle.tables.specs.Table.{tableLength, tableBit}
 use Rattle.sheets.specs.declared.kinds.Edition.{Edition}
-use Rattle.sheets.specs.Edition.{IsEdition, mostRecords}
+use Rattle.sheets.specs.Edition.{IsEdition, mostRecords, mostDesk}
 use Rattle.sheets.specs.Network.{Cell, Gives}
 use Rattle.sheets.specs.Sheet.{records, sheetCells, Good}
 use Rattle.sheets.specs.Writing.{FitsFrom, sheetBytes}
@@ -32,6 +32,7 @@ use Rattle.claims.proofs.RebuildTable.{rebuild-says}
 module _ (e : Edition) (d n K : ℕ) (t sheet work : List ℕ) (o : MakeOutcome) where
   pub record IsWritten : Type 0 where
     pub gate : Sound e n K t
+    pub desk : d ≤ mostDesk
     pub cells : List Cell
     pub outcome : o ≡ makeDone e d cells sheet work
     pub fits : FitsFrom e n cells

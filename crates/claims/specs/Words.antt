@@ -1,9 +1,10 @@
 -- Words that the claims use.
 use mathlib.Core.Path.{_≡_}
 use mathlib.Core.Logic.{_↔_, _⊎_}
-use mathlib.Core.Bool.{Bool}
-use mathlib.Core.List.{List}
+use mathlib.Core.Bool.{Bool, true, _&&_}
+use mathlib.Core.List.{List, [], _∷_}
 use Prim.Native.Nat.{ℕ, _+_, _*_, _^_, _<_, _≤_}
+use lib.Dec.{leb}
 use lib.ListN.{length, getD, take, drop}
 use Rattle.bits.specs.Sets.{size}
 use Rattle.splits.specs.Columns.{columns}
@@ -24,6 +25,11 @@ pub record ByLines (v : Verdict) (ls : List Line) : Type 0 where
   pub exactly : (k : ℕ) → (k ≡ 0 → ⊥) → (numberOf v ≡ k) ↔ Given k ls
   -- and 0, done, exactly when no line holds
   pub done : (numberOf v ≡ 0) ↔ InOrder ls
+
+-- the numbers of the lines are k or more, and never fall
+abbrev pub rising : ℕ → List Line → Bool
+rising k [] = true
+rising k (l ∷ ls) = leb k (l .gives .number) && rising (l .gives .number) ls
 
 -- what a lent slice of u8 holds: every number is a byte
 abbrev pub AllBytes : List ℕ → Type 0

@@ -29,6 +29,7 @@ fn sheet_on(o: &[u8]) -> &[u8]
     ensures { λ r. ⌜ now r ≡ sheetOn (now (o .entry)) ⌝ }
 {
     let m = o[COUNT] as usize;
+    // So many would be all of the desk's bytes; line 9 refuses them.
     if Sheet::RECORDS < m {
         return o;
     }

@@ -7,8 +7,8 @@ ghost use Rattle.bits.specs.Numbers.{bit};
 ghost use Rattle.witness.specs.Witness.{RulesOut};
 ghost use Rattle.known.specs.Notes.{Learned, StaysLearned, Meets, Skips};
 
-// Room for 64 pairs and how many were kept so far. At first each pair has a position both own and free, and rules out
-// nothing.
+// Room for 64 pairs, the own masks and then the free ones, and the place of the next pair. At first all are 1: a pair
+// with a position both own and free rules out nothing, and the first that is kept goes to place 1.
 pub fn blank() -> [u32; 130]
     ensures { λ r. ⌜ ((n m : ℕ) (F : ℕ → Bool) → Learned n F m r) ⌝ }
 {

@@ -1,4 +1,4 @@
--- What C gets of each call's outcome: the paper's number, then the values. One file for each call.
+-- What C gets of each call's outcome: the paper's number, then the values. One file for each kind of answer.
 pub mod TrySplit
 pub mod TryTold
 pub mod FindBest

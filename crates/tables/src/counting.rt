@@ -1,4 +1,4 @@
-// The inputs that count, tested on whole words, and the table over some of the inputs.
+// The inputs that count, tested on whole words.
 use crate::words::short_word;
 use crate::words::table_word;
 use bits::patterns::of_input;
@@ -117,7 +117,7 @@ pub fn counting_inputs(t: &[u8], n: u32) -> CountingInputs
     }
 }
 
-// The mask of the inputs that are kept.
+// The mask of the inputs that are kept: those that count, and of a constant the first, since a table has one.
 pub fn kept_of(t: &[u8], n: u32) -> u16
     requires { ⌜ (length (now t) ≡ tableLength n) × (n ≤ mostInputs) ⌝ }
     ensures { λ r. ⌜ r ≡ kept n (tableBit (now (t .entry))) ⌝ }

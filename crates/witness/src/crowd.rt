@@ -134,6 +134,7 @@ pub fn many_somewhere(t: &[u8], n: u32, m: u32, own: u16, e: u32, f: u32) -> boo
         if shows_many(t, n, m, w) {
             return true;
         }
+        // A fifth of the largest table further, and odd, so that the places lie apart whatever n is.
         base = wrapping_sub_u32(base, 13721) & (all - 1);
         left -= 1;
     }

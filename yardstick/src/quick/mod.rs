@@ -1,5 +1,5 @@
-//! The quick search, step for step as the proved one goes: the first candidate, the pairs, then the walks with what is
-//! needed and what was learned.
+//! The quick search, step for step as the proved one goes from six inputs that count on: the first candidate, the
+//! pairs, then the walks with what is needed and what was learned.
 
 mod columns;
 mod learned;

@@ -1,5 +1,5 @@
--- The four readers give what the definition reads. The number that falls: four for each byte that is left, and the
--- level. Assumes nothing.
+-- The four readers give what the definition reads. The number that falls: four for each nesting and for each byte that
+-- is left, and the level. Assumes nothing.
 use Prim.Native.Nat.{ℕ, _+_, _*_, _-_, _<_}
 use native.Mathlib.Omega.{arith}
 use borrow.Author.Needs.{needs}
@@ -34,16 +34,16 @@ use Rattle.formulas.proofs.reading.+factor+part+sum+term.{statement}
 use Rattle.formulas.proofs.reading.+factor+part+sum+term.Tie.{close}
 
 abbrev μ-factor : Measures 1 factor-kinds.ps ℕ
-μ-factor κs a = 4 * (length (a .0 .now) - a .1 .0) + 0
+μ-factor κs a = 4 * (a .1 .1 .0 + (length (a .0 .now) - a .1 .0)) + 0
 
 abbrev μ-part : Measures 1 part-kinds.ps ℕ
-μ-part κs a = 4 * (length (a .0 .now) - a .1 .0) + 1
+μ-part κs a = 4 * (a .1 .1 .0 + (length (a .0 .now) - a .1 .0)) + 1
 
 abbrev μ-sum : Measures 1 sum-kinds.ps ℕ
-μ-sum κs a = 4 * (length (a .0 .now) - a .1 .0) + 3
+μ-sum κs a = 4 * (a .1 .1 .0 + (length (a .0 .now) - a .1 .0)) + 3
 
 abbrev μ-term : Measures 1 term-kinds.ps ℕ
-μ-term κs a = 4 * (length (a .0 .now) - a .1 .0) + 2
+μ-term κs a = 4 * (a .1 .1 .0 + (length (a .0 .now) - a .1 .0)) + 2
 
 abbrev factor-at : ℕ → In 1 factor-kinds.ps
 factor-at t = and 1 factor-kinds.ps (is 1 factor-kinds.ps μ-factor t) factor.Pre
