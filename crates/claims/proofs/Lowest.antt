@@ -1,5 +1,5 @@
--- Where several lines of the table of refusals hold, the lowest number is given: each call's lines stand in the order of
--- their numbers. Told calls and the bound, which ask a call's lines after two of their own, look at n twice; a card's
+-- Where several lines of the table of refusals hold, the lowest number is given: each call's lines stand in the order
+-- of their numbers. Told calls and the bound, which ask a call's lines after two of their own, look at n twice; a card's
 -- order is its own. Assumes nothing.
 use mathlib.Core.Path.{_≡_, refl, ap}
 use mathlib.Core.Logic.{⊎-elim}

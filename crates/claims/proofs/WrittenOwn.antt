@@ -1,5 +1,5 @@
--- Every written outcome by the calls that read the sheet's own desk: it is the desk that the sheet was made for. Assumes
--- nothing.
+-- Every written outcome by the calls that read the sheet's own desk: it is the desk that the sheet was made for.
+-- Assumes nothing.
 use mathlib.Core.Path.{_≡_, sym, ap, subst, _∙_}
 use mathlib.Core.List.{List}
 use Prim.Native.Nat.{ℕ, _^_, _<_}
