@@ -17,7 +17,7 @@ use sheets::writing::put_all;
 use tables::WORK;
 
 // How many cells, if nothing is wrong.
-#[derive(Drop)]
+#[derive(Clone, Copy)]
 pub struct MakeAnswer {
     pub verdict: Verdict,
     pub count: usize,

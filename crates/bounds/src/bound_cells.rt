@@ -10,7 +10,7 @@ use refusals::verdicts::Verdict;
 use sheets::kinds::Edition;
 
 // The bound, if nothing is wrong.
-#[derive(Drop)]
+#[derive(Clone, Copy)]
 pub struct BoundAnswer {
     pub verdict: Verdict,
     pub least: u32,

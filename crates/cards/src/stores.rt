@@ -7,7 +7,7 @@ use crate::sizes::{DESK, INPUTS, MARK};
 use sheets::kinds::Sheet;
 
 // One byte goes to one place of a card.
-#[derive(Drop)]
+#[derive(Clone, Copy)]
 pub struct Store {
     pub place: usize,
     pub byte: u8,

@@ -18,7 +18,7 @@ use tables::cell::CellTable;
 use tables::fixed::word_over;
 
 // The tables of 1, 2 or 3 first cells; those that are not there are 0.
-#[derive(Drop)]
+#[derive(Clone, Copy)]
 pub struct FirstCells {
     pub first: CellTable,
     pub second: CellTable,

@@ -12,7 +12,7 @@ use bits::sets::members;
 use quick::search::{find_above, first_try};
 
 // How many first cells, and the masks; no first cells where there is no such split.
-#[derive(Drop)]
+#[derive(Clone, Copy)]
 pub struct Chosen {
     pub first: u32,
     pub own: u16,

@@ -18,7 +18,7 @@ const MOST_COLUMNS: usize = 8;
 const ALL_COLUMNS: usize = 256;
 
 // Where a split breaks: a shared assignment, and how many different columns it has.
-#[derive(Drop)]
+#[derive(Clone, Copy)]
 pub struct Broken {
     pub b: u32,
     pub columns: usize,

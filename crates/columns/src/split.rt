@@ -9,7 +9,7 @@ use bits::sets::{parts, subsets};
 
 // The own and the shared mask of a table of n inputs, with what reading its columns by words needs: the mask of the
 // free inputs, how many words a column lies in, and at which places of a word.
-#[derive(Drop)]
+#[derive(Clone, Copy)]
 pub struct Split {
     pub n: u32,
     pub own: u16,

@@ -8,7 +8,7 @@ use refusals::verdicts::Verdict;
 use sheets::kinds::Edition;
 
 // Which of two sheets is kept, and what the call beside says.
-#[derive(Drop)]
+#[derive(Clone, Copy)]
 pub struct Kept {
     // 0 none, 1 the first, 2 the second
     pub which: u64,

@@ -13,7 +13,7 @@ use sheets::kinds::Edition;
 use tables::WORK;
 
 // The own and the shared mask, if nothing is wrong.
-#[derive(Drop)]
+#[derive(Clone, Copy)]
 pub struct FindAnswer {
     pub verdict: Verdict,
     pub own: u16,

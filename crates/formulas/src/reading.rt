@@ -7,7 +7,7 @@ ghost use Rattle.formulas.specs.Words.{Yields, Single, closed_at};
 use values::stretches::{Stretch, both, either, of_input, one_of, same, turned};
 
 // What a reader found: a stretch of values and the place after it, or the place at which the text can't be continued.
-#[derive(Drop)]
+#[derive(Clone, Copy)]
 pub enum TextRead {
     Read(Stretch, usize),
     Stuck(usize),

@@ -11,7 +11,7 @@ use crate::pairs::{Left, joint};
 use bits::sets::members;
 
 // An input and the value at which it can be fixed; 2 for none.
-#[derive(Drop)]
+#[derive(Clone, Copy)]
 pub struct Partner {
     pub input: u32,
     pub value: u32,

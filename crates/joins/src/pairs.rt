@@ -10,7 +10,7 @@ use columns::split::Split;
 
 // The inputs of a gate that are fixed, and the values at which they are; of the others, those of which none can stand
 // for another.
-#[derive(Drop)]
+#[derive(Clone, Copy)]
 pub struct Left {
     pub fixed: u16,
     pub at: u32,

@@ -27,7 +27,7 @@ use tables::counting::kept_of;
 use tables::{HALF, clear};
 
 // Whether the chain came to its end; how many cells it has, and a sheet of them, if it has room for them.
-#[derive(Drop)]
+#[derive(Clone, Copy)]
 pub struct ChainEnd {
     pub finished: bool,
     pub count: usize,
@@ -35,7 +35,7 @@ pub struct ChainEnd {
 }
 
 // The cells so far, and the signals of the table at hand.
-#[derive(Drop)]
+#[derive(Clone, Copy)]
 pub struct Stage {
     pub pile: Pile,
     pub signals: Signals,

@@ -14,7 +14,7 @@ use charts::pair::FirstCells;
 use sheets::kinds::{HeldCell, Sheet};
 
 // All cells are counted, and the sheet holds them as long as it has room for them.
-#[derive(Drop)]
+#[derive(Clone, Copy)]
 pub struct Pile {
     pub sheet: Sheet,
     pub count: usize,

@@ -14,7 +14,7 @@ use sheets::kinds::HeldCell;
 use tables::cell::CellTable;
 
 // The first `count` places, in increasing order.
-#[derive(Drop)]
+#[derive(Clone, Copy)]
 pub struct Signals {
     pub at: [u8; Signals::MOST],
     pub count: usize,

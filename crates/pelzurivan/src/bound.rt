@@ -8,7 +8,7 @@ use refusals::verdicts::number_of;
 
 // The number, and the bound.
 #[repr(C)]
-#[derive(Drop)]
+#[derive(Clone, Copy)]
 pub struct BoundedC {
     pub number: u64,
     pub least: u64,

@@ -9,7 +9,7 @@ use refusals::verdicts::{number_of, place_of};
 
 // The number; the record's index (10, 15) or the least differing assignment (12).
 #[repr(C)]
-#[derive(Drop)]
+#[derive(Clone, Copy)]
 pub struct CheckedC {
     pub number: u64,
     pub place: u64,

@@ -9,7 +9,7 @@ use refusals::verdicts::number_of;
 
 // The number, the own and the shared mask.
 #[repr(C)]
-#[derive(Drop)]
+#[derive(Clone, Copy)]
 pub struct SoughtC {
     pub number: u64,
     pub own: u64,

@@ -9,7 +9,7 @@ use several::find_several::find_several;
 
 // The number, how many first cells, the own and the shared mask.
 #[repr(C)]
-#[derive(Drop)]
+#[derive(Clone, Copy)]
 pub struct SoughtSeveralC {
     pub number: u64,
     pub r: u64,

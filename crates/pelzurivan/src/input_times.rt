@@ -6,7 +6,7 @@ use times::input_time::InputTime;
 
 // Kind 1 is one arrival (first), 2 an earliest (first) and a latest (second), any other is not read.
 #[repr(C)]
-#[derive(Drop)]
+#[derive(Clone, Copy)]
 pub struct TimesC {
     pub kind: [u8; 16],
     pub first: [f64; 16],

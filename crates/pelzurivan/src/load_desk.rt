@@ -8,7 +8,7 @@ use refusals::verdicts::{number_of, place_of};
 
 // The number, the index of a bad record (10) or of an unread one (15).
 #[repr(C)]
-#[derive(Drop)]
+#[derive(Clone, Copy)]
 pub struct LoadedC {
     pub number: u64,
     pub index: u64,

@@ -9,7 +9,7 @@ use refusals::verdicts::number_of;
 
 // The number, how many cells.
 #[repr(C)]
-#[derive(Drop)]
+#[derive(Clone, Copy)]
 pub struct MadeC {
     pub number: u64,
     pub count: u64,

@@ -8,7 +8,7 @@ use refusals::verdicts::{number_of, place_of};
 
 // The number, and the place at which the text can't be continued (16).
 #[repr(C)]
-#[derive(Drop)]
+#[derive(Clone, Copy)]
 pub struct FormulaReadC {
     pub number: u64,
     pub place: u64,

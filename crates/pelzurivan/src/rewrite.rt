@@ -9,7 +9,7 @@ use rewriting::rewrite::rewrite;
 
 // The number, the index of a bad record (10) or of an unread one (15), how many records.
 #[repr(C)]
-#[derive(Drop)]
+#[derive(Clone, Copy)]
 pub struct RewrittenC {
     pub number: u64,
     pub index: u64,

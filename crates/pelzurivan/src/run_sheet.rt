@@ -9,7 +9,7 @@ use running::run_sheet::run_sheet;
 
 // The number, the bit, the index of a bad record (10) or of an unread one (15).
 #[repr(C)]
-#[derive(Drop)]
+#[derive(Clone, Copy)]
 pub struct RanC {
     pub number: u64,
     pub bit: u64,

@@ -11,7 +11,7 @@ use settling::settle::settle;
 
 // The number, the first bad record, the output's earliest and latest time.
 #[repr(C)]
-#[derive(Drop)]
+#[derive(Clone, Copy)]
 pub struct SettledC {
     pub number: u64,
     pub index: u64,

@@ -9,7 +9,7 @@ use refusals::verdicts::number_of;
 
 // Which of the two (0 none), its length in bytes, and the number of the call beside.
 #[repr(C)]
-#[derive(Drop)]
+#[derive(Clone, Copy)]
 pub struct ShorterC {
     pub which: u64,
     pub length: u64,

@@ -11,7 +11,7 @@ use settling::slack::slack;
 
 // The number, the first bad record, the slack in sixteenths.
 #[repr(C)]
-#[derive(Drop)]
+#[derive(Clone, Copy)]
 pub struct SlackC {
     pub number: u64,
     pub index: u64,

@@ -10,7 +10,7 @@ use several::try_several::try_several;
 
 // The number, the first cells' tables, and after 8 where the split breaks and how many different columns there are.
 #[repr(C)]
-#[derive(Drop)]
+#[derive(Clone, Copy)]
 pub struct TriedSeveralC {
     pub number: u64,
     pub first: u64,

@@ -10,7 +10,7 @@ use splitting::try_split::try_split;
 
 // The number, D, and after 8 where the split breaks and how many different columns there are.
 #[repr(C)]
-#[derive(Drop)]
+#[derive(Clone, Copy)]
 pub struct TriedC {
     pub number: u64,
     pub d: u64,

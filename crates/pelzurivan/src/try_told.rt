@@ -10,7 +10,7 @@ use splitting::try_told::try_told;
 // The number; D's 32 bytes as four words, the first being its lowest 64 bits; and after 8 where the split breaks and
 // how many different columns there are.
 #[repr(C)]
-#[derive(Drop)]
+#[derive(Clone, Copy)]
 pub struct TriedToldC {
     pub number: u64,
     pub d0: u64,

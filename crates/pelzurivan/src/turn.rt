@@ -8,7 +8,7 @@ use turning::turn::turn;
 
 // The number, whether the output is flipped, the mask of input flips, the order of the inputs.
 #[repr(C)]
-#[derive(Drop)]
+#[derive(Clone, Copy)]
 pub struct TurnedC {
     pub number: u64,
     pub flip: u64,

@@ -9,7 +9,7 @@ use refusals::verdicts::{number_of, place_of};
 
 // The number, the index of a bad record (10), and the text's length.
 #[repr(C)]
-#[derive(Drop)]
+#[derive(Clone, Copy)]
 pub struct FormulaWrittenC {
     pub number: u64,
     pub place: u64,

@@ -13,7 +13,7 @@ use records::rules::record_of;
 use sheets::kinds::Edition;
 
 // The lower signal, the other if there are two, and the table.
-#[derive(Drop)]
+#[derive(Clone, Copy)]
 pub struct Pair {
     pub two: bool,
     pub low: usize,

@@ -13,7 +13,7 @@ use refusals::verdicts::{Refusal, Verdict, refuse};
 use sheets::kinds::Edition;
 
 // The text's length, if nothing is wrong.
-#[derive(Drop)]
+#[derive(Clone, Copy)]
 pub struct WriteAnswer {
     pub verdict: Verdict,
     pub length: usize,

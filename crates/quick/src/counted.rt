@@ -16,7 +16,7 @@ use tables::counting::{CountingInputs, counting_inputs};
 
 // What a search over the inputs that count finds: that at most k of them do; an own and a shared mask in the caller's
 // positions; or nothing.
-#[derive(Drop)]
+#[derive(Clone, Copy)]
 pub enum Counted {
     Few,
     Split(u16, u16),

@@ -101,7 +101,7 @@ pub fn first_bad(e: Edition, d: u8, n: u32, s: &[u8], m: usize) -> usize
 }
 
 // What looking a sheet over finds: a wrong length, the first bad record, or how many records there are.
-#[derive(Drop)]
+#[derive(Clone, Copy)]
 pub enum Looked {
     Length,
     BadAt(usize),

@@ -4,7 +4,7 @@ ghost use Rattle.refusals.specs.declared.verdicts.Verdict.TheVariants.{Refused};
 ghost use Rattle.refusals.specs.Lines.{refusal, number_of, place_of};
 
 // Why a call says no, and what it names besides, else 0.
-#[derive(Drop)]
+#[derive(Clone, Copy)]
 pub struct Refusal {
     pub number: u8,
     pub place: u64,
@@ -60,7 +60,7 @@ impl Refusal {
 }
 
 // What looking at a call's lines comes to.
-#[derive(Drop)]
+#[derive(Clone, Copy)]
 pub enum Verdict {
     Fine,
     Refused(Refusal),

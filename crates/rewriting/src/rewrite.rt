@@ -14,7 +14,7 @@ use sheets::kinds::{Edition, Sheet};
 use sheets::writing::put;
 
 // How many records, if nothing is wrong.
-#[derive(Drop)]
+#[derive(Clone, Copy)]
 pub struct RewriteAnswer {
     pub verdict: Verdict,
     pub count: usize,

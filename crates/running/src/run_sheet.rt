@@ -11,7 +11,7 @@ use runs::running::bit_of;
 use sheets::kinds::Edition;
 
 // The bit, if nothing is wrong.
-#[derive(Drop)]
+#[derive(Clone, Copy)]
 pub struct RunAnswer {
     pub verdict: Verdict,
     pub bit: bool,

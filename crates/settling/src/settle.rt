@@ -17,7 +17,7 @@ use times::input_time::{InputTime, in_range, plain_zero};
 use times::signals::{output_time, times_of_inputs};
 
 // The output's earliest and latest time, if nothing is wrong.
-#[derive(Drop)]
+#[derive(Clone, Copy)]
 pub struct SettleAnswer {
     pub verdict: Verdict,
     pub earliest: f64,

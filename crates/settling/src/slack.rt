@@ -16,7 +16,7 @@ use times::input_time::InputTime;
 use times::sixteenths::{count_of, deadline_ok, in_sixteenths, inputs_in_sixteenths};
 
 // The slack in sixteenths, if nothing is wrong.
-#[derive(Drop)]
+#[derive(Clone, Copy)]
 pub struct SlackAnswer {
     pub verdict: Verdict,
     pub slack: i64,

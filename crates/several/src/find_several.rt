@@ -14,7 +14,7 @@ use sheets::kinds::Edition;
 use tables::counting::counting_inputs;
 
 // How many first cells, the own and the shared mask, if nothing is wrong.
-#[derive(Drop)]
+#[derive(Clone, Copy)]
 pub struct FindSeveralAnswer {
     pub verdict: Verdict,
     pub first: u32,

@@ -22,7 +22,7 @@ use sheets::kinds::Edition;
 
 // The first cells' tables, if nothing is wrong; H is in the lent room. After 8, which names where the split breaks, how
 // many different columns there are.
-#[derive(Drop)]
+#[derive(Clone, Copy)]
 pub struct TryAnswer {
     pub verdict: Verdict,
     pub d: FirstCells,

@@ -8,7 +8,7 @@ ghost use Rattle.tables.specs.Cells.{cell_words, table_number, no_table, held_ta
 use crate::counting::{above_words, word_of};
 
 // Bit x is bit x mod 64 of word x div 64. A cell of up to 6 inputs uses the first word alone; the others are then 0.
-#[derive(Drop)]
+#[derive(Clone, Copy)]
 pub struct CellTable {
     pub words: [u64; CellTable::WORDS],
 }

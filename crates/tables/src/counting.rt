@@ -93,7 +93,7 @@ pub fn support_of(t: &[u8], n: u32) -> u16
 }
 
 // The inputs that count: their mask, and how many they are.
-#[derive(Drop)]
+#[derive(Clone, Copy)]
 pub struct CountingInputs {
     pub mask: u16,
     pub many: u32,

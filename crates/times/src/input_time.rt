@@ -3,7 +3,7 @@ ghost use Rattle.std.specs.Prelude.{◌≡◌};
 ghost use Rattle.times.specs.InputTimes.{in_range, plain_zero, sound_time, given, time_of};
 
 // Not read; one arrival; an earliest and a latest.
-#[derive(Drop)]
+#[derive(Clone, Copy)]
 pub enum InputTime {
     NotRead,
     Arrival(f64),

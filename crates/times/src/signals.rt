@@ -12,7 +12,7 @@ use records::rules::record_of;
 use sheets::kinds::Edition;
 
 // Signal j settles at the time at place j.
-#[derive(Drop)]
+#[derive(Clone, Copy)]
 pub struct SignalTimes {
     pub times: [f64; SignalTimes::MOST],
 }

@@ -6,7 +6,7 @@ use crate::ways::{Way, first_way, way_at};
 use refusals::verdicts::{Refusal, Verdict, refuse};
 
 // The first way, if there is one.
-#[derive(Drop)]
+#[derive(Clone, Copy)]
 pub struct TurnAnswer {
     pub verdict: Verdict,
     pub way: Way,

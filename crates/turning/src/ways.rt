@@ -7,7 +7,7 @@ ghost use Rattle.turning.specs.Listing.{way_at, turns, first_way};
 
 // The second table at x is the first at y, flipped if so said. Bit j of y is bit pj of x, flipped if bit j of the mask
 // is set.
-#[derive(Drop)]
+#[derive(Clone, Copy)]
 pub struct Way {
     pub flip: bool,
     pub mask: u8,

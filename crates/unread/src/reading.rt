@@ -27,7 +27,7 @@ fn also_read(b: &[u8], w: u32) -> u32
 
 // What a look back over the records sees: the first of them but the last that no later one reads, and the last where
 // each of them is read; and a mask of the signals that they read.
-#[derive(Drop)]
+#[derive(Clone, Copy)]
 pub struct Readers {
     pub first: usize,
     pub read: u32,

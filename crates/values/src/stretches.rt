@@ -7,7 +7,7 @@ ghost use Rattle.values.specs.Stretches.{alike, four, in_each, in_both, word_in}
 
 use runs::words::input_word;
 
-#[derive(Drop)]
+#[derive(Clone, Copy)]
 pub struct Stretch {
     pub a: u64,
     pub b: u64,

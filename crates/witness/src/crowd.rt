@@ -12,7 +12,7 @@ use tables::bit_at;
 use tables::words::table_word;
 
 // All the points that differ from `base` at positions of `own` alone, and two offsets.
-#[derive(Drop)]
+#[derive(Clone, Copy)]
 pub struct Crowd {
     pub base: u32,
     pub own: u16,
