@@ -1,0 +1,83 @@
+-- Make's outcome where that is not 8; else what the chain with several first cells comes to. Assumes nothing.
+use mathlib.Core.Path.{◌≡◌, sym, ap, ap₂, ◌∙◌, subst}
+use mathlib.Core.List.{List}
+use Prim.Native.Nat.{ℕ, ◌*◌, ◌^◌, ◌≤◌}
+use native.Mathlib.Omega.{arith}
+use lib.ListN.{length}
+use Rattle.bits.specs.Numbers.{number}
+use Rattle.tables.specs.Table.{table_bit}
+use Rattle.splits.specs.Columns.{most_first}
+use Rattle.sheets.specs.declared.kinds.Edition.{Edition}
+use Rattle.sheets.specs.Edition.{IsEdition, most_records, first_edition}
+use Rattle.sheets.proofs.Keeping.{first_edition_lem}
+use Rattle.chains.specs.Aside.{cells_aside}
+use Rattle.refusals.specs.Lines.{number_of}
+use Rattle.bench.specs.MakeSheet.{MakeOutcome, chain_written, make_outcome}
+use Rattle.bench.proofs.Ready.{Ready, ready}
+use Rattle.any_gate.proofs.Answers.{as_make, eight_form, eight_sheet, by_several}
+use Rattle.any_gate.proofs.make_any.make_any.Goals as goal
+
+pub returns-then-number_of-ne-SPLIT : goal.returns-then-number_of-ne-SPLIT
+returns-then-number_of-ne-SPLIT c =
+    let a = c.args in
+    c.make_for_desk-made.ensures
+    ∙ as_make first_edition a.desk a.n a.k a.t.now a.sheet.now a.work.now
+    (λ q. c.if-number_of-ne-SPLIT.true (c.number_of.ensures ∙ ap (λ (o : MakeOutcome). number_of o.answer.verdict)
+    c.make_for_desk-made.ensures ∙ q))
+
+-- make gave 8
+module _ (c : goal.Else-number_of-ne-SPLIT) where
+  abbrev g : goal.Start
+  g = c.before.before.before.before.before.before.before.before.before.before.before.before
+
+  eight : number_of (make_outcome first_edition g.args.desk g.args.n g.args.k g.args.t.now
+      g.args.sheet.now g.args.work.now).answer.verdict ≡ 8
+  eight = sym (ap (λ (o : MakeOutcome). number_of o.answer.verdict) c.make_for_desk-made.ensures)
+      ∙ sym c.number_of.ensures ∙ c.if-number_of-ne-SPLIT.false
+
+  form : Ready first_edition g.args.desk g.args.n g.args.k g.args.t.now g.args.sheet.now
+      g.args.work.now
+  form = ready first_edition g.args.desk g.args.n g.args.k g.args.t.now g.args.sheet.now
+      g.args.work.now (eight_form first_edition g.args.desk g.args.n g.args.k g.args.t.now
+      g.args.sheet.now g.args.work.now eight)
+
+pub write_chain-requires : goal.write_chain-requires
+write_chain-requires c =
+    let w = form c.before.before.before in
+    let e = sym c.first.ensures in record {
+      edition = (
+        subst IsEdition e first_edition_lem,
+        w.gate.some,
+        w.gate.most,
+        omega arith,
+        w.gate.two,
+        subst (λ (x : Edition). (g c.before.before.before).args.k ≤ x.most) e w.gate.largest,
+      );
+      t_len = (
+        w.gate.long,
+        subst (λ (x : Edition). x.size * most_records ≤ length c.make_for_desk-made.new.sheet) e
+            (omega (arith, w.records, c.make_for_desk-made.auto.1.1.1.1.0)),
+        omega (arith, w.area, c.make_for_desk-made.auto.1.1.1.1.1.0),
+      );
+    }
+
+pub returns : goal.returns
+returns c =
+    let a = (g c.before.before.before.before.before.before.before.before).args in
+    let x = cells_aside most_first a.n a.k (number (2 ^ a.n) (table_bit a.t.now)) in
+    let w = c.make_for_desk-made.new.work in
+    c.write_chain.ensures
+    ∙ ap₂ (λ (e : Edition) (s : List ℕ). chain_written e a.desk x s w) c.first.ensures
+    (ap (λ (o : MakeOutcome). o.sheet) c.make_for_desk-made.ensures
+    ∙ eight_sheet first_edition a.desk a.n a.k a.t.now a.sheet.now a.work.now (eight c.before.before.before.before.before.before.before.before))
+    ∙ by_several first_edition a.desk a.n a.k a.t.now a.sheet.now a.work.now (eight c.before.before.before.before.before.before.before.before) w
+    c.make_for_desk-made.auto.1.1.1.1.1.0
+
+pub overflow_cast-desk : goal.overflow_cast-desk
+overflow_cast-desk c = omega (arith, (form c.before).desk)
+
+pub overflow_cast-n : goal.overflow_cast-n
+overflow_cast-n c = omega (arith, (form c.before).gate.most)
+
+pub overflow_cast-k : goal.overflow_cast-k
+overflow_cast-k c = omega (arith, (form c.before).gate.largest)

@@ -1,0 +1,57 @@
+-- The loop keeps the first j bits of the byte. Assumes nothing.
+use mathlib.Core.Path.{◌≡◌, refl, sym, ap, ap₂, ◌∙◌}
+use mathlib.Core.Bool.{Bool, ◌&&◌}
+use mathlib.Core.List.{List}
+use Prim.Native.Nat.{ℕ, ◌+◌, ◌*◌, ◌^◌}
+use native.Mathlib.Nat.{mul_comm}
+use native.Mathlib.Omega.{arith}
+use lib.Dec.{ltb}
+use lib.Pow.{pow-add}
+use Rattle.bits.specs.Numbers.{bit, number}
+use Rattle.bits.specs.Sets.{size}
+use Rattle.bits.proofs.Building.{bool_digit, summed_fits, summed}
+use Rattle.tables.specs.Table.{table_bit}
+use Rattle.columns.specs.declared.split.Split.{Split}
+use Rattle.splits.specs.Split.{reads_h}
+use Rattle.splits.specs.Pair.{bit_h}
+use Rattle.charts.proofs.pair.h_byte.Goals as goal
+
+-- bit j of byte i, of a table of `end` bits
+abbrev H : List ℕ → Split → ℕ → ℕ → ℕ → Bool
+H t s end i j =
+    let x = i * 8 + j in
+    ltb x end && bit_h s.n (table_bit t) (bit s.own) (bit s.shared) x
+
+abbrev end : Split → ℕ → ℕ
+end s limit = limit * 2 ^ size s.n (reads_h (bit s.own) (bit s.shared))
+
+pub loop-j-init : goal.loop-j-init
+unfolding number
+loop-j-init c = (refl, omega arith)
+
+pub h_bit-requires : goal.h_bit-requires
+h_bit-requires c = let p = c.requires in (p.0, p.1, p.2, p.3)
+
+pub overflow_add-b : goal.overflow_add-b
+overflow_add-b c =
+    let q = c.loop-j in
+    let a = c.args in
+    let f = H a.t.now a.s (end a.s a.limit) a.i in
+    omega (arith, summed_fits 8 f c.loop-j-test.true q.invariant.0 (bool_digit c.h_bit.ensures))
+
+pub loop-j-preserved : goal.loop-j-preserved
+loop-j-preserved c =
+    let q = c.loop-j in
+    let a = c.args in
+    let f = H a.t.now a.s (end a.s a.limit) a.i in
+    (summed 8 f c.loop-j-test.true q.invariant.0 (bool_digit c.h_bit.ensures), omega arith)
+
+pub returns : goal.returns
+returns c r e =
+    let q = c.loop-j in
+    let a = c.args in
+    let k = size a.s.n (reads_h (bit a.s.own) (bit a.s.shared)) in
+    let eight : q.j ≡ 8 = omega (arith, q.invariant.1) in
+    let all : end a.s a.limit ≡ 2 ^ (k + r) =
+    ap (λ (m : ℕ). m * 2 ^ k) e ∙ mul_comm (2 ^ r) (2 ^ k) ∙ sym (pow-add 2 k r) in
+    q.invariant.0 ∙ ap₂ (λ (m l : ℕ). number m (H a.t.now a.s l a.i)) eight all

@@ -1,0 +1,69 @@
+-- The loop keeps that none of the first b shared assignments breaks. Assumes nothing.
+use mathlib.Core.Path.{◌≡◌, refl, sym, ◌∙◌, subst}
+use mathlib.Core.Bool.{Bool}
+use mathlib.Core.List.{List}
+use Prim.Native.Nat.{ℕ}
+use native.Mathlib.Omega.{arith}
+use lib.Dec.{ltb}
+use lib.ListN.{length}
+use Rattle.bits.specs.Below.{least}
+use Rattle.bits.proofs.Least.{least_more, least_stop}
+use Rattle.bits.proofs.Walking.{walked_none, walked_more, walked_lt, walked_turn, walked_end, walked_within}
+use Rattle.tables.specs.Table.{table_bit}
+use Rattle.columns.specs.declared.split.Split.{Split}
+use Rattle.splits.specs.Columns.{first_broken}
+use Rattle.columns.specs.Reading.{columns_of}
+use Rattle.columns.proofs.Looking.{seen_few, seen_many}
+use Rattle.columns.proofs.columns.first_broken.Goals as goal
+
+-- the test at one shared assignment
+abbrev many : List ℕ → Split → ℕ → ℕ → Bool
+many t s limit b = ltb limit (length (columns_of s (table_bit t) b))
+
+-- what is known where the columns of b were looked through
+module _ (c : goal.After-look_through) where
+  abbrev inside : goal.In-loop-b
+  inside = c.before.before
+
+  abbrev start : goal.Start
+  start = inside.before.before.before
+
+pub look_through-requires : goal.look_through-requires
+look_through-requires c =
+    let p = c.requires.held in record { held = (p.0, walked_within c.loop-b.invariant.1 c.loop-b-test.true, omega arith, omega arith); n_bound = p.2 }
+
+pub returns-then-limit-look_through : goal.returns-then-limit-look_through
+unfolding first_broken
+returns-then-limit-look_through c =
+    let a = (start c.before.before).args in
+    let i = (inside c.before.before).before.loop.invariant in
+    let l = (inside c.before.before).loop-test.true in
+    sym (least_stop _ _ (many a.t.now a.s a.limit) i.0
+    (seen_many i.1 l c.look_through.ensures c.if-limit-look_through.true) (walked_turn i.1 l))
+
+pub loop-b-preserved : goal.loop-b-preserved
+loop-b-preserved c =
+    let a = (start c.before.before.before).args in
+    let i = (inside c.before.before.before).before.loop.invariant in
+    let l = (inside c.before.before.before).loop-test.true in (
+      least_more _ (many a.t.now a.s a.limit) i.0
+          (seen_few i.1 l c.look_through.ensures c.if-limit-look_through.false),
+      walked_more i.1 l c.next-base.ensures.1,
+      c.look_through.auto.1.1.1.1.0 ∙ i.2,
+    )
+
+pub returns : goal.returns
+unfolding first_broken
+returns c =
+    let i = c.loop-b.invariant in
+    let a = c.args in
+    let e = walked_end i.1 (omega arith) in
+    e ∙ sym (subst (λ (m : ℕ). least m (many a.t.now a.s a.limit) ≡ m) e i.0)
+
+pub loop-b-init : goal.loop-b-init
+loop-b-init c = (refl, walked_none c.requires.held.0.most c.requires.many_value, refl)
+
+pub next-base-requires : goal.next-base-requires
+next-base-requires c =
+    let p = (start c.before.before).requires.0.0
+    in (p.most, p.below_b, walked_lt (inside c.before.before).before.loop.invariant.1)

@@ -1,0 +1,11 @@
+-- `shorter` meets its contract: the part is that of the sheet which is kept. Assumes nothing.
+use mathlib.Core.Path.{ap, ◌∙◌}
+use Rattle.comparing.specs.declared.shorter.Kept.{Kept}
+use Rattle.comparing.specs.Shorter.{part_of}
+use Rattle.comparing.proofs.shorter.shorter.Goals as goal
+
+pub returns : goal.returns
+returns c =
+    let a = c.args in
+    c.part_of.ensures
+    ∙ ap (λ (k : Kept). part_of k.which a.first.now a.second.now) c.keep_shorter-kept.ensures

@@ -1,0 +1,16 @@
+use mathlib.Core.Path.{◌≡◌}
+use Prim.Native.Nat.{◌+◌, ◌-◌, ◌*◌, ◌/◌, ◌%◌}
+use lib.ListN.{length}
+use Rattle.bits.specs.Numbers.{number}
+use Rattle.bits.proofs.Filling.{Filled}
+use Rattle.formulas.specs.Reading.{text_of, value_in}
+use Rattle.values.specs.Stretches.{stretch_of}
+use Rattle.formulas.proofs.read_formula.fill.Given as goal
+
+abbrev pub invariant-loop-i : goal.invariant-loop-i
+invariant-loop-i l =
+    Filled 0 (length l.initial.table) (λ k. number 8 (λ j. bits l.n l.t (k * 8 + j))) l.initial.table l.table l.i
+    × ((l.i % 32 ≡ 0 → ⊥) → l.v ≡ stretch_of (value_in (text_of l.n l.t)) (l.i / 32))
+
+abbrev pub decreases-loop-i : goal.decreases-loop-i
+decreases-loop-i l = length l.initial.table - l.i

@@ -1,0 +1,16 @@
+use mathlib.Core.Path.{◌≡◌}
+use Prim.Native.Nat.{◌-◌, ◌≤◌}
+use lib.ListN.{length, set}
+use Rattle.bits.specs.Numbers.{bit}
+use Rattle.tables.specs.Table.{most_inputs}
+use Rattle.chains.specs.Chain.{pick}
+use Rattle.making.proofs.signals.Signals.pick.Given as goal
+
+abbrev pub invariant-loop-j : goal.invariant-loop-j
+invariant-loop-j l =
+    (first l.m l.at ≡ pick l.j (bit l.set) (first l.count l.from)) × (l.m ≤ l.j) × (l.j ≤ l.count)
+    × (l.count ≤ most_inputs)
+    × (length l.at ≡ most_inputs) × (length l.from ≡ most_inputs)
+
+abbrev pub decreases-loop-j : goal.decreases-loop-j
+decreases-loop-j l = l.count - l.j

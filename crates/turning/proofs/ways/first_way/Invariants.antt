@@ -1,0 +1,11 @@
+use mathlib.Core.Path.{◌≡◌}
+use Prim.Native.Nat.{◌-◌, ◌≤◌}
+use Rattle.bits.specs.Below.{least}
+use Rattle.turning.specs.Ways.{way_count}
+use Rattle.turning.proofs.ways.first_way.Given as goal
+
+abbrev pub invariant-loop-i : goal.invariant-loop-i
+invariant-loop-i l = (l.i ≤ way_count) × (least l.i (test l.f l.g) ≡ l.i)
+
+abbrev pub decreases-loop-i : goal.decreases-loop-i
+decreases-loop-i l = way_count - l.i
