@@ -15,6 +15,9 @@ use Rattle.refusals.specs.Lines.{number_of}
 use Rattle.bench.specs.MakeSheet.{MakeOutcome, chain_written, make_outcome}
 use Rattle.bench.proofs.Ready.{Ready, ready}
 use Rattle.any_gate.proofs.Answers.{as_make, eight_form, eight_sheet, by_several}
+use Rattle.any_gate.proofs.make_any.make_any.Lts as lts
+use Rattle.any_gate.proofs.make_any.make_any.Reads as reads
+use Rattle.any_gate.proofs.make_any.make_any.Tie as tie
 use Rattle.any_gate.proofs.make_any.make_any.Goals as goal
 
 pub returns-then-number_of-ne-SPLIT : goal.returns-then-number_of-ne-SPLIT
@@ -26,8 +29,8 @@ returns-then-number_of-ne-SPLIT c =
     c.make_for_desk-made.ensures ∙ q))
 
 -- make gave 8
-module _ (c : goal.Else-number_of-ne-SPLIT) where
-  abbrev g : goal.Start
+module _ (c : lts.Else1 tie.the-claims reads.Pre reads.Post) where
+  abbrev g : lts.Start tie.the-claims reads.Pre reads.Post
   g = c.before.before.before.before.before.before.before.before.before.before.before.before
 
   eight : number_of (make_outcome first_edition g.args.desk g.args.n g.args.k g.args.t.now
@@ -43,7 +46,7 @@ module _ (c : goal.Else-number_of-ne-SPLIT) where
 
 pub write_chain-requires : goal.write_chain-requires
 write_chain-requires c =
-    let w = form c.before.before.before in
+    let w = form c.before.before.before.before in
     let e = sym c.first.ensures in record {
       edition = (
         subst IsEdition e first_edition_lem,
@@ -51,7 +54,7 @@ write_chain-requires c =
         w.gate.most,
         omega arith,
         w.gate.two,
-        subst (λ (x : Edition). (g c.before.before.before).args.k ≤ x.most) e w.gate.largest,
+        subst (λ (x : Edition). (g c.before.before.before.before).args.k ≤ x.most) e w.gate.largest,
       );
       t_len = (
         w.gate.long,
@@ -63,21 +66,21 @@ write_chain-requires c =
 
 pub returns : goal.returns
 returns c =
-    let a = (g c.before.before.before.before.before.before.before.before).args in
+    let a = (g c.before.before.before.before.before.before.before.before.before).args in
     let x = cells_aside most_first a.n a.k (number (2 ^ a.n) (table_bit a.t.now)) in
     let w = c.make_for_desk-made.new.work in
     c.write_chain.ensures
     ∙ ap₂ (λ (e : Edition) (s : List ℕ). chain_written e a.desk x s w) c.first.ensures
     (ap (λ (o : MakeOutcome). o.sheet) c.make_for_desk-made.ensures
-    ∙ eight_sheet first_edition a.desk a.n a.k a.t.now a.sheet.now a.work.now (eight c.before.before.before.before.before.before.before.before))
-    ∙ by_several first_edition a.desk a.n a.k a.t.now a.sheet.now a.work.now (eight c.before.before.before.before.before.before.before.before) w
+    ∙ eight_sheet first_edition a.desk a.n a.k a.t.now a.sheet.now a.work.now (eight c.before.before.before.before.before.before.before.before.before))
+    ∙ by_several first_edition a.desk a.n a.k a.t.now a.sheet.now a.work.now (eight c.before.before.before.before.before.before.before.before.before) w
     c.make_for_desk-made.auto.1.1.1.1.1.0
 
 pub overflow_cast-desk : goal.overflow_cast-desk
-overflow_cast-desk c = omega (arith, (form c.before).desk)
+overflow_cast-desk c = omega (arith, (form c.before.before).desk)
 
 pub overflow_cast-n : goal.overflow_cast-n
-overflow_cast-n c = omega (arith, (form c.before).gate.most)
+overflow_cast-n c = omega (arith, (form c.before.before).gate.most)
 
 pub overflow_cast-k : goal.overflow_cast-k
-overflow_cast-k c = omega (arith, (form c.before).gate.largest)
+overflow_cast-k c = omega (arith, (form c.before.before).gate.largest)

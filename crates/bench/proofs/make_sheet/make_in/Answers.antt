@@ -12,10 +12,13 @@ use Rattle.refusals.proofs.Refusing.{form_refuses}
 use Rattle.bench.specs.MakeSheet.{MakeOutcome, sheet_for, cells_in, make_form, make_done, make_not, make_outcome}
 use Rattle.bench.proofs.Ready.{Ready, ready}
 use Rattle.bench.proofs.Written.{one_written}
+use Rattle.bench.proofs.make_sheet.make_in.Lts as lts
+use Rattle.bench.proofs.make_sheet.make_in.Reads as reads
+use Rattle.bench.proofs.make_sheet.make_in.Tie as tie
 use Rattle.bench.proofs.make_sheet.make_in.Goals as goal
 
-module _ (c : goal.After-make_form-form) where
-  abbrev g : goal.Start
+module _ (c : lts.After-make_form tie.the-claims reads.Pre reads.Post) where
+  abbrev g : lts.Start tie.the-claims reads.Pre reads.Post
   g = c.before.before.before.before
 
   -- form and room; the line of the chain; what is left where nothing is wrong
@@ -40,8 +43,8 @@ module _ (c : goal.After-make_form-form) where
 pub returns-in_default : goal.returns-in_default
 unfolding make_outcome
 returns-in_default c =
-    let a = (g c.before.before).args in
-    form_refuses (ls c.before.before) (ms c.before.before) (done c.before.before) (λ (v : Verdict) (l : List ℕ). record {
+    let a = (g c.before.before.before).args in
+    form_refuses (ls c.before.before.before) (ms c.before.before.before) (done c.before.before.before) (λ (v : Verdict) (l : List ℕ). record {
       answer = record { verdict = v; count = 0 };
       sheet = a.sheet.now;
       work = l;
@@ -50,25 +53,25 @@ returns-in_default c =
 
 pub write_chain-requires : goal.write_chain-requires
 write_chain-requires c =
-    let w = through c.before.before.before.before c.in-Fine.is in record { edition = ((g c.before.before.before.before).requires, w.gate.some, w.gate.most, omega arith, w.gate.two, w.gate.largest); t_len = (w.gate.long, w.records, w.area) }
+    let w = through c.before.before.before.before.before c.in-Fine.is in record { edition = ((g c.before.before.before.before.before).requires, w.gate.some, w.gate.most, omega arith, w.gate.two, w.gate.largest); t_len = (w.gate.long, w.records, w.area) }
 
 pub returns : goal.returns
 unfolding make_outcome
 returns c =
-    let a = (g c.before.before.before.before.before.before.before.before.before).args in
+    let a = (g c.before.before.before.before.before.before.before.before.before.before).args in
     let fine = c.in-Fine.is in
     c.write_chain.ensures
-    ∙ one_written a.e a.d a.sheet.now a.work.now a.n a.k a.t.now (through c.before.before.before.before.before.before.before.before.before fine).gate
-    ∙ left_to (ls c.before.before.before.before.before.before.before.before.before) (ms c.before.before.before.before.before.before.before.before.before) (done c.before.before.before.before.before.before.before.before.before) (make_not a.sheet.now a.work.now) c.make_form-form.result
+    ∙ one_written a.e a.d a.sheet.now a.work.now a.n a.k a.t.now (through c.before.before.before.before.before.before.before.before.before.before fine).gate
+    ∙ left_to (ls c.before.before.before.before.before.before.before.before.before.before) (ms c.before.before.before.before.before.before.before.before.before.before) (done c.before.before.before.before.before.before.before.before.before.before) (make_not a.sheet.now a.work.now) c.make_form-form.result
     c.make_form-form.ensures fine
 
 pub overflow_cast-d : goal.overflow_cast-d
-overflow_cast-d c = omega (arith, (through c.before.before c.in-Fine.is).desk)
+overflow_cast-d c = omega (arith, (through c.before.before.before c.in-Fine.is).desk)
 
 pub overflow_cast-n : goal.overflow_cast-n
-overflow_cast-n c = omega (arith, (through c.before.before c.in-Fine.is).gate.most)
+overflow_cast-n c = omega (arith, (through c.before.before.before c.in-Fine.is).gate.most)
 
 pub overflow_cast-k : goal.overflow_cast-k
 overflow_cast-k c =
     omega
-    (arith, (through c.before.before c.in-Fine.is).gate.largest, (g c.before.before).requires.eight)
+    (arith, (through c.before.before.before c.in-Fine.is).gate.largest, (g c.before.before.before).requires.eight)

@@ -13,6 +13,9 @@ use Rattle.refusals.specs.Refusals.{bad_inputs, read_sheet_lines}
 use Rattle.refusals.proofs.Lines.{here, decides, passes}
 use Rattle.refusals.proofs.Tests.{few_inputs}
 use Rattle.cards.specs.Refusals.{filed_lines}
+use Rattle.cards.proofs.form.filed.Lts as lts
+use Rattle.cards.proofs.form.filed.Reads as reads
+use Rattle.cards.proofs.form.filed.Tie as tie
 use Rattle.cards.proofs.form.filed.Goals as goal
 
 pub returns-then-bad_inputs : goal.returns-then-bad_inputs
@@ -21,7 +24,7 @@ returns-then-bad_inputs c =
     c.refuse.ensures ∙ decides (filed_lines a.d a.n a.s.now)
     (here (sym c.bad_inputs.ensures ∙ c.if-bad_inputs.true))
 
-few : (c : goal.After-first) → c.args.n ≤ most_inputs
+few : (c : lts.After-first tie.the-claims reads.Pre reads.Post) → c.args.n ≤ most_inputs
 few c = few_inputs _ c.bad_inputs.ensures c.if-bad_inputs.false
 
 pub returns : goal.returns
@@ -33,7 +36,7 @@ returns c =
     (sym c.bad_inputs.ensures ∙ c.if-bad_inputs.false, tt))
 
 pub overflow_cast-n : goal.overflow_cast-n
-overflow_cast-n c = omega (arith, few c)
+overflow_cast-n c = omega (arith, few c.before)
 
 pub read_sheet-requires : goal.read_sheet-requires
-read_sheet-requires c = (subst IsEdition (sym c.first.ensures) first_edition_lem, few c)
+read_sheet-requires c = (subst IsEdition (sym c.first.ensures) first_edition_lem, few c.before)

@@ -7,10 +7,13 @@ use lib.ListN.{length}
 use Rattle.tables.specs.Table.{table_bit}
 use Rattle.columns.specs.Reading.{shared_part}
 use Rattle.charts.proofs.Codes.{base-le, base_within, own_within, row_there, row_length, row_own, code_found}
+use Rattle.charts.proofs.pair.code_at.Lts as lts
+use Rattle.charts.proofs.pair.code_at.Reads as reads
+use Rattle.charts.proofs.pair.code_at.Tie as tie
 use Rattle.charts.proofs.pair.code_at.Goals as goal
 
-module _ (c : goal.After-gather_in) where
-  abbrev g : goal.Start
+module _ (c : lts.After-gather_in tie.the-claims reads.Pre reads.Post) where
+  abbrev g : lts.Start tie.the-claims reads.Pre reads.Post
   g = c.before.before.before.before
 
   abbrev base : ℕ
@@ -24,53 +27,53 @@ module _ (c : goal.After-gather_in) where
 
   there : from + g.args.limit ≤ length g.args.seen.now
   there =
-      row_there g.args.s g.pre.0.0 (table_bit g.args.t.now) g.args.x base g.pre.0.1 refl
-      g.pre.1.0 from g.args.limit start refl
+      row_there g.args.s g.requires.held.0 (table_bit g.args.t.now) g.args.x base g.requires.held.1 refl
+      g.requires.chart from g.args.limit start refl
 
 pub overflow_sub-x : goal.overflow_sub-x
 overflow_sub-x c =
-    base-le (g c).args.s (g c).requires.0.0 (table_bit (g c).args.t.now) (g c).args.x (base c)
-    (g c).requires.0.1 refl
+    base-le (g c.before).args.s (g c.before).requires.held.0 (table_bit (g c.before).args.t.now) (g c.before).args.x (base c.before)
+    (g c.before).requires.held.1 refl
 
 pub place-requires : goal.place-requires
 place-requires c =
-    let a = (g c.before).args in
-    let p = (g c.before).requires.0 in
+    let a = (g c.before.before).args in
+    let p = (g c.before.before).requires.held in
     let F = table_bit a.t.now in
-    let m = from c.before + a.limit - from c.before in record {
+    let m = from c.before.before + a.limit - from c.before.before in record {
       held = (
         p.0,
-        base_within a.s p.0 F a.x (base c.before) p.1 refl,
-        own_within a.s p.0 F a.x (base c.before) p.1
+        base_within a.s p.0 F a.x (base c.before.before) p.1 refl,
+        own_within a.s p.0 F a.x (base c.before.before) p.1
             refl,
       );
       n_bound = p.2;
       k_in_bounds = (
         omega (
           arith,
-          row_length a.s p.0 F a.x (base c.before) p.1 refl (g c.before).requires.1.0 (from c.before) m (start c.before)
+          row_length a.s p.0 F a.x (base c.before.before) p.1 refl (g c.before.before).requires.chart (from c.before.before) m (start c.before.before)
               (omega arith),
         ),
-        row_own a.s p.0 F a.x (base c.before) p.1 refl (g c.before).requires.1.0 (from c.before) m (start c.before) (omega arith),
+        row_own a.s p.0 F a.x (base c.before.before) p.1 refl (g c.before.before).requires.chart (from c.before.before) m (start c.before.before) (omega arith),
       );
     }
 
 pub returns : goal.returns
 returns c =
-    let a = (g c.before.before).args in
-    let p = (g c.before.before).requires.0 in
-    code_found a.s p.0 (table_bit a.t.now) a.x (base c.before.before) p.1 refl (g c.before.before).requires.1.0 (from c.before.before)
-    (from c.before.before + a.limit - from c.before.before) (start c.before.before) (omega arith)
-    (g c.before.before).requires.1.1 _ c.place.ensures
+    let a = (g c.before.before.before).args in
+    let p = (g c.before.before.before).requires.held in
+    code_found a.s p.0 (table_bit a.t.now) a.x (base c.before.before.before) p.1 refl (g c.before.before.before).requires.chart (from c.before.before.before)
+    (from c.before.before.before + a.limit - from c.before.before.before) (start c.before.before.before) (omega arith)
+    (g c.before.before.before).requires.limit_value _ c.place.ensures
 
 pub overflow_mul-from : goal.overflow_mul-from
-overflow_mul-from c = omega (arith, there c)
+overflow_mul-from c = omega (arith, there c.before)
 
 pub overflow_add-end : goal.overflow_add-end
-overflow_add-end c = omega (arith, there c)
+overflow_add-end c = omega (arith, there c.before)
 
 pub offset_bounds-seen-from : goal.offset_bounds-seen-from
-offset_bounds-seen-from c = omega (arith, there c)
+offset_bounds-seen-from c = omega (arith, there c.before)
 
 pub slice_bounds-place-end : goal.slice_bounds-place-end
-slice_bounds-place-end c = omega (arith, there c)
+slice_bounds-place-end c = omega (arith, there c.before)

@@ -1,7 +1,6 @@
 -- The loop keeps the first i bits of the word. Assumes nothing.
 use mathlib.Core.Path.{◌≡◌, refl, sym, ap, ◌∙◌, subst}
 use mathlib.Core.Bool.{Bool}
-use mathlib.Core.List.{List}
 use Prim.Native.Nat.{ℕ, ◌+◌, ◌*◌, ◌^◌, ◌<◌}
 use native.Mathlib.Omega.{arith}
 use Rattle.bits.specs.Numbers.{bit, number}
@@ -9,24 +8,20 @@ use Rattle.bits.specs.Sets.{size, gather, spread}
 use Rattle.bits.proofs.Building.{bool_digit, summed_fits, summed}
 use Rattle.bits.proofs.Masks.{mask_most, mask_lt, mask_size, mask_spread, mask_gather}
 use Rattle.bits.proofs.Walking.{Walked, walked_none, walked_more, walked_lt, walked_gather}
-use Rattle.tables.specs.Table.{table_bit}
 use Rattle.tables.proofs.Digits.{cut_none, part-word}
 use Rattle.columns.specs.declared.split.Split.{Split}
 use Rattle.splits.specs.Split.{reads_d}
-use Rattle.charts.specs.Cells.{bit_d}
 use Rattle.columns.specs.Reading.{Held}
 use Rattle.columns.proofs.Reading.{below_mask}
+use Rattle.charts.proofs.pair.d_word.Invariants.{M, D}
+use Rattle.charts.proofs.pair.d_word.Lts as lts
+use Rattle.charts.proofs.pair.d_word.Reads as reads
+use Rattle.charts.proofs.pair.d_word.Tie as tie
 use Rattle.charts.proofs.pair.d_word.Goals as goal
 
 -- what the first cells read, as a set and as a mask, and the bit of one at v
 abbrev S : Split → ℕ → Bool
 S s = reads_d (bit s.own) (bit s.shared)
-
-abbrev M : Split → ℕ
-M s = s.own + s.shared
-
-abbrev D : List ℕ → Split → ℕ → ℕ → Bool
-D t s which = bit_d s.n (table_bit t) (bit s.own) (bit s.shared) which
 
 -- the mask stands for the set
 module _ (s : Split) (h : Held s) where
@@ -67,8 +62,8 @@ loop-i-init c =
     )
 
 -- bit i comes in
-module _ (c : goal.After-d_bit) where
-  abbrev g : goal.Start
+module _ (c : lts.After-d_bit tie.the-claims reads.Pre reads.Post goal.the-invariant-loop-i goal.the-decreases-loop-i) where
+  abbrev g : lts.Start tie.the-claims reads.Pre reads.Post goal.the-invariant-loop-i goal.the-decreases-loop-i
   g = c.before.before.before.before.before.before.before.before.before.before
 
   abbrev f : ℕ → Bool
@@ -80,24 +75,24 @@ module _ (c : goal.After-d_bit) where
 
   gives : c.d_bit.result ≡ f c.loop-i.i
   gives = c.d_bit.ensures ∙ ap (D g.args.t.now g.args.s g.args.which)
-      (read g.args.s g.pre.0.0 c.loop-i.invariant.1 inside)
+      (read g.args.s g.requires.held.0 c.loop-i.invariant.1 inside)
 
   turn : c.loop-i.i < 64
   turn = let q = c.loop-i.invariant in omega (arith, q.3, c.loop-i-test.true)
 
 pub overflow_add-r : goal.overflow_add-r
 overflow_add-r c =
-    omega (arith, summed_fits 64 (f c) (turn c) c.loop-i.invariant.0 (bool_digit (gives c)))
+    omega (arith, summed_fits 64 (f c.before) (turn c.before) c.loop-i.invariant.0 (bool_digit (gives c.before)))
 
 pub loop-i-preserved : goal.loop-i-preserved
 loop-i-preserved c =
     let q = c.loop-i in
-    let a = (g c.before).args in
+    let a = (g c.before.before).args in
     let e : 64 * a.w + q.i + 1 ≡ 64 * a.w + (q.i + 1) = omega arith in (
-      summed 64 (f c.before) (turn c.before) q.invariant.0 (bool_digit (gives c.before)),
+      summed 64 (f c.before.before) (turn c.before.before) q.invariant.0 (bool_digit (gives c.before.before)),
       subst (λ (v : ℕ). Walked a.s.n (M a.s) c.parts-many.result
           c.next-x.result v) e
-          (walked_more q.invariant.1 (inside c.before) c.next-x.ensures.1),
+          (walked_more q.invariant.1 (inside c.before.before) c.next-x.ensures.1),
       omega (arith, c.loop-i-test.true),
       q.invariant.3,
       q.invariant.4,
@@ -140,8 +135,8 @@ d_bit-requires c =
     ((c.requires.held.0, s, c.requires.held.2, c.requires.held.3), c.requires.1)
 
 pub overflow_shl-r : goal.overflow_shl-r
-overflow_shl-r c = let t = turn c in omega arith
+overflow_shl-r c = let t = turn c.before in omega arith
 
 pub next-x-requires : goal.next-x-requires
 next-x-requires c =
-    ((g c).requires.0.0.most, below (g c).args.s (g c).requires.0.0, walked_lt c.loop-i.invariant.1)
+    ((g c.before).requires.held.0.most, below (g c.before).args.s (g c.before).requires.held.0, walked_lt c.loop-i.invariant.1)

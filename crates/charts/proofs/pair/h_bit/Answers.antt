@@ -9,6 +9,9 @@ use Rattle.columns.specs.declared.split.Split.{Split}
 use Rattle.columns.specs.Reading.{Held, last_reads}
 use Rattle.columns.proofs.Reading.{beside_mask}
 use Rattle.charts.proofs.Last.{last_spare, last_room, last_lt, last_bit}
+use Rattle.charts.proofs.pair.h_bit.Lts as lts
+use Rattle.charts.proofs.pair.h_bit.Reads as reads
+use Rattle.charts.proofs.pair.h_bit.Tie as tie
 use Rattle.charts.proofs.pair.h_bit.Goals as goal
 
 beside_lt : {s : Split} → Held s → s.shared + s.free < 2 ^ s.n
@@ -19,8 +22,8 @@ returns-then-limit-d c =
     last_spare c.requires.0 c.requires.2 c.args.i c.parts-many.ensures.0 c.if-limit-d.true
 
 -- where b is gathered, the place in the chart is inside it, and what stands there inside the table
-module _ (c : goal.After-gather_in-b) where
-  abbrev start : goal.Start
+module _ (c : lts.After-gather_in tie.the-claims reads.Pre reads.Post) where
+  abbrev start : lts.Start tie.the-claims reads.Pre reads.Post
   start = c.before.before.before.before.before.before.before
 
   abbrev many : ℕ
@@ -34,19 +37,19 @@ module _ (c : goal.After-gather_in-b) where
 
   room : place < length start.args.seen.now
   room =
-      last_room start.pre.0 start.pre.2 start.args.i c.parts-many.ensures.0 inside
+      last_room start.requires.0 start.requires.2 start.args.i c.parts-many.ensures.0 inside
       c.spread_out-x.ensures.0 c.gather_in-b.ensures.0
 
   read : c.spread_out-x.result + get_or start.args.seen.now place 0 < 2 ^ start.args.s.n
   read =
-      last_lt start.pre.0 start.pre.2 start.args.i c.parts-many.ensures.0 inside
+      last_lt start.requires.0 start.requires.2 start.args.i c.parts-many.ensures.0 inside
       c.spread_out-x.ensures.0 c.gather_in-b.ensures.0
 
 pub returns : goal.returns
 returns c =
-    let g = start c.before.before in
+    let g = start c.before.before.before in
     c.bit_at.ensures
-    ∙ last_bit g.pre.0 g.pre.2 g.args.i c.parts-many.ensures.0 (inside c.before.before)
+    ∙ last_bit g.requires.0 g.requires.2 g.args.i c.parts-many.ensures.0 (inside c.before.before.before)
     c.spread_out-x.ensures.0 c.gather_in-b.ensures.0
 
 pub overflow_add-beside : goal.overflow_add-beside
@@ -59,22 +62,23 @@ pub overflow_cast-d : goal.overflow_cast-d
 overflow_cast-d c = omega (arith, div-le_self c.args.i c.parts-many.result)
 
 pub overflow_mul-at : goal.overflow_mul-at
-overflow_mul-at c = omega (arith, room c)
+overflow_mul-at c = omega (arith, room c.before)
 
 pub overflow_add-at : goal.overflow_add-at
-overflow_add-at c = omega (arith, room c)
+overflow_add-at c = omega (arith, room c.before)
 
 pub offset_bounds-seen-at : goal.offset_bounds-seen-at
-offset_bounds-seen-at c = omega (arith, room c)
+offset_bounds-seen-at c = omega (arith, room c.before)
 
 pub bounds-seen-at : goal.bounds-seen-at
-bounds-seen-at c = omega (arith, room c.before)
+bounds-seen-at c = omega (arith, room c.before.before)
 
 pub overflow_cast-seen : goal.overflow_cast-seen
-overflow_cast-seen c = omega (arith, c.type_inv.seen (place c.before))
+overflow_cast-seen c = omega (arith, c.type_inv.seen (place c.before.before))
 
 pub overflow_add-x : goal.overflow_add-x
-overflow_add-x c = omega (arith, read c.before, mask_most (start c.before).pre.0.most)
+overflow_add-x c =
+    omega (arith, read c.before.before, mask_most (start c.before.before).requires.0.most)
 
 pub bit_at-requires : goal.bit_at-requires
-bit_at-requires c = omega (arith, read c.before, (start c.before).pre.1)
+bit_at-requires c = omega (arith, read c.before.before, (start c.before.before).requires.1)

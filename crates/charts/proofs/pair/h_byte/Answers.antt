@@ -1,29 +1,15 @@
 -- The loop keeps the first j bits of the byte. Assumes nothing.
 use mathlib.Core.Path.{◌≡◌, refl, sym, ap, ap₂, ◌∙◌}
-use mathlib.Core.Bool.{Bool, ◌&&◌}
-use mathlib.Core.List.{List}
 use Prim.Native.Nat.{ℕ, ◌+◌, ◌*◌, ◌^◌}
 use native.Mathlib.Nat.{mul_comm}
 use native.Mathlib.Omega.{arith}
-use lib.Dec.{ltb}
 use lib.Pow.{pow-add}
 use Rattle.bits.specs.Numbers.{bit, number}
 use Rattle.bits.specs.Sets.{size}
 use Rattle.bits.proofs.Building.{bool_digit, summed_fits, summed}
-use Rattle.tables.specs.Table.{table_bit}
-use Rattle.columns.specs.declared.split.Split.{Split}
 use Rattle.splits.specs.Split.{reads_h}
-use Rattle.splits.specs.Pair.{bit_h}
+use Rattle.charts.proofs.pair.h_byte.Invariants.{H, end}
 use Rattle.charts.proofs.pair.h_byte.Goals as goal
-
--- bit j of byte i, of a table of `end` bits
-abbrev H : List ℕ → Split → ℕ → ℕ → ℕ → Bool
-H t s end i j =
-    let x = i * 8 + j in
-    ltb x end && bit_h s.n (table_bit t) (bit s.own) (bit s.shared) x
-
-abbrev end : Split → ℕ → ℕ
-end s limit = limit * 2 ^ size s.n (reads_h (bit s.own) (bit s.shared))
 
 pub loop-j-init : goal.loop-j-init
 unfolding number

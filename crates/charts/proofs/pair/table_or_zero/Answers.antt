@@ -13,17 +13,20 @@ use Rattle.tables.specs.declared.cell.CellTable.{CellTable}
 use Rattle.tables.specs.Cells.{no_table}
 use Rattle.charts.specs.Cells.{held_d}
 use Rattle.columns.specs.Reading.{Chart}
+use Rattle.charts.proofs.pair.table_or_zero.Lts as lts
+use Rattle.charts.proofs.pair.table_or_zero.Reads as reads
+use Rattle.charts.proofs.pair.table_or_zero.Tie as tie
 use Rattle.charts.proofs.pair.table_or_zero.Goals as goal
 
 -- what is returned, as there is such a cell or not
-module _ (c : goal.Start) where
+module _ (c : lts.Start tie.the-claims reads.Pre reads.Post) where
   abbrev by : Bool → CellTable
   by b = cond b (held_d c.args.s.n (table_bit c.args.t.now) (bit c.args.s.own) (bit c.args.s.shared)
       c.args.which) no_table
 
 pub returns-then-r-which : goal.returns-then-r-which
 returns-then-r-which c =
-    c.zero.ensures ∙ sym (ap (by c.before.before.before.before) (le-ltb c.args.which c.args.r c.if-r-which.true))
+    c.zero.ensures ∙ sym (ap (by c.before.before.before.before.before) (le-ltb c.args.which c.args.r c.if-r-which.true))
 
 pub table_of-requires : goal.table_of-requires
 table_of-requires c =
@@ -34,4 +37,4 @@ table_of-requires c =
 
 pub returns : goal.returns
 returns c =
-    c.table_of.ensures ∙ sym (ap (by c.before.before.before.before) (lt-ltb c.args.which c.args.r (omega (arith, c.if-r-which.false))))
+    c.table_of.ensures ∙ sym (ap (by c.before.before.before.before.before) (lt-ltb c.args.which c.args.r (omega (arith, c.if-r-which.false))))

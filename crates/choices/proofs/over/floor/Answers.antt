@@ -7,9 +7,12 @@ use Rattle.bits.specs.Sets.{size}
 use Rattle.bits.proofs.Sizes.{size-le}
 use Rattle.choices.specs.Chosen.{choice_of, Floor}
 use Rattle.choices.proofs.Choosing.{own_below, kept_spares, floor-kept}
+use Rattle.choices.proofs.over.floor.Lts as lts
+use Rattle.choices.proofs.over.floor.Reads as reads
+use Rattle.choices.proofs.over.floor.Tie as tie
 use Rattle.choices.proofs.over.floor.Goals as goal
 
-module _ (c : goal.After-members) where
+module _ (c : lts.After-members tie.the-claims reads.Pre reads.Post) where
   counted : c.members.result ≡ size c.args.n
       (bit c.args.kept.own)
   counted =

@@ -4,6 +4,9 @@ use native.Mathlib.Omega.{arith}
 use Rattle.bits.specs.Numbers.{bit}
 use Rattle.bits.proofs.Sizes.{size-le}
 use Rattle.choices.proofs.Choosing.{taken_first, own_below, taken, stays}
+use Rattle.choices.proofs.over.larger.Lts as lts
+use Rattle.choices.proofs.over.larger.Reads as reads
+use Rattle.choices.proofs.over.larger.Tie as tie
 use Rattle.choices.proofs.over.larger.Goals as goal
 
 pub returns-then-kept-eq0 : goal.returns-then-kept-eq0
@@ -12,7 +15,7 @@ returns-then-kept-eq0 c =
     (taken_first a.n a.r c.requires.0 a.kept a.own a.shared c.if-kept-eq0.true, c.requires.1)
 
 -- the mask kept names positions below n
-below : (c : goal.After-members) → c.args.kept.own < 2 ^ c.args.n
+below : (c : lts.After-members tie.the-claims reads.Pre reads.Post) → c.args.kept.own < 2 ^ c.args.n
 below c =
     let a = c.args in
     own_below a.n a.kept c.if-kept-eq0.false c.requires.4

@@ -1,31 +1,24 @@
 -- The loop keeps that none of the first b shared assignments breaks. Assumes nothing.
 use mathlib.Core.Path.{◌≡◌, refl, sym, ◌∙◌, subst}
-use mathlib.Core.Bool.{Bool}
-use mathlib.Core.List.{List}
 use Prim.Native.Nat.{ℕ}
 use native.Mathlib.Omega.{arith}
-use lib.Dec.{ltb}
-use lib.ListN.{length}
 use Rattle.bits.specs.Below.{least}
 use Rattle.bits.proofs.Least.{least_more, least_stop}
 use Rattle.bits.proofs.Walking.{walked_none, walked_more, walked_lt, walked_turn, walked_end, walked_within}
-use Rattle.tables.specs.Table.{table_bit}
-use Rattle.columns.specs.declared.split.Split.{Split}
 use Rattle.splits.specs.Columns.{first_broken}
-use Rattle.columns.specs.Reading.{columns_of}
 use Rattle.columns.proofs.Looking.{seen_few, seen_many}
+use Rattle.columns.proofs.columns.first_broken.Invariants.{many}
+use Rattle.columns.proofs.columns.first_broken.Lts as lts
+use Rattle.columns.proofs.columns.first_broken.Reads as reads
+use Rattle.columns.proofs.columns.first_broken.Tie as tie
 use Rattle.columns.proofs.columns.first_broken.Goals as goal
 
--- the test at one shared assignment
-abbrev many : List ℕ → Split → ℕ → ℕ → Bool
-many t s limit b = ltb limit (length (columns_of s (table_bit t) b))
-
 -- what is known where the columns of b were looked through
-module _ (c : goal.After-look_through) where
-  abbrev inside : goal.In-loop-b
+module _ (c : lts.After-look_through tie.the-claims reads.Pre reads.Post goal.the-invariant-loop-b goal.the-decreases-loop-b) where
+  abbrev inside : lts.In-loop tie.the-claims reads.Pre reads.Post goal.the-invariant-loop-b goal.the-decreases-loop-b
   inside = c.before.before
 
-  abbrev start : goal.Start
+  abbrev start : lts.Start tie.the-claims reads.Pre reads.Post goal.the-invariant-loop-b goal.the-decreases-loop-b
   start = inside.before.before.before
 
 pub look_through-requires : goal.look_through-requires
@@ -35,17 +28,17 @@ look_through-requires c =
 pub returns-then-limit-look_through : goal.returns-then-limit-look_through
 unfolding first_broken
 returns-then-limit-look_through c =
-    let a = (start c.before.before).args in
-    let i = (inside c.before.before).before.loop.invariant in
-    let l = (inside c.before.before).loop-test.true in
+    let a = (start c.before.before.before).args in
+    let i = (inside c.before.before.before).loop-b.invariant in
+    let l = (inside c.before.before.before).loop-b-test.true in
     sym (least_stop _ _ (many a.t.now a.s a.limit) i.0
     (seen_many i.1 l c.look_through.ensures c.if-limit-look_through.true) (walked_turn i.1 l))
 
 pub loop-b-preserved : goal.loop-b-preserved
 loop-b-preserved c =
-    let a = (start c.before.before.before).args in
-    let i = (inside c.before.before.before).before.loop.invariant in
-    let l = (inside c.before.before.before).loop-test.true in (
+    let a = (start c.before.before.before.before).args in
+    let i = (inside c.before.before.before.before).loop-b.invariant in
+    let l = (inside c.before.before.before.before).loop-b-test.true in (
       least_more _ (many a.t.now a.s a.limit) i.0
           (seen_few i.1 l c.look_through.ensures c.if-limit-look_through.false),
       walked_more i.1 l c.next-base.ensures.1,
@@ -65,5 +58,5 @@ loop-b-init c = (refl, walked_none c.requires.held.0.most c.requires.many_value,
 
 pub next-base-requires : goal.next-base-requires
 next-base-requires c =
-    let p = (start c.before.before).requires.0.0
-    in (p.most, p.below_b, walked_lt (inside c.before.before).before.loop.invariant.1)
+    let p = (start c.before.before.before).requires.held.0
+    in (p.most, p.below_b, walked_lt (inside c.before.before.before).loop-b.invariant.1)

@@ -1,7 +1,6 @@
 -- The loop keeps that the column is none of the first i. Assumes nothing.
 use mathlib.Core.Path.{◌≡◌, sym, ◌∙◌}
 use mathlib.Core.Bool.{Bool, true, false}
-use mathlib.Core.List.{List}
 use Prim.Native.Nat.{ℕ, ◌+◌}
 use native.Mathlib.Omega.{arith}
 use lib.Dec.{eqb}
@@ -9,23 +8,22 @@ use lib.ListN.{get_or}
 use borrow.Author.Count.{below_more, below_none}
 use Rattle.bits.proofs.Masks.{mask_most}
 use Rattle.tables.specs.Table.{table_bit}
-use Rattle.columns.specs.declared.split.Split.{Split}
-use Rattle.columns.specs.Reading.{Without, shared_part, column_at}
+use Rattle.columns.specs.Reading.{Without}
 use Rattle.splits.proofs.Stored.{seek_is, seek_none}
 use Rattle.columns.proofs.Reading.{start, alike_column}
+use Rattle.columns.proofs.columns.place.Invariants.{at}
+use Rattle.columns.proofs.columns.place.Lts as lts
+use Rattle.columns.proofs.columns.place.Reads as reads
+use Rattle.columns.proofs.columns.place.Tie as tie
 use Rattle.columns.proofs.columns.place.Goals as goal
 
--- the column at z, for the shared assignment in base
-abbrev at : List ℕ → Split → ℕ → ℕ → ℕ
-at t s base z = column_at s (table_bit t) (shared_part s base) z
-
 -- the two places where reading starts have no free input
-module _ (c : goal.In-loop-i) where
-  abbrev g : goal.Start
+module _ (c : lts.In-loop tie.the-claims reads.Pre reads.Post goal.the-invariant-loop-i goal.the-decreases-loop-i) where
+  abbrev g : lts.Start tie.the-claims reads.Pre reads.Post goal.the-invariant-loop-i goal.the-decreases-loop-i
   g = c.before.before.before.before
 
   here : Without g.args.s.n g.args.s.free (g.args.base + g.args.z)
-  here = let p = g.pre.0 in start g.args.s p.0 (table_bit g.args.t.now) g.args.base p.1 g.args.z
+  here = let p = g.requires.held in start g.args.s p.0 (table_bit g.args.t.now) g.args.base p.1 g.args.z
       p.2
 
   abbrev y : ℕ
@@ -33,27 +31,27 @@ module _ (c : goal.In-loop-i) where
 
   there : Without g.args.s.n g.args.s.free (g.args.base + y)
   there =
-      let p = g.pre.0 in
+      let p = g.requires.held in
       start g.args.s p.0 (table_bit g.args.t.now) g.args.base p.1 y
-      (g.pre.1.1.1 c.loop-i.i c.loop-i-test.true)
+      (g.requires.k_in_bounds.1 c.loop-i.i c.loop-i-test.true)
 
 -- what the comparison says
-told : (c : goal.After-same_column) → (t : Bool) → c.same_column.result ≡ t
+told : (c : lts.After-same_column tie.the-claims reads.Pre reads.Post goal.the-invariant-loop-i goal.the-decreases-loop-i) → (t : Bool) → c.same_column.result ≡ t
     → let a = (g c.before.before).args
     in eqb (at a.t.now a.s a.base a.z) (at a.t.now a.s a.base (y c.before.before)) ≡ t
 told c t e =
     let a = (g c.before.before).args in
-    let p = (g c.before.before).requires.0 in
+    let p = (g c.before.before).requires.held in
     sym (alike_column a.s p.0 (table_bit a.t.now) a.base p.1 a.z (y c.before.before) p.2
-    ((g c.before.before).requires.1.1.1 c.loop-i.i c.loop-i-test.true))
+    ((g c.before.before).requires.k_in_bounds.1 c.loop-i.i c.loop-i-test.true))
     ∙ sym c.same_column.ensures ∙ e
 
 pub returns-then-same_column : goal.returns-then-same_column
 returns-then-same_column c =
-    let a = (g c.before.before.before).args in
-    seek_is (at a.t.now a.s a.base) a.seen.now a.k (g c.before.before.before).requires.1.1.0 _ c.loop-i.i
+    let a = (g c.before.before.before.before).args in
+    seek_is (at a.t.now a.s a.base) a.seen.now a.k (g c.before.before.before.before).requires.k_in_bounds.0 _ c.loop-i.i
     c.loop-i-test.true c.loop-i.invariant.1
-    (told c.before true c.if-same_column.true)
+    (told c.before.before true c.if-same_column.true)
 
 pub returns : goal.returns
 returns c =
@@ -67,22 +65,23 @@ pub loop-i-init : goal.loop-i-init
 loop-i-init c = (omega arith, below_none _)
 
 pub overflow_add-base : goal.overflow_add-base
-overflow_add-base c = omega (arith, (here c).below, mask_most (g c).requires.0.0.most)
+overflow_add-base c =
+    omega (arith, (here c.before).below, mask_most (g c.before).requires.held.0.most)
 
 pub overflow_cast-seen : goal.overflow_cast-seen
 overflow_cast-seen c = omega (arith, c.type_inv.seen c.loop-i.i)
 
 pub overflow_add-base-in-loop-i : goal.overflow_add-base-in-loop-i
 overflow_add-base-in-loop-i c =
-    omega (arith, (there c.before).below, mask_most (g c.before).pre.0.0.most)
+    omega (arith, (there c.before.before).below, mask_most (g c.before.before).requires.held.0.most)
 
 pub same_column-requires : goal.same_column-requires
 same_column-requires c =
-    record { held = ((g c.before).requires.0.0, here c.before, there c.before); n_bound = (g c.before).requires.1.0 }
+    record { held = ((g c.before.before).requires.held.0, here c.before.before, there c.before.before); n_bound = (g c.before.before).requires.n_bound }
 
 pub loop-i-preserved : goal.loop-i-preserved
 loop-i-preserved c = (
   omega arith,
   below_more _ _ c.loop-i.invariant.1
-      (told c.before false c.if-same_column.false),
+      (told c.before.before false c.if-same_column.false),
 )

@@ -16,6 +16,9 @@ use Rattle.cards.specs.Card.{open_mark, inputs_on, sheet_on}
 use Rattle.cards.specs.Refusals.{filed_lines}
 use Rattle.cards.specs.RunDesk.{desk_lines}
 use Rattle.cards.proofs.Desks.{open_lines}
+use Rattle.desks.proofs.run_desk.own_form.Lts as lts
+use Rattle.desks.proofs.run_desk.own_form.Reads as reads
+use Rattle.desks.proofs.run_desk.own_form.Tie as tie
 use Rattle.desks.proofs.run_desk.own_form.Goals as goal
 
 pub returns-then-o-ne1 : goal.returns-then-o-ne1
@@ -25,8 +28,8 @@ returns-then-o-ne1 c =
     (later c.requires.1 (here (ap not (ne_eqb (open_mark o) 1 c.if-o-ne1.true))))
 
 -- after the look at its sheet
-module _ (c : goal.After-filed-seen) where
-  abbrev start : goal.Start
+module _ (c : lts.After-filed tie.the-claims reads.Pre reads.Post) where
+  abbrev start : lts.Start tie.the-claims reads.Pre reads.Post
   start = c.before.before.before.before.before.before
 
   abbrev o : List ℕ
@@ -44,7 +47,7 @@ module _ (c : goal.After-filed-seen) where
 
   -- only its lines and 11 are left
   opened : verdict (ls ++ ms) ≡ verdict (desk_lines o start.args.d start.args.x)
-  opened = sym (open_lines o start.args.d start.args.x start.pre.0 start.pre.1
+  opened = sym (open_lines o start.args.d start.args.x start.requires.0 start.requires.1
       c.if-o-ne1.false)
 
   few : c.filed-seen.result ≡ Fine → inputs_on o < 64
@@ -52,25 +55,25 @@ module _ (c : goal.After-filed-seen) where
 
 pub returns-in_default : goal.returns-in_default
 returns-in_default c =
-    stopped (ls c.before.before) (ms c.before.before) _ (seen c.before.before) c.in_default.field-0
-    c.in_default.is ∙ opened c.before.before
+    stopped (ls c.before.before.before) (ms c.before.before.before) _ (seen c.before.before.before) c.in_default.field-0
+    c.in_default.is ∙ opened c.before.before.before
 
 pub overflow_shl-n : goal.overflow_shl-n
-overflow_shl-n c = few c.before.before c.in-Fine.is
+overflow_shl-n c = few c.before.before.before c.in-Fine.is
 
 pub returns-then-n-x : goal.returns-then-n-x
 returns-then-n-x c =
     let e = c.in-Fine.is in
-    let x = (start c.before.before.before.before).args.x in
-    let far : 2 ^ inputs_on (o c.before.before.before.before) ≤ x = omega (arith, c.if-n-x.true, shl_one 64 (inputs_on (o c.before.before.before.before)) (few c.before.before.before.before e)) in
-    c.refuse-then-n-x.ensures ∙ decided (ls c.before.before.before.before) (ms c.before.before.before.before) _ (seen c.before.before.before.before) e (here (le-leb (2 ^ inputs_on (o c.before.before.before.before)) x far)) ∙ opened c.before.before.before.before
+    let x = (start c.before.before.before.before.before).args.x in
+    let far : 2 ^ inputs_on (o c.before.before.before.before.before) ≤ x = omega (arith, c.if-n-x.true, shl_one 64 (inputs_on (o c.before.before.before.before.before)) (few c.before.before.before.before.before e)) in
+    c.refuse-then-n-x.ensures ∙ decided (ls c.before.before.before.before.before) (ms c.before.before.before.before.before) _ (seen c.before.before.before.before.before) e (here (le-leb (2 ^ inputs_on (o c.before.before.before.before.before)) x far)) ∙ opened c.before.before.before.before.before
 
 pub returns : goal.returns
 returns c =
     let e = c.in-Fine.is in
-    let x = (start c.before.before.before).args.x in
-    let near : x < 2 ^ inputs_on (o c.before.before.before) = omega (arith, c.if-n-x.false, shl_one 64 (inputs_on (o c.before.before.before)) (few c.before.before.before e)) in
-    decided (ls c.before.before.before) (ms c.before.before.before) _ (seen c.before.before.before) e (later (lt-leb (2 ^ inputs_on (o c.before.before.before)) x near) fine) ∙ opened c.before.before.before
+    let x = (start c.before.before.before.before).args.x in
+    let near : x < 2 ^ inputs_on (o c.before.before.before.before) = omega (arith, c.if-n-x.false, shl_one 64 (inputs_on (o c.before.before.before.before)) (few c.before.before.before.before e)) in
+    decided (ls c.before.before.before.before) (ms c.before.before.before.before) _ (seen c.before.before.before.before) e (later (lt-leb (2 ^ inputs_on (o c.before.before.before.before)) x near) fine) ∙ opened c.before.before.before.before
 
 pub overflow_cast-n : goal.overflow_cast-n
 overflow_cast-n c = omega (arith, c.type_inv.o 241)

@@ -11,6 +11,9 @@ use Rattle.cards.specs.Refusals.{no_desk}
 use Rattle.cards.specs.RunDesk.{desk_outcome}
 use Rattle.cards.proofs.Making.{own_length}
 use Rattle.cards.proofs.Desks.{run_own_lem, run_short, no_such_desk}
+use Rattle.desks.proofs.run_desk.run_desk.Lts as lts
+use Rattle.desks.proofs.run_desk.run_desk.Reads as reads
+use Rattle.desks.proofs.run_desk.run_desk.Tie as tie
 use Rattle.desks.proofs.run_desk.run_desk.Goals as goal
 
 pub returns-then-card-ne-CARD : goal.returns-then-card-ne-CARD
@@ -27,7 +30,7 @@ returns-then-outside c =
     ∙ no_such_desk (own_bytes a.card.now a.d) a.d a.x (sym c.outside.ensures ∙ c.if-outside.true))
 
 -- past them
-module _ (c : goal.Else-outside) where
+module _ (c : lts.Else2 tie.the-claims reads.Pre reads.Post) where
   abbrev d : ℕ
   d = c.args.d
 
@@ -46,29 +49,29 @@ module _ (c : goal.Else-outside) where
 pub run_bytes-requires : goal.run_bytes-requires
 run_bytes-requires c =
     let l = c.args.card.now in (
-      ap (λ (k : ℕ). length (take k (drop (base (d c.before)) l))) (cut c.before)
-          ∙ own_length l (d c.before) c.if-card-ne-CARD.false (most c.before),
-      known c.before,
+      ap (λ (k : ℕ). length (take k (drop (base (d c.before.before)) l))) (cut c.before.before)
+          ∙ own_length l (d c.before.before) c.if-card-ne-CARD.false (most c.before.before),
+      known c.before.before,
     )
 
 pub returns : goal.returns
 returns c =
     let a = c.args in
     c.run_bytes.ensures
-    ∙ ap (λ (k : ℕ). desk_outcome (take k (drop (base a.d) a.card.now)) a.d a.x) (cut c.before.before)
+    ∙ ap (λ (k : ℕ). desk_outcome (take k (drop (base a.d) a.card.now)) a.d a.x) (cut c.before.before.before)
     ∙ sym (run_own_lem a.card.now a.d a.x c.if-card-ne-CARD.false)
 
 pub overflow_sub-base : goal.overflow_sub-base
 overflow_sub-base = least
 
 pub overflow_mul-base : goal.overflow_mul-base
-overflow_mul-base c = omega (arith, most c)
+overflow_mul-base c = omega (arith, most c.before)
 
 pub overflow_add-end : goal.overflow_add-end
-overflow_add-end c = omega (arith, most c)
+overflow_add-end c = omega (arith, most c.before)
 
 pub slice_bounds-run_bytes-end : goal.slice_bounds-run_bytes-end
-slice_bounds-run_bytes-end c = omega (arith, least c, most c)
+slice_bounds-run_bytes-end c = omega (arith, least c.before, most c.before)
 
 pub overflow_cast-d : goal.overflow_cast-d
-overflow_cast-d c = omega (arith, most c.before)
+overflow_cast-d c = omega (arith, most c.before.before)

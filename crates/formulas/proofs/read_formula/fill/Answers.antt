@@ -2,11 +2,8 @@
 -- stretch. Assumes nothing.
 use mathlib.Core.Path.{◌≡◌, refl, ap, ◌∙◌}
 use mathlib.Core.Logic.{⊎_elim}
-use mathlib.Core.Bool.{Bool, ◌&&◌}
-use mathlib.Core.List.{List}
-use Prim.Native.Nat.{ℕ, ◌+◌, ◌-◌, ◌/◌, ◌^◌}
+use Prim.Native.Nat.{ℕ, ◌+◌, ◌-◌, ◌/◌}
 use native.Mathlib.Omega.{arith}
-use lib.Dec.{ltb}
 use lib.Pow.{pow_mono}
 use Rattle.bits.proofs.Filling.{filled_none, filled_more, filled_whole}
 use Rattle.tables.specs.Table.{bytes_of, table_of}
@@ -15,10 +12,8 @@ use Rattle.runs.proofs.Choosing.{word_starts}
 use Rattle.formulas.specs.Reading.{text_of, value_in}
 use Rattle.values.specs.Stretches.{stretch_of}
 use Rattle.values.proofs.Bitwise.{table-word}
+use Rattle.formulas.proofs.read_formula.fill.Invariants.{bits}
 use Rattle.formulas.proofs.read_formula.fill.Goals as goal
-
-abbrev bits : ℕ → List ℕ → ℕ → Bool
-bits n t x = ltb x (2 ^ n) && value_in (text_of n t) x
 
 pub overflow_cast-i : goal.overflow_cast-i
 overflow_cast-i c =

@@ -23,4 +23,4 @@ returns c =
     c.in-Fine.is c.look_at_text.ensures
 
 pub overflow_cast-n : goal.overflow_cast-n
-overflow_cast-n c = omega (arith, look_at_text-requires c c.lifetimes)
+overflow_cast-n c = omega (arith, look_at_text-requires c.before c.lifetimes)

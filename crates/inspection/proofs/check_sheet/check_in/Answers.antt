@@ -19,6 +19,9 @@ use Rattle.refusals.proofs.Lines.{here, in_order_lem, passes, stopped, goes_on, 
 use Rattle.refusals.proofs.Tests.{inside, right_table, spare_line}
 use Rattle.refusals.proofs.Sheets.{good_sheet, runnable}
 use Rattle.inspection.specs.CheckSheet.{table_lines, check_outcome}
+use Rattle.inspection.proofs.check_sheet.check_in.Lts as lts
+use Rattle.inspection.proofs.check_sheet.check_in.Reads as reads
+use Rattle.inspection.proofs.check_sheet.check_in.Tie as tie
 use Rattle.inspection.proofs.check_sheet.check_in.Goals as goal
 
 -- what lines 1, 3 and 4 let through, as a look at them comes to v
@@ -35,16 +38,16 @@ looked n t v p q = let w = in_order_lem (table_lines n t) (sym p ∙ q) in recor
 }
 
 -- after the look at the table, which lets it through
-module _ (c : goal.In-Fine) where
-  abbrev start : goal.Start
+module _ (c : lts.After-enum_told tie.the-claims reads.Pre reads.Post) where
+  abbrev start : lts.Start tie.the-claims reads.Pre reads.Post
   start = c.before.before.before.before.before
 
   through : Table start.args.n start.args.t.now
   through = looked _ _ _ c.table-table.ensures c.in-Fine.is
 
 -- after the look at the sheet
-module _ (c : goal.After-sheet-sheet) where
-  abbrev a : goal.Start
+module _ (c : lts.After-sheet tie.the-claims reads.Pre reads.Post) where
+  abbrev a : lts.Start tie.the-claims reads.Pre reads.Post
   a = start c.before
 
   abbrev ls : List Line
@@ -63,19 +66,19 @@ module _ (c : goal.After-sheet-sheet) where
       c.in-Fine.is refl
 
 -- it lets it through
-module _ (c : goal.In-Fine-sheet) where
-  abbrev sheet : goal.After-sheet-sheet
+module _ (c : lts.After-enum_told3 tie.the-claims reads.Pre reads.Post) where
+  abbrev sheet : lts.After-sheet tie.the-claims reads.Pre reads.Post
   sheet = c.before.before
 
   kept : InOrder (ls sheet)
-  kept = in_order_lem (ls sheet) (sym sheet.sheet.ensures ∙ c.in-Fine-sheet.is)
+  kept = in_order_lem (ls sheet) (sym sheet.sheet-sheet.ensures ∙ c.in-Fine-sheet.is)
 
 -- the first difference is looked at
-module _ (c : goal.After-first_difference-x) where
-  abbrev told : goal.In-Fine-sheet
+module _ (c : lts.After-first_difference tie.the-claims reads.Pre reads.Post) where
+  abbrev told : lts.After-enum_told3 tie.the-claims reads.Pre reads.Post
   told = c.before.before
 
-  abbrev s : goal.Start
+  abbrev s : lts.Start tie.the-claims reads.Pre reads.Post
   s = a (sheet told)
 
   few : s.args.n ≤ most_inputs
@@ -98,50 +101,52 @@ returns-in_default c =
 
 pub returns-in_default-sheet : goal.returns-in_default-sheet
 returns-in_default-sheet c =
-    stopped (ls c.before.before) (ms c.before.before) _ c.sheet-sheet.ensures c.in_default-sheet.field-0
-    c.in_default-sheet.is ∙ behind c.before.before
+    stopped (ls c.before.before.before) (ms c.before.before.before) _ c.sheet-sheet.ensures c.in_default-sheet.field-0
+    c.in_default-sheet.is ∙ behind c.before.before.before
 
 pub nonzero_div-s : goal.nonzero_div-s
-nonzero_div-s c = let s = a (sheet c.before) in omega (arith, s.pre.ends, s.pre.order)
+nonzero_div-s c =
+    let s = a (sheet c.before.before) in omega (arith, s.requires.ends, s.requires.order)
 
 pub first_difference-x-requires : goal.first_difference-x-requires
 first_difference-x-requires c =
-    let l = sheet c.before in
+    let l = sheet c.before.before in
     let s = a l in
     let w = through l.before in record {
-      edition = runnable s.args.e s.args.d s.args.n s.args.s.now s.pre
+      edition = runnable s.args.e s.args.d s.args.n s.args.s.now s.requires
           (records s.args.e s.args.s.now) w.most
-          (good_sheet s.args.e s.args.d s.args.n s.args.s.now s.pre (kept c.before));
+          (good_sheet s.args.e s.args.d s.args.n s.args.s.now s.requires (kept c.before.before));
       t_len = (w.long, w.spare);
     }
 
 pub returns-then-x-inputs : goal.returns-then-x-inputs
 returns-then-x-inputs c =
-    let l = sheet (told c.before.before) in
-    let near : x c.before.before < 2 ^ (s c.before.before).args.n = omega (arith, size c.before.before, c.first_difference-x.ensures, c.if-x-inputs.true) in
+    let l = sheet (told c.before.before.before) in
+    let near : x c.before.before.before < 2 ^ (s c.before.before.before).args.n = omega (arith, size c.before.before.before, c.first_difference-x.ensures, c.if-x-inputs.true) in
     c.refuse_at.ensures ∙ ap (λ (k : ℕ). Refused (refusal 12 k)) c.first_difference-x.ensures
-    ∙ decided (ls l) (ms l) _ l.sheet.ensures (told c.before.before).enum-told3.given.1
-    (here (lt-ltb _ (2 ^ (s c.before.before).args.n) near))
+    ∙ decided (ls l) (ms l) _ l.sheet.ensures (told c.before.before.before).in-Fine-sheet.is
+    (here (lt-ltb _ (2 ^ (s c.before.before.before).args.n) near))
     ∙ behind l
 
 pub returns : goal.returns
 returns c =
-    let l = sheet (told c.before.before) in
-    let far : 2 ^ (s c.before.before).args.n ≤ x c.before.before = omega (arith, size c.before.before, c.first_difference-x.ensures, c.if-x-inputs.false) in
-    goes_on (ls l) (ms l) _ l.sheet.ensures (told c.before.before).enum-told3.given.1
+    let l = sheet (told c.before.before.before) in
+    let far : 2 ^ (s c.before.before.before).args.n ≤ x c.before.before.before = omega (arith, size c.before.before.before, c.first_difference-x.ensures, c.if-x-inputs.false) in
+    goes_on (ls l) (ms l) _ l.sheet.ensures (told c.before.before.before).in-Fine-sheet.is
     (c.all_read.ensures ∙ sym (passes
-    (table_differs (s c.before.before).args.e (s c.before.before).args.n (s c.before.before).args.t.now (s c.before.before).args.s.now ∷ []) (last l)
-    (le-ltb _ (2 ^ (s c.before.before).args.n) far, tt)))
+    (table_differs (s c.before.before.before).args.e (s c.before.before.before).args.n (s c.before.before.before).args.t.now (s c.before.before.before).args.s.now ∷ []) (last l)
+    (le-ltb _ (2 ^ (s c.before.before.before).args.n) far, tt)))
     ∙ behind l
 
 pub overflow_cast-inputs : goal.overflow_cast-inputs
-overflow_cast-inputs c = omega (arith, (through c).most)
+overflow_cast-inputs c = omega (arith, (through c.before).most)
 
 pub sheet-sheet-requires : goal.sheet-sheet-requires
-sheet-sheet-requires c = ((start c).requires, (through c).most)
+sheet-sheet-requires c = ((start c.before).requires, (through c.before).most)
 
 pub overflow_shl-inputs : goal.overflow_shl-inputs
-overflow_shl-inputs c = omega (arith, few c)
+overflow_shl-inputs c = omega (arith, few c.before)
 
 pub all_read-requires : goal.all_read-requires
-all_read-requires c = ((s c.before).pre, few c.before, kept (told c.before))
+all_read-requires c =
+    ((s c.before.before).requires, few c.before.before, kept (told c.before.before))

@@ -11,6 +11,9 @@ use Rattle.joins.specs.declared.deciding.Partner.{Partner}
 use Rattle.joins.specs.Left.{gate_left, Unfixed, one_fixed, Partnered, Reduced, DecidedFrom}
 use Rattle.joins.proofs.Leaving.{less_sum}
 use Rattle.joins.proofs.Turns.{reduced_fixed, from_fixed, open_fixed, undecided, reduced_decided, from_decided}
+use Rattle.joins.proofs.deciding.decide.Lts as lts
+use Rattle.joins.proofs.deciding.decide.Reads as reads
+use Rattle.joins.proofs.deciding.decide.Tie as tie
 use Rattle.joins.proofs.deciding.decide.Goals as goal
 
 -- what holds of what is left while j is looked at
@@ -48,8 +51,8 @@ fix-g-requires c =
     record { n_le_most_inputs = (p.0, w.reduced.fixing, w.reduced.unfixed _ m, w.reduced.below); i_value = (m, c.loop-p-test.true) }
 
 -- after it is fixed
-module _ (c : goal.After-fix-g) where
-  abbrev g : goal.Start
+module _ (c : lts.After-fix tie.the-claims reads.Pre reads.Post goal.the-invariant-loop-p goal.the-decreases-loop-p) where
+  abbrev g : lts.Start tie.the-claims reads.Pre reads.Post goal.the-invariant-loop-p goal.the-decreases-loop-p
   g = c.before.before.before.before.before.before
 
   looked : Looked g.args.n (table_bit g.args.t.now) c.fix-g.result g.args.j
@@ -60,8 +63,8 @@ module _ (c : goal.After-fix-g) where
 
 pub partner_of-p-requires-in-loop-p : goal.partner_of-p-requires-in-loop-p
 partner_of-p-requires-in-loop-p c =
-    let p = (g c).requires in
-    let w = looked c in
+    let p = (g c.before).requires in
+    let w = looked c.before in
     (p.0, w.reduced, w.from, w.unfixed, p.4)
 
 pub loop-p-smaller : goal.loop-p-smaller
@@ -72,12 +75,12 @@ loop-p-smaller c =
     omega (
       arith,
       ap (λ (r : Left). r.decided) c.fix-g.ensures,
-      less_sum (g c.before).args.n l.g.decided l.p.input R.below (R.unfixed l.p.input m).0 m,
+      less_sum (g c.before.before).args.n l.g.decided l.p.input R.below (R.unfixed l.p.input m).0 m,
       pow_pos l.p.input,
     )
 
 pub loop-p-preserved : goal.loop-p-preserved
-loop-p-preserved c = (looked c.before, c.partner_of-p-in-loop-p.ensures)
+loop-p-preserved c = (looked c.before.before, c.partner_of-p-in-loop-p.ensures)
 
 pub with_decided-requires : goal.with_decided-requires
 with_decided-requires c =

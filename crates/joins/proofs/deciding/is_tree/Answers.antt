@@ -12,10 +12,13 @@ use Rattle.joins.specs.Left.{DecidedFrom}
 use Rattle.joins.proofs.Starting.{support-lt, reduced_start, from_start}
 use Rattle.joins.proofs.Turns.{from_passed}
 use Rattle.joins.proofs.Ending.{few_tree, many_none}
+use Rattle.joins.proofs.deciding.is_tree.Lts as lts
+use Rattle.joins.proofs.deciding.is_tree.Reads as reads
+use Rattle.joins.proofs.deciding.is_tree.Tie as tie
 use Rattle.joins.proofs.deciding.is_tree.Goals as goal
 
 -- the inputs as a mask
-module _ (c : goal.Start) where
+module _ (c : lts.Start tie.the-claims reads.Pre reads.Post goal.the-invariant-loop-j goal.the-decreases-loop-j) where
   all : 1 * 2 ^ c.args.n % 2 ^ 32 ≡ 2 ^ c.args.n
   all = shl_one 32 c.args.n (omega (arith, c.requires.0))
 
@@ -26,24 +29,24 @@ module _ (c : goal.Start) where
   width = pow_mono {i = c.args.n} {j = 16} c.requires.0
 
 pub overflow_sub-all : goal.overflow_sub-all
-overflow_sub-all c = omega (arith, all c.before, pow_pos c.args.n)
+overflow_sub-all c = omega (arith, all c.before.before, pow_pos c.args.n)
 
 pub overflow_sub-idle : goal.overflow_sub-idle
-overflow_sub-idle c = omega (arith, all c.before, within c.before)
+overflow_sub-idle c = omega (arith, all c.before.before, within c.before.before)
 
 pub overflow_cast-g : goal.overflow_cast-g
-overflow_cast-g c = omega (arith, all c.before, width c.before)
+overflow_cast-g c = omega (arith, all c.before.before, width c.before.before)
 
 pub loop-j-init : goal.loop-j-init
 loop-j-init c =
     let n = c.args.n in
     let F = table_bit c.args.t.now in
     let idle = 1 * 2 ^ n % 2 ^ 32 - 1 - c.args.counting in
-    let sum : idle + support n F + 1 ≡ 2 ^ n = omega (arith, all c.before, within c.before, c.requires.2) in
+    let sum : idle + support n F + 1 ≡ 2 ^ n = omega (arith, all c.before.before, within c.before.before, c.requires.2) in
     (omega arith, reduced_start n F idle sum, from_start n F idle sum)
 
 -- the inputs above the one at hand are decided
-module _ (c : goal.In-loop-j) where
+module _ (c : lts.In-loop tie.the-claims reads.Pre reads.Post goal.the-invariant-loop-j goal.the-decreases-loop-j) where
   above : DecidedFrom c.args.n c.loop-j.g (c.loop-j.j - 1 + 1)
   above = let e : c.loop-j.j ≡ c.loop-j.j - 1 + 1 = omega arith in
       subst (DecidedFrom c.args.n c.loop-j.g) e c.loop-j.invariant.2
@@ -52,7 +55,7 @@ pub decide-g-requires : goal.decide-g-requires
 decide-g-requires c =
     let l = c.loop-j in
     let f = bit-clear l.g.fixed (l.j - 1) c.if-g-j-ne1.true in
-    (c.requires.0, l.invariant.1, above c.before.before, (omega (arith, l.invariant.0), f), c.requires.1)
+    (c.requires.0, l.invariant.1, above c.before.before.before, (omega (arith, l.invariant.0), f), c.requires.1)
 
 pub loop-j-preserved-then-g-j-ne1 : goal.loop-j-preserved-then-g-j-ne1
 loop-j-preserved-then-g-j-ne1 c = (
@@ -66,7 +69,7 @@ loop-j-preserved c =
     let l = c.loop-j in (
       omega (arith, l.invariant.0),
       l.invariant.1,
-      from_passed c.args.n l.g (l.j - 1) (bit-set l.g.fixed (l.j - 1) c.if-g-j-ne1.false) (above c.before.before),
+      from_passed c.args.n l.g (l.j - 1) (bit-set l.g.fixed (l.j - 1) c.if-g-j-ne1.false) (above c.before.before.before),
     )
 
 pub returns : goal.returns

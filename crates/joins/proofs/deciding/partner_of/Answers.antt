@@ -1,7 +1,7 @@
 -- Every decided input from i on was asked about. Assumes nothing.
 use mathlib.Core.Path.{◌≡◌, sym, ap, ◌∙◌, subst}
 use mathlib.Core.Bool.{Bool, true}
-use Prim.Native.Nat.{ℕ, ◌-◌, ◌≤◌}
+use Prim.Native.Nat.{ℕ, ◌-◌}
 use native.Mathlib.Decide.{ℕ_discrete}
 use native.Mathlib.Omega.{arith}
 use Rattle.bits.specs.Numbers.{bit}
@@ -11,11 +11,11 @@ use Rattle.bits.proofs.Machine.{bit-set, bit-clear}
 use Rattle.tables.specs.Table.{table_bit}
 use Rattle.joins.specs.StandsFor.{StandsFor}
 use Rattle.joins.specs.Left.{gate_left}
+use Rattle.joins.proofs.deciding.partner_of.Invariants.{NoneFrom}
+use Rattle.joins.proofs.deciding.partner_of.Lts as lts
+use Rattle.joins.proofs.deciding.partner_of.Reads as reads
+use Rattle.joins.proofs.deciding.partner_of.Tie as tie
 use Rattle.joins.proofs.deciding.partner_of.Goals as goal
-
--- j stands for no decided input from i on
-abbrev NoneFrom : ℕ → (ℕ → Bool) → ℕ → ℕ → ℕ → Type 0
-NoneFrom n G mask j i = (k : ℕ) → i ≤ k → bit mask k ≡ true → (v : Bool) → StandsFor n G k j v → ⊥
 
 pub loop-i-init : goal.loop-i-init
 loop-i-init c =
@@ -30,7 +30,7 @@ more n G mask j i f here k h e v N = elim (ℕ_discrete k (i - 1)) [
 ]
 
 -- the input at hand is decided
-module _ (c : goal.Then-g-i-eq1) where
+module _ (c : lts.Then1 tie.the-claims reads.Pre reads.Post goal.the-invariant-loop-i goal.the-decreases-loop-i) where
   abbrev i : ℕ
   i = c.loop-i.i - 1
 
@@ -40,14 +40,14 @@ module _ (c : goal.Then-g-i-eq1) where
 pub joint-v-requires : goal.joint-v-requires
 joint-v-requires c =
     let R = c.requires.1 in
-    let m = member c in
-    (c.requires.0, R.fixing, omega (arith, c.requires.2.above (i c) m), R.unfixed (i c) m, c.requires.3, c.requires.4)
+    let m = member c.before in
+    (c.requires.0, R.fixing, omega (arith, c.requires.2.above (i c.before) m), R.unfixed (i c.before) m, c.requires.3, c.requires.4)
 
 pub returns-then-v-lt2 : goal.returns-then-v-lt2
 returns-then-v-lt2 c =
     let w = c.joint-v.ensures in record {
       most = w.most;
-      member = λ _. member c.before.before;
+      member = λ _. member c.before.before.before;
       joins = w.joins;
       none = λ e. absurd (omega (arith, c.if-v-lt2.true));
     }

@@ -6,9 +6,11 @@ use lib.Pow.{pow_mono}
 use Rattle.bits.proofs.Machine.{shl_one}
 use Rattle.bits.proofs.Single.{plus_lt}
 use Rattle.joins.specs.declared.pairs.Left.{Left}
+use Rattle.joins.proofs.deciding.with_decided.Lts as lts
+use Rattle.joins.proofs.deciding.with_decided.Reads as reads
 use Rattle.joins.proofs.deciding.with_decided.Goals as goal
 
-module _ (c : goal.Start) where
+module _ (c : lts.Start reads.Pre reads.Post) where
   one : 1 * 2 ^ c.args.j % 2 ^ 16 ≡ 2 ^ c.args.j
   one = shl_one 16 c.args.j (omega (arith, c.requires.0, c.requires.2))
 

@@ -12,6 +12,9 @@ use Rattle.making.specs.Stage.{signals_of}
 use Rattle.making.specs.Chaining.{Tells}
 use Rattle.tables.proofs.Work.{half-holds}
 use Rattle.making.proofs.Loaded.{kept_few, kept_more, kept-chain}
+use Rattle.making.proofs.chaining.chain_upto.Lts as lts
+use Rattle.making.proofs.chaining.chain_upto.Reads as reads
+use Rattle.making.proofs.chaining.chain_upto.Tie as tie
 use Rattle.making.proofs.chaining.chain_upto.Goals as goal
 
 pub set_aside-requires : goal.set_aside-requires
@@ -25,7 +28,7 @@ set_aside-requires c =
     )
 
 -- the signals are those that are kept
-module _ (c : goal.After-pick-signals) where
+module _ (c : lts.After-pick tie.the-claims reads.Pre reads.Post) where
   picked : signals_of c.pick-signals.result
       ≡ pick c.args.n
       (bit c.kept_of-kept.result)
@@ -41,8 +44,8 @@ follow-end-requires c =
       n_le_most_inputs = (c.requires.1, c.requires.2, c.requires.3, c.requires.4, omega (arith, c.set_aside.auto.1.1.1.0, c.requires.6));
       listed = (
         c.pick-signals.ensures.0,
-        kept_more a.n F c.kept_of-kept.result c.kept_of-kept.ensures c.pick-signals.result (picked c.before) c.requires.0,
-        kept_few a.n F c.kept_of-kept.result c.kept_of-kept.ensures c.pick-signals.result (picked c.before),
+        kept_more a.n F c.kept_of-kept.result c.kept_of-kept.ensures c.pick-signals.result (picked c.before.before) c.requires.0,
+        kept_few a.n F c.kept_of-kept.result c.kept_of-kept.ensures c.pick-signals.result (picked c.before.before),
       );
     }
 
@@ -57,7 +60,7 @@ returns c =
     let F = table_bit a.t.now in
     record {
       told = subst (Tells c.follow-end.result)
-          (kept-chain a.n F c.kept_of-kept.result c.kept_of-kept.ensures c.pick-signals.result (picked c.before.before.before.before.before.before.before.before) a.most a.k
+          (kept-chain a.n F c.kept_of-kept.result c.kept_of-kept.ensures c.pick-signals.result (picked c.before.before.before.before.before.before.before.before.before) a.most a.k
           c.set_aside.new.room
           c.requires.0 (omega (arith, c.requires.3)) c.requires.1 c.set_aside.ensures)
           c.follow-end.ensures;

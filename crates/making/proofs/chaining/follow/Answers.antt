@@ -21,6 +21,9 @@ use Rattle.making.proofs.Halves.{half_whole, half-bits}
 use Rattle.making.proofs.Piling.{grown_piled}
 use Rattle.making.proofs.Following.{following_starts, following_stops, following_shrinks}
 use Rattle.making.proofs.Following.{following_goes, following_ends, Sound, split_sound}
+use Rattle.making.proofs.chaining.follow.Lts as lts
+use Rattle.making.proofs.chaining.follow.Reads as reads
+use Rattle.making.proofs.chaining.follow.Tie as tie
 use Rattle.making.proofs.chaining.follow.Goals as goal
 
 pub loop-signals-init : goal.loop-signals-init
@@ -40,7 +43,7 @@ slice_bounds-find_upto-end c = omega (arith, c.loop-signals.invariant.0.long)
 
 pub slice_bounds-find_upto-end-in-loop-signals : goal.slice_bounds-find_upto-end-in-loop-signals
 slice_bounds-find_upto-end-in-loop-signals c =
-    let q = c.loop-signals in sym (half_whole q.work q.inv.0.long)
+    let q = c.loop-signals in sym (half_whole q.work q.invariant.0.long)
 
 pub find_upto-found-requires : goal.find_upto-found-requires
 find_upto-found-requires c =
@@ -63,7 +66,7 @@ returns-then-found-eq0 c =
     (sym c.find_upto-found.ensures.0 ∙ is_nothing_lem c.find_upto-found.result c.if-found-eq0.true))) c.no_end.ensures
 
 -- the split that was found
-found_split : (c : goal.Else-found-eq0)
+found_split : (c : lts.Else2 tie.the-claims reads.Pre reads.Post goal.the-invariant-loop-signals goal.the-decreases-loop-signals)
     → best_up_to c.loop-signals.signals.count
     (at_hand c.loop-signals.work)
     c.args.k
@@ -81,7 +84,7 @@ of-s-requires c =
     (q.invariant.0.listed.few, b.works.candidate.below_a, b.works.candidate.below_b, b.works.candidate.apart)
 
 -- the same, of the split that the code made of it
-module _ (c : goal.After-of-s) where
+module _ (c : lts.After-of tie.the-claims reads.Pre reads.Post goal.the-invariant-loop-signals goal.the-decreases-loop-signals) where
   made_split : best_up_to c.loop-signals.signals.count
       (at_hand c.loop-signals.work)
       c.args.k
@@ -125,7 +128,7 @@ loop-signals-smaller c =
     let q = c.loop-signals in
     following_shrinks c.args.n c.args.most c.args.k _ q.pile q.signals q.work q.invariant.0
     c.of-s.result _ c.of-s.ensures.1 c.loop-signals-test.true
-    c.requires.n_le_most_inputs.1 (made_split c.before.before.before.before.before.before.before) c.step-stepped.result _ c.step-stepped.ensures
+    c.requires.n_le_most_inputs.1 (made_split c.before.before.before.before.before.before.before.before) c.step-stepped.result _ c.step-stepped.ensures
 
 pub loop-signals-preserved : goal.loop-signals-preserved
 loop-signals-preserved c =
@@ -133,7 +136,7 @@ loop-signals-preserved c =
     (
       following_goes c.args.n c.args.most c.args.k _ q.pile q.signals q.work q.invariant.0
           c.of-s.result _ c.of-s.ensures.1 c.loop-signals-test.true
-          c.requires.n_le_most_inputs.1 (made_split c.before.before.before.before.before.before.before) c.step-stepped.result _ c.step-stepped.ensures,
+          c.requires.n_le_most_inputs.1 (made_split c.before.before.before.before.before.before.before.before) c.step-stepped.result _ c.step-stepped.ensures,
       c.step-stepped.ensures.table.long ∙ q.invariant.1,
     )
 

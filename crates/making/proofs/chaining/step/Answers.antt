@@ -18,6 +18,9 @@ use Rattle.making.specs.Area.{at_hand}
 use Rattle.making.proofs.Halves.{half_whole, half-bits}
 use Rattle.making.proofs.Picking.{picked_set, picked_count}
 use Rattle.charts.proofs.Charting.{chart-room, power, charted}
+use Rattle.making.proofs.chaining.step.Lts as lts
+use Rattle.making.proofs.chaining.step.Reads as reads
+use Rattle.making.proofs.chaining.step.Tie as tie
 use Rattle.making.proofs.chaining.step.Goals as goal
 
 pub slice_bounds-chart-end-2 : goal.slice_bounds-chart-end-2
@@ -64,22 +67,22 @@ pub pick-left-requires : goal.pick-left-requires
 pick-left-requires c = c.requires.held.1
 
 -- the signals that are left, and how many
-module _ (c : goal.After-pick-left) where
-  abbrev g : goal.Start
+module _ (c : lts.After-pick tie.the-claims reads.Pre reads.Post) where
+  abbrev g : lts.Start tie.the-claims reads.Pre reads.Post
   g = c.before.before.before.before.before.before.before.before.before.before.before
 
   left-count : c.pick-left.result.count ≡ size g.args.s.n (reads_h (bit g.args.s.own) (bit g.args.s.shared))
   left-count = let s = g.args.s in
-      picked_count s.n (s.shared + s.free) (reads_h (bit s.own) (bit s.shared)) (beside_mask s g.pre.0.0)
+      picked_count s.n (s.shared + s.free) (reads_h (bit s.own) (bit s.shared)) (beside_mask s g.requires.held.0)
       g.args.stage.signals.count
-      g.pre.0.2 (signals_of g.args.stage.signals) c.pick-left.result c.pick-left.ensures.1
+      g.requires.held.2 (signals_of g.args.stage.signals) c.pick-left.result c.pick-left.ensures.1
 
   left_few : c.pick-left.result.count + size g.args.s.n (bit g.args.s.own) ≡ g.args.s.n
   left_few = let s = g.args.s in omega (
     arith,
     left-count,
     reads-H s.n (bit s.own) (bit s.shared)
-        g.pre.0.0.apart,
+        g.requires.held.0.apart,
   )
 
 pub with_next-after-requires : goal.with_next-after-requires
@@ -95,7 +98,7 @@ overflow_cast-after c = omega (arith, c.with_next-after.ensures.0.few)
 
 pub next_table-requires : goal.next_table-requires
 next_table-requires c =
-    let k = (g c.before.before.before.before).requires.0 in (
+    let k = (g c.before.before.before.before).requires.held in (
       k.0,
       k.3,
       c.with_next-after.ensures.0.few,
@@ -109,14 +112,14 @@ shape_of-work c = c.next_table.ensures.long
 
 pub returns : goal.returns
 returns c =
-    let s = (g c.before.before.before.before.before.before.before).args.s in
+    let s = (g c.before.before.before.before.before.before.before.before).args.s in
     record {
       cells = c.pile_first-more.ensures;
       listed = c.with_next-after.ensures.0;
-      signals = c.with_next-after.ensures.1 ∙ ap (λ (l : List ℕ). l ++ list_of (g c.before.before.before.before.before.before.before).args.r (λ c. (g c.before.before.before.before.before.before.before).args.next + c.before.before))
+      signals = c.with_next-after.ensures.1 ∙ ap (λ (l : List ℕ). l ++ list_of (g c.before.before.before.before.before.before.before.before).args.r (λ c. (g c.before.before.before.before.before.before.before.before).args.next + c.before.before.before))
           (picked_set s.n (s.shared + s.free) (reads_h (bit s.own) (bit s.shared))
-          (beside_mask s (g c.before.before.before.before.before.before.before).requires.0.0) (g c.before.before.before.before.before.before.before).args.stage.signals.count
-          (g c.before.before.before.before.before.before.before).requires.0.2 (signals_of (g c.before.before.before.before.before.before.before).args.stage.signals) c.pick-left.result c.pick-left.ensures.1);
+          (beside_mask s (g c.before.before.before.before.before.before.before.before).requires.held.0) (g c.before.before.before.before.before.before.before.before).args.stage.signals.count
+          (g c.before.before.before.before.before.before.before.before).requires.held.2 (signals_of (g c.before.before.before.before.before.before.before.before).args.stage.signals) c.pick-left.result c.pick-left.ensures.1);
       table = c.next_table.ensures;
     }
 

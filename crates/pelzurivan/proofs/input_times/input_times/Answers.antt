@@ -6,7 +6,6 @@ use native.Mathlib.Nat.{not-suc-le-zero}
 use native.Mathlib.Decide.{dec_lt}
 use mathlib.Core.List.{List}
 use native.Mathlib.Omega.{arith}
-use lib.Ieee.{nan}
 use lib.ListN.{length, get_or, set, length-set}
 use lib.Seq.{get_or-set_same, get_or-set_other}
 use Rattle.bits.proofs.Lists.{list-of}
@@ -15,11 +14,8 @@ use Rattle.times.specs.declared.input_time.InputTime.{InputTime}
 use Rattle.times.specs.declared.input_time.InputTime.TheVariants.{NotRead}
 use Rattle.pelzurivan.specs.declared.input_times.TimesC.{TimesC}
 use Rattle.pelzurivan.specs.InputTimes.{time_of_kind, times_from_c}
+use Rattle.pelzurivan.proofs.input_times.input_times.Invariants.{said}
 use Rattle.pelzurivan.proofs.input_times.input_times.Goals as goal
-
--- what is said of input j
-abbrev said : TimesC → ℕ → InputTime
-said c j = time_of_kind (get_or c.kind j 0) (get_or c.first j nan) (get_or c.second j nan)
 
 -- one place more
 more : (c : TimesC) (l : List InputTime) (j : ℕ) (x : InputTime) → j < length l → x ≡ said c j
@@ -43,12 +39,12 @@ loop-j-preserved c =
     let x = c.time_of_kind.result in (
       omega arith,
       length-set l c.loop-j.j x ∙ c.loop-j.invariant.1,
-      more c.args.t1 l c.loop-j.j x (omega (arith, c.loop-j.invariant.1)) c.time_of_kind.ensures
+      more c.args.c l c.loop-j.j x (omega (arith, c.loop-j.invariant.1)) c.time_of_kind.ensures
           c.loop-j.invariant.2,
     )
 
 pub returns : goal.returns
 unfolding times_from_c
 returns c =
-    sym (list-of most_inputs (said c.args.t1) c.loop-j.times NotRead c.loop-j.invariant.1
+    sym (list-of most_inputs (said c.args.c) c.loop-j.times NotRead c.loop-j.invariant.1
     (λ i h. c.loop-j.invariant.2 i (omega arith)))

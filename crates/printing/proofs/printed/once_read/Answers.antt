@@ -1,22 +1,17 @@
 -- `once_read` meets its contract. The loop's invariant: the records before i are each read once. Assumes nothing.
 use mathlib.Core.Path.{◌≡◌, sym, ap, ◌∙◌}
-use mathlib.Core.Bool.{Bool, true}
-use mathlib.Core.List.{List}
-use Prim.Native.Nat.{ℕ, ◌+◌, ◌-◌}
+use mathlib.Core.Bool.{true}
+use Prim.Native.Nat.{ℕ, ◌-◌}
 use native.Mathlib.Omega.{arith}
 use lib.Dec.{eqb}
 use lib.ListN.{length}
 use borrow.Author.Tests.{eq-eqb, ne_eqb}
 use Rattle.bits.specs.Below.{every}
 use Rattle.bits.proofs.Below.{every_stop, every_more}
-use Rattle.sheets.specs.declared.kinds.Edition.{Edition}
 use Rattle.sheets.specs.Sheet.{sheet_cells}
-use Rattle.sheets.specs.Reading.{reads}
 use Rattle.sheets.proofs.Wiring.{cells_length}
+use Rattle.printing.proofs.printed.once_read.Invariants.{once}
 use Rattle.printing.proofs.printed.once_read.Goals as goal
-
-abbrev once : Edition → ℕ → List ℕ → ℕ → ℕ → Bool
-once e n s m i = eqb (reads (n + i) (sheet_cells e s m)) 1
 
 pub overflow_sub-last : goal.overflow_sub-last
 overflow_sub-last c = c.requires.le_m.0

@@ -16,6 +16,9 @@ use Rattle.refusals.proofs.Sheets.{good_sheet}
 use Rattle.formulas.specs.Text.{most_text}
 use Rattle.printing.specs.Printable.{not_printed}
 use Rattle.printing.specs.WriteFormula.{short_text, write_lines}
+use Rattle.printing.proofs.write_formula.write_form.Lts as lts
+use Rattle.printing.proofs.write_formula.write_form.Reads as reads
+use Rattle.printing.proofs.write_formula.write_form.Tie as tie
 use Rattle.printing.proofs.write_formula.write_form.Goals as goal
 
 pub returns-then-bad_inputs : goal.returns-then-bad_inputs
@@ -32,8 +35,8 @@ returns-then-room-lt-MOST_TEXT c =
     (here (lt-ltb (length a.room.now) most_text c.if-room-lt-MOST_TEXT.true)))
 
 -- after the looks at n and at the room, which let them through
-module _ (c : goal.Else-room-lt-MOST_TEXT) where
-  abbrev start : goal.Start
+module _ (c : lts.Else2 tie.the-claims reads.Pre reads.Post) where
+  abbrev start : lts.Start tie.the-claims reads.Pre reads.Post
   start = c.before.before.before.before.before
 
   few : start.args.n ≤ most_inputs
@@ -55,29 +58,29 @@ module _ (c : goal.Else-room-lt-MOST_TEXT) where
 
 pub returns-in_default : goal.returns-in_default
 returns-in_default c =
-    stopped (ls c.before.before.before) (ms c.before.before.before) _ c.sheet-seen.ensures c.in_default.field-0 c.in_default.is ∙ behind c.before.before.before
+    stopped (ls c.before.before.before.before) (ms c.before.before.before.before) _ c.sheet-seen.ensures c.in_default.field-0 c.in_default.is ∙ behind c.before.before.before.before
 
 pub is_printed-requires : goal.is_printed-requires
 is_printed-requires c =
-    let s = start c.before.before.before.before in
+    let s = start c.before.before.before.before.before in
     let a = s.args in
-    let g = good_sheet a.e a.d a.n a.s.now s.pre
-    (in_order_lem (ls c.before.before.before.before) (sym c.sheet-seen.ensures ∙ c.in-Fine.is)) in
+    let g = good_sheet a.e a.d a.n a.s.now s.requires
+    (in_order_lem (ls c.before.before.before.before.before) (sym c.sheet-seen.ensures ∙ c.in-Fine.is)) in
     let long : a.e.size * records a.e a.s.now ≤ length a.s.now = omega (arith, g.whole) in
-    (s.pre, g.most, long, g.some, few c.before.before.before.before)
+    (s.requires, g.most, long, g.some, few c.before.before.before.before.before)
 
 pub returns-then-not-is_printed : goal.returns-then-not-is_printed
 returns-then-not-is_printed c =
-    c.refuse-then-not-is_printed.ensures ∙ decided (ls c.before.before.before.before.before.before.before) (ms c.before.before.before.before.before.before.before) _ c.sheet-seen.ensures c.in-Fine.is
-    (here (ap not (sym c.is_printed.ensures ∙ not-true _ c.if-not-is_printed.true))) ∙ behind c.before.before.before.before.before.before.before
+    c.refuse-then-not-is_printed.ensures ∙ decided (ls c.before.before.before.before.before.before.before.before) (ms c.before.before.before.before.before.before.before.before) _ c.sheet-seen.ensures c.in-Fine.is
+    (here (ap not (sym c.is_printed.ensures ∙ not-true _ c.if-not-is_printed.true))) ∙ behind c.before.before.before.before.before.before.before.before
 
 pub returns : goal.returns
 returns c =
-    decided (ls c.before.before.before.before.before.before) (ms c.before.before.before.before.before.before) _ c.sheet-seen.ensures c.in-Fine.is
-    (later (ap not (sym c.is_printed.ensures ∙ not-false _ c.if-not-is_printed.false)) fine) ∙ behind c.before.before.before.before.before.before
+    decided (ls c.before.before.before.before.before.before.before) (ms c.before.before.before.before.before.before.before) _ c.sheet-seen.ensures c.in-Fine.is
+    (later (ap not (sym c.is_printed.ensures ∙ not-false _ c.if-not-is_printed.false)) fine) ∙ behind c.before.before.before.before.before.before.before
 
 pub overflow_cast-inputs : goal.overflow_cast-inputs
-overflow_cast-inputs c = omega (arith, few c)
+overflow_cast-inputs c = omega (arith, few c.before)
 
 pub sheet-seen-requires : goal.sheet-seen-requires
-sheet-seen-requires c = ((start c).requires, few c)
+sheet-seen-requires c = ((start c.before).requires, few c.before)

@@ -24,7 +24,7 @@ shape_of-out c =
 
 pub overflow_add-result : goal.overflow_add-result
 overflow_add-result c =
-    omega (arith, within c.args.input.now (returns c), shape_of-out c, c.requires.0)
+    omega (arith, within c.args.input.now (returns c.before), shape_of-out c.before, c.requires.0)
 
 pub overflow_mul-result : goal.overflow_mul-result
-overflow_mul-result c = omega (arith, overflow_add-result c)
+overflow_mul-result c = omega (arith, overflow_add-result c.before)

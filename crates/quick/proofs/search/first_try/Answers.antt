@@ -12,10 +12,13 @@ use Rattle.tables.specs.Table.{table_bit}
 use Rattle.best.specs.Search.{try_b}
 use Rattle.best.proofs.First.{found_none}
 use Rattle.quick.proofs.Early.{first_best}
+use Rattle.quick.proofs.search.first_try.Lts as lts
+use Rattle.quick.proofs.search.first_try.Reads as reads
+use Rattle.quick.proofs.search.first_try.Tie as tie
 use Rattle.quick.proofs.search.first_try.Goals as goal
 
 -- the least mask of k inputs, as the machine makes it
-module _ (c : goal.Else-n-k) where
+module _ (c : lts.Else2 tie.the-claims reads.Pre reads.Post) where
   k : ℕ
   k = c.args.k
 
@@ -35,7 +38,7 @@ module _ (c : goal.Else-n-k) where
 
 pub overflow_sub-all : goal.overflow_sub-all
 unfolding k
-overflow_sub-all c = omega (arith, all c, pow_pos (k c))
+overflow_sub-all c = omega (arith, all c.before, pow_pos (k c.before))
 
 pub overflow_cast-all : goal.overflow_cast-all
 unfolding k
@@ -43,7 +46,7 @@ overflow_cast-all c =
     record {
       fits = omega (
         arith,
-        own_lt c,
+        own_lt c.before,
         pow_mono {i = c.args.n} {j = 16}
             c.requires.0,
       );
@@ -52,7 +55,7 @@ overflow_cast-all c =
 pub attempt-requires : goal.attempt-requires
 unfolding k
 attempt-requires c =
-    record { r_le_most_first = (c.requires.1, c.requires.2); n_le_most_inputs = (c.requires.0, own_lt c, pow_pos c.args.n, λ j l e. absurd (clash e (bit-zero j))) }
+    record { r_le_most_first = (c.requires.1, c.requires.2); n_le_most_inputs = (c.requires.0, own_lt c.before, pow_pos c.args.n, λ j l e. absurd (clash e (bit-zero j))) }
 
 pub returns : goal.returns
 unfolding k
@@ -61,7 +64,7 @@ returns c A B e =
     let F = table_bit a.t.now in
     first_best a.n a.k (omega (arith, c.if-n-k.false)) a.r F
     (omega (arith, c.if-k-r.false)) (size a.n (bit 0)) A B
-    (ap (λ (m : ℕ). try_b a.n a.r F (size a.n (bit 0)) (m - 1) 0) (sym (all c.before))
+    (ap (λ (m : ℕ). try_b a.n a.r F (size a.n (bit 0)) (m - 1) 0) (sym (all c.before.before))
     ∙ sym c.attempt.ensures ∙ e)
 
 pub returns-then-k-r : goal.returns-then-k-r

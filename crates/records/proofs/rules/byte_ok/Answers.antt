@@ -9,10 +9,13 @@ use borrow.Author.Tests.{lt-ltb, le-ltb, eq-eqb, ne_eqb}
 use Rattle.bits.proofs.Machine.{shl_one}
 use Rattle.sheets.specs.Record.{byte_ok, spare_ok}
 use Rattle.sheets.proofs.Keeping.{signal_byte, unused_byte, desk_byte, zero-byte, table-byte}
+use Rattle.records.proofs.rules.byte_ok.Lts as lts
+use Rattle.records.proofs.rules.byte_ok.Reads as reads
+use Rattle.records.proofs.rules.byte_ok.Tie as tie
 use Rattle.records.proofs.rules.byte_ok.Goals as goal
 
 -- the byte of a signal that is read
-signal : (c : goal.Then-j-k) {known first : Bool} → let a = c.args in ltb a.x a.top ≡ known
+signal : (c : lts.Then2 tie.the-claims reads.Pre reads.Post) {known first : Bool} → let a = c.args in ltb a.x a.top ≡ known
     → eqb a.j 0 ≡ first → (known && (first || ltb a.p a.x))
     ≡ byte_ok a.e a.d a.top a.k a.j a.p a.x
 signal c h g =

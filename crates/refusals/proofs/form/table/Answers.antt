@@ -33,4 +33,4 @@ returns c =
     (later (spare_line a.n a.t.now ∙ ap not (sym c.spare_clear.ensures) ∙ c.if-not-spare_clear.false) fine)
 
 pub overflow_cast-n : goal.overflow_cast-n
-overflow_cast-n c = omega (arith, (spare_clear-requires c c.lifetimes).0)
+overflow_cast-n c = omega (arith, (spare_clear-requires c.before c.lifetimes).0)

@@ -39,11 +39,11 @@ bit_of-requires c =
     }
 
 pub overflow_cast-n : goal.overflow_cast-n
-overflow_cast-n c = omega (arith, (bit_of-requires c c.lifetimes).0.2)
+overflow_cast-n c = omega (arith, (bit_of-requires c.before c.lifetimes).0.2)
 
 pub overflow_cast-x : goal.overflow_cast-x
 overflow_cast-x c =
-    let w = bit_of-requires c c.lifetimes
+    let w = bit_of-requires c.before c.lifetimes
     in omega (arith, w.1, pow_mono {i = c.args.n} {j = most_inputs} w.0.2)
 
 pub returns : goal.returns

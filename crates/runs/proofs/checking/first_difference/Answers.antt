@@ -37,7 +37,7 @@ bits_from-asked-requires c =
 
 pub overflow_add-result : goal.overflow_add-result
 overflow_add-result c =
-    let q = c.loop-from in omega (arith, q.inv.1, q.inv.3, c.first_apart-i.ensures.1)
+    let q = c.loop-from in omega (arith, q.invariant.1, q.invariant.3, c.first_apart-i.ensures.1)
 
 pub returns-then-given-asked : goal.returns-then-given-asked
 returns-then-given-asked c =

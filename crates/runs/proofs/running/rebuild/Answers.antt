@@ -2,23 +2,17 @@
 -- word. Assumes nothing.
 use mathlib.Core.Path.{◌≡◌, refl, ap, ◌∙◌}
 use mathlib.Core.Logic.{⊎_elim}
-use mathlib.Core.Bool.{Bool, ◌&&◌}
-use mathlib.Core.List.{List}
-use Prim.Native.Nat.{ℕ, ◌+◌, ◌-◌, ◌/◌, ◌^◌}
+use Prim.Native.Nat.{ℕ, ◌+◌, ◌-◌, ◌/◌}
 use native.Mathlib.Omega.{arith}
-use lib.Dec.{ltb}
 use lib.Pow.{pow_mono}
 use Rattle.bits.proofs.Filling.{filled_none, filled_more, filled_whole}
 use Rattle.tables.specs.Table.{bytes_of, table_of}
-use Rattle.sheets.specs.declared.kinds.Edition.{Edition}
-use Rattle.sheets.specs.Sheet.{sheet_bit, rebuilt}
+use Rattle.sheets.specs.Sheet.{rebuilt}
 use Rattle.runs.specs.Words.{sheet_word}
 use Rattle.tables.proofs.Pieces.{word_byte}
 use Rattle.runs.proofs.Choosing.{word_starts}
+use Rattle.runs.proofs.running.rebuild.Invariants.{bits}
 use Rattle.runs.proofs.running.rebuild.Goals as goal
-
-abbrev bits : Edition → ℕ → List ℕ → ℕ → ℕ → Bool
-bits e n s m x = ltb x (2 ^ n) && sheet_bit e n s m x
 
 pub overflow_cast-i : goal.overflow_cast-i
 overflow_cast-i c =

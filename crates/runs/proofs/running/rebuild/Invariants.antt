@@ -1,10 +1,18 @@
 use mathlib.Core.Path.{◌≡◌}
-use Prim.Native.Nat.{◌+◌, ◌-◌, ◌*◌, ◌/◌, ◌%◌}
+use mathlib.Core.Bool.{Bool, ◌&&◌}
+use mathlib.Core.List.{List}
+use Prim.Native.Nat.{ℕ, ◌+◌, ◌-◌, ◌*◌, ◌/◌, ◌%◌, ◌^◌}
+use lib.Dec.{ltb}
 use lib.ListN.{length}
 use Rattle.bits.specs.Numbers.{number}
 use Rattle.bits.proofs.Filling.{Filled}
+use Rattle.sheets.specs.declared.kinds.Edition.{Edition}
+use Rattle.sheets.specs.Sheet.{sheet_bit}
 use Rattle.runs.specs.Words.{sheet_word}
 use Rattle.runs.proofs.running.rebuild.Given as goal
+
+abbrev pub bits : Edition → ℕ → List ℕ → ℕ → ℕ → Bool
+bits e n s m x = ltb x (2 ^ n) && sheet_bit e n s m x
 
 abbrev pub invariant-loop-i : goal.invariant-loop-i
 invariant-loop-i l =

@@ -1,15 +1,9 @@
 -- `pairs` meets its contract. The loop's invariant: the words of the pairs passed. Assumes nothing.
 use mathlib.Core.Path.{refl, ◌∙◌}
-use mathlib.Core.List.{List}
-use Prim.Native.Nat.{ℕ, ◌*◌, ◌/◌, ◌%◌, ◌^◌}
 use native.Mathlib.Omega.{arith}
-use lib.ListN.{get_or}
 use Rattle.bits.proofs.Filling.{filled_none, filled_more}
-use Rattle.runs.proofs.Choosing.{four, pair_bit, lane_filled}
+use Rattle.runs.proofs.Choosing.{pair_bit, lane_filled}
 use Rattle.runs.proofs.words.pairs.Goals as goal
-
-abbrev pair : List ℕ → ℕ → ℕ → ℕ
-pair t s h = get_or (four s) (get_or t (h / 4) 0 / 2 ^ (2 * (h % 4)) % 4) 0
 
 pub loop-h-preserved : goal.loop-h-preserved
 loop-h-preserved c = filled_more c.loop-h.invariant (omega arith) (omega arith) refl

@@ -3,12 +3,11 @@
 use mathlib.Core.Path.{sym, ap, subst, ◌∙◌}
 use mathlib.Core.Bool.{Bool}
 use mathlib.Core.List.{List}
-use Prim.Native.Nat.{ℕ, ◌+◌, ◌*◌, ◌^◌, ◌<◌}
+use Prim.Native.Nat.{ℕ, ◌+◌, ◌*◌}
 use native.Mathlib.Omega.{arith}
 use lib.ListN.{length, set, length-set}
 use Rattle.bits.specs.Numbers.{bit}
 use Rattle.bits.proofs.Numbers.{bit-zero}
-use Rattle.sheets.specs.declared.kinds.Edition.{Edition}
 use Rattle.sheets.specs.Network.{output}
 use Rattle.sheets.specs.Record.{byte_at, cell_of}
 use Rattle.sheets.specs.Sheet.{sheet_bit}
@@ -17,10 +16,6 @@ use Rattle.runs.proofs.Runs.{record_read, Ran, ran_none, ran_more, ran_all}
 use Rattle.sheets.proofs.Places.{record_within}
 use Rattle.runs.proofs.Choosing.{lane-set, first_of}
 use Rattle.runs.proofs.words.sheet_word.Goals as goal
-
-abbrev AllRan : Edition → ℕ → List ℕ → ℕ → ℕ → List ℕ → ℕ → ℕ → Type 0
-AllRan e n s m w words o i = (j : ℕ) → j < 64 → 64 * w + j < 2 ^ n
-    → Ran e s m (sheet_bit e n s m (64 * w + j)) n i (bit o j) (lane words j)
 
 pub loop-i-init : goal.loop-i-init
 loop-i-init c =

@@ -11,7 +11,7 @@ use Rattle.settling.proofs.reading.input_sound.Goals as goal
 pub returns-then-not-sound_time : goal.returns-then-not-sound_time
 returns-then-not-sound_time c =
     let a = c.args in
-    sym (ap (λ (t : Bool). t && (given (time_at a.t2 a.j) || not (bit a.read a.j)))
+    sym (ap (λ (t : Bool). t && (given (time_at a.times a.j) || not (bit a.read a.j)))
     (sym c.sound_time.ensures ∙ not-true _ c.if-not-sound_time.true))
 
 pub returns-then-is_given : goal.returns-then-is_given

@@ -11,6 +11,9 @@ use Rattle.refusals.specs.Lines.{verdict, reply}
 use Rattle.refusals.proofs.Lines.{in_order_lem}
 use Rattle.settling.specs.Settle.{settle_lines, settle_done, settle_not, settle_outcome}
 use Rattle.settling.proofs.Kept.{Leaves, leaves, good_timed}
+use Rattle.settling.proofs.settle.settle_in.Lts as lts
+use Rattle.settling.proofs.settle.settle_in.Reads as reads
+use Rattle.settling.proofs.settle.settle_in.Tie as tie
 use Rattle.settling.proofs.settle.settle_in.Goals as goal
 
 pub returns-in_default : goal.returns-in_default
@@ -23,7 +26,7 @@ returns-in_default c =
     (sym e ∙ c.settle_form-form.ensures)
 
 -- what the lines leave
-left : (c : goal.In-Fine) → let a = c.args in Leaves a.e a.d a.n a.s.now a.delay a.times
+left : (c : lts.After-enum_told tie.the-claims reads.Pre reads.Post) → let a = c.args in Leaves a.e a.d a.n a.s.now a.delay a.times
 left c =
     let a = c.args in
     leaves a.e c.requires a.d a.n a.s.now a.delay a.times
@@ -31,16 +34,16 @@ left c =
     (sym c.settle_form-form.ensures ∙ c.in-Fine.is))
 
 pub overflow_cast-inputs : goal.overflow_cast-inputs
-overflow_cast-inputs c = omega (arith, (left c).inputs)
+overflow_cast-inputs c = omega (arith, (left c.before).inputs)
 
 pub settle_at-requires : goal.settle_at-requires
 settle_at-requires c =
     let a = c.args in
-    let l = left c in
+    let l = left c.before in
     (good_timed a.e c.requires a.d a.n a.s.now (records a.e a.s.now) l.inputs l.good, l.inputs)
 
 pub settle_at-requires-2 : goal.settle_at-requires-2
-settle_at-requires-2 c = settle_at-requires c.before κs
+settle_at-requires-2 c = settle_at-requires c.before.before κs
 
 pub returns : goal.returns
 unfolding settle_outcome

@@ -28,6 +28,9 @@ use Rattle.settling.specs.Settle.{settle_lines, settle_done, settle_not, settle_
 use Rattle.settling.specs.Slack.{slack_done, slack_not, slack_outcome}
 use Rattle.settling.proofs.Kept.{Leaves, leaves, all_sound}
 use Rattle.settling.proofs.Slacking.{settled_exact, counted, small, InWhole, in_whole}
+use Rattle.settling.proofs.slack.slack_in.Lts as lts
+use Rattle.settling.proofs.slack.slack_in.Reads as reads
+use Rattle.settling.proofs.slack.slack_in.Tie as tie
 use Rattle.settling.proofs.slack.slack_in.Goals as goal
 
 -- what the answer of settle says: its verdict is that of the lines, and where it is fine it has the latest time
@@ -137,23 +140,23 @@ returns-in_default c =
     c.settle_in-answer.ensures c.in_default.field-0 c.in_default.is
 
 -- what settle's lines leave
-left : (c : goal.In-Fine) → let a = c.args in Leaves a.e a.d a.n a.s.now a.delay a.times
+left : (c : lts.After-enum_told tie.the-claims reads.Pre reads.Post) → let a = c.args in Leaves a.e a.d a.n a.s.now a.delay a.times
 left c =
     let a = c.args in
     (passed a.e a.d a.n a.s.now a.delay a.times c.requires c.settle_in-answer.result
     c.settle_in-answer.ensures c.in-Fine.is).0
 
 pub overflow_cast-n : goal.overflow_cast-n
-overflow_cast-n c = omega (arith, (left c).inputs)
+overflow_cast-n c = omega (arith, (left c.before).inputs)
 
 pub slack_form-form-requires : goal.slack_form-form-requires
 slack_form-form-requires c =
     let a = c.args in
-    let l = left c in
+    let l = left c.before in
     (l.inputs, l.within, all_sound a.e a.n a.s.now (records a.e a.s.now) a.times l.times)
 
 -- what is asked where settle's lines are in order
-asked : (g : goal.After-slack_form-form) → let a = g.args in Asked a.e a.d a.n a.s.now a.delay a.times a.deadline g.settle_in-answer.result
+asked : (g : lts.After-slack_form tie.the-claims reads.Pre reads.Post) → let a = g.args in Asked a.e a.d a.n a.s.now a.delay a.times a.deadline g.settle_in-answer.result
     (to_z w64 (of_z w64 a.deadline)) g.slack_form-form.result
 asked g = record {
   ok = g.requires;
@@ -165,27 +168,27 @@ asked g = record {
 
 pub returns-in_default-form : goal.returns-in_default-form
 returns-in_default-form c =
-    refused_then (asked c.before.before) c.in_default-form.field-0 c.in_default-form.is
+    refused_then (asked c.before.before.before) c.in_default-form.field-0 c.in_default-form.is
 
 pub count_of-requires : goal.count_of-requires
-count_of-requires c = latest (asked c.before.before) c.in-Fine-form.is
+count_of-requires c = latest (asked c.before.before.before) c.in-Fine-form.is
 
 pub overflow_cast-result : goal.overflow_cast-result
 overflow_cast-result c =
     record {
       sfits = omega (
         arith,
-        few (asked c.before.before.before) c.in-Fine-form.is c.count_of.result
+        few (asked c.before.before.before.before) c.in-Fine-form.is c.count_of.result
             c.count_of.ensures,
       );
     }
 
 pub overflow_sub-result : goal.overflow_sub-result
 overflow_sub-result c =
-    fits_less (asked c.before.before.before) c.in-Fine-form.is c.count_of.result
+    fits_less (asked c.before.before.before.before) c.in-Fine-form.is c.count_of.result
     c.count_of.ensures
 
 pub returns : goal.returns
 returns c =
-    done (asked c.before.before.before) c.in-Fine-form.is c.count_of.result
+    done (asked c.before.before.before.before) c.in-Fine-form.is c.count_of.result
     c.count_of.ensures

@@ -4,19 +4,15 @@ use mathlib.Core.Path.{◌≡◌, refl, sym, ap, ◌∙◌}
 use mathlib.Core.List.{List, ◌++◌}
 use Prim.Native.Nat.{ℕ, ◌+◌, ◌*◌}
 use native.Mathlib.Omega.{arith}
-use lib.ListN.{length, get_or, drop}
-use Rattle.sheets.specs.declared.kinds.Sheet.{Sheet}
+use lib.ListN.{length, drop}
 use Rattle.sheets.specs.Network.{Cell}
 use Rattle.bits.specs.Lists.{list_of}
 use Rattle.sheets.specs.Writing.{encode, laid, sheet_bytes}
-use Rattle.sheets.specs.Held.{no_cell, network_cell}
 use Rattle.bits.proofs.Lists.{length-list, list_more}
 use Rattle.sheets.proofs.Places.{record_within}
 use Rattle.sheets.proofs.Wholes.{few_held, laid_next}
+use Rattle.sheets.proofs.writing.put_all.Invariants.{at}
 use Rattle.sheets.proofs.writing.put_all.Goals as goal
-
-abbrev at : Sheet → ℕ → Cell
-at s h = network_cell (get_or s.cells h no_cell)
 
 pub loop-i-init : goal.loop-i-init
 unfolding list_of
@@ -30,9 +26,9 @@ put-requires c =
     let i = c.loop-i.i in
     let a = c.args in (
       c.requires.0,
-      few_held a.e.most a.t3 c.requires.2 i (omega arith),
+      few_held a.e.most a.sheet c.requires.2 i (omega arith),
       omega arith,
-      omega (arith, record_within a.e.size i a.t3.count (length a.out.now) (omega arith) c.requires.3),
+      omega (arith, record_within a.e.size i a.sheet.count (length a.out.now) (omega arith) c.requires.3),
     )
 
 pub loop-i-preserved : goal.loop-i-preserved
@@ -42,15 +38,15 @@ loop-i-preserved c =
       omega arith,
       c.put.auto.1.1.1.0 ∙ c.loop-i.invariant.1,
       c.put.ensures
-          ∙ ap (λ (l : List ℕ). laid l (a.e.size * i) (encode a.e a.d (at a.t3 i))) c.loop-i.invariant.2
-          ∙ laid_next a.e a.d (list_of i (at a.t3)) (at a.t3 i) a.out.now i (length-list i (at a.t3))
+          ∙ ap (λ (l : List ℕ). laid l (a.e.size * i) (encode a.e a.d (at a.sheet i))) c.loop-i.invariant.2
+          ∙ laid_next a.e a.d (list_of i (at a.sheet)) (at a.sheet i) a.out.now i (length-list i (at a.sheet))
           ∙ ap (λ (cs : List Cell). sheet_bytes a.e a.d cs ++ drop (a.e.size * (i + 1)) a.out.now)
-          (sym (list_more i (at a.t3))),
+          (sym (list_more i (at a.sheet))),
     )
 
 pub returns : goal.returns
 returns c =
     let a = c.args in
-    let f : c.loop-i.i ≡ a.t3.count = omega arith in
-    c.loop-i.invariant.2 ∙ ap (λ (k : ℕ). sheet_bytes a.e a.d (list_of k (at a.t3))
+    let f : c.loop-i.i ≡ a.sheet.count = omega arith in
+    c.loop-i.invariant.2 ∙ ap (λ (k : ℕ). sheet_bytes a.e a.d (list_of k (at a.sheet))
     ++ drop (a.e.size * k) a.out.now) f

@@ -1,28 +1,20 @@
 -- `store_h` meets its contract. The loop's invariant: the bytes passed are H's. Assumes nothing.
 use mathlib.Core.Path.{◌≡◌, refl, sym, ap, ◌∙◌, subst}
-use mathlib.Core.Bool.{Bool, ◌&&◌}
-use mathlib.Core.List.{List, ◌++◌}
-use Prim.Native.Nat.{ℕ, ◌^◌}
+use mathlib.Core.List.{◌++◌}
+use Prim.Native.Nat.{ℕ}
 use native.Mathlib.Omega.{arith}
-use lib.Dec.{ltb}
 use lib.ListN.{drop, length-set}
 use lib.Pow.{pow_mono}
 use Rattle.bits.specs.Numbers.{bit}
 use Rattle.bits.specs.Lists.{list_of}
 use Rattle.tables.specs.Table.{table_length, table_bit, bytes_of, table_of}
 use Rattle.tables.proofs.Bytes.{written_more, length_bytes}
-use Rattle.columns.specs.declared.split.Split.{Split}
 use Rattle.splits.specs.Columns.{most_first}
-use Rattle.splits.specs.Pair.{inputs_h, bit_h, bytes_h}
+use Rattle.splits.specs.Pair.{inputs_h, bytes_h}
 use Rattle.columns.specs.Reading.{Chart}
 use Rattle.charts.proofs.Charting.{power}
+use Rattle.splitting.proofs.filling.store_h.Invariants.{bits}
 use Rattle.splitting.proofs.filling.store_h.Goals as goal
-
--- H's bits, spare bits zero
-abbrev bits : List ℕ → Split → ℕ → ℕ → Bool
-bits t s r x =
-    ltb x (2 ^ inputs_h s.n (table_bit t) (bit s.own) (bit s.shared) r)
-    && bit_h s.n (table_bit t) (bit s.own) (bit s.shared) x
 
 pub loop-i-init : goal.loop-i-init
 unfolding list_of

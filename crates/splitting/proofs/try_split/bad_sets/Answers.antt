@@ -13,6 +13,9 @@ use Rattle.bits.proofs.Sizes.{size-le}
 use Rattle.tables.specs.Table.{most_inputs}
 use Rattle.splits.specs.Columns.{most_first}
 use Rattle.splitting.proofs.Sets.{bad-first, high_own, high_shared, overlap, few_own, by_sizes}
+use Rattle.splitting.proofs.try_split.bad_sets.Lts as lts
+use Rattle.splitting.proofs.try_split.bad_sets.Reads as reads
+use Rattle.splitting.proofs.try_split.bad_sets.Tie as tie
 use Rattle.splitting.proofs.try_split.bad_sets.Goals as goal
 
 pub returns-then-outside : goal.returns-then-outside
@@ -21,7 +24,7 @@ returns-then-outside c =
     sym (bad-first a.n a.k a.r a.own a.shared (sym c.outside.ensures ∙ c.if-outside.true))
 
 -- r is 1 to 3
-good_first : (c : goal.Else-outside) → not (leb 1 c.args.r && leb c.args.r most_first)
+good_first : (c : lts.Else1 tie.the-claims reads.Pre reads.Post) → not (leb 1 c.args.r && leb c.args.r most_first)
     ≡ false
 good_first c = sym c.outside.ensures ∙ c.if-outside.false
 

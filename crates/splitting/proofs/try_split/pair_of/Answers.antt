@@ -85,8 +85,8 @@ returns-then-broken-gt0 c =
       answer = record { verdict = v; d = c.none.result; columns = k };
       room = a.room.now;
     })
-    (c.refuse_at.ensures ∙ ap (λ (c.before.before.before.before.before : Broken). Refused (refusal 8 c.b)) q)
-    (ap (λ (c.before.before.before.before.before : Broken). c.columns) q)
+    (c.refuse_at.ensures ∙ ap (λ (c.before.before.before.before.before.before : Broken). Refused (refusal 8 c.b)) q)
+    (ap (λ (c.before.before.before.before.before.before : Broken). c.columns) q)
     ∙ ap (λ (d : FirstCells). record {
       answer = record {
         verdict = Refused (refusal 8 (first a.s a.r a.t.now));

@@ -3,7 +3,6 @@
 use mathlib.Core.Path.{◌≡◌, refl, ap, ◌∙◌}
 use mathlib.Core.Logic.{⊎_elim}
 use mathlib.Core.Bool.{Bool}
-use mathlib.Core.List.{List}
 use Prim.Native.Nat.{ℕ, ◌+◌, ◌*◌, ◌/◌}
 use native.Mathlib.Nat.{zero-add}
 use native.Mathlib.Omega.{arith}
@@ -13,10 +12,8 @@ use Rattle.bits.specs.Sets.{spread}
 use Rattle.bits.proofs.Filling.{filled_none, filled_more, filled_list}
 use Rattle.bits.proofs.Numbers.{bit-zero, number_ext}
 use Rattle.tables.specs.Table.{table_bit}
+use Rattle.tables.proofs.aside.pack.Invariants.{over}
 use Rattle.tables.proofs.aside.pack.Goals as goal
-
-abbrev over : List ℕ → ℕ → ℕ → ℕ → Bool
-over t n mask v = table_bit t (spread n (bit mask) v)
 
 pub word_over-w-requires : goal.word_over-w-requires
 word_over-w-requires c = (

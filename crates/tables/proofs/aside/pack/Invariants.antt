@@ -1,8 +1,15 @@
 use mathlib.Core.Path.{◌≡◌}
-use Prim.Native.Nat.{◌+◌, ◌-◌, ◌*◌, ◌/◌, ◌%◌}
-use Rattle.bits.specs.Numbers.{number}
+use mathlib.Core.Bool.{Bool}
+use mathlib.Core.List.{List}
+use Prim.Native.Nat.{ℕ, ◌+◌, ◌-◌, ◌*◌, ◌/◌, ◌%◌}
+use Rattle.bits.specs.Numbers.{bit, number}
+use Rattle.bits.specs.Sets.{spread}
 use Rattle.bits.proofs.Filling.{Filled}
+use Rattle.tables.specs.Table.{table_bit}
 use Rattle.tables.proofs.aside.pack.Given as goal
+
+abbrev pub over : List ℕ → ℕ → ℕ → ℕ → Bool
+over t n mask v = table_bit t (spread n (bit mask) v)
 
 abbrev pub invariant-loop-i : goal.invariant-loop-i
 invariant-loop-i l =

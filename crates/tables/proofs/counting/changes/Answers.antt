@@ -11,6 +11,9 @@ use Rattle.tables.specs.Table.{table_bit}
 use Rattle.tables.specs.Words.{gate_word, Compared}
 use Rattle.tables.proofs.Bytes.{length-holds}
 use Rattle.tables.proofs.Changing.{compared, halves_same, halves_steady, other_lt, words_same, words_steady}
+use Rattle.tables.proofs.counting.changes.Lts as lts
+use Rattle.tables.proofs.counting.changes.Reads as reads
+use Rattle.tables.proofs.counting.changes.Tie as tie
 use Rattle.tables.proofs.counting.changes.Goals as goal
 
 pub word_of-here-requires : goal.word_of-here-requires
@@ -33,7 +36,7 @@ returns-then-j-lt6 c =
     (halves_steady a.n F a.j c.requires.2 a.w c.if-j-lt6.true a.half c.requires.3))
 
 -- the other word is one of the table's
-module _ (c : goal.Else-j-lt6) where
+module _ (c : lts.Else1 tie.the-claims reads.Pre reads.Post) where
   shifted : 1 * 2 ^ (c.args.j - 6) % 2 ^ 64 ≡ 2 ^ (c.args.j - 6)
   shifted = shl_one 64 (c.args.j - 6) (omega (arith, c.requires.1, c.requires.2))
 
@@ -44,11 +47,11 @@ module _ (c : goal.Else-j-lt6) where
 
 pub overflow_add-w : goal.overflow_add-w
 overflow_add-w c =
-    omega (arith, shifted c, other c, c.requires.1, pow_mono {i = c.args.n - 6} {j = 10} (omega (arith, c.requires.1)))
+    omega (arith, shifted c.before, other c.before, c.requires.1, pow_mono {i = c.args.n - 6} {j = 10} (omega (arith, c.requires.1)))
 
 pub word_of-requires : goal.word_of-requires
 word_of-requires c =
-    (omega (arith, c.requires.0, length-holds c.args.n), omega (arith, shifted c, other c))
+    (omega (arith, c.requires.0, length-holds c.args.n), omega (arith, shifted c.before, other c.before))
 
 pub returns : goal.returns
 returns c =
@@ -56,7 +59,7 @@ returns c =
     let F = table_bit a.t.now in
     let more : 6 ≤ a.j = omega arith in
     subst₂ (λ (o p : ℕ). Compared a.n F a.j a.w (not (eqb o p))) (sym c.word_of-here.ensures)
-    (sym (c.word_of.ensures ∙ ap (λ (k : ℕ). gate_word a.n F (a.w + k)) (shifted c.before)))
+    (sym (c.word_of.ensures ∙ ap (λ (k : ℕ). gate_word a.n F (a.w + k)) (shifted c.before.before)))
     (compared a.n F a.j c.requires.2 a.w (gate_word a.n F a.w) (gate_word a.n F (a.w + 2 ^ (a.j - 6)))
     (words_same a.n F a.j c.requires.2 a.w more c.requires.4)
     (words_steady a.n F a.j c.requires.2 a.w more c.requires.4))

@@ -9,10 +9,13 @@ use Rattle.bits.proofs.Machine.{shl_one}
 use Rattle.tables.specs.Table.{table_bit}
 use Rattle.tables.specs.Words.{Live}
 use Rattle.tables.proofs.Living.{live, live_all, live_none, lives, live_stays, live_goes}
+use Rattle.tables.proofs.counting.support_of.Lts as lts
+use Rattle.tables.proofs.counting.support_of.Reads as reads
+use Rattle.tables.proofs.counting.support_of.Tie as tie
 use Rattle.tables.proofs.counting.support_of.Goals as goal
 
 -- the inputs as a mask
-module _ (c : goal.After-shared_slice_known-1) where
+module _ (c : lts.After-shared_slice_known tie.the-claims reads.Pre reads.Post goal.the-invariant-loop-j goal.the-decreases-loop-j) where
   full : 1 * 2 ^ c.args.n % 2 ^ 32 ≡ live c.args.n (table_bit c.args.t.now)
       c.args.n + 1
   full = shl_one 32 c.args.n (omega (arith, c.requires.1))
@@ -22,14 +25,14 @@ pub overflow_cast-live : goal.overflow_cast-live
 overflow_cast-live c =
     omega (
       arith,
-      full c,
+      full c.before,
       live_all c.args.n (table_bit c.args.t.now),
       pow_mono {i = c.args.n} {j = 16}
           c.requires.1,
     )
 
 -- at a turn: the inputs down to the one that is looked at
-module _ (c : goal.In-loop-j) where
+module _ (c : lts.In-loop tie.the-claims reads.Pre reads.Post goal.the-invariant-loop-j goal.the-decreases-loop-j) where
   abbrev j : ℕ
   j = c.loop-j.j - 1
 
@@ -41,16 +44,16 @@ module _ (c : goal.In-loop-j) where
 
 pub counts_in-requires : goal.counts_in-requires
 counts_in-requires c =
-    let l : j c < c.args.n = omega (arith, c.loop-j.invariant.1) in (
+    let l : j c.before < c.args.n = omega (arith, c.loop-j.invariant.1) in (
       c.requires.0,
       c.requires.1,
       l,
-      subst (λ (m : ℕ). Live c.args.n (table_bit c.args.t.now) m (j c)) (sym (now_live c))
-          (lives c.args.n (table_bit c.args.t.now) (j c) l),
+      subst (λ (m : ℕ). Live c.args.n (table_bit c.args.t.now) m (j c.before)) (sym (now_live c.before))
+          (lives c.args.n (table_bit c.args.t.now) (j c.before) l),
     )
 
 -- an input that does not count is one less
-module _ (c : goal.Then-not-counts_in) where
+module _ (c : lts.Then1 tie.the-claims reads.Pre reads.Post goal.the-invariant-loop-j goal.the-decreases-loop-j) where
   less : c.loop-j.live ≡ live c.args.n
       (table_bit c.args.t.now) (j c.before.before)
       + 1 * 2 ^ j c.before.before % 2 ^ 16
@@ -62,8 +65,8 @@ module _ (c : goal.Then-not-counts_in) where
 
 pub loop-j-preserved : goal.loop-j-preserved
 loop-j-preserved c =
-    let l : j c.before.before < c.args.n = omega (arith, c.loop-j.invariant.1) in (
-      now_live c.before.before ∙ live_stays c.args.n (table_bit c.args.t.now) (j c.before.before) l (sym c.counts_in.ensures
+    let l : j c.before.before.before < c.args.n = omega (arith, c.loop-j.invariant.1) in (
+      now_live c.before.before.before ∙ live_stays c.args.n (table_bit c.args.t.now) (j c.before.before.before) l (sym c.counts_in.ensures
           ∙ not-false c.counts_in.result c.if-not-counts_in.false),
       omega arith,
     )
@@ -75,13 +78,13 @@ returns c =
     c.loop-j.invariant.0 ∙ ap (live a.n (table_bit a.t.now)) e ∙ live_none a.n (table_bit a.t.now)
 
 pub overflow_sub-all : goal.overflow_sub-all
-overflow_sub-all c = omega (arith, full c)
+overflow_sub-all c = omega (arith, full c.before)
 
 pub loop-j-init : goal.loop-j-init
-loop-j-init c = (omega (arith, full c), omega arith)
+loop-j-init c = (omega (arith, full c.before), omega arith)
 
 pub overflow_sub-live : goal.overflow_sub-live
-overflow_sub-live c = omega (arith, less c)
+overflow_sub-live c = omega (arith, less c.before)
 
 pub loop-j-preserved-then-not-counts_in : goal.loop-j-preserved-then-not-counts_in
-loop-j-preserved-then-not-counts_in c = (omega (arith, less c), omega arith)
+loop-j-preserved-then-not-counts_in c = (omega (arith, less c.before), omega arith)

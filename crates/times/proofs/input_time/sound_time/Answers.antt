@@ -5,6 +5,9 @@ use borrow.Author.Tests.{not-true, not-false}
 use Rattle.times.specs.declared.input_time.InputTime.{InputTime}
 use Rattle.times.specs.declared.input_time.InputTime.TheVariants.{Between}
 use Rattle.times.specs.InputTimes.{in_range, sound_time}
+use Rattle.times.proofs.input_time.sound_time.Lts as lts
+use Rattle.times.proofs.input_time.sound_time.Reads as reads
+use Rattle.times.proofs.input_time.sound_time.Tie as tie
 use Rattle.times.proofs.input_time.sound_time.Goals as goal
 
 -- the answer for an earliest and a latest
@@ -18,7 +21,7 @@ returns-then-not-in_range c =
     (sym c.in_range-in-Between.ensures ∙ not-true _ c.if-not-in_range.true) refl
 
 -- where the earliest is in range, the latest is in range or not
-latest : (c : goal.After-in_range-in-Between-2) {q : Bool} → c.in_range-in-Between-2.result ≡ q
+latest : (c : lts.After-in_range3 tie.the-claims reads.Pre reads.Post) {q : Bool} → c.in_range-in-Between-2.result ≡ q
     → (q && le c.in-Between.x c.in-Between.y)
     ≡ sound_time c.args.t
 latest c h =

@@ -1,16 +1,13 @@
 -- `cell_time` meets its contract. The loop's invariant: of the inputs passed the right time is kept. Assumes nothing.
-use Rattle.std.proofs.Common.{◌≡◌, ℕ, ◌+◌, ◌-◌, List, get_or, sym, ap, ◌∙◌, ap₂, arith}
-use lib.Ieee.{Float, nan}
+use Rattle.std.proofs.Common.{◌≡◌, ℕ, ◌+◌, ◌-◌, get_or, sym, ap, ◌∙◌, ap₂, arith}
+use lib.Ieee.{nan}
 use Rattle.bits.proofs.Lists.{default}
 use Rattle.sheets.specs.Record.{byte_at}
 use Rattle.times.specs.InputTimes.{zero_time}
 use Rattle.times.specs.Signals.{keeping, kept_time, delayed}
 use Rattle.times.proofs.Passing.{kept_more, cell_at_lem}
+use Rattle.times.proofs.signals.cell_time.Invariants.{time_here}
 use Rattle.times.proofs.signals.cell_time.Goals as goal
-
--- the time of the signal that stands at place j of the record
-abbrev time_here : List Float → List ℕ → ℕ → Float
-time_here times b j = get_or times (byte_at b (j + 1)) zero_time
 
 pub bounds-b-0 : goal.bounds-b-0
 bounds-b-0 c = let r = c.requires.0 in omega (arith, r.long, r.sound.ends, r.sound.order)
@@ -28,7 +25,7 @@ pub loop-j-init : goal.loop-j-init
 unfolding kept_time
 loop-j-init c =
     let r = c.requires.0 in
-    let l = c.args.t5.times in
+    let l = c.args.signals.times in
     (omega arith, r.some, default l (byte_at c.args.b.now 1) nan zero_time (rw c.requires.1 (r.known 0 r.some)))
 
 pub overflow_cast-first : goal.overflow_cast-first
@@ -54,7 +51,7 @@ bounds-signals-t c = let r = c.requires.0 in r.known c.loop-j.j (omega arith)
 pub loop-j-preserved : goal.loop-j-preserved
 loop-j-preserved c =
     let r = c.requires.0 in
-    let l = c.args.t5.times in
+    let l = c.args.signals.times in
     let b = c.args.b.now in
     let j = c.loop-j.j in
     let here = default l (byte_at b (j + 1)) nan zero_time (rw c.requires.1 (r.known j (omega arith))) in (
@@ -66,7 +63,7 @@ loop-j-preserved c =
 
 pub returns : goal.returns
 returns c =
-    let l = c.args.t5.times in
+    let l = c.args.signals.times in
     let b = c.args.b.now in
     let z : c.loop-j.j ≡ byte_at b 0 = omega arith in
     ap (delayed c.args.delay) (c.loop-j.invariant.2

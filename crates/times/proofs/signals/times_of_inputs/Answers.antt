@@ -13,7 +13,7 @@ loop-j-init c =
     let z = c.zeros-signals.ensures in (
       omega arith,
       ap length z ∙ length-replicate most_signals zero_time,
-      λ h. no_inputs a.late a.t3 _ most_signals h
+      λ h. no_inputs a.late a.said _ most_signals h
           z,
     )
 
@@ -29,7 +29,7 @@ loop-j-preserved c =
     let v = c.loop-j.invariant in (
       omega arith,
       length-set c.loop-j.signals.times c.loop-j.j c.time_of.result ∙ v.1,
-      one_input a.late a.t3 c.loop-j.signals.times c.loop-j.j c.time_of.result
+      one_input a.late a.said c.loop-j.signals.times c.loop-j.j c.time_of.result
           (omega (arith, v.1, c.requires)) c.time_of.ensures v.2,
     )
 
@@ -37,4 +37,4 @@ pub returns : goal.returns
 returns c =
     let a = c.args in
     let z : c.loop-j.j ≡ a.n = omega arith in
-    (c.loop-j.invariant.1, λ h. c.loop-j.invariant.2 h ∙ ap (λ (k : ℕ). input_times a.late k a.t3 h) z)
+    (c.loop-j.invariant.1, λ h. c.loop-j.invariant.2 h ∙ ap (λ (k : ℕ). input_times a.late k a.said h) z)

@@ -4,9 +4,12 @@ use lib.Ieee.{of_bits}
 use Rattle.times.specs.Sixteenths.{in_sixteenths}
 use Rattle.times.proofs.Counting.{Time, cuttable}
 use Rattle.times.proofs.Telling.{zero_time_lem, same_sixteenths, test_is}
+use Rattle.times.proofs.sixteenths.in_sixteenths.Lts as lts
+use Rattle.times.proofs.sixteenths.in_sixteenths.Reads as reads
+use Rattle.times.proofs.sixteenths.in_sixteenths.Tie as tie
 use Rattle.times.proofs.sixteenths.in_sixteenths.Goals as goal
 
-plain_time : (c : goal.After-plain_zero-y) → Time c.plain_zero-y.result
+plain_time : (c : lts.After-plain_zero tie.the-claims reads.Pre reads.Post) → Time c.plain_zero-y.result
 plain_time c =
     subst Time (sym c.plain_zero-y.ensures) (zero_time_lem c.args.x (subst T (sym c.well-formed.0.1) tt) c.requires)
 

@@ -11,6 +11,9 @@ use Rattle.turning.specs.declared.ways.Way.{Way}
 use Rattle.turning.specs.Ways.{flipped, moved}
 use Rattle.turning.specs.Listing.{agrees, turns}
 use Rattle.turning.proofs.Group.{moved-lt}
+use Rattle.turning.proofs.ways.does_turn.Lts as lts
+use Rattle.turning.proofs.ways.does_turn.Reads as reads
+use Rattle.turning.proofs.ways.does_turn.Tie as tie
 use Rattle.turning.proofs.ways.does_turn.Goals as goal
 
 seen : (w : Way) (f g x : ℕ) {y : ℕ} {a b d r : Bool}
@@ -20,7 +23,7 @@ seen w f g x p q r s t = t ∙ ap₂ beq s (r ∙ ap (flipped w.flip) (q ∙ ap 
 pub bit_of-requires : goal.bit_of-requires
 bit_of-requires c = omega (arith, c.moved_to.ensures, moved-lt c.args.w c.loop-x.x)
 
-looked : (c : goal.After-same)
+looked : (c : lts.After-same tie.the-claims reads.Pre reads.Post goal.the-invariant-loop-x goal.the-decreases-loop-x)
     → let a = c.args in c.same.result ≡ agrees a.w a.f a.g c.loop-x.x
 looked c =
     let t = c.args in

@@ -1,6 +1,5 @@
 -- `first_way_lem` meets its contract. The loop's invariant: no way passed turns f into g. Assumes nothing.
 use mathlib.Core.Path.{◌≡◌, refl, sym, ap, subst, ◌∙◌}
-use mathlib.Core.Bool.{Bool}
 use Prim.Native.Nat.{ℕ}
 use native.Mathlib.Omega.{arith}
 use Rattle.bits.specs.Below.{least}
@@ -9,10 +8,11 @@ use Rattle.turning.specs.declared.ways.Way.{Way}
 use Rattle.turning.specs.Ways.{IsWay, way_count}
 use Rattle.turning.specs.Listing.{way_at, turns, first_way}
 use Rattle.turning.proofs.Listed.{way_at_lem}
+use Rattle.turning.proofs.ways.first_way.Invariants.{test}
+use Rattle.turning.proofs.ways.first_way.Lts as lts
+use Rattle.turning.proofs.ways.first_way.Reads as reads
+use Rattle.turning.proofs.ways.first_way.Tie as tie
 use Rattle.turning.proofs.ways.first_way.Goals as goal
-
-abbrev test : ℕ → ℕ → ℕ → Bool
-test f g i = turns (way_at i) f g
 
 pub loop-i-init : goal.loop-i-init
 unfolding least
@@ -22,7 +22,7 @@ pub does_turn-requires : goal.does_turn-requires
 does_turn-requires c =
     subst (λ (w : Way). IsWay w) (sym c.way_at.ensures) (way_at_lem c.loop-i.i (omega arith))
 
-looked : (c : goal.After-does_turn)
+looked : (c : lts.After-does_turn tie.the-claims reads.Pre reads.Post goal.the-invariant-loop-i goal.the-decreases-loop-i)
     → let a = c.args in c.does_turn.result ≡ test a.f a.g c.loop-i.i
 looked c =
     let a = c.args in

@@ -5,10 +5,13 @@ use Rattle.known.proofs.Keeping.{skips_fails}
 use Rattle.walks.specs.Known.{Known}
 use Rattle.walks.proofs.Learning.{still_known}
 use Rattle.walks.proofs.Pruning.{try_b_never}
+use Rattle.walks.proofs.walk.try_pair.Lts as lts
+use Rattle.walks.proofs.walk.try_pair.Reads as reads
+use Rattle.walks.proofs.walk.try_pair.Tie as tie
 use Rattle.walks.proofs.walk.try_pair.Goals as goal
 
 -- what was asked of the notes leaves them true
-asked : (c : goal.After-ruled) → Known c.args.n c.args.r c.args.t.now c.ruled.new.notes
+asked : (c : lts.After-ruled tie.the-claims reads.Pre reads.Post) → Known c.args.n c.args.r c.args.t.now c.ruled.new.notes
 asked c = still_known c.requires.known c.ruled.ensures.stays_learned
 
 pub returns-then-ruled : goal.returns-then-ruled
@@ -17,7 +20,7 @@ returns-then-ruled c =
       sym (try_b_never a.n a.r (table_bit a.t.now) _ a.own a.shared (λ z apart.
           skips_fails a.notes.now a.own a.shared c.requires.known.learned
           (c.ruled.ensures.skips c.if-ruled.true) apart)),
-      asked c.before.before.before,
+      asked c.before.before.before.before,
     )
 
 pub returns-then-learn : goal.returns-then-learn
@@ -37,12 +40,12 @@ ruled-requires c = c.requires.known.learned.long
 
 pub shape_of-notes-then-ruled : goal.shape_of-notes-then-ruled
 shape_of-notes-then-ruled c =
-    (asked c.before.before.before).learned.long
+    (asked c.before.before.before.before).learned.long
     ∙ sym c.requires.known.learned.long
 
 pub learn-requires : goal.learn-requires
 learn-requires c =
-    record { known = asked c.before.before.before.before; own_bound = c.requires.own_bound }
+    record { known = asked c.before.before.before.before.before; own_bound = c.requires.own_bound }
 
 pub shape_of-notes-then-learn : goal.shape_of-notes-then-learn
 shape_of-notes-then-learn c =

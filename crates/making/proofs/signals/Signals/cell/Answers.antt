@@ -7,10 +7,8 @@ use lib.ListN.{get_or, length-set}
 use Rattle.tables.specs.Cells.{table_number}
 use Rattle.bits.specs.Lists.{list_of}
 use Rattle.bits.proofs.Lists.{list_set, list_more}
+use Rattle.making.proofs.signals.Signals.cell.Invariants.{first}
 use Rattle.making.proofs.signals.Signals.cell.Goals as goal
-
-abbrev first : ℕ → List ℕ → List ℕ
-first m l = list_of m (λ j. get_or l j 0)
 
 pub loop-j-init : goal.loop-j-init
 unfolding list_of

@@ -1,8 +1,13 @@
 use mathlib.Core.Path.{◌≡◌}
-use Prim.Native.Nat.{◌-◌, ◌≤◌}
-use lib.ListN.{length}
+use mathlib.Core.List.{List}
+use Prim.Native.Nat.{ℕ, ◌-◌, ◌≤◌}
+use lib.ListN.{length, get_or}
 use Rattle.sheets.specs.Edition.{largest_cell}
+use Rattle.bits.specs.Lists.{list_of}
 use Rattle.making.proofs.signals.Signals.cell.Given as goal
+
+abbrev pub first : ℕ → List ℕ → List ℕ
+first m l = list_of m (λ j. get_or l j 0)
 
 abbrev pub invariant-loop-j : goal.invariant-loop-j
 invariant-loop-j l =

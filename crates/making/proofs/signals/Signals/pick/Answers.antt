@@ -12,11 +12,8 @@ use Rattle.bits.proofs.Machine.{bit-set, bit-clear}
 use Rattle.bits.specs.Lists.{list_of}
 use Rattle.bits.proofs.Lists.{list_set, list_at}
 use Rattle.chains.specs.Chain.{pick}
+use Rattle.making.proofs.signals.Signals.pick.Invariants.{first}
 use Rattle.making.proofs.signals.Signals.pick.Goals as goal
-
--- the first m places
-abbrev first : ℕ → List ℕ → List ℕ
-first m l = list_of m (λ j. get_or l j 0)
 
 -- one position more, in or out of the set
 pick_more : (j : ℕ) (s : ℕ → Bool) (l : List ℕ) (t : Bool) → s j ≡ t → pick (j + 1) s l

@@ -1,10 +1,16 @@
 use mathlib.Core.Path.{◌≡◌}
-use Prim.Native.Nat.{◌-◌, ◌≤◌}
-use lib.ListN.{length, set}
+use mathlib.Core.List.{List}
+use Prim.Native.Nat.{ℕ, ◌-◌, ◌≤◌}
+use lib.ListN.{length, get_or, set}
 use Rattle.bits.specs.Numbers.{bit}
 use Rattle.tables.specs.Table.{most_inputs}
+use Rattle.bits.specs.Lists.{list_of}
 use Rattle.chains.specs.Chain.{pick}
 use Rattle.making.proofs.signals.Signals.pick.Given as goal
+
+-- the first m places
+abbrev pub first : ℕ → List ℕ → List ℕ
+first m l = list_of m (λ j. get_or l j 0)
 
 abbrev pub invariant-loop-j : goal.invariant-loop-j
 invariant-loop-j l =

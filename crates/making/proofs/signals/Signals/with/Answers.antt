@@ -7,7 +7,7 @@ use Rattle.making.proofs.signals.Signals.with.Goals as goal
 
 pub returns : goal.returns
 returns c =
-    let s = c.args.t1 in (
+    let s = c.args.self in (
       record {
         places = length-set s.at s.count c.args.signal ∙ c.requires.0.places;
         few = omega (arith, c.requires.1);

@@ -9,7 +9,7 @@ use Rattle.sheets.proofs.kinds.Sheet.with_cell.Goals as goal
 
 pub returns : goal.returns
 returns c =
-    let s = c.args.t1 in
+    let s = c.args.self in
     let l : length s.cells ≡ most_records = sym (length-map s.cells _) ∙ c.well-formed.0.1.1.0.1.0.1 in
     record {
       count = refl;

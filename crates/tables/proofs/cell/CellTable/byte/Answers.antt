@@ -4,4 +4,4 @@ use Rattle.tables.proofs.CellTables.{joined-byte}
 use Rattle.tables.proofs.cell.CellTable.byte.Goals as goal
 
 pub returns : goal.returns
-returns c = let a = c.args in joined-byte cell_words a.t1.words a.i c.requires
+returns c = let a = c.args in joined-byte cell_words a.self.words a.i c.requires
