@@ -38,7 +38,7 @@ returns-then-not-chain c =
     let r = c.chain_upto-chain.result in
     stuck_written a.e a.d a.sheet.now a.work.now r c.refuse.result
     c.chain_upto-chain.new.work c.chain_upto-chain.ensures.cleared (chain c.before.before.before.before.before.before)
-    c.chain_upto-chain.ensures.told (not-true r.finished c.if-not-chain.true) c.refuse.ensures
+    c.chain_upto-chain.ensures.told (c.if-not-chain.true) c.refuse.ensures
 
 pub returns-then-cells-gt-RECORDS : goal.returns-then-cells-gt-RECORDS
 returns-then-cells-gt-RECORDS c =
@@ -46,7 +46,7 @@ returns-then-cells-gt-RECORDS c =
     let r = c.chain_upto-chain.result in
     long_written a.e a.d a.sheet.now a.work.now r c.refuse-then-cells-gt-RECORDS.result
     c.chain_upto-chain.new.work c.chain_upto-chain.ensures.cleared (chain c.before.before.before.before.before.before.before)
-    c.chain_upto-chain.ensures.told (not-false r.finished c.if-not-chain.false) (omega (arith, c.if-cells-gt-RECORDS.true))
+    c.chain_upto-chain.ensures.told (c.if-not-chain.false) (omega (arith, c.if-cells-gt-RECORDS.true))
     c.refuse-then-cells-gt-RECORDS.ensures
 
 -- the cells are held
@@ -57,7 +57,7 @@ kept c =
     let a = (g c.before.before.before.before.before).args in
     let r = c.chain_upto-chain.result in
     fits a.e a.d a.sheet.now a.work.now r (chain c.before.before.before.before.before) c.chain_upto-chain.ensures.told
-    (not-false r.finished c.if-not-chain.false) (omega (arith, c.if-cells-gt-RECORDS.false))
+    (c.if-not-chain.false) (omega (arith, c.if-cells-gt-RECORDS.false))
 
 pub put_all-requires : goal.put_all-requires
 put_all-requires c =

@@ -30,13 +30,13 @@ last : (c : lts.After-among3 tie.the-claims reads.Pre reads.Post) (t : Bool) →
     ≡ told c.before.before.before.before.before.before
 last c t e =
     value_low (same c.before.before.before.before.before.before) c.args.a c.args.b c.args.c c.args.d c.same_column.ensures t
-    c.if-same_column.false c.among-2.ensures (not-false c.among-2.result c.if-not-among.false)
+    c.if-same_column.false c.among-2.ensures (c.if-not-among.false)
     c.among-3.ensures e
 
 pub returns-then-not-among : goal.returns-then-not-among
 returns-then-not-among c =
     value_fourth (same c.before.before.before.before.before.before) c.args.a c.args.b c.args.c c.args.d c.same_column.ensures
-    c.if-same_column.false c.among-2.ensures (not-true c.among-2.result c.if-not-among.true)
+    c.if-same_column.false c.among-2.ensures (c.if-not-among.true)
 
 pub returns-then-among : goal.returns-then-among
 returns-then-among c = first c.before.before true c.if-among.true
@@ -46,7 +46,7 @@ returns-then-same_column c = first c.before.before false c.if-among.false
 
 pub returns-then-not-among-2 : goal.returns-then-not-among-2
 returns-then-not-among-2 c =
-    last c.before.before false (not-true c.among-3.result c.if-not-among-2.true)
+    last c.before.before false (c.if-not-among-2.true)
 
 pub returns : goal.returns
-returns c = last c.before.before true (not-false c.among-3.result c.if-not-among-2.false)
+returns c = last c.before.before true (c.if-not-among-2.false)

@@ -38,7 +38,7 @@ plain-requires c =
 pub returns-then-not-plain : goal.returns-then-not-plain
 returns-then-not-plain c =
     let a = c.args in
-    let bad : c.plain.result ≡ false = not-true _ c.if-not-plain.true in
+    let bad : c.plain.result ≡ false = c.if-not-plain.true in
     plain_stops a.e a.s.now c.loop-i.i a.m _ c.loop-i.invariant.1 (omega arith)
     (sym (c.plain.ensures ∙ ap (λ (r : List ℕ). plain_cell (cell_of a.e (byte_at r))) c.record_of.ensures)
     ∙ bad)
@@ -46,7 +46,7 @@ returns-then-not-plain c =
 pub loop-i-preserved : goal.loop-i-preserved
 loop-i-preserved c =
     let a = c.args in
-    let is : c.plain.result ≡ true = not-false _ c.if-not-plain.false in (
+    let is : c.plain.result ≡ true = c.if-not-plain.false in (
       omega arith,
       plain_goes a.e a.s.now c.loop-i.i a.m _ c.loop-i.invariant.1 (omega arith)
           (sym (c.plain.ensures ∙ ap (λ (r : List ℕ). plain_cell (cell_of a.e (byte_at r)))

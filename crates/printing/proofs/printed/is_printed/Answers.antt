@@ -11,7 +11,7 @@ pub returns-then-not-all_plain : goal.returns-then-not-all_plain
 returns-then-not-all_plain c =
     let a = c.args in
     sym (ap (λ (t : Bool). t && once_read a.n (sheet_cells a.e a.s.now a.m))
-    (sym c.all_plain.ensures ∙ not-true _ c.if-not-all_plain.true))
+    (sym c.all_plain.ensures ∙ c.if-not-all_plain.true))
 
 pub once_read-requires : goal.once_read-requires
 once_read-requires c =
@@ -21,7 +21,7 @@ once_read-requires c =
         c.requires.1,
         c.requires.2,
         plain_all a.e a.s.now a.m 0
-            (sym c.all_plain.ensures ∙ not-false _ c.if-not-all_plain.false),
+            (sym c.all_plain.ensures ∙ c.if-not-all_plain.false),
       );
       le_m = (c.requires.3, c.requires.4);
     }
@@ -31,4 +31,4 @@ returns c =
     let a = c.args in
     c.once_read.ensures
     ∙ sym (ap (λ (t : Bool). t && once_read a.n (sheet_cells a.e a.s.now a.m))
-    (sym c.all_plain.ensures ∙ not-false _ c.if-not-all_plain.false))
+    (sym c.all_plain.ensures ∙ c.if-not-all_plain.false))

@@ -72,12 +72,12 @@ is_printed-requires c =
 pub returns-then-not-is_printed : goal.returns-then-not-is_printed
 returns-then-not-is_printed c =
     c.refuse-then-not-is_printed.ensures ∙ decided (ls c.before.before.before.before.before.before.before.before) (ms c.before.before.before.before.before.before.before.before) _ c.sheet-seen.ensures c.in-Fine.is
-    (here (ap not (sym c.is_printed.ensures ∙ not-true _ c.if-not-is_printed.true))) ∙ behind c.before.before.before.before.before.before.before.before
+    (here (ap not (sym c.is_printed.ensures ∙ c.if-not-is_printed.true))) ∙ behind c.before.before.before.before.before.before.before.before
 
 pub returns : goal.returns
 returns c =
     decided (ls c.before.before.before.before.before.before.before) (ms c.before.before.before.before.before.before.before) _ c.sheet-seen.ensures c.in-Fine.is
-    (later (ap not (sym c.is_printed.ensures ∙ not-false _ c.if-not-is_printed.false)) fine) ∙ behind c.before.before.before.before.before.before.before
+    (later (ap not (sym c.is_printed.ensures ∙ c.if-not-is_printed.false)) fine) ∙ behind c.before.before.before.before.before.before.before
 
 pub overflow_cast-inputs : goal.overflow_cast-inputs
 overflow_cast-inputs c = omega (arith, few c.before)

@@ -16,7 +16,7 @@ pub loop-at-preserved : goal.loop-at-preserved
 loop-at-preserved c = (
   omega arith,
   below_more _ _ c.loop-at.invariant.1
-      (c.dead_at.ensures (not-false _ c.if-not-dead_at.false)),
+      (c.dead_at.ensures (c.if-not-dead_at.false)),
 )
 
 pub returns : goal.returns

@@ -12,13 +12,13 @@ pub returns-then-not-sound_time : goal.returns-then-not-sound_time
 returns-then-not-sound_time c =
     let a = c.args in
     sym (ap (λ (t : Bool). t && (given (time_at a.times a.j) || not (bit a.read a.j)))
-    (sym c.sound_time.ensures ∙ not-true _ c.if-not-sound_time.true))
+    (sym c.sound_time.ensures ∙ c.if-not-sound_time.true))
 
 pub returns-then-is_given : goal.returns-then-is_given
 returns-then-is_given c =
     let a = c.args in
     sym (ap₂ (λ (t u : Bool). t && (u || not (bit a.read a.j)))
-    (sym c.sound_time.ensures ∙ not-false _ c.if-not-sound_time.false)
+    (sym c.sound_time.ensures ∙ c.if-not-sound_time.false)
     (sym c.is_given.ensures ∙ c.if-is_given.true))
 
 pub returns : goal.returns
@@ -26,5 +26,5 @@ returns c =
     let a = c.args in
     ap not (test_bit a.read a.j)
     ∙ sym (ap₂ (λ (t u : Bool). t && (u || not (bit a.read a.j)))
-    (sym c.sound_time.ensures ∙ not-false _ c.if-not-sound_time.false)
+    (sym c.sound_time.ensures ∙ c.if-not-sound_time.false)
     (sym c.is_given.ensures ∙ c.if-is_given.false))

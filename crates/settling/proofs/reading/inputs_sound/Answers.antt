@@ -34,13 +34,13 @@ pub returns-then-not-input_sound : goal.returns-then-not-input_sound
 returns-then-not-input_sound c =
     let a = c.args in
     sym (every_stop a.n (by_mask c.who_reads-read.result.read a.times) c.loop-j.j (omega arith)
-    (sym c.input_sound.ensures ∙ not-true _ c.if-not-input_sound.true)) ∙ same c.before.before.before.before.before
+    (sym c.input_sound.ensures ∙ c.if-not-input_sound.true)) ∙ same c.before.before.before.before.before
 
 pub loop-j-preserved : goal.loop-j-preserved
 loop-j-preserved c = (
   omega arith,
   every_more c.loop-j.j (by_mask c.who_reads-read.result.read c.args.times) c.loop-j.invariant.1
-      (sym c.input_sound.ensures ∙ not-false _ c.if-not-input_sound.false),
+      (sym c.input_sound.ensures ∙ c.if-not-input_sound.false),
 )
 
 pub returns : goal.returns

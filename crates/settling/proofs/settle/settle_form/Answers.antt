@@ -42,7 +42,7 @@ returns-in_default c =
 pub returns-then-not-in_range : goal.returns-then-not-in_range
 returns-then-not-in_range c =
     c.refuse.ensures ∙ decided (ls c.before.before.before.before.before.before) (ms c.before.before.before.before.before.before) _ c.sheet_for-seen.ensures c.in-Fine.is
-    (here (unsound _ (sym c.in_range.ensures ∙ not-true _ c.if-not-in_range.true)))
+    (here (unsound _ (sym c.in_range.ensures ∙ c.if-not-in_range.true)))
 
 pub nonzero_div-m : goal.nonzero_div-m
 nonzero_div-m c = let p = c.requires in omega (arith, p.ends, p.order)
@@ -59,14 +59,14 @@ inputs_sound-requires c =
 pub returns-then-not-inputs_sound : goal.returns-then-not-inputs_sound
 returns-then-not-inputs_sound c =
     c.refuse-then-not-inputs_sound.ensures ∙ decided (ls c.before.before.before.before.before.before.before.before.before) (ms c.before.before.before.before.before.before.before.before.before) _ c.sheet_for-seen.ensures c.in-Fine.is
-    (here (both (sym c.in_range.ensures ∙ not-false _ c.if-not-in_range.false)
-    (sym c.inputs_sound.ensures ∙ not-true _ c.if-not-inputs_sound.true)))
+    (here (both (sym c.in_range.ensures ∙ c.if-not-in_range.false)
+    (sym c.inputs_sound.ensures ∙ c.if-not-inputs_sound.true)))
 
 pub returns : goal.returns
 returns c =
     decided (ls c.before.before.before.before.before.before.before.before) (ms c.before.before.before.before.before.before.before.before) _ c.sheet_for-seen.ensures c.in-Fine.is
-    (later (both (sym c.in_range.ensures ∙ not-false _ c.if-not-in_range.false)
-    (sym c.inputs_sound.ensures ∙ not-false _ c.if-not-inputs_sound.false)) fine)
+    (later (both (sym c.in_range.ensures ∙ c.if-not-in_range.false)
+    (sym c.inputs_sound.ensures ∙ c.if-not-inputs_sound.false)) fine)
 
 pub overflow_cast-n : goal.overflow_cast-n
 overflow_cast-n c = omega (arith, (inputs_sound-requires c.before c.lifetimes).0.2)

@@ -35,7 +35,7 @@ unfolding given
 returns-then-not-in_sixteenths c =
     let a = c.args in
     c.refuse.ensures ∙ by a.n a.delay a.times a.deadline _ _ _
-    (sym c.in_sixteenths.ensures ∙ not-true _ c.if-not-in_sixteenths.true) refl refl
+    (sym c.in_sixteenths.ensures ∙ c.if-not-in_sixteenths.true) refl refl
 
 pub returns-then-not-inputs_in_sixteenths : goal.returns-then-not-inputs_in_sixteenths
 unfolding given
@@ -43,8 +43,8 @@ returns-then-not-inputs_in_sixteenths c =
     let a = c.args in
     c.refuse-then-not-inputs_in_sixteenths.ensures
     ∙ by a.n a.delay a.times a.deadline _ _ _
-    (sym c.in_sixteenths.ensures ∙ not-false _ c.if-not-in_sixteenths.false)
-    (sym c.inputs_in_sixteenths.ensures ∙ not-true _ c.if-not-inputs_in_sixteenths.true) refl
+    (sym c.in_sixteenths.ensures ∙ c.if-not-in_sixteenths.false)
+    (sym c.inputs_in_sixteenths.ensures ∙ c.if-not-inputs_in_sixteenths.true) refl
 
 pub returns-then-not-deadline_ok : goal.returns-then-not-deadline_ok
 unfolding given
@@ -52,20 +52,20 @@ returns-then-not-deadline_ok c =
     let a = c.args in
     c.refuse-then-not-deadline_ok.ensures
     ∙ by a.n a.delay a.times a.deadline _ _ _
-    (sym c.in_sixteenths.ensures ∙ not-false _ c.if-not-in_sixteenths.false)
-    (sym c.inputs_in_sixteenths.ensures ∙ not-false _ c.if-not-inputs_in_sixteenths.false)
+    (sym c.in_sixteenths.ensures ∙ c.if-not-in_sixteenths.false)
+    (sym c.inputs_in_sixteenths.ensures ∙ c.if-not-inputs_in_sixteenths.false)
     (ap deadline_ok (sym (to_z-of_z c.ranges.deadline)) ∙ sym c.deadline_ok.ensures
-    ∙ not-true _ c.if-not-deadline_ok.true)
+    ∙ c.if-not-deadline_ok.true)
 
 pub returns : goal.returns
 unfolding given
 returns c =
     let a = c.args in
     by a.n a.delay a.times a.deadline _ _ _
-    (sym c.in_sixteenths.ensures ∙ not-false _ c.if-not-in_sixteenths.false)
-    (sym c.inputs_in_sixteenths.ensures ∙ not-false _ c.if-not-inputs_in_sixteenths.false)
+    (sym c.in_sixteenths.ensures ∙ c.if-not-in_sixteenths.false)
+    (sym c.inputs_in_sixteenths.ensures ∙ c.if-not-inputs_in_sixteenths.false)
     (ap deadline_ok (sym (to_z-of_z c.ranges.deadline)) ∙ sym c.deadline_ok.ensures
-    ∙ not-false _ c.if-not-deadline_ok.false)
+    ∙ c.if-not-deadline_ok.false)
 
 pub in_sixteenths-requires : goal.in_sixteenths-requires
 in_sixteenths-requires c = c.requires.1

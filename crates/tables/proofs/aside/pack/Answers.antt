@@ -14,6 +14,7 @@ use Rattle.bits.proofs.Numbers.{bit-zero, number_ext}
 use Rattle.tables.specs.Table.{table_bit}
 use Rattle.tables.proofs.aside.pack.Invariants.{over}
 use Rattle.tables.proofs.aside.pack.Goals as goal
+use Rattle.tables.proofs.aside.pack.Goals.{then-i-eq0, else-i-eq0}
 
 pub word_over-w-requires : goal.word_over-w-requires
 word_over-w-requires c = (
@@ -32,9 +33,11 @@ loop-i-preserved c =
     let i = c.loop-i.i in
     let F : ℕ → Bool = over a.t.now a.n a.mask in
     let w : c.if-i-eq0.w ≡ number 64 (λ j. F (64 * (i / 8) + j)) =
-    ⊎_elim (λ u. u.2 ∙ u.1.ensures ∙ number_ext 64 _ (λ j. F (64 * (i / 8) + j))
-    (λ j l. ap (table_bit a.t.now) (zero-add (spread a.n (bit a.mask) (64 * (i / 8) + j)))))
-    (λ u. u.1 ∙ c.loop-i.invariant.1 u.0.left) c.if-i-eq0.branch in (
+    elim c.if-i-eq0.branch [
+      then-i-eq0 u ↦ u.w-is ∙ u.word_over-w.ensures ∙ number_ext 64 _ (λ j. F (64 * (i / 8) + j))
+        (λ j l. ap (table_bit a.t.now) (zero-add (spread a.n (bit a.mask) (64 * (i / 8) + j))))
+      | else-i-eq0 u ↦ u.w-is ∙ c.loop-i.invariant.1 u.if-i-eq0.false
+    ] in (
       filled_more c.loop-i.invariant.0 (omega arith) (omega arith) (c.byte_in.ensures F w),
       λ h. let e : i / 8 ≡ (i + 1) / 8 = omega arith in w ∙ ap (λ (k : ℕ). number 64 (λ j. F (64 * k + j))) e,
     )

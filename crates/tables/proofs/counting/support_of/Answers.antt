@@ -60,14 +60,14 @@ module _ (c : lts.Then1 tie.the-claims reads.Pre reads.Post goal.the-invariant-l
   less = let F = table_bit c.args.t.now in
       let l : j c.before.before < c.args.n = omega (arith, c.loop-j.invariant.1) in
       now_live c.before.before ∙ live_goes c.args.n F (j c.before.before) l
-      (sym c.counts_in.ensures ∙ not-true c.counts_in.result c.if-not-counts_in.true)
+      (sym c.counts_in.ensures ∙ c.if-not-counts_in.true)
       ∙ ap (λ (m : ℕ). live c.args.n F (j c.before.before) + m) (sym (shl_one 16 (j c.before.before) (omega (arith, c.requires.1))))
 
 pub loop-j-preserved : goal.loop-j-preserved
 loop-j-preserved c =
     let l : j c.before.before.before < c.args.n = omega (arith, c.loop-j.invariant.1) in (
       now_live c.before.before.before ∙ live_stays c.args.n (table_bit c.args.t.now) (j c.before.before.before) l (sym c.counts_in.ensures
-          ∙ not-false c.counts_in.result c.if-not-counts_in.false),
+          ∙ c.if-not-counts_in.false),
       omega arith,
     )
 

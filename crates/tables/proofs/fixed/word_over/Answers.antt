@@ -155,4 +155,4 @@ next-f-requires c =
 
 pub overflow_add-q : goal.overflow_add-q
 overflow_add-q c =
-    let i = l c.before.before in omega (arith, i.loop-test.true, div-le_self 64 (2 ^ (m i).members-few.result))
+    let i = l c.before.before in omega (arith, i.loop-q-test.true, div-le_self 64 (2 ^ (m i).members-few.result))

@@ -19,14 +19,14 @@ pub returns-then-not-time_in_sixteenths : goal.returns-then-not-time_in_sixteent
 returns-then-not-time_in_sixteenths c =
     let a = c.args in
     sym (every_stop a.n (whole a.times) c.loop-j.j (omega arith)
-    (sym c.time_in_sixteenths.ensures ∙ not-true _ c.if-not-time_in_sixteenths.true))
+    (sym c.time_in_sixteenths.ensures ∙ c.if-not-time_in_sixteenths.true))
 
 pub loop-j-preserved : goal.loop-j-preserved
 loop-j-preserved c =
     let a = c.args in (
       omega arith,
       every_more c.loop-j.j (whole a.times) c.loop-j.invariant.1
-          (sym c.time_in_sixteenths.ensures ∙ not-false _ c.if-not-time_in_sixteenths.false),
+          (sym c.time_in_sixteenths.ensures ∙ c.if-not-time_in_sixteenths.false),
     )
 
 pub returns : goal.returns

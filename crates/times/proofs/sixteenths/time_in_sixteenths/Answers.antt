@@ -34,7 +34,7 @@ in_sixteenths-requires-in-Between c = (two c.requires c.in-Between.is).0
 pub returns-then-not-in_sixteenths : goal.returns-then-not-in_sixteenths
 returns-then-not-in_sixteenths c =
     at c.in-Between.is
-    (sym c.in_sixteenths-in-Between.ensures ∙ not-true _ c.if-not-in_sixteenths.true) refl
+    (sym c.in_sixteenths-in-Between.ensures ∙ c.if-not-in_sixteenths.true) refl
 
 pub in_sixteenths-requires-in-Between-2 : goal.in_sixteenths-requires-in-Between-2
 in_sixteenths-requires-in-Between-2 c =
@@ -44,7 +44,7 @@ in_sixteenths-requires-in-Between-2 c =
 pub returns-else-not-in_sixteenths : goal.returns-else-not-in_sixteenths
 returns-else-not-in_sixteenths c =
     at c.in-Between.is
-    (sym c.in_sixteenths-in-Between.ensures ∙ not-false _ c.if-not-in_sixteenths.false)
+    (sym c.in_sixteenths-in-Between.ensures ∙ c.if-not-in_sixteenths.false)
     (sym c.in_sixteenths-in-Between-2.ensures)
 
 pub returns-in-Arrival : goal.returns-in-Arrival

@@ -35,13 +35,13 @@ unfolding turns
 returns-then-not-same c =
     let a = c.args in
     sym (every_stop 8 (agrees a.w a.f a.g) c.loop-x.x (omega arith)
-    (sym (looked c.before) ∙ not-true _ c.if-not-same.true))
+    (sym (looked c.before) ∙ c.if-not-same.true))
 
 pub loop-x-preserved : goal.loop-x-preserved
 loop-x-preserved c =
     let a = c.args in
     let m = every_more c.loop-x.x (agrees a.w a.f a.g) c.loop-x.invariant.1 in
-    (omega arith, m (sym (looked c.before) ∙ not-false _ c.if-not-same.false))
+    (omega arith, m (sym (looked c.before) ∙ c.if-not-same.false))
 
 pub returns : goal.returns
 unfolding turns

@@ -19,7 +19,7 @@ pub returns : goal.returns
 returns c =
     learned_one c.requires.known 2 _ _ c.args.own c.args.shared _
     (sym (ap (λ (r : ℕ). 2 ^ r) c.if-r-ne1.false))
-    (c.shows.ensures (not-false _ c.if-not-shows.false)) c.keep.ensures c.requires.own_bound.2
+    (c.shows.ensures (c.if-not-shows.false)) c.keep.ensures c.requires.own_bound.2
     c.meets.ensures
 
 pub learn_many-requires : goal.learn_many-requires

@@ -19,5 +19,5 @@ pub returns : goal.returns
 returns c =
     learned_one c.requires.known _ _ _ c.args.own c.args.shared _
     (shl_one 32 c.args.r (omega (arith, c.requires.known.first)))
-    (c.many_somewhere.ensures (not-false _ c.if-not-many_somewhere.false)) c.keep.ensures c.requires.own_bound.2
+    (c.many_somewhere.ensures (c.if-not-many_somewhere.false)) c.keep.ensures c.requires.own_bound.2
     c.meets.ensures

@@ -8,12 +8,12 @@ use Rattle.witness.proofs.crowd.shows_many.Goals as goal
 
 pub seen-requires : goal.seen-requires
 seen-requires c =
-    let w = c.placed.ensures (not-false _ c.if-not-placed.false) in
+    let w = c.placed.ensures (c.if-not-placed.false) in
     (c.requires.0, c.requires.1, w.0, w.1, w.2, w.3)
 
 pub returns : goal.returns
 returns c e =
-    let w = c.placed.ensures (not-false _ c.if-not-placed.false) in
+    let w = c.placed.ensures (c.if-not-placed.false) in
     let a = c.args in
     crowd_rule (table_bit a.t.now) a.w.e a.w.f a.n w.2 w.3 a.m a.w.own a.w.base
     c.seen.result w.0 c.seen.ensures

@@ -7,24 +7,24 @@ use Rattle.witness.proofs.six.shows.Goals as goal
 
 pub alike-requires : goal.alike-requires
 alike-requires c =
-    let w = c.placed.ensures (not-false _ c.if-not-placed.false) in
+    let w = c.placed.ensures (c.if-not-placed.false) in
     (c.requires.0, c.requires.1, w.below_x, w.below_y, w.below_d)
 
 pub alike-requires-2 : goal.alike-requires-2
 alike-requires-2 c =
-    let w = c.placed.ensures (not-false _ c.if-not-placed.false) in
+    let w = c.placed.ensures (c.if-not-placed.false) in
     (c.requires.0, c.requires.1, w.below_x, w.below_z, w.below_d)
 
 pub alike-requires-3 : goal.alike-requires-3
 alike-requires-3 c =
     let w = c.placed.ensures
-    (not-false _ c.if-not-placed.false) in
+    (c.if-not-placed.false) in
     (c.requires.0, c.requires.1, w.below_y, w.below_z, w.below_d)
 
 pub returns : goal.returns
 returns c e =
     let w = c.placed.ensures
-    (not-false _ c.if-not-placed.false) in
+    (c.if-not-placed.false) in
     let a = c.args in
     six_rule a.n (table_bit a.t.now) a.own a.w.x a.w.y a.w.z a.w.d w
     (sym c.alike.ensures ∙ c.if-alike.false)
