@@ -36,7 +36,7 @@ loop-i-preserved c =
     let a = c.args in
     let i = c.loop-i.i in (
       omega arith,
-      c.put.auto.1.1.1.0 ∙ c.loop-i.invariant.1,
+      c.put.auto.sheet ∙ c.loop-i.invariant.1,
       c.put.ensures
           ∙ ap (λ (l : List ℕ). laid l (a.e.size * i) (encode a.e a.d (at a.sheet i))) c.loop-i.invariant.2
           ∙ laid_next a.e a.d (list_of i (at a.sheet)) (at a.sheet i) a.out.now i (length-list i (at a.sheet))

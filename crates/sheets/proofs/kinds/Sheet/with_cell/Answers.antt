@@ -1,7 +1,7 @@
 -- `with_cell` meets its contract: the new cell stands in the first free place. Assumes nothing.
-use mathlib.Core.Path.{◌≡◌, refl, sym, ◌∙◌}
+use mathlib.Core.Path.{◌≡◌, refl}
 use native.Mathlib.Omega.{arith}
-use lib.ListN.{length, length-map}
+use lib.ListN.{length}
 use Rattle.sheets.specs.Edition.{most_records}
 use Rattle.sheets.specs.Held.{network_cell, no_cell}
 use Rattle.bits.proofs.Lists.{list_set}
@@ -10,7 +10,7 @@ use Rattle.sheets.proofs.kinds.Sheet.with_cell.Goals as goal
 pub returns : goal.returns
 returns c =
     let s = c.args.self in
-    let l : length s.cells ≡ most_records = sym (length-map s.cells _) ∙ c.well-formed.0.1.1.0.1.0.1 in
+    let l : length s.cells ≡ most_records = c.well_formed.0.1.1.0.1.0.1 in
     record {
       count = refl;
       places = refl;
