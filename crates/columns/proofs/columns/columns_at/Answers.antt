@@ -21,13 +21,13 @@ look_through-requires c =
     let o = c.spread_out.ensures in
     let p = c.requires in record {
       held = (
-        p.0.0,
+        p.held.0,
         subst (Within c.args.s.n c.args.s.shared) (sym o.0)
-            (within_spread c.args.s.n c.args.s.shared c.args.b p.1),
+            (within_spread c.args.s.n c.args.s.shared c.args.b p.b_bound),
         omega arith,
         omega arith,
       );
-      n_bound = p.0.2;
+      n_bound = p.held.2;
     }
 
 -- at most as many columns as own assignments

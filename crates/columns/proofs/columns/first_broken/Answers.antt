@@ -14,11 +14,11 @@ use Rattle.columns.proofs.columns.first_broken.Tie as tie
 use Rattle.columns.proofs.columns.first_broken.Goals as goal
 
 -- what is known where the columns of b were looked through
-module _ (c : lts.After-look_through tie.the-claims reads.Pre reads.Post goal.the-invariant-loop-b goal.the-decreases-loop-b) where
-  abbrev inside : lts.In-loop tie.the-claims reads.Pre reads.Post goal.the-invariant-loop-b goal.the-decreases-loop-b
+module _ (c : lts.After-look_through tie.the-claims reads.Pre reads.Post goal.the-invariant-loop-b goal.the-decreases-loop-b tie.handed_clauses) where
+  abbrev inside : lts.In-loop tie.the-claims reads.Pre reads.Post goal.the-invariant-loop-b goal.the-decreases-loop-b tie.handed_clauses
   inside = c.before.before
 
-  abbrev start : lts.Start tie.the-claims reads.Pre reads.Post goal.the-invariant-loop-b goal.the-decreases-loop-b
+  abbrev start : lts.Start tie.the-claims reads.Pre reads.Post goal.the-invariant-loop-b goal.the-decreases-loop-b tie.handed_clauses
   start = inside.before.before.before
 
 pub look_through-requires : goal.look_through-requires
@@ -42,7 +42,7 @@ loop-b-preserved c =
       least_more _ (many a.t.now a.s a.limit) i.0
           (seen_few i.1 l c.look_through.ensures c.if-limit-look_through.false),
       walked_more i.1 l c.next-base.ensures.1,
-      c.look_through.auto.1.1.1.1.0 ∙ i.2,
+      c.look_through.auto.seen ∙ i.2,
     )
 
 pub returns : goal.returns
@@ -54,6 +54,7 @@ returns c =
     e ∙ sym (subst (λ (m : ℕ). least m (many a.t.now a.s a.limit) ≡ m) e i.0)
 
 pub loop-b-init : goal.loop-b-init
+unfolding least
 loop-b-init c = (refl, walked_none c.requires.held.0.most c.requires.many_value, refl)
 
 pub next-base-requires : goal.next-base-requires

@@ -18,8 +18,8 @@ use Rattle.columns.proofs.columns.place.Tie as tie
 use Rattle.columns.proofs.columns.place.Goals as goal
 
 -- the two places where reading starts have no free input
-module _ (c : lts.In-loop tie.the-claims reads.Pre reads.Post goal.the-invariant-loop-i goal.the-decreases-loop-i) where
-  abbrev g : lts.Start tie.the-claims reads.Pre reads.Post goal.the-invariant-loop-i goal.the-decreases-loop-i
+module _ (c : lts.In-loop tie.the-claims reads.Pre reads.Post goal.the-invariant-loop-i goal.the-decreases-loop-i tie.handed_clauses) where
+  abbrev g : lts.Start tie.the-claims reads.Pre reads.Post goal.the-invariant-loop-i goal.the-decreases-loop-i tie.handed_clauses
   g = c.before.before.before.before
 
   here : Without g.args.s.n g.args.s.free (g.args.base + g.args.z)
@@ -36,7 +36,7 @@ module _ (c : lts.In-loop tie.the-claims reads.Pre reads.Post goal.the-invariant
       (g.requires.k_in_bounds.1 c.loop-i.i c.loop-i-test.true)
 
 -- what the comparison says
-told : (c : lts.After-same_column tie.the-claims reads.Pre reads.Post goal.the-invariant-loop-i goal.the-decreases-loop-i) → (t : Bool) → c.same_column.result ≡ t
+told : (c : lts.After-same_column tie.the-claims reads.Pre reads.Post goal.the-invariant-loop-i goal.the-decreases-loop-i tie.handed_clauses) → (t : Bool) → c.same_column.result ≡ t
     → let a = (g c.before.before).args
     in eqb (at a.t.now a.s a.base a.z) (at a.t.now a.s a.base (y c.before.before)) ≡ t
 told c t e =

@@ -23,8 +23,8 @@ pub loop-v-init : goal.loop-v-init
 loop-v-init c = let h = c.requires.held.0 in (walked_none h.most h.words, below_none _)
 
 -- both words lie in the table
-module _ (c : lts.Then1 tie.the-claims reads.Pre reads.Post goal.the-invariant-loop-v goal.the-decreases-loop-v) where
-  abbrev g : lts.Start tie.the-claims reads.Pre reads.Post goal.the-invariant-loop-v goal.the-decreases-loop-v
+module _ (c : lts.Then1 tie.the-claims reads.Pre reads.Post goal.the-invariant-loop-v goal.the-decreases-loop-v tie.handed_clauses) where
+  abbrev g : lts.Start tie.the-claims reads.Pre reads.Post goal.the-invariant-loop-v goal.the-decreases-loop-v tie.handed_clauses
   g = c.before.before.before.before.before
 
   abbrev s : Split
@@ -40,7 +40,7 @@ module _ (c : lts.Then1 tie.the-claims reads.Pre reads.Post goal.the-invariant-l
   y_lt = word_lt s.n s.free (free_lt s g.requires.held.0) walk g.requires.held.2
 
 -- what the comparison says of word v
-told : (c : lts.After-bits_from2 tie.the-claims reads.Pre reads.Post goal.the-invariant-loop-v goal.the-decreases-loop-v)
+told : (c : lts.After-bits_from2 tie.the-claims reads.Pre reads.Post goal.the-invariant-loop-v goal.the-decreases-loop-v tie.handed_clauses)
     → let q = c.loop-v in
     (bit_and c.bits_from.result (s c.before.before.before).low ≡ bit_and c.bits_from-in-loop-v.result (s c.before.before.before).low)
     ↔ Even (s c.before.before.before).n (s c.before.before.before).free (table_bit (g c.before.before.before).args.t.now) (g c.before.before.before).args.x (g c.before.before.before).args.y q.v
