@@ -18,24 +18,22 @@ unfolding least
 loop-i-init c = (omega arith, refl)
 
 pub record_of-requires : goal.record_of-requires
-record_of-requires c κs =
-    let t = c.before.before.before in
-    let a = t.args in (
-      search rules,
-      search rules,
-      record_within a.e.size c.before.loop.i a.m (length a.s.now)
-          (omega arith) t.requires.3,
+record_of-requires c =
+    let a = c.args in (
+      c.requires.0,
+      omega arith,
+      record_within a.e.size c.loop-i.i a.m (length a.s.now)
+          (omega arith) c.requires.3,
     )
 
 pub record_ok-requires : goal.record_ok-requires
-record_ok-requires c κs =
-    let t = c.before.before.before.before in
-    let a = t.args in
-    let i = c.before.before.loop.i in (
-      t.requires.0,
+record_ok-requires c =
+    let a = c.args in
+    let i = c.loop-i.i in (
+      c.requires.0,
       ap length c.record_of.ensures
           ∙ record_length a.e a.s.now i (record_within a.e.size i a.m (length a.s.now) (omega arith)
-          t.requires.3),
+          c.requires.3),
     )
 
 pub returns-then-not-record_ok : goal.returns-then-not-record_ok
@@ -44,7 +42,7 @@ returns-then-not-record_ok c =
     let i = c.loop-i.i in
     let y = ap not (c.record_ok.ensures
     ∙ ap (λ (b : List ℕ). keeps a.e a.d (a.n + i) (byte_at b)) c.record_of.ensures) in
-    sym (least_stop i a.m (bad a.e a.d a.n a.s.now) c.loop-i.invariant.1 (sym y ∙ c.if-not-record_ok.true)
+    sym (least_stop i a.m (bad a.e a.d a.n a.s.now) c.loop-i.invariant.1 (sym y ∙ ap not c.if-not-record_ok.true)
     (omega arith))
 
 pub loop-i-preserved : goal.loop-i-preserved
@@ -53,7 +51,7 @@ loop-i-preserved c =
     let i = c.loop-i.i in
     let y = ap not (c.record_ok.ensures
     ∙ ap (λ (b : List ℕ). keeps a.e a.d (a.n + i) (byte_at b)) c.record_of.ensures) in
-    (omega arith, least_more i (bad a.e a.d a.n a.s.now) c.loop-i.invariant.1 (sym y ∙ c.if-not-record_ok.false))
+    (omega arith, least_more i (bad a.e a.d a.n a.s.now) c.loop-i.invariant.1 (sym y ∙ ap not c.if-not-record_ok.false))
 
 pub returns : goal.returns
 returns c =
