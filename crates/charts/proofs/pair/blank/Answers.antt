@@ -1,5 +1,5 @@
 -- Every place of the array is zero, and past its end stands the default. Assumes nothing.
-use mathlib.Core.Path.{refl}
+use mathlib.Core.Path.{◌≡◌, refl}
 use Prim.Native.Nat.{ℕ, zero, suc}
 use lib.ListN.{get_or, replicate}
 use Rattle.columns.specs.Reading.{chart_room}

@@ -22,8 +22,8 @@ loop-b-init c = (
 )
 
 -- row b has room
-module _ (c : lts.In-loop tie.the-claims reads.Pre reads.Post goal.the-invariant-loop-b goal.the-decreases-loop-b) where
-  abbrev start : lts.Start tie.the-claims reads.Pre reads.Post goal.the-invariant-loop-b goal.the-decreases-loop-b
+module _ (c : lts.In-loop tie.the-claims reads.Pre reads.Post goal.the-invariant-loop-b goal.the-decreases-loop-b tie.handed_clauses) where
+  abbrev start : lts.Start tie.the-claims reads.Pre reads.Post goal.the-invariant-loop-b goal.the-decreases-loop-b tie.handed_clauses
   start = c.before.before.before.before.before
 
   room : c.loop-b.from + start.args.limit ≤ length start.args.seen.now
@@ -41,7 +41,7 @@ look_through-requires c =
     let q = c.loop-b in
     let g = start c.before.before in
     let part = length-take-le (q.from + g.args.limit - q.from) (drop q.from q.seen)
-    (omega (arith, room c.before.before, length-drop q.from q.seen)) in record { held = (g.requires.0.0, walked_within q.invariant.1 c.loop-b-test.true, omega (arith, part), omega arith); n_bound = g.requires.0.2 }
+    (omega (arith, room c.before.before, length-drop q.from q.seen)) in record { held = (g.requires.held.0, walked_within q.invariant.1 c.loop-b-test.true, omega (arith, part), omega arith); n_bound = g.requires.held.2 }
 
 pub loop-b-preserved : goal.loop-b-preserved
 loop-b-preserved c =
@@ -50,9 +50,9 @@ loop-b-preserved c =
     let a = g.args in
     let l = c.loop-b-test.true in
     let seen = seen_at q.invariant.1 l c.look_through.ensures in
-    let few = few_at a.s.n _ _ _ a.limit g.requires.1.1 q.b (walked_turn q.invariant.1 l) in (
+    let few = few_at a.s.n _ _ _ a.limit g.requires.limit_value q.b (walked_turn q.invariant.1 l) in (
       charting_goes q.invariant.0 q.from (q.from + a.limit - q.from) _ q.invariant.2 (room c.before.before.before.before.before.before) (omega arith) seen
-          (seen_within q.invariant.1 l c.look_through.ensures few) c.look_through.auto.1.1.1.1.0,
+          (seen_within q.invariant.1 l c.look_through.ensures few) c.look_through.auto.seen,
       walked_more q.invariant.1 l c.next-base.ensures.1,
       omega (arith, q.invariant.2, add-mul q.b 1 a.limit, one-mul a.limit),
     )

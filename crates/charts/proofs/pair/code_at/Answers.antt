@@ -12,8 +12,8 @@ use Rattle.charts.proofs.pair.code_at.Reads as reads
 use Rattle.charts.proofs.pair.code_at.Tie as tie
 use Rattle.charts.proofs.pair.code_at.Goals as goal
 
-module _ (c : lts.After-gather_in tie.the-claims reads.Pre reads.Post) where
-  abbrev g : lts.Start tie.the-claims reads.Pre reads.Post
+module _ (c : lts.After-gather_in tie.the-claims reads.Pre reads.Post tie.handed_clauses) where
+  abbrev g : lts.Start tie.the-claims reads.Pre reads.Post tie.handed_clauses
   g = c.before.before.before.before
 
   abbrev base : ℕ

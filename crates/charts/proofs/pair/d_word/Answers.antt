@@ -62,8 +62,8 @@ loop-i-init c =
     )
 
 -- bit i comes in
-module _ (c : lts.After-d_bit tie.the-claims reads.Pre reads.Post goal.the-invariant-loop-i goal.the-decreases-loop-i) where
-  abbrev g : lts.Start tie.the-claims reads.Pre reads.Post goal.the-invariant-loop-i goal.the-decreases-loop-i
+module _ (c : lts.After-d_bit tie.the-claims reads.Pre reads.Post goal.the-invariant-loop-i goal.the-decreases-loop-i tie.handed_clauses) where
+  abbrev g : lts.Start tie.the-claims reads.Pre reads.Post goal.the-invariant-loop-i goal.the-decreases-loop-i tie.handed_clauses
   g = c.before.before.before.before.before.before.before.before.before.before
 
   abbrev f : ℕ → Bool
@@ -132,7 +132,7 @@ pub d_bit-requires : goal.d_bit-requires
 d_bit-requires c =
     let q = c.loop-i.invariant in
     let s = itself c.args.s c.requires.held.0 q.1 (omega (arith, q.4, c.loop-i-test.true)) in
-    ((c.requires.held.0, s, c.requires.held.2, c.requires.held.3), c.requires.1)
+    record { held = (c.requires.held.0, s, c.requires.held.2, c.requires.held.3); chart = c.requires.chart; limit_value = c.requires.limit_value }
 
 pub overflow_shl-r : goal.overflow_shl-r
 overflow_shl-r c = let t = turn c.before in omega arith

@@ -19,7 +19,7 @@ use Rattle.charts.proofs.pair.table_or_zero.Tie as tie
 use Rattle.charts.proofs.pair.table_or_zero.Goals as goal
 
 -- what is returned, as there is such a cell or not
-module _ (c : lts.Start tie.the-claims reads.Pre reads.Post) where
+module _ (c : lts.Start tie.the-claims reads.Pre reads.Post tie.handed_clauses) where
   abbrev by : Bool → CellTable
   by b = cond b (held_d c.args.s.n (table_bit c.args.t.now) (bit c.args.s.own) (bit c.args.s.shared)
       c.args.which) no_table
