@@ -30,4 +30,4 @@ returns c =
     c.loop-j.invariant.1 ∙ ap (Named (byte_at a.b.now) a.w) f
 
 pub overflow_cast-read : goal.overflow_cast-read
-overflow_cast-read c = omega (arith, overflow_shl-read c.before)
+overflow_cast-read c = omega (arith, c.requires.1 c.loop-j.j (omega arith))

@@ -1,7 +1,6 @@
 -- `who_reads` meets its contract. The loop's invariant: the mask holds what the records from i on read, and `first`
 -- is the first unread one of them, the last aside. Assumes nothing.
 use mathlib.Core.Path.{◌≡◌, sym, ap, ap₂, ◌∙◌, subst}
-use mathlib.Core.Logic.{⊎_elim}
 use mathlib.Core.List.{List}
 use Prim.Native.Nat.{ℕ, ◌-◌}
 use native.Mathlib.Omega.{arith}
@@ -14,15 +13,15 @@ use Rattle.sheets.proofs.Places.{record_within}
 use Rattle.unread.specs.ReadMasks.{read_mask}
 use Rattle.unread.proofs.ReadMasks.{mask_last, mask_more, found_here, found_later, record_named}
 use Rattle.unread.proofs.reading.who_reads.Goals as goal
+use Rattle.unread.proofs.reading.who_reads.Goals.{then-read-n-eq0, else-read-n-eq0}
 
 pub record_of-requires : goal.record_of-requires
-record_of-requires c κs =
-    let t = c.before in
-    let a = t.args in (
-      t.requires.0.0,
+record_of-requires c =
+    let a = c.args in (
+      c.requires.edition.0,
       omega arith,
       record_within a.e.size (a.m - 1) a.m (length a.s.now) (omega arith)
-          t.requires.0.3,
+          c.requires.edition.3,
     )
 
 pub also_read-read-requires : goal.also_read-read-requires
@@ -41,14 +40,12 @@ loop-i-init c =
     )
 
 pub record_of-requires-in-loop-i : goal.record_of-requires-in-loop-i
-record_of-requires-in-loop-i c κs =
-    let q = c.before.before in
-    let t = q.before.before.before.before in
-    let a = t.args in (
-      t.requires.0.0,
+record_of-requires-in-loop-i c =
+    let a = c.args in (
+      c.requires.edition.0,
       omega arith,
-      record_within a.e.size (q.loop.i - 1) a.m (length a.s.now) (omega arith)
-          t.requires.0.3,
+      record_within a.e.size (c.loop-i.i - 1) a.m (length a.s.now) (omega arith)
+          c.requires.edition.3,
     )
 
 pub also_read-read-requires-in-loop-i : goal.also_read-read-requires-in-loop-i
@@ -66,14 +63,14 @@ loop-i-preserved c =
       omega arith,
       c.also_read-read-in-loop-i.ensures ∙ ap (λ (b : List ℕ). also_read (byte_at b) w) c.record_of-in-loop-i.ensures
           ∙ mask_more a.e a.s.now i a.m w (omega arith) (omega arith) c.loop-i.invariant.1,
-      ⊎_elim
-          (λ u. subst (λ (g : ℕ). LeastFrom (i - 1) (a.m - 1) p g) (sym u.1)
-          (found_here a.e a.s.now a.n a.m i w c.loop-i.first (omega arith) (omega arith) (omega arith)
-          c.loop-i.invariant.1 u.0.taken))
-          (λ u. subst (λ (g : ℕ). LeastFrom (i - 1) (a.m - 1) p g) (sym u.1)
-          (found_later a.e a.s.now a.n a.m i w c.loop-i.first (omega arith) (omega arith) (omega arith)
-          c.loop-i.invariant.1 u.0.left c.loop-i.invariant.2))
-          c.if-read-n-eq0.branch,
+      elim c.if-read-n-eq0.branch [
+        | then-read-n-eq0 u ↦ subst (λ (g : ℕ). LeastFrom (i - 1) (a.m - 1) p g) (sym u.first-is)
+            (found_here a.e a.s.now a.n a.m i w c.loop-i.first (omega arith) (omega arith) (omega arith)
+            c.loop-i.invariant.1 u.if-read-n-eq0.true)
+        | else-read-n-eq0 u ↦ subst (λ (g : ℕ). LeastFrom (i - 1) (a.m - 1) p g) (sym u.first-is)
+            (found_later a.e a.s.now a.n a.m i w c.loop-i.first (omega arith) (omega arith) (omega arith)
+            c.loop-i.invariant.1 u.if-read-n-eq0.false c.loop-i.invariant.2)
+      ],
     )
 
 pub returns : goal.returns
