@@ -29,13 +29,12 @@ loop-i-init c =
     )
 
 pub record_of-requires : goal.record_of-requires
-record_of-requires c κs =
-    let t = c.before.before.before in
-    let a = t.args in (
-      t.requires.0.0,
+record_of-requires c =
+    let a = c.args in (
+      c.requires.edition.0,
       omega arith,
-      record_within a.e.size c.before.loop.i a.m (length a.s.now)
-          (omega arith) t.requires.0.3,
+      record_within a.e.size c.loop-i.i a.m (length a.s.now)
+          (omega arith) c.requires.edition.3,
     )
 
 pub output_of-o-requires : goal.output_of-o-requires

@@ -1,7 +1,6 @@
 -- `rebuild` meets its contract. The loop's invariant: the bytes passed are the table's, and within a word o is that
 -- word. Assumes nothing.
 use mathlib.Core.Path.{◌≡◌, refl, ap, ◌∙◌}
-use mathlib.Core.Logic.{⊎_elim}
 use Prim.Native.Nat.{ℕ, ◌+◌, ◌-◌, ◌/◌}
 use native.Mathlib.Omega.{arith}
 use lib.Pow.{pow_mono}
@@ -13,6 +12,7 @@ use Rattle.tables.proofs.Pieces.{word_byte}
 use Rattle.runs.proofs.Choosing.{word_starts}
 use Rattle.runs.proofs.running.rebuild.Invariants.{bits}
 use Rattle.runs.proofs.running.rebuild.Goals as goal
+use Rattle.runs.proofs.running.rebuild.Goals.{then-j-eq0, else-j-eq0}
 
 pub overflow_cast-i : goal.overflow_cast-i
 overflow_cast-i c =
@@ -28,7 +28,10 @@ loop-i-preserved c =
     let i = c.loop-i.i in
     let F = bits a.e a.n a.s.now a.m in
     let w : c.if-j-eq0.o ≡ sheet_word a.e a.n a.s.now a.m (i / 8) =
-    ⊎_elim (λ u. u.2 ∙ u.1.ensures) (λ u. u.1 ∙ c.loop-i.invariant.1 u.0.left) c.if-j-eq0.branch in (
+    elim c.if-j-eq0.branch [
+      | then-j-eq0 u ↦ u.o-is ∙ u.sheet_word-o.ensures
+      | else-j-eq0 u ↦ u.o-is ∙ c.loop-i.invariant.1 u.if-j-eq0.false
+    ] in (
       filled_more c.loop-i.invariant.0 (omega arith) (omega arith) (word_byte F i c.if-j-eq0.o w),
       λ h. let e : i / 8 ≡ (i + 1) / 8 = omega arith in w ∙ ap (sheet_word a.e a.n a.s.now a.m) e,
     )

@@ -38,7 +38,7 @@ halve-requires c =
       shl_one 64 (j - 1) (omega arith),
       pow_mono {i = j - 1} {j = 6} (omega arith),
       c.loop-j.invariant.1,
-      c.first_half-j.auto.1.1.1.0,
+      c.first_half-j.auto.v,
       p.2,
     )
 
@@ -51,18 +51,18 @@ loop-j-preserved c =
     let i = c.cell_input-s in
     let half = 1 * 2 ^ (j - 1) % 2 ^ 64 in (
       omega arith,
-      h.auto.1.1.0 ∙ c.loop-j.invariant.1,
-      left-halved a.e b a.words.now (b 0 - 1) c.loop-j.v h.new.1.1.0 i.result half j (omega arith)
+      h.auto.v ∙ c.loop-j.invariant.1,
+      left-halved a.e b a.words.now (b 0 - 1) c.loop-j.v h.new.v i.result half j (omega arith)
           (omega arith)
           (shl_one 64 (j - 1) (omega (arith, c.requires.0.sound.eight, c.requires.0.readable.few))) i.ensures
           h.ensures c.loop-j.invariant.2,
     )
 
 pub bounds-v-0 : goal.bounds-v-0
-bounds-v-0 c = omega (arith, c.loop-j.invariant.1, c.first_half-j.auto.1.1.1.0, c.requires.2)
+bounds-v-0 c = omega (arith, c.loop-j.invariant.1, c.first_half-j.auto.v, c.requires.2)
 
 pub shape_of-v : goal.shape_of-v
-shape_of-v c = c.loop-j.invariant.1 ∙ c.first_half-j.auto.1.1.1.0
+shape_of-v c = c.loop-j.invariant.1 ∙ c.first_half-j.auto.v
 
 pub returns : goal.returns
 returns c =

@@ -27,9 +27,9 @@ returns c =
     let a = c.args in
     let n = c.one_less-others.result in
     let few : n < a.e.most = omega (arith, c.requires.0.sound.three, c.requires.0.readable.few) in
-    let one = shl_one 64 n (omega (arith, c.requires.0.sound.eight)) in (
-      c.one_less-others.ensures,
-      λ h j l g.
+    let one = shl_one 64 n (omega (arith, c.requires.0.sound.eight)) in record {
+      value = c.one_less-others.ensures;
+      by_index = λ h j l g.
           let x = 2 * h + val (bit c.cell_input.result j) in
           c.pairs.ensures h j (omega (arith, one)) g
           ∙ table-part a.e a.b.now x (omega (
@@ -39,5 +39,5 @@ returns c =
                 (bit c.cell_input.result j),
             c.requires.0.long,
           ))
-          ∙ ap (λ (b : Bool). cell_bit a.e (byte_at a.b.now) (2 * h + val b)) (c.cell_input.ensures j),
-    )
+          ∙ ap (λ (b : Bool). cell_bit a.e (byte_at a.b.now) (2 * h + val b)) (c.cell_input.ensures j);
+    }

@@ -1,6 +1,6 @@
 -- `inputs` meets its contract. The loop's invariant: the words of the inputs passed, and zeros behind them. Assumes
 -- nothing.
-use mathlib.Core.Path.{sym, ap, ◌∙◌}
+use mathlib.Core.Path.{◌≡◌, sym, ap, ◌∙◌}
 use Prim.Native.Nat.{ℕ, ◌+◌, ◌*◌}
 use native.Mathlib.Decide.{dec_lt}
 use native.Mathlib.Omega.{arith}

@@ -31,13 +31,12 @@ loop-i-init c =
     )
 
 pub record_of-requires : goal.record_of-requires
-record_of-requires c κs =
-    let t = c.before.before.before.before.before in
-    let a = t.args in (
-      t.requires.0.0,
+record_of-requires c =
+    let a = c.args in (
+      c.requires.edition.0,
       omega arith,
-      record_within a.e.size c.before.loop.i a.m (length a.s.now)
-          (omega arith) t.requires.0.3,
+      record_within a.e.size c.loop-i.i a.m (length a.s.now)
+          (omega arith) c.requires.edition.3,
     )
 
 pub cell_word-o-requires : goal.cell_word-o-requires
@@ -55,7 +54,7 @@ loop-i-preserved c =
     let r = c.cell_word-o.result in (
       omega arith,
       length-set c.loop-i.words (a.n + i) r ∙ c.loop-i.invariant.1,
-      c.cell_word-o.auto.1.1.1.0 ∙ c.loop-i.invariant.2,
+      c.cell_word-o.auto.v ∙ c.loop-i.invariant.2,
       λ j l h.
           ran_more a.e a.s.now a.m (sheet_bit a.e a.n a.s.now a.m (64 * a.w + j)) a.n i
           (bit c.loop-i.o j) (bit r j)
