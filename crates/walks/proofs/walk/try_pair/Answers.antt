@@ -11,7 +11,7 @@ use Rattle.walks.proofs.walk.try_pair.Tie as tie
 use Rattle.walks.proofs.walk.try_pair.Goals as goal
 
 -- what was asked of the notes leaves them true
-asked : (c : lts.After-ruled tie.the-claims reads.Pre reads.Post) → Known c.args.n c.args.r c.args.t.now c.ruled.new.notes
+asked : (c : lts.After-ruled tie.the-claims reads.Pre reads.Post tie.handed_clauses) → Known c.args.n c.args.r c.args.t.now c.ruled.new.notes
 asked c = still_known c.requires.known c.ruled.ensures.stays_learned
 
 pub returns-then-ruled : goal.returns-then-ruled
