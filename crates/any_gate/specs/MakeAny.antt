@@ -1,16 +1,14 @@
 -- Make a sheet for any gate, for a desk: how many cells, and their records in a lent sheet. Where make has a sheet it
 -- is that one; else that of the chain with several first cells at a step or of cofactors, whichever has fewer cells.
-use mathlib.Core.Bool.{Bool, true, false}
-use mathlib.Core.List.{List, [], _∷_, _++_}
-use Prim.Native.Nat.{ℕ, _^_}
-use Rattle·bits.specs.Numbers.{number}
-use Rattle·tables.specs.Table.{tableBit}
-use Rattle·sheets.specs.declared.kinds.Edition.{Edition}
-use Rattle·sheets.specs.Network.{Cell}
-use Rattle·cofactors.specs.Any.{Any, sheet, unsplit, overlong, anyAside}
-use Rattle·refusals.specs.Numbers.{ofSplit, ofLength}
-use Rattle·refusals.specs.Lines.{Line, line, verdict, reply}
-use Rattle·making.specs.MakeSheet.{MakeOutcome, makeForm, makeDone, makeNot}
+use Rattle.std.specs.Prelude.{Bool, true, false, List, [], ◌∷◌, ◌++◌, ℕ, ◌^◌}
+use Rattle.bits.specs.Numbers.{number}
+use Rattle.tables.specs.Table.{tableBit}
+use Rattle.sheets.specs.declared.kinds.Edition.{Edition}
+use Rattle.sheets.specs.Network.{Cell}
+use Rattle.cofactors.specs.Any.{Any, sheet, unsplit, overlong, anyAside}
+use Rattle.refusals.specs.Numbers.{ofSplit, ofLength}
+use Rattle.refusals.specs.Lines.{Line, line, verdict, reply}
+use Rattle.making.specs.MakeSheet.{MakeOutcome, makeForm, makeDone, makeNot}
 
 -- the answer for a gate's table, as a number, with what does not count set aside
 abbrev pub anyFor : ℕ → ℕ → List ℕ → Any

@@ -1,11 +1,10 @@
 -- Make a sheet of a told edition for any gate, for a desk: how many cells, and their records in a lent sheet.
-use mathlib.Core.List.{List}
-use Prim.Native.Nat.{ℕ}
-use Rattle·sheets.specs.Edition.{editionOf}
-use Rattle·refusals.specs.Lines.{Line, verdict, reply}
-use Rattle·refusals.specs.Refusals.{toldLines}
-use Rattle·making.specs.MakeSheet.{MakeOutcome, makeDone, makeNot}
-use Rattle·any_gate·specs.specs.MakeAny.{anyFor, cellsAny, anyLines}
+use Rattle.std.specs.Prelude.{List, ℕ}
+use Rattle.sheets.specs.Edition.{editionOf}
+use Rattle.refusals.specs.Lines.{Line, verdict, reply}
+use Rattle.refusals.specs.Refusals.{toldLines}
+use Rattle.making.specs.MakeSheet.{MakeOutcome, makeDone, makeNot}
+use Rattle.any_gate.specs.MakeAny.{anyFor, cellsAny, anyLines}
 
 -- 1, 2 of the edition, and make_any's own in that edition
 abbrev pub anyToldLines : ℕ → ℕ → ℕ → ℕ → List ℕ → List ℕ → List ℕ → List Line

@@ -1,15 +1,13 @@
 // Making a sheet for any gate: make's where there is one, else that of the chain with several first cells at a step or of
 // cofactors.
-use making::make_sheet::MakeAnswer;
-use making::make_sheet::make_in;
-use making::make_sheet::write_end;
-use refusals::verdicts::Refusal;
-use refusals::verdicts::number_of;
+ghost use Rattle.std.specs.Prelude.{◌≡◌};
+ghost use Rattle.sheets.specs.Edition.{IsEdition, firstEdition};
+ghost use Rattle.any_gate.specs.MakeAny.{anyOutcome};
+
+use making::make_sheet::{MakeAnswer, make_in, write_end};
+use refusals::verdicts::{Refusal, number_of};
 use selectors::several::several_or_cofactors;
 use sheets::kinds::Edition;
-ghost use mathlib.Core.Path.{_≡_};
-ghost use Rattle·sheets.specs.Edition.{IsEdition, firstEdition};
-ghost use Rattle·any_gate·specs.specs.MakeAny.{anyOutcome};
 
 // Makes a sheet for any gate in an edition's records, for the desk d.
 pub fn any_in(
@@ -21,11 +19,9 @@ pub fn any_in(
     sheet: &mut [u8],
     work: &mut [u8],
 ) -> MakeAnswer
-    requires { ⌜ IsEdition e ⌝ }
-    ensures { λ r. ⌜
-        record { answer = r; sheet = now (sheet .exit); work = now (work .exit) }
-        ≡ anyOutcome e d n k (now (t .entry)) (now (sheet .entry)) (now (work .entry))
-        ⌝ }
+    requires { IsEdition e }
+    ensures { record { answer = result; sheet = sheet.new; work = work.new }
+        ≡ anyOutcome e d n k t.now sheet.old work.old }
 {
     let made = make_in(e, d, n, k, t, sheet, work);
     let verdict = made.verdict;
@@ -45,10 +41,8 @@ pub fn make_any(
     sheet: &mut [u8],
     work: &mut [u8],
 ) -> MakeAnswer
-    ensures { λ r. ⌜
-        record { answer = r; sheet = now (sheet .exit); work = now (work .exit) }
-        ≡ anyOutcome firstEdition desk n k (now (t .entry)) (now (sheet .entry)) (now (work .entry))
-        ⌝ }
+    ensures { record { answer = result; sheet = sheet.new; work = work.new }
+        ≡ anyOutcome firstEdition desk n k t.now sheet.old work.old }
 {
     any_in(Edition::first(), desk, n, k, t, sheet, work)
 }

@@ -1,11 +1,12 @@
 // Making a sheet for any gate in a told edition.
+ghost use Rattle.std.specs.Prelude.{◌≡◌};
+ghost use Rattle.any_gate.specs.MakeAnyTold.{anyTold};
+
 use crate::make_any::any_in;
 use making::make_sheet::MakeAnswer;
 use refusals::form;
 use refusals::verdicts::Verdict;
 use sheets::kinds::Edition;
-ghost use mathlib.Core.Path.{_≡_};
-ghost use Rattle·any_gate·specs.specs.MakeAnyTold.{anyTold};
 
 // Makes a sheet for any gate in records of the edition with the number w, for a desk, 0 being the bench's own: how many
 // cells.
@@ -18,10 +19,8 @@ pub fn make_any_told(
     sheet: &mut [u8],
     work: &mut [u8],
 ) -> MakeAnswer
-    ensures { λ r. ⌜
-        record { answer = r; sheet = now (sheet .exit); work = now (work .exit) }
-        ≡ anyTold w desk n k (now (t .entry)) (now (sheet .entry)) (now (work .entry))
-        ⌝ }
+    ensures { record { answer = result; sheet = sheet.new; work = work.new }
+        ≡ anyTold w desk n k t.now sheet.old work.old }
 {
     let told = form::told(w, n);
     let Verdict::Fine = told else {

@@ -1,31 +1,28 @@
 // The bench program: one byte n, one byte K, then the table to the end of standard input. It writes the answer number
 // as one byte, then the sheet; after a refusal only that byte. What is handed over to be written is defined of the
 // bytes read alone (`written`, programs/specs/BenchProgram).
-use programs::bench_program::MOST_READ;
-use programs::bench_program::MOST_WRITTEN;
-use programs::bench_program::answer_input;
-use streams::read_input;
-use streams::write_output;
+ghost use Rattle.std.specs.Prelude.{◌≡◌, length};
+ghost use Rattle.tables.specs.Work.{workLength};
+ghost use Rattle.programs.specs.BenchProgram.{mostRead, mostWritten};
+
+use programs::bench_program::{MOST_READ, MOST_WRITTEN, answer_input};
+use streams::{read_input, write_output};
 use tables::WORK;
-ghost use mathlib.Core.Path.{_≡_};
-ghost use lib.ListN.{length};
-ghost use Rattle·tables.specs.Work.{workLength};
-ghost use Rattle·programs.specs.BenchProgram.{mostRead, mostWritten};
 
 fn input_room() -> [u8; MOST_READ]
-    ensures { λ r. ⌜ mostRead ≡ length r ⌝ }
+    ensures { mostRead ≡ length result }
 {
     [0; MOST_READ]
 }
 
 fn output_room() -> [u8; MOST_WRITTEN]
-    ensures { λ r. ⌜ mostWritten ≡ length r ⌝ }
+    ensures { mostWritten ≡ length result }
 {
     [0; MOST_WRITTEN]
 }
 
 fn work_room() -> [u8; WORK]
-    ensures { λ r. ⌜ workLength ≡ length r ⌝ }
+    ensures { workLength ≡ length result }
 {
     [0; WORK]
 }

@@ -1,54 +1,54 @@
 -- H of the best split depends on each of its inputs, where the table depends on each of its own: on a shared one, else
 -- that could be an own input, and A would be larger; on the others by Asked (splits). Assumes nothing.
-use mathlib.Core.Path.{_≡_, refl, sym, ap, ap₂, _∙_, subst}
-use mathlib.Core.Logic.{⊎-elim}
-use mathlib.Core.Bool.{Bool, true, false, not, _&&_, _||_, or-false}
-use Prim.Native.Nat.{ℕ, _+_, _^_, _<_}
+use mathlib.Core.Path.{◌≡◌, refl, sym, ap, ap₂, ◌∙◌, subst}
+use mathlib.Core.Logic.{⊎_elim}
+use mathlib.Core.Bool.{Bool, true, false, not, ◌&&◌, ◌||◌, or-false}
+use Prim.Native.Nat.{ℕ, ◌+◌, ◌^◌, ◌<◌}
 use native.Mathlib.Omega.{arith}
 use lib.Dec.{eqb}
 use borrow.Author.Tests.{eq-eqb, eqb-true}
-use Rattle·bits.specs.Numbers.{bit, val, number}
-use Rattle·bits.specs.Sets.{size}
-use Rattle·bits.proofs.Bools.{clash}
-use Rattle·bits.proofs.Below.{below-suc}
-use Rattle·bits.proofs.Numbers.{number-lt, bit-number}
-use Rattle·bits.proofs.Sizes.{size-lt, size-sum}
-use Rattle·bits.proofs.Counting.{size-one}
-use Rattle·bits.proofs.Members.{Place, place}
-use Rattle·tables.specs.Depends.{DependsOn}
-use Rattle·tables.specs.Counting.{AllCount, Ignores}
-use Rattle·tables.proofs.Depending.{depends-or, count-ext}
-use Rattle·splits.specs.Split.{readsH}
-use Rattle·splits.specs.Pair.{bitH, inputsH, tableH}
-use Rattle·splits.proofs.Asked.{free-counts, shared-to-own, output-counts}
-use Rattle·best·specs.specs.Best.{Candidate, Best}
-use Rattle·best·specs.specs.Moves.{with, without}
+use Rattle.bits.specs.Numbers.{bit, val, number}
+use Rattle.bits.specs.Sets.{size}
+use Rattle.bits.proofs.Bools.{clash}
+use Rattle.bits.proofs.Below.{below_suc}
+use Rattle.bits.proofs.Numbers.{number_lt, bit-number}
+use Rattle.bits.proofs.Sizes.{size-lt, size-sum}
+use Rattle.bits.proofs.Counting.{size-one}
+use Rattle.bits.proofs.Members.{Place, place}
+use Rattle.tables.specs.Depends.{DependsOn}
+use Rattle.tables.specs.Counting.{AllCount, Ignores}
+use Rattle.tables.proofs.Depending.{depends-or, count-ext}
+use Rattle.splits.specs.Split.{readsH}
+use Rattle.splits.specs.Pair.{bitH, inputsH, tableH}
+use Rattle.splits.proofs.Asked.{free-counts, shared-to-own, output-counts}
+use Rattle.best.specs.Best.{Candidate, Best}
+use Rattle.best.specs.Moves.{with, without}
 
 -- ---- a candidate with a shared input moved to A
 module _ {n K r A B : ℕ} (c : Candidate n K r A B) (p : ℕ) (l : p < n) (shared : bit B p ≡ true) where
-  A′ : ℕ
-  A′ = number n (with (bit A) p)
+  A' : ℕ
+  A' = number n (with (bit A) p)
 
-  B′ : ℕ
-  B′ = number n (without (bit B) p)
+  B' : ℕ
+  B' = number n (without (bit B) p)
 
-  bitA : (j : ℕ) → j < n → bit A′ j ≡ (bit A j || eqb j p)
-  unfolding A′
+  bitA : (j : ℕ) → j < n → bit A' j ≡ (bit A j || eqb j p)
+  unfolding A'
   bitA j h = bit-number n (with (bit A) p) j h
 
-  bitB : (j : ℕ) → j < n → bit B′ j ≡ (bit B j && not (eqb j p))
-  unfolding B′
+  bitB : (j : ℕ) → j < n → bit B' j ≡ (bit B j && not (eqb j p))
+  unfolding B'
   bitB j h = bit-number n (without (bit B) p) j h
 
-  at-p : (j : ℕ) → eqb j p ≡ true → bit B j ≡ true
-  at-p j e = ap (bit B) (eqb-true j p e) ∙ shared
+  at_p : (j : ℕ) → eqb j p ≡ true → bit B j ≡ true
+  at_p j e = ap (bit B) (eqb-true j p e) ∙ shared
 
   one : size n (λ j. eqb j p) ≡ 1
   one = omega (arith, size-one n p, size-lt n (λ j. eqb j p) p l (eq-eqb p p refl))
 
-  moreA : size n (bit A) + 1 ≡ size n (bit A′)
+  moreA : size n (bit A) + 1 ≡ size n (bit A')
   moreA = ap (λ (m : ℕ). size n (bit A) + m) (sym one)
-      ∙ size-sum n (bit A) (λ j. eqb j p) (bit A′) (λ j h. go (bit A j) (eqb j p) (λ e. c .apart j h (at-p j e))
+      ∙ size-sum n (bit A) (λ j. eqb j p) (bit A') (λ j h. go (bit A j) (eqb j p) (λ e. c.apart j h (at_p j e))
       ∙ ap val (sym (bitA j h)))
     where
       go : (s t : Bool) → (t ≡ true → s ≡ false) → val s + val t ≡ val (s || t)
@@ -56,10 +56,10 @@ module _ {n K r A B : ℕ} (c : Candidate n K r A B) (p : ℕ) (l : p < n) (shar
       go true false f = refl
       go false t f = omega arith
 
-  lessB : size n (bit B′) + 1 ≡ size n (bit B)
-  lessB = ap (λ (m : ℕ). size n (bit B′) + m) (sym one)
-      ∙ size-sum n (bit B′) (λ j. eqb j p) (bit B) (λ j h. ap (λ (t : Bool). val t + val (eqb j p)) (bitB j h)
-      ∙ go (bit B j) (eqb j p) (at-p j))
+  lessB : size n (bit B') + 1 ≡ size n (bit B)
+  lessB = ap (λ (m : ℕ). size n (bit B') + m) (sym one)
+      ∙ size-sum n (bit B') (λ j. eqb j p) (bit B) (λ j h. ap (λ (t : Bool). val t + val (eqb j p)) (bitB j h)
+      ∙ go (bit B j) (eqb j p) (at_p j))
     where
       go : (s t : Bool) → (t ≡ true → s ≡ true) → val (s && not t) + val t ≡ val s
       go true true f = refl
@@ -67,14 +67,14 @@ module _ {n K r A B : ℕ} (c : Candidate n K r A B) (p : ℕ) (l : p < n) (shar
       go false true f = absurd (clash (f refl) refl)
       go false false f = refl
 
-  moved : Candidate n K r A′ B′
-  unfolding A′ B′
+  moved : Candidate n K r A' B'
+  unfolding A' B'
   moved = record {
-    belowA = number-lt n (with (bit A) p);
-    belowB = number-lt n (without (bit B) p);
-    apart = λ j h e. bitA j h ∙ go (bit A j) (bit B j) (eqb j p) (c .apart j h) (sym (bitB j h) ∙ e);
-    more = omega (arith, moreA, c .more);
-    most = omega (arith, moreA, lessB, c .most);
+    belowA = number_lt n (with (bit A) p);
+    belowB = number_lt n (without (bit B) p);
+    apart = λ j h e. bitA j h ∙ go (bit A j) (bit B j) (eqb j p) (c.apart j h) (sym (bitB j h) ∙ e);
+    more = omega (arith, moreA, c.more);
+    most = omega (arith, moreA, lessB, c.most);
   }
     where
       go : (s t u : Bool) → (t ≡ true → s ≡ false) → (t && not u) ≡ true → (s || u) ≡ false
@@ -94,33 +94,33 @@ module _ {n K r A B : ℕ} (F : ℕ → Bool) (b : Best n K r F A B) (all : AllC
   H = bitH n F (bit A) (bit B)
 
   shared-counts : (p : ℕ) → p < n → s p ≡ true → bit B p ≡ true → DependsOn (k + r) H (size p s)
-  shared-counts p l in-s shared = ⊎-elim (λ d. d) (λ idle. absurd (never idle))
+  shared-counts p l in-s shared = ⊎_elim (λ d. d) (λ idle. absurd (never idle))
       (depends-or (k + r) H (size p s) (omega (arith, size-lt n s p l in-s)))
     where
       c : Candidate n K r A B
-      c = b .candidate
+      c = b.candidate
 
       never : Ignores (k + r) H (size p s) → ⊥
       never idle =
-          let larger = b .ahead (A′ c p l shared) (B′ c p l shared) (moved c p l shared)
-          (shared-to-own n F (bit A) (bit B) (c .apart) r (b .possible) p (bit (A′ c p l shared))
-          (bit (B′ c p l shared)) (bitA c p l shared)
+          let larger = b.ahead (A' c p l shared) (B' c p l shared) (moved c p l shared)
+          (shared-to-own n F (bit A) (bit B) c.apart r b.possible p (bit (A' c p l shared))
+          (bit (B' c p l shared)) (bitA c p l shared)
           (bitB c p l shared) idle) in
-          omega (arith, larger .largestA, moreA c p l shared)
+          omega (arith, larger.largestA, moreA c p l shared)
 
   -- H depends on each shared and free input
   pub next-reads : (q : ℕ) → q < k → DependsOn (k + r) H q
   next-reads q h = go (place n s q h)
     where
       go : Place n s q → DependsOn (k + r) H q
-      go w = subst (DependsOn (k + r) H) (w .rank) (at (bit A (w .at)) (bit B (w .at)) refl refl (w .member))
+      go w = subst (DependsOn (k + r) H) w.rank (at (bit A w.at) (bit B w.at) refl refl w.member)
         where
-          at : (a t : Bool) → bit A (w .at) ≡ a → bit B (w .at) ≡ t → (t || not (a || t)) ≡ true
-              → DependsOn (k + r) H (size (w .at) s)
-          at a true e f m = shared-counts (w .at) (w .below) (w .member) f
+          at : (a t : Bool) → bit A w.at ≡ a → bit B w.at ≡ t → (t || not (a || t)) ≡ true
+              → DependsOn (k + r) H (size w.at s)
+          at a true e f m = shared-counts w.at w.below w.member f
           at true false e f m = absurd (clash m refl)
-          at false false e f m = free-counts n F (bit A) (bit B) (b .candidate .apart) r (b .possible) (w .at)
-              (ap₂ _||_ e f) (all (w .at) (w .below))
+          at false false e f m = free-counts n F (bit A) (bit B) b.candidate.apart r b.possible w.at
+              (ap₂ ◌||◌ e f) (all w.at w.below)
 
 -- with one first cell, on that one's output too
 pub next-counts : (n K : ℕ) (F : ℕ → Bool) (A B : ℕ) → Best n K 1 F A B → AllCount n F
@@ -128,9 +128,9 @@ pub next-counts : (n K : ℕ) (F : ℕ → Bool) (A B : ℕ) → Best n K 1 F A 
 unfolding tableH
 next-counts n K F A B b all =
     count-ext (k + 1) H (bit (tableH n F (bit A) (bit B) 1)) (λ x h. sym (bit-number (2 ^ (k + 1)) H x h))
-    (λ q h. ⊎-elim (next-reads F b all q) (λ e. subst (DependsOn (k + 1) H) (sym e)
-    (own (place n (bit A) 0 (omega (arith, b .candidate .more)))))
-    (below-suc {j = q} {n = k} (omega arith)))
+    (λ q h. ⊎_elim (next-reads F b all q) (λ e. subst (DependsOn (k + 1) H) (sym e)
+    (own (place n (bit A) 0 (omega (arith, b.candidate.more)))))
+    (below_suc {j = q} {n = k} (omega arith)))
   where
     k : ℕ
     k = size n (readsH (bit A) (bit B))
@@ -139,5 +139,5 @@ next-counts n K F A B b all =
     H = bitH n F (bit A) (bit B)
 
     own : Place n (bit A) 0 → DependsOn (k + 1) H k
-    own w = output-counts n F (bit A) (bit B) (b .candidate .apart) (b .possible) (w .at) (w .below) (w .member)
-        (all (w .at) (w .below))
+    own w = output-counts n F (bit A) (bit B) b.candidate.apart b.possible w.at w.below w.member
+        (all w.at w.below)

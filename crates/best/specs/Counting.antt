@@ -1,20 +1,19 @@
 -- The best split over the inputs that count, in the caller's positions.
-use mathlib.Core.Bool.{Bool}
-use Prim.Native.Nat.{ℕ}
-use Rattle·bits.specs.Numbers.{bit}
-use Rattle·bits.specs.Sets.{size, spread}
-use Rattle·tables.specs.Counting.{Counting, support, tableOver}
-use Rattle·splits.specs.Split.{readsD, Possible}
-use Rattle·best·specs.specs.Best.{Candidate, Ahead}
-use Rattle·best·specs.specs.Search.{Answer, none, split, best}
+use Rattle.std.specs.Prelude.{Bool, ℕ}
+use Rattle.bits.specs.Numbers.{bit}
+use Rattle.bits.specs.Sets.{size, spread}
+use Rattle.tables.specs.Counting.{Counting, support, tableOver}
+use Rattle.splits.specs.Split.{readsD, Possible}
+use Rattle.best.specs.Best.{Candidate, Ahead}
+use Rattle.best.specs.Search.{Answer, none, split, best}
 
 -- a possible candidate whose members all count, and that comes before every other
 pub record BestCounting (n K r : ℕ) (F : ℕ → Bool) (A B : ℕ) : Type 0 where
   pub candidate : Candidate n K r A B
   pub counting : Counting n F (readsD (bit A) (bit B))
   pub possible : Possible n F (bit A) (bit B) r
-  pub ahead : (A′ B′ : ℕ) → Candidate n K r A′ B′ → Counting n F (readsD (bit A′) (bit B′))
-      → Possible n F (bit A′) (bit B′) r → Ahead n A B A′ B′
+  pub ahead : (A' B' : ℕ) → Candidate n K r A' B' → Counting n F (readsD (bit A') (bit B'))
+      → Possible n F (bit A') (bit B') r → Ahead n A B A' B'
 
 -- the masks of an answer over the members of s, spread back to the members
 abbrev pub spreadAnswer : ℕ → (ℕ → Bool) → Answer → Answer

@@ -1,24 +1,24 @@
 -- The members of a set in order: each number below the size is one member's, and spreading over the members keeps sizes
 -- and the order of masks. Assumes nothing.
-use mathlib.Core.Path.{_≡_, refl, sym, ap, ap₂, _∙_, subst, subst₂}
-use mathlib.Core.Bool.{Bool, true, false, _&&_}
-use Prim.Native.Nat.{ℕ, zero, suc, _+_, _*_, _%_, _^_, _<_, _≤_}
-use native.Mathlib.Nat.{not-suc-le-zero, mod-eq-of-lt, mod-lt, add-zero}
+use mathlib.Core.Path.{◌≡◌, refl, sym, ap, ap₂, ◌∙◌, subst, subst₂}
+use mathlib.Core.Bool.{Bool, true, false, ◌&&◌}
+use Prim.Native.Nat.{ℕ, zero, suc, ◌+◌, ◌*◌, ◌%◌, ◌^◌, ◌<◌, ◌≤◌}
+use native.Mathlib.Nat.{not-suc-le-zero, mod-eq_of_lt, mod-lt, add-zero}
 use native.Mathlib.Numerals.{add-one}
-use native.Mathlib.Decide.{decLt}
+use native.Mathlib.Decide.{dec_lt}
 use native.Mathlib.Omega.{arith}
-use lib.Pow.{pow-pos}
-use Rattle·bits·specs.specs.Numbers.{bit, val, number}
-use Rattle·bits·specs.specs.Sets.{size, gather, spread}
-use Rattle·bits·proofs.proofs.Bools.{clash, and-left}
-use Rattle·bits·proofs.proofs.Numbers.{number-ext, number-bit, number-of, bit-below}
-use Rattle·bits·proofs.proofs.Sizes.{size-lt, size-ext}
-use Rattle·bits·proofs.proofs.Counting.{size-all}
-use Rattle·bits·proofs.proofs.Spreading.{mod-more, gather-bit, bit-spread, spread-lt}
+use lib.Pow.{pow_pos}
+use Rattle.bits.specs.Numbers.{bit, val, number}
+use Rattle.bits.specs.Sets.{size, gather, spread}
+use Rattle.bits.proofs.Bools.{clash, and_left}
+use Rattle.bits.proofs.Numbers.{number-ext, number_bit, number-of, bit_below}
+use Rattle.bits.proofs.Sizes.{size-lt, size-ext}
+use Rattle.bits.proofs.Counting.{size-all}
+use Rattle.bits.proofs.Spreading.{mod-more, gather-bit, bit-spread, spread-lt}
 
 -- numbers with the same bits are the same
-pub same-bits : (n x y : ℕ) → x < 2 ^ n → y < 2 ^ n → ((j : ℕ) → j < n → bit x j ≡ bit y j) → x ≡ y
-same-bits n x y p q h = number-of n x (bit y) p h ∙ number-bit n y q
+pub same_bits : (n x y : ℕ) → x < 2 ^ n → y < 2 ^ n → ((j : ℕ) → j < n → bit x j ≡ bit y j) → x ≡ y
+same_bits n x y p q h = number-of n x (bit y) p h ∙ number_bit n y q
 
 -- member number k of s
 pub record Place (n : ℕ) (s : ℕ → Bool) (k : ℕ) : Type 0 where
@@ -33,21 +33,21 @@ place zero s k h = absurd (not-suc-le-zero h)
 place (suc n) s k h = go (s n) refl (place n s k) h
   where
     go : (t : Bool) → s n ≡ t → (k < size n s → Place n s k) → k < size n s + val t → Place (suc n) s k
-    go true e ih h = elim (decLt k (size n s)) [
+    go true e ih h = elim (dec_lt k (size n s)) [
       | yes l ↦ let w = ih l in record {
-        at = w .at;
-        below = omega (arith, w .below);
-        member = w .member;
-        rank = w .rank;
+        at = w.at;
+        below = omega (arith, w.below);
+        member = w.member;
+        rank = w.rank;
       }
       | no l ↦ record { at = n; below = omega arith; member = e; rank = omega arith }
     ]
     go false e ih h = let w = ih (omega arith) in record
-        { at = w .at; below = omega (arith, w .below); member = w .member; rank = w .rank }
+        { at = w.at; below = omega (arith, w.below); member = w.member; rank = w.rank }
 
 -- its bit, among those gathered
-pub gather-place : (n : ℕ) (s : ℕ → Bool) (x k : ℕ) (w : Place n s k) → bit (gather n s x) k ≡ bit x (w .at)
-gather-place n s x k w = ap (bit (gather n s x)) (sym (w .rank)) ∙ gather-bit n s x (w .at) (w .below) (w .member)
+pub gather-place : (n : ℕ) (s : ℕ → Bool) (x k : ℕ) (w : Place n s k) → bit (gather n s x) k ≡ bit x w.at
+gather-place n s x k w = ap (bit (gather n s x)) (sym w.rank) ∙ gather-bit n s x w.at w.below w.member
 
 -- ---- sizes
 
@@ -81,7 +81,7 @@ spread-low n s v w h = number-ext n (λ j. s j && bit v (size j s)) (λ j. s j &
 
 -- a number is its top digit and the rest
 top : (k v : ℕ) → v < 2 ^ (k + 1) → v % 2 ^ k + val (bit v k) * 2 ^ k ≡ v
-top k v h = mod-more v k ∙ mod-eq-of-lt h
+top k v h = mod-more v k ∙ mod-eq_of_lt h
 
 -- numbers compare by their top digits, then by the rest
 digits : (p v w : ℕ) (s t : Bool) → v < p → w < p → v + val s * p ≤ w + val t * p → (x y q : ℕ) → x < q
@@ -100,19 +100,19 @@ spread-rises (suc n) s v w p q h = go (s n) (spread-rises n s) p q
     k : ℕ
     k = size n s
 
-    rest-of : (u : ℕ) → u < 2 ^ (k + 1) → spread n s (u % 2 ^ k) ≡ spread n s u
-    rest-of u b = spread-low n s (u % 2 ^ k) u (λ j l. sym (bit-below (u % 2 ^ k) (val (bit u k)) k j l)
+    rest_of : (u : ℕ) → u < 2 ^ (k + 1) → spread n s (u % 2 ^ k) ≡ spread n s u
+    rest_of u b = spread-low n s (u % 2 ^ k) u (λ j l. sym (bit_below (u % 2 ^ k) (val (bit u k)) k j l)
         ∙ ap (λ (m : ℕ). bit m j) (top k u b))
 
     go : (t : Bool) → ((v w : ℕ) → v < 2 ^ k → w < 2 ^ k → v ≤ w → spread n s v ≤ spread n s w)
         → v < 2 ^ (k + val t) → w < 2 ^ (k + val t)
         → spread n s v + val (t && bit v k) * 2 ^ n ≤ spread n s w + val (t && bit w k) * 2 ^ n
     go true ih p q =
-        digits (2 ^ k) (v % 2 ^ k) (w % 2 ^ k) (bit v k) (bit w k) (mod-lt v (pow-pos k)) (mod-lt w (pow-pos k))
+        digits (2 ^ k) (v % 2 ^ k) (w % 2 ^ k) (bit v k) (bit w k) (mod-lt v (pow_pos k)) (mod-lt w (pow_pos k))
         (omega (arith, top k v p, top k w q))
         (spread n s v) (spread n s w) (2 ^ n) (spread-lt n s v)
-        (λ l. subst₂ (λ (x y : ℕ). x ≤ y) (rest-of v p) (rest-of w q)
-        (ih (v % 2 ^ k) (w % 2 ^ k) (mod-lt v (pow-pos k)) (mod-lt w (pow-pos k)) l))
+        (λ l. subst₂ (λ (x y : ℕ). x ≤ y) (rest_of v p) (rest_of w q)
+        (ih (v % 2 ^ k) (w % 2 ^ k) (mod-lt v (pow_pos k)) (mod-lt w (pow_pos k)) l))
     go false ih p q =
         omega (
           arith,
@@ -123,13 +123,13 @@ spread-rises (suc n) s v w p q h = go (s n) (spread-rises n s) p q
 -- ---- masks inside a set
 
 pub spread-inside : (n : ℕ) (s : ℕ → Bool) (v j : ℕ) → j < n → bit (spread n s v) j ≡ true → s j ≡ true
-spread-inside n s v j h e = and-left (s j) (bit v (size j s)) (sym (bit-spread n s v j h) ∙ e)
+spread-inside n s v j h e = and_left (s j) (bit v (size j s)) (sym (bit-spread n s v j h) ∙ e)
 
 -- a mask of members is what its gathered bits spread to
 pub inside-spread : (n : ℕ) (s : ℕ → Bool) (m : ℕ) → m < 2 ^ n → ((j : ℕ) → j < n → bit m j ≡ true → s j ≡ true)
     → spread n s (gather n s m) ≡ m
 inside-spread n s m l h =
-    same-bits n (spread n s (gather n s m)) m (spread-lt n s (gather n s m)) l
+    same_bits n (spread n s (gather n s m)) m (spread-lt n s (gather n s m)) l
     (λ j b. bit-spread n s (gather n s m) j b ∙ go j b (s j) (bit m j) refl refl)
   where
     go : (j : ℕ) → j < n → (t u : Bool) → s j ≡ t → bit m j ≡ u → (t && bit (gather n s m) (size j s)) ≡ u
@@ -145,7 +145,7 @@ module _ (n : ℕ) (s : ℕ → Bool) (all : (j : ℕ) → j < n → s j ≡ tru
 
   pub spread-full : (v : ℕ) → v < 2 ^ n → spread n s v ≡ v
   spread-full v h =
-      same-bits n (spread n s v) v (spread-lt n s v) h (λ j b.
+      same_bits n (spread n s v) v (spread-lt n s v) h (λ j b.
       bit-spread n s v j b
       ∙ ap₂ (λ (t : Bool) (q : ℕ). t && bit v q) (all j b)
       (size-ext j s (λ i. true) (λ i c. all i (omega arith)) ∙ size-all j))

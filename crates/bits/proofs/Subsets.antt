@@ -1,25 +1,25 @@
 -- The numbers that have bits at a set's members alone, as a word: with one position more they come twice, without it
 -- and, if it is a member, with it. Assumes nothing.
-use mathlib.Core.Path.{_≡_, refl, sym, ap, ap₂, _∙_}
-use mathlib.Core.Bool.{Bool, true, false, cond, not, _&&_, _||_}
-use Prim.Native.Nat.{ℕ, suc, _+_, _*_, _/_, _%_, _^_, _<_, _≤_}
+use mathlib.Core.Path.{◌≡◌, refl, sym, ap, ap₂, ◌∙◌}
+use mathlib.Core.Bool.{Bool, true, false, cond, not, ◌&&◌, ◌||◌}
+use Prim.Native.Nat.{ℕ, suc, ◌+◌, ◌*◌, ◌/◌, ◌%◌, ◌^◌, ◌<◌, ◌≤◌}
 use native.Mathlib.Nat.{pow-suc}
 use native.Mathlib.Numerals.{add-one}
 use native.Mathlib.Omega.{arith}
-use lib.Bits.{bitAnd}
-use lib.Pow.{pow-pos, pow-mono, shl-exact}
-use Rattle·bits·specs.specs.Numbers.{bit, val, number}
-use Rattle·bits·specs.specs.Below.{every}
-use Rattle·bits·specs.specs.Sets.{wordPositions, isSubset}
-use Rattle·bits·proofs.proofs.Below.{every-at, every-all, every-ext}
-use Rattle·bits·proofs.proofs.Numbers.{number-lt, number-ext, none-zero, bit-below, bit-top, bit-high}
-use Rattle·bits·proofs.proofs.Machine.{shl-one}
-use Rattle·bits·proofs.proofs.Building.{bit-digit}
-use Rattle·bits·proofs.proofs.Sums.{number-append}
+use lib.Bits.{bit_and}
+use lib.Pow.{pow_pos, pow_mono, shl_exact}
+use Rattle.bits.specs.Numbers.{bit, val, number}
+use Rattle.bits.specs.Below.{every}
+use Rattle.bits.specs.Sets.{wordPositions, isSubset}
+use Rattle.bits.proofs.Below.{every-at, every-all, every-ext}
+use Rattle.bits.proofs.Numbers.{number_lt, number-ext, none-zero, bit_below, bit-top, bit_high}
+use Rattle.bits.proofs.Machine.{shl_one}
+use Rattle.bits.proofs.Building.{bit-digit}
+use Rattle.bits.proofs.Sums.{number_append}
 
-pub part-at : (p : ℕ) (s : ℕ → Bool) (k : ℕ) → isSubset p s k ≡ true → (j : ℕ) → j < p → bit k j ≡ true → s j ≡ true
+pub part_at : (p : ℕ) (s : ℕ → Bool) (k : ℕ) → isSubset p s k ≡ true → (j : ℕ) → j < p → bit k j ≡ true → s j ≡ true
 unfolding isSubset
-part-at p s k e j l q = sym (ap (λ (t : Bool). not t || s j) q) ∙ every-at p (λ j. not (bit k j) || s j) e j l
+part_at p s k e j l q = sym (ap (λ (t : Bool). not t || s j) q) ∙ every-at p (λ j. not (bit k j) || s j) e j l
 
 pub part-all : (p : ℕ) (s : ℕ → Bool) (k : ℕ) → ((j : ℕ) → j < p → bit k j ≡ true → s j ≡ true) → isSubset p s k ≡ true
 unfolding isSubset
@@ -44,12 +44,12 @@ module _ (p : ℕ) (s : ℕ → Bool) where
       both false y = refl
 
   low : (k : ℕ) → k < 2 ^ p → isSubset (suc p) s k ≡ isSubset p s k
-  low k h = step k k (λ j l. refl) false (bit-high k p p h (omega arith))
+  low k h = step k k (λ j l. refl) false (bit_high k p p h (omega arith))
 
   high : (k : ℕ) → k < 2 ^ p → isSubset (suc p) s (2 ^ p + k) ≡ (s p && isSubset p s k)
   high k h =
       let e : 2 ^ p + k ≡ k + val true * 2 ^ p = omega arith in
-      step (2 ^ p + k) k (λ j l. ap (λ (m : ℕ). bit m j) e ∙ bit-below k (val true) p j l) true
+      step (2 ^ p + k) k (λ j l. ap (λ (m : ℕ). bit m j) e ∙ bit_below k (val true) p j l) true
       (ap (λ (m : ℕ). bit m p) e ∙ bit-top k true p h)
 
   -- twice
@@ -57,7 +57,7 @@ module _ (p : ℕ) (s : ℕ → Bool) where
       + number (2 ^ p) (isSubset p s) * val (s p) * 2 ^ (2 ^ p)
   subsets-more =
       let two : 2 ^ (p + 1) ≡ 2 ^ p + 2 ^ p = omega (arith, pow-suc 2 p, ap (λ (q : ℕ). 2 ^ q) (add-one p)) in
-      ap₂ (λ (m q : ℕ). number m (isSubset q s)) two (add-one p) ∙ number-append (2 ^ p) (2 ^ p) (isSubset (suc p) s)
+      ap₂ (λ (m q : ℕ). number m (isSubset q s)) two (add-one p) ∙ number_append (2 ^ p) (2 ^ p) (isSubset (suc p) s)
       ∙ ap₂ (λ (x y : ℕ). x + y * 2 ^ (2 ^ p)) (number-ext (2 ^ p) _ (isSubset p s) low)
       (number-ext (2 ^ p) _ (λ k. s p && isSubset p s k) high ∙ go (s p))
     where
@@ -68,19 +68,19 @@ module _ (p : ℕ) (s : ℕ → Bool) where
 -- one turn of the loop, in a word
 module _ (m : ℕ) {j r : ℕ} (l : j < wordPositions) (is : r ≡ number (2 ^ j) (isSubset j (bit m))) where
   abbrev again : ℕ
-  again = r * bitAnd (m / 2 ^ j) 1 * 2 ^ (1 * 2 ^ j % 2 ^ 64) % 2 ^ 64
+  again = r * bit_and (m / 2 ^ j) 1 * 2 ^ (1 * 2 ^ j % 2 ^ 64) % 2 ^ 64
 
   pub subsets-shift : 1 * 2 ^ j % 2 ^ 64 ≤ 32
-  subsets-shift = omega (arith, shl-one 64 j (omega arith), pow-mono {i = j} {j = 5} (omega arith))
+  subsets-shift = omega (arith, shl_one 64 j (omega arith), pow_mono {i = j} {j = 5} (omega arith))
 
   again-is : again ≡ r * val (bit m j) * 2 ^ (2 ^ j)
   again-is =
-      ap₂ (λ (d w : ℕ). r * d * 2 ^ w % 2 ^ 64) (bit-digit m j) (shl-one 64 j (omega arith))
-      ∙ shl-exact (2 ^ j) (2 ^ j) 64 (small (bit m j)) (omega (arith, subsets-shift, shl-one 64 j (omega arith)))
+      ap₂ (λ (d w : ℕ). r * d * 2 ^ w % 2 ^ 64) (bit-digit m j) (shl_one 64 j (omega arith))
+      ∙ shl_exact (2 ^ j) (2 ^ j) 64 (small (bit m j)) (omega (arith, subsets-shift, shl_one 64 j (omega arith)))
     where
       small : (t : Bool) → r * val t < 2 ^ (2 ^ j)
-      small true = omega (arith, is, number-lt (2 ^ j) (isSubset j (bit m)))
-      small false = omega (arith, pow-pos (2 ^ j))
+      small true = omega (arith, is, number_lt (2 ^ j) (isSubset j (bit m)))
+      small false = omega (arith, pow_pos (2 ^ j))
 
   pub subsets-turn : r + again ≡ number (2 ^ (j + 1)) (isSubset (j + 1) (bit m))
   subsets-turn = ap (λ (x : ℕ). r + x) again-is ∙ ap (λ (x : ℕ). x + x * val (bit m j) * 2 ^ (2 ^ j)) is
@@ -91,13 +91,13 @@ module _ (m : ℕ) {j r : ℕ} (l : j < wordPositions) (is : r ≡ number (2 ^ j
       omega (
         arith,
         subsets-turn,
-        number-lt (2 ^ (j + 1)) (isSubset (j + 1) (bit m)),
-        pow-mono {i = 2 ^ (j + 1)} {j = 64} (pow-mono {i = j + 1} {j = wordPositions} (omega arith)),
+        number_lt (2 ^ (j + 1)) (isSubset (j + 1) (bit m)),
+        pow_mono {i = 2 ^ (j + 1)} {j = 64} (pow_mono {i = j + 1} {j = wordPositions} (omega arith)),
       )
 
-  pub subsets-once : r * bitAnd (m / 2 ^ j) 1 < 2 ^ 64
+  pub subsets-once : r * bit_and (m / 2 ^ j) 1 < 2 ^ 64
   subsets-once = go (bit m j) (bit-digit m j)
     where
-      go : (t : Bool) → bitAnd (m / 2 ^ j) 1 ≡ val t → r * bitAnd (m / 2 ^ j) 1 < 2 ^ 64
+      go : (t : Bool) → bit_and (m / 2 ^ j) 1 ≡ val t → r * bit_and (m / 2 ^ j) 1 < 2 ^ 64
       go true e = omega (arith, ap (λ (d : ℕ). r * d) e, subsets-fits)
       go false e = omega (arith, ap (λ (d : ℕ). r * d) e, subsets-fits)

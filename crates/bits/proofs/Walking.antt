@@ -1,13 +1,13 @@
 -- A loop over all the numbers that a mask spreads, in increasing order: at turn v the number at hand is v spread. Its
 -- step is that of `next`. Assumes nothing.
-use mathlib.Core.Path.{_≡_, sym, ap, _∙_}
-use Prim.Native.Nat.{ℕ, _+_, _^_, _<_, _≤_}
+use mathlib.Core.Path.{◌≡◌, sym, ap, ◌∙◌}
+use Prim.Native.Nat.{ℕ, ◌+◌, ◌^◌, ◌<◌, ◌≤◌}
 use native.Mathlib.Omega.{arith}
-use Rattle·bits·specs.specs.Numbers.{bit}
-use Rattle·bits·specs.specs.Sets.{maskWidth, size, gather, spread}
-use Rattle·bits·proofs.proofs.Masks.{mask-most}
-use Rattle·bits·proofs.proofs.Sizes.{size-le}
-use Rattle·bits·proofs.proofs.Spreading.{spread-zero, spread-lt, gather-spread}
+use Rattle.bits.specs.Numbers.{bit}
+use Rattle.bits.specs.Sets.{maskWidth, size, gather, spread}
+use Rattle.bits.proofs.Masks.{mask-most}
+use Rattle.bits.proofs.Sizes.{size-le}
+use Rattle.bits.proofs.Spreading.{spread-zero, spread-lt, gather-spread}
 
 pub record Walked (n m many s v : ℕ) : Type 0 where
   pub all : many ≡ 2 ^ size n (bit m)
@@ -15,30 +15,30 @@ pub record Walked (n m many s v : ℕ) : Type 0 where
   pub upto : v ≤ many
   pub at : s ≡ spread n (bit m) v
 
-pub walked-none : {n m many : ℕ} → n ≤ maskWidth → many ≡ 2 ^ size n (bit m) → Walked n m many 0 0
-walked-none {n} {m} {many} most e = record { all = e; few = few; upto = omega arith; at = sym (spread-zero n (bit m)) }
+pub walked_none : {n m many : ℕ} → n ≤ maskWidth → many ≡ 2 ^ size n (bit m) → Walked n m many 0 0
+walked_none {n} {m} {many} most e = record { all = e; few = few; upto = omega arith; at = sym (spread-zero n (bit m)) }
   where
     few : many ≤ 2 ^ maskWidth
     few = omega (arith, e, mask-most {n = size n (bit m)} (omega (arith, size-le n (bit m))))
 
 module _ {n m many s v : ℕ} (w : Walked n m many s v) where
   pub walked-lt : s < 2 ^ n
-  walked-lt = omega (arith, w .at, spread-lt n (bit m) v)
+  walked-lt = omega (arith, w.at, spread-lt n (bit m) v)
 
-  pub walked-end : many ≤ v → v ≡ 2 ^ size n (bit m)
-  walked-end h = omega (arith, w .all, w .upto)
+  pub walked_end : many ≤ v → v ≡ 2 ^ size n (bit m)
+  walked_end h = omega (arith, w.all, w.upto)
 
   module _ (l : v < many) where
-    pub walked-more : {s′ : ℕ} → ((u : ℕ) → s ≡ spread n (bit m) u → s′ ≡ spread n (bit m) (u + 1))
-        → Walked n m many s′ (v + 1)
-    walked-more step = record { all = w .all; few = w .few; upto = omega arith; at = step v (w .at) }
+    pub walked_more : {s' : ℕ} → ((u : ℕ) → s ≡ spread n (bit m) u → s' ≡ spread n (bit m) (u + 1))
+        → Walked n m many s' (v + 1)
+    walked_more step = record { all = w.all; few = w.few; upto = omega arith; at = step v w.at }
 
     pub walked-turn : v < 2 ^ size n (bit m)
-    walked-turn = omega (arith, w .all)
+    walked-turn = omega (arith, w.all)
 
     -- it has bits at the members alone, and they make v
     pub walked-gather : gather n (bit m) s ≡ v
-    walked-gather = ap (gather n (bit m)) (w .at) ∙ gather-spread n (bit m) v walked-turn
+    walked-gather = ap (gather n (bit m)) w.at ∙ gather-spread n (bit m) v walked-turn
 
     pub walked-within : s ≡ spread n (bit m) (gather n (bit m) s)
-    walked-within = w .at ∙ ap (spread n (bit m)) (sym walked-gather)
+    walked-within = w.at ∙ ap (spread n (bit m)) (sym walked-gather)

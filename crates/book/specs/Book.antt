@@ -1,11 +1,9 @@
 -- The book: for each three-input table the least number reachable.
-use mathlib.Core.Bool.{cond}
-use mathlib.Core.List.{List, [], _∷_}
-use Prim.Native.Nat.{ℕ, suc, _<_, _≤_}
-use Rattle·bits.specs.Below.{least}
-use Rattle·bits.specs.Lists.{member}
-use Rattle·turning.specs.Ways.{Reachable}
-use Rattle·turning.specs.Reach.{reaches}
+use Rattle.std.specs.Prelude.{cond, List, [], ◌∷◌, ℕ, suc, ◌<◌, ◌≤◌}
+use Rattle.bits.specs.Below.{least}
+use Rattle.bits.specs.Lists.{member}
+use Rattle.turning.specs.Ways.{Reachable}
+use Rattle.turning.specs.Reach.{reaches}
 
 -- a three-input table is a byte
 abbrev pub tableCount : ℕ

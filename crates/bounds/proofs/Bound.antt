@@ -1,30 +1,30 @@
 -- What is computed is the bound: by the chain with cells of two inputs, else by the best split. Assumes nothing.
-use mathlib.Core.Path.{_≡_, refl, sym, ap, ap₂, _∙_, subst}
+use mathlib.Core.Path.{◌≡◌, refl, sym, ap, ap₂, ◌∙◌, subst}
 use mathlib.Core.Bool.{Bool, true, false, cond}
-use mathlib.Core.List.{[], _∷_}
-use Prim.Native.Nat.{ℕ, _+_, _-_, _^_, _<_, _≤_, max}
-use native.Mathlib.Decide.{decLt}
+use mathlib.Core.List.{[], ◌∷◌}
+use Prim.Native.Nat.{ℕ, ◌+◌, ◌-◌, ◌^◌, ◌<◌, ◌≤◌, max}
+use native.Mathlib.Decide.{dec_lt}
 use native.Mathlib.Omega.{arith}
 use lib.Dec.{leb, eqb}
 use lib.ListN.{length}
-use borrow.Author.Tests.{le-leb, lt-leb, leb-true, leb-false, eq-eqb, ne-eqb, eqb-true, eqb-false}
-use Rattle·bits.specs.Numbers.{bit, number}
-use Rattle·bits.specs.Sets.{size}
-use Rattle·bits.proofs.Numbers.{bit-zero}
-use Rattle·bits.proofs.Sizes.{size-ext}
-use Rattle·bits.proofs.Counting.{size-none}
-use Rattle·best.specs.Search.{Answer, none, split}
-use Rattle·best.specs.Counting.{bestCounting}
-use Rattle·sheets.specs.Network.{Carries}
-use Rattle·chains.specs.Chain.{Made, stuck, made}
-use Rattle·chains.specs.Aside.{sheetAside}
-use Rattle·chains.proofs.Aside.{table-most}
-use Rattle·trees.proofs.Trees.{made-tree, stuck-treeless}
-use Rattle·finding.specs.FindBest.{ownOf}
-use Rattle·bounds·specs.specs.Bound.{counted, Bound, one, two, treeless, more}
-use Rattle·bounds·specs.specs.Least.{reaching, bySplit, byChain, cellBound}
-use Rattle·bounds·proofs.proofs.Two.{made-carries, two-fits, fits-made}
-use Rattle·bounds·proofs.proofs.Reaching.{reached, reaching-least}
+use borrow.Author.Tests.{le-leb, lt-leb, leb-true, leb-false, eq-eqb, ne_eqb, eqb-true, eqb-false}
+use Rattle.bits.specs.Numbers.{bit, number}
+use Rattle.bits.specs.Sets.{size}
+use Rattle.bits.proofs.Numbers.{bit-zero}
+use Rattle.bits.proofs.Sizes.{size-ext}
+use Rattle.bits.proofs.Counting.{size_none}
+use Rattle.best.specs.Search.{Answer, none, split}
+use Rattle.best.specs.Counting.{bestCounting}
+use Rattle.sheets.specs.Network.{Carries}
+use Rattle.chains.specs.Chain.{Made, stuck, made}
+use Rattle.chains.specs.Aside.{sheetAside}
+use Rattle.chains.proofs.Aside.{table-most}
+use Rattle.trees.proofs.Trees.{made-tree, stuck-treeless}
+use Rattle.finding.specs.FindBest.{own_of}
+use Rattle.bounds.specs.Bound.{counted, Bound, one, two, treeless, more}
+use Rattle.bounds.specs.Least.{reaching, bySplit, byChain, cellBound}
+use Rattle.bounds.proofs.Two.{made-carries, two_fits, fits-made}
+use Rattle.bounds.proofs.Reaching.{reached, reaching-least}
 
 -- ---- the three ways to compute it
 module _ (n K : ℕ) (F : ℕ → Bool) where
@@ -35,23 +35,23 @@ module _ (n K : ℕ) (F : ℕ → Bool) where
         [ true ↦ byChain (counted n F) r | false ↦ bySplit n K (counted n F) a ]
   ]
 
-  least-by : (few pairs : Bool) → leb (counted n F) K ≡ few → eqb K 2 ≡ pairs
+  least_by : (few pairs : Bool) → leb (counted n F) K ≡ few → eqb K 2 ≡ pairs
       → cellBound n K F ≡ by few pairs (sheetAside n 2 (number (2 ^ n) F)) (bestCounting n 1 F K)
   unfolding cellBound by
-  least-by few pairs e f = ap₂ (λ (s t : Bool). by s t (sheetAside n 2 (number (2 ^ n) F)) (bestCounting n 1 F K)) e f
+  least_by few pairs e f = ap₂ (λ (s t : Bool). by s t (sheetAside n 2 (number (2 ^ n) F)) (bestCounting n 1 F K)) e f
 
   pub least-few : counted n F ≤ K → cellBound n K F ≡ 1
   unfolding by
-  least-few h = least-by true (eqb K 2) (le-leb (counted n F) K h) refl
+  least-few h = least_by true (eqb K 2) (le-leb (counted n F) K h) refl
 
   pub least-chain : K < counted n F → K ≡ 2 → cellBound n K F
       ≡ byChain (counted n F) (sheetAside n 2 (number (2 ^ n) F))
   unfolding by
-  least-chain h e = least-by false true (lt-leb (counted n F) K h) (eq-eqb K 2 e)
+  least-chain h e = least_by false true (lt-leb (counted n F) K h) (eq-eqb K 2 e)
 
   pub least-split : K < counted n F → (K ≡ 2 → ⊥) → cellBound n K F ≡ bySplit n K (counted n F) (bestCounting n 1 F K)
   unfolding by
-  least-split h f = least-by false false (lt-leb (counted n F) K h) (ne-eqb K 2 f)
+  least-split h f = least_by false false (lt-leb (counted n F) K h) (ne_eqb K 2 f)
 
 -- ---- what is computed is the bound
 module _ (n K : ℕ) (F : ℕ → Bool) (p : 1 ≤ n) (q : 2 ≤ K) where
@@ -62,12 +62,12 @@ module _ (n K : ℕ) (F : ℕ → Bool) (p : 1 ≤ n) (q : 2 ≤ K) where
   some = omega arith
 
   pairs : (r : Made) → sheetAside n 2 (number (2 ^ n) F) ≡ r → 2 < c → Bound n 2 F (byChain c r)
-  pairs stuck e h = treeless refl h (λ w. stuck-treeless n F p .0 e (w .0) (w .1))
+  pairs stuck e h = treeless refl h (λ w. (stuck-treeless n F p).0 e w.0 w.1)
   pairs (made cs) e h =
       let C = made-carries n 2 F p (omega arith) cs e in
       let long : length cs ≡ c - 1 = omega (arith, reached n 2 (length cs) F C, table-most n 2 F p (omega arith) cs e)
       in
-      elim (decLt 3 c) [
+      elim (dec_lt 3 c) [
         | yes g ↦ let is : max 3 (c - 1) ≡ c - 1 = omega arith in
             subst (Bound n 2 F) is
             (more h (λ D. omega (arith, reached n 2 2 F D)) (λ _. made-tree n F p cs e)
@@ -77,28 +77,28 @@ module _ (n K : ℕ) (F : ℕ → Bool) (p : 1 ≤ n) (q : 2 ≤ K) where
       ]
 
   by-split : K < c → (K ≡ 2 → ⊥) → (a : Answer) → bestCounting n 1 F K ≡ a → Bound n K F (bySplit n K c a)
-  by-split h f a e = go (leb (c + 1) (K + size n (bit (ownOf a)))) refl
+  by-split h f a e = go (leb (c + 1) (K + size n (bit (own_of a)))) refl
     where
-      carried : (a : Answer) → bestCounting n 1 F K ≡ a → c + 1 ≤ K + size n (bit (ownOf a)) → Carries n K 2 F
-      carried none e l = absurd (omega (arith, size-ext n (bit 0) (λ j. false) (λ j _. bit-zero j), size-none n))
+      carried : (a : Answer) → bestCounting n 1 F K ≡ a → c + 1 ≤ K + size n (bit (own_of a)) → Carries n K 2 F
+      carried none e l = absurd (omega (arith, size-ext n (bit 0) (λ j. false) (λ j _. bit-zero j), size_none n))
       carried (split A B) e l =
           let w = fits-made n K F p some h (record { own = A; shared = B; best = e; large = l }) in
-          made-carries n K F p some (w .0 ∷ w .1 ∷ []) (w .2)
+          made-carries n K F p some (w.0 ∷ w.1 ∷ []) w.2
 
-      go : (t : Bool) → leb (c + 1) (K + size n (bit (ownOf a))) ≡ t → Bound n K F (cond t 2 (max 3 (reaching c K)))
-      go true r = two h (carried a e (leb-true (c + 1) (K + size n (bit (ownOf a))) r))
+      go : (t : Bool) → leb (c + 1) (K + size n (bit (own_of a))) ≡ t → Bound n K F (cond t 2 (max 3 (reaching c K)))
+      go true r = two h (carried a e (leb-true (c + 1) (K + size n (bit (own_of a))) r))
       go false r =
-          more h (λ C. let w = two-fits n K F p some h C in let same = ap ownOf (sym e ∙ w .best) in
+          more h (λ C. let w = two_fits n K F p some h C in let same = ap own_of (sym e ∙ w.best) in
           omega (
             arith,
-            w .large,
-            leb-false (c + 1) (K + size n (bit (ownOf a))) r,
+            w.large,
+            leb-false (c + 1) (K + size n (bit (own_of a))) r,
             ap (λ (m : ℕ). size n (bit m))
                 same,
           )) (λ t. absurd (f t)) (reaching-least c K q h)
 
   pub least-bound : Bound n K F (cellBound n K F)
-  least-bound = elim (decLt K c) [
+  least-bound = elim (dec_lt K c) [
     | no h ↦ let few : c ≤ K = omega arith in subst (Bound n K F) (sym (least-few n K F few)) (one few)
     | yes h ↦ go h (eqb K 2) refl
   ]

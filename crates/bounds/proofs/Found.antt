@@ -1,32 +1,32 @@
 -- What the code finds, in the words of the bound: whether there is a tree, and the own set of the best split. Assumes
 -- nothing.
-use mathlib.Core.Path.{_≡_, refl, sym, ap, _∙_, subst}
+use mathlib.Core.Path.{◌≡◌, refl, sym, ap, ◌∙◌, subst}
 use mathlib.Core.Bool.{Bool, cond}
-use Prim.Native.Nat.{ℕ, _+_, _-_, _^_, _<_, _≤_, max}
+use Prim.Native.Nat.{ℕ, ◌+◌, ◌-◌, ◌^◌, ◌<◌, ◌≤◌, max}
 use native.Mathlib.Omega.{arith}
-use lib.Pow.{pow-pos}
+use lib.Pow.{pow_pos}
 use borrow.Author.Tests.{le-leb, lt-leb}
-use Rattle·bits.specs.Numbers.{bit, number}
-use Rattle·bits.specs.Sets.{size}
-use Rattle·bits.proofs.Sizes.{size-le}
-use Rattle·search.specs.declared.counted.Counted.{Counted}
-use Rattle·search.specs.Counted.{splitIn}
-use Rattle·best.specs.Search.{Answer, none, split}
-use Rattle·best.specs.Counting.{bestCounting}
-use Rattle·best.proofs.Counting.{counting-split}
-use Rattle·chains.specs.Aside.{sheetAside}
-use Rattle·trees.specs.Tree.{IsTree}
-use Rattle·trees.proofs.Trees.{tree-made, stuck-treeless}
-use Rattle·finding.specs.FindBest.{ownOf}
-use Rattle·bounds·specs.specs.Least.{reaching, bySplit, byChain}
+use Rattle.bits.specs.Numbers.{bit, number}
+use Rattle.bits.specs.Sets.{size}
+use Rattle.bits.proofs.Sizes.{size-le}
+use Rattle.search.specs.declared.counted.Counted.{Counted}
+use Rattle.search.specs.Counted.{splitIn}
+use Rattle.best.specs.Search.{Answer, none, split}
+use Rattle.best.specs.Counting.{bestCounting}
+use Rattle.best.proofs.Counting.{counting-split}
+use Rattle.chains.specs.Aside.{sheetAside}
+use Rattle.trees.specs.Tree.{IsTree}
+use Rattle.trees.proofs.Trees.{tree-made, stuck-treeless}
+use Rattle.finding.specs.FindBest.{own_of}
+use Rattle.bounds.specs.Least.{reaching, bySplit, byChain}
 
 -- whether there is a tree tells what the chain comes to
 pub tree-chain : (n c : ℕ) (F : ℕ → Bool) → 1 ≤ n → IsTree n F → c - 1 ≡ byChain c (sheetAside n 2 (number (2 ^ n) F))
-tree-chain n c F p w = sym (ap (byChain c) (tree-made n F p (w .0) (w .1) .1))
+tree-chain n c F p w = sym (ap (byChain c) (tree-made n F p w.0 w.1).1)
 
 pub treeless-chain : (n c : ℕ) (F : ℕ → Bool) → 1 ≤ n → (IsTree n F → ⊥) → c
     ≡ byChain c (sheetAside n 2 (number (2 ^ n) F))
-treeless-chain n c F p never = sym (ap (byChain c) (stuck-treeless n F p .1 (λ t I. never (t, I))))
+treeless-chain n c F p never = sym (ap (byChain c) ((stuck-treeless n F p).1 (λ t I. never (t, I))))
 
 -- ---- what the search found
 module _ (n K c : ℕ) (F : ℕ → Bool) (f : Counted) (found : splitIn f ≡ bestCounting n 1 F K) where
@@ -34,24 +34,24 @@ module _ (n K c : ℕ) (F : ℕ → Bool) (f : Counted) (found : splitIn f ≡ b
   a = bestCounting n 1 F K
 
   -- the own mask is one of n inputs
-  own-below : (a : Answer) → bestCounting n 1 F K ≡ a → ownOf a < 2 ^ n
-  own-below none e = pow-pos n
-  own-below (split A B) e = counting-split n 1 F K A B e .candidate .belowA
+  own_below : (a : Answer) → bestCounting n 1 F K ≡ a → own_of a < 2 ^ n
+  own_below none e = pow_pos n
+  own_below (split A B) e = (counting-split n 1 F K A B e).candidate.belowA
 
   -- its members, as the machine counts them
-  module _ (m own : ℕ) (in-it : own ≡ ownOf (splitIn f)) (count : (p : ℕ) → own < 2 ^ p → m ≡ size p (bit own)) where
-    own-size : m ≡ size n (bit (ownOf a))
+  module _ (m own : ℕ) (in-it : own ≡ own_of (splitIn f)) (count : (p : ℕ) → own < 2 ^ p → m ≡ size p (bit own)) where
+    own-size : m ≡ size n (bit (own_of a))
     own-size =
-        let same : own ≡ ownOf a = in-it ∙ ap ownOf found in
-        count n (subst (λ (o : ℕ). o < 2 ^ n) (sym same) (own-below a refl)) ∙ ap (λ (o : ℕ). size n (bit o)) same
+        let same : own ≡ own_of a = in-it ∙ ap own_of found in
+        count n (subst (λ (o : ℕ). o < 2 ^ n) (sym same) (own_below a refl)) ∙ ap (λ (o : ℕ). size n (bit o)) same
 
     pub own-few : m ≤ n
-    own-few = omega (arith, own-size, size-le n (bit (ownOf a)))
+    own-few = omega (arith, own-size, size-le n (bit (own_of a)))
 
     pub fits : c + 1 ≤ K + m → 2 ≡ bySplit n K c a
     fits h = ap (λ (b : Bool). cond b 2 (max 3 (reaching c K)))
-        (sym (le-leb (c + 1) (K + size n (bit (ownOf a))) (omega (arith, own-size))))
+        (sym (le-leb (c + 1) (K + size n (bit (own_of a))) (omega (arith, own-size))))
 
-    pub fits-not : K + m < c + 1 → max 3 (reaching c K) ≡ bySplit n K c a
-    fits-not h = ap (λ (b : Bool). cond b 2 (max 3 (reaching c K)))
-        (sym (lt-leb (c + 1) (K + size n (bit (ownOf a))) (omega (arith, own-size))))
+    pub fits_not : K + m < c + 1 → max 3 (reaching c K) ≡ bySplit n K c a
+    fits_not h = ap (λ (b : Bool). cond b 2 (max 3 (reaching c K)))
+        (sym (lt-leb (c + 1) (K + size n (bit (own_of a))) (omega (arith, own-size))))

@@ -1,32 +1,32 @@
 -- One and two cells, as the search tells them: one where at most K inputs count, and else two exactly where H of the
 -- best split is left with at most K inputs; the chain then makes so many. Assumes nothing.
-use mathlib.Core.Path.{_≡_, refl, sym, ap, subst}
+use mathlib.Core.Path.{◌≡◌, refl, sym, ap, subst}
 use mathlib.Core.Bool.{Bool}
-use mathlib.Core.List.{List, [], _∷_}
-use Prim.Native.Nat.{ℕ, _+_, _^_, _<_, _≤_}
+use mathlib.Core.List.{List, [], ◌∷◌}
+use Prim.Native.Nat.{ℕ, ◌+◌, ◌^◌, ◌<◌, ◌≤◌}
 use native.Mathlib.Omega.{arith}
 use lib.ListN.{length}
-use Rattle·bits.specs.Numbers.{bit, number}
-use Rattle·bits.specs.Sets.{size, spread}
-use Rattle·bits.proofs.Members.{size-spread}
-use Rattle·tables.specs.Counting.{Counting, support, kept, tableOver}
-use Rattle·tables.proofs.Depending.{support-sees, support-counting}
-use Rattle·tables.proofs.Keeping.{some-kept, kept-most}
-use Rattle·splits.specs.Split.{readsD, Possible}
-use Rattle·best.specs.Best.{Candidate, Best}
-use Rattle·best.specs.Search.{Answer, none, split, best}
-use Rattle·best.specs.Counting.{spreadAnswer, bestCounting}
-use Rattle·best.proofs.Best.{best-split}
-use Rattle·best.proofs.Counting.{counting-split, counting-none}
-use Rattle·sheets.specs.Network.{Cell, Gives, Carries}
-use Rattle·chains.specs.Chain.{pick, firstCell, nextSignals, nextTable, lastCell, made, inputs}
-use Rattle·chains.specs.Aside.{sheetAside}
-use Rattle·chains.specs.Words.{Makes, ends, goes}
-use Rattle·chains.proofs.Lists.{pick-length}
-use Rattle·chains.proofs.One.{next-length}
-use Rattle·chains.proofs.Aside.{sheet-made, table-gives}
-use Rattle·fewest.proofs.Two as two
-use Rattle·bounds·specs.specs.Bound.{counted}
+use Rattle.bits.specs.Numbers.{bit, number}
+use Rattle.bits.specs.Sets.{size, spread}
+use Rattle.bits.proofs.Members.{size-spread}
+use Rattle.tables.specs.Counting.{Counting, support, kept, tableOver}
+use Rattle.tables.proofs.Depending.{support-sees, support-counting}
+use Rattle.tables.proofs.Keeping.{some-kept, kept-most}
+use Rattle.splits.specs.Split.{readsD, Possible}
+use Rattle.best.specs.Best.{Candidate, Best}
+use Rattle.best.specs.Search.{Answer, none, split, best}
+use Rattle.best.specs.Counting.{spreadAnswer, bestCounting}
+use Rattle.best.proofs.Best.{best-split}
+use Rattle.best.proofs.Counting.{counting-split, counting-none}
+use Rattle.sheets.specs.Network.{Cell, Gives, Carries}
+use Rattle.chains.specs.Chain.{pick, firstCell, nextSignals, nextTable, lastCell, made, inputs}
+use Rattle.chains.specs.Aside.{sheetAside}
+use Rattle.chains.specs.Words.{Makes, ends, goes}
+use Rattle.chains.proofs.Lists.{pick-length}
+use Rattle.chains.proofs.One.{next-length}
+use Rattle.chains.proofs.Aside.{sheet-made, table-gives}
+use Rattle.fewest.proofs.Two as two
+use Rattle.bounds.specs.Bound.{counted}
 
 -- a best split that leaves H with at most K inputs
 pub record Fits (n K : ℕ) (F : ℕ → Bool) : Type 0 where
@@ -46,7 +46,7 @@ module _ (n K : ℕ) (F : ℕ → Bool) (p : 1 ≤ n) (q : 1 ≤ K) where
       let l = pick n (bit (kept n F)) (inputs n) in
       let U = tableOver n (bit (kept n F)) F in
       let few : length l ≤ K = omega (arith, pick-length n (bit (kept n F)) (inputs n), kept-most n F) in
-      (lastCell l U, sheet-made n K F p q (lastCell l U ∷ []) .1 (ends few))
+      (lastCell l U, (sheet-made n K F p q (lastCell l U ∷ [])).1 (ends few))
 
   -- ---- more than K inputs count
   module _ (more : K < counted n F) where
@@ -74,19 +74,19 @@ module _ (n K : ℕ) (F : ℕ → Bool) (p : 1 ≤ n) (q : 1 ≤ K) where
 
         by : (a : Answer) → bestCounting n 1 F K ≡ a → Fits n K F
         by none e = absurd (counting-none n 1 F K e A B candidate counting possible)
-        by (split A′ B′) e = record {
-          own = A′;
-          shared = B′;
+        by (split A' B') e = record {
+          own = A';
+          shared = B';
           best = e;
           large = omega (
             arith,
-            counting-split n 1 F K A′ B′ e .ahead A B candidate counting possible .largestA,
+            ((counting-split n 1 F K A' B' e).ahead A B candidate counting possible).largestA,
             two.two-large n K F c d N S (support-sees n F) (support-counting n F) more,
           );
         }
 
-    pub two-fits : Carries n K 2 F → Fits n K F
-    two-fits C = go (C .cells) (C .network) (C .count)
+    pub two_fits : Carries n K 2 F → Fits n K F
+    two_fits C = go C.cells C.network C.count
       where
         go : (cs : List Cell) → Gives n K F cs → length cs ≡ 2 → Fits n K F
         go [] N e = absurd (omega arith)
@@ -114,25 +114,25 @@ module _ (n K : ℕ) (F : ℕ → Bool) (p : 1 ≤ n) (q : 1 ≤ K) where
         let short : length (nextSignals l A B n) ≤ K = omega (arith, next-length l n b) in (
           c,
           d,
-          sheet-made n K F p q (c ∷ d ∷ []) .1
+          (sheet-made n K F p q (c ∷ d ∷ [])).1
               (subst (λ (s : ℕ). Makes K n (pick n (bit s) (inputs n)) (tableOver n (bit s) F) (c ∷ d ∷ []))
               (sym (some-kept n F (omega arith))) (goes longer b (ends short))),
         )
 
     pub fits-made : Fits n K F → (c : Cell) × (d : Cell) × (sheetAside n K (number (2 ^ n) F) ≡ made (c ∷ d ∷ []))
     unfolding bestCounting
-    fits-made w = go (best (size n S) 1 (bit U) K) refl (w .best)
+    fits-made w = go (best (size n S) 1 (bit U) K) refl w.best
       where
-        go : (a : Answer) → best (size n S) 1 (bit U) K ≡ a → spreadAnswer n S a ≡ split (w .own) (w .shared)
+        go : (a : Answer) → best (size n S) 1 (bit U) K ≡ a → spreadAnswer n S a ≡ split w.own w.shared
             → (c : Cell) × (d : Cell) × (sheetAside n K (number (2 ^ n) F) ≡ made (c ∷ d ∷ []))
-        go none e r = let z : _≡_ {A = ℕ} 0 1 = cc in absurd (omega arith)
+        go none e r = let z : ◌≡◌ {A = ℕ} 0 1 = cc in absurd (omega arith)
         go (split A B) e r =
             let b : Best (length l) K 1 (bit U) A B =
             subst (λ (m : ℕ). Best m K 1 (bit U) A B) (sym length-is) (best-split (size n S) 1 (bit U) K A B e) in
-            let same : spread n S A ≡ w .own = cc in
+            let same : spread n S A ≡ w.own = cc in
             split-made A B b (omega (
               arith,
-              w .large,
+              w.large,
               length-is,
               size-spread n S A,
               ap (λ (m : ℕ). size n (bit m)) same,

@@ -1,13 +1,11 @@
 -- A lower bound on the cells of size K that carry a table, said of networks, trees and the inputs that count: without
 -- splits, chains or the search.
-use mathlib.Core.Path.{_≡_}
-use mathlib.Core.Bool.{Bool}
-use Prim.Native.Nat.{ℕ, _+_, _-_, _*_, _<_, _≤_, max}
-use Rattle·bits.specs.Numbers.{bit}
-use Rattle·bits.specs.Sets.{size}
-use Rattle·tables.specs.Counting.{support}
-use Rattle·sheets.specs.Network.{Carries}
-use Rattle·trees.specs.Tree.{IsTree}
+use Rattle.std.specs.Prelude.{◌≡◌, Bool, ℕ, ◌+◌, ◌-◌, ◌*◌, ◌<◌, ◌≤◌, max}
+use Rattle.bits.specs.Numbers.{bit}
+use Rattle.bits.specs.Sets.{size}
+use Rattle.tables.specs.Counting.{support}
+use Rattle.sheets.specs.Network.{Carries}
+use Rattle.trees.specs.Tree.{IsTree}
 
 -- how many inputs count
 abbrev pub counted : ℕ → (ℕ → Bool) → ℕ

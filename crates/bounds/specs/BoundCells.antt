@@ -1,18 +1,17 @@
 -- Ask for a lower bound on the cells of a table: one number. Beside the told edition its lines are find's form and
 -- room; nothing that the table says is refused.
-use mathlib.Core.List.{List}
-use Prim.Native.Nat.{ℕ}
-use Rattle·tables.specs.Table.{tableBit}
-use Rattle·sheets.specs.declared.kinds.Edition.{Edition}
-use Rattle·sheets.specs.Edition.{editionOf}
-use Rattle·refusals.specs.declared.verdicts.Refusal.{Refusal}
-use Rattle·refusals.specs.declared.verdicts.Verdict.the-variants.{Fine, Refused}
-use Rattle·refusals.specs.Lines.{Line, verdict, reply}
-use Rattle·refusals.specs.Refusals.{toldLines}
-use Rattle·refusals.specs.Lent.{workAfter}
-use Rattle·finding.specs.FindBest.{findForm}
-use Rattle·bounds·specs.specs.declared.bound_cells.BoundAnswer.{BoundAnswer}
-use Rattle·bounds·specs.specs.Least.{cellBound}
+use Rattle.std.specs.Prelude.{List, ℕ}
+use Rattle.tables.specs.Table.{tableBit}
+use Rattle.sheets.specs.declared.kinds.Edition.{Edition}
+use Rattle.sheets.specs.Edition.{editionOf}
+use Rattle.refusals.specs.declared.verdicts.Refusal.{Refusal}
+use Rattle.refusals.specs.declared.verdicts.Verdict.TheVariants.{Fine, Refused}
+use Rattle.refusals.specs.Lines.{Line, verdict, reply}
+use Rattle.refusals.specs.Refusals.{toldLines}
+use Rattle.refusals.specs.Lent.{workAfter}
+use Rattle.finding.specs.FindBest.{findForm}
+use Rattle.bounds.specs.declared.bound_cells.BoundAnswer.{BoundAnswer}
+use Rattle.bounds.specs.Least.{cellBound}
 
 -- the answer, and the work area afterwards
 pub record BoundOutcome : Type 0 where

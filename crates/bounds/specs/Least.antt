@@ -1,15 +1,13 @@
 -- The bound to the bit: by the best split, and with cells of two inputs by the chain.
-use mathlib.Core.Bool.{Bool, true, false, cond}
-use Prim.Native.Nat.{ℕ, _+_, _-_, _/_, _^_, max}
-use lib.Dec.{leb, eqb}
-use Rattle·bits.specs.Numbers.{bit, number}
-use Rattle·bits.specs.Sets.{size}
-use Rattle·best.specs.Search.{Answer}
-use Rattle·best.specs.Counting.{bestCounting}
-use Rattle·chains.specs.Chain.{Made, stuck, made}
-use Rattle·chains.specs.Aside.{sheetAside}
-use Rattle·finding.specs.FindBest.{ownOf}
-use Rattle·bounds·specs.specs.Bound.{counted}
+use Rattle.std.specs.Prelude.{Bool, true, false, cond, ℕ, ◌+◌, ◌-◌, ◌/◌, ◌^◌, max, leb, eqb}
+use Rattle.bits.specs.Numbers.{bit, number}
+use Rattle.bits.specs.Sets.{size}
+use Rattle.best.specs.Search.{Answer}
+use Rattle.best.specs.Counting.{bestCounting}
+use Rattle.chains.specs.Chain.{Made, stuck, made}
+use Rattle.chains.specs.Aside.{sheetAside}
+use Rattle.finding.specs.FindBest.{own_of}
+use Rattle.bounds.specs.Bound.{counted}
 
 -- the least m with c ≤ m(K - 1) + 1
 abbrev pub reaching : ℕ → ℕ → ℕ
@@ -17,7 +15,7 @@ reaching c K = (c + K - 3) / (K - 1)
 
 -- c of n inputs count, which are more than K: two cells do where H of the best split is left with at most K inputs
 abbrev pub bySplit : ℕ → ℕ → ℕ → Answer → ℕ
-bySplit n K c a = cond (leb (c + 1) (K + size n (bit (ownOf a)))) 2 (max 3 (reaching c K))
+bySplit n K c a = cond (leb (c + 1) (K + size n (bit (own_of a)))) 2 (max 3 (reaching c K))
 
 -- with cells of two inputs: a chain that comes to its end has one cell fewer than inputs count
 abbrev pub byChain : ℕ → Made → ℕ

@@ -1,14 +1,16 @@
 // Asking for a lower bound on the cells of a table.
+ghost use Rattle.std.specs.Prelude.{◌≡◌};
+ghost use Rattle.sheets.specs.Edition.{IsEdition};
+ghost use Rattle.bounds.specs.BoundCells.{boundIn, boundOutcome};
+
 use crate::least::cell_bound;
 use finding::find_best::find_form;
 use refusals::form;
 use refusals::verdicts::Verdict;
 use sheets::kinds::Edition;
-ghost use mathlib.Core.Path.{_≡_};
-ghost use Rattle·sheets.specs.Edition.{IsEdition};
-ghost use Rattle·bounds·specs.specs.BoundCells.{boundIn, boundOutcome};
 
 // The bound, if nothing is wrong.
+#[derive(Drop)]
 pub struct BoundAnswer {
     pub verdict: Verdict,
     pub least: u32,
@@ -16,10 +18,8 @@ pub struct BoundAnswer {
 
 // The bound for cells of an edition.
 fn bound_in(e: Edition, n: u64, k: u64, t: &[u8], work: &mut [u8]) -> BoundAnswer
-    requires { ⌜ IsEdition e ⌝ }
-    ensures { λ r. ⌜
-        record { answer = r; work = now (work .exit) } ≡ boundIn e n k (now (t .entry)) (now (work .entry))
-        ⌝ }
+    requires { IsEdition e }
+    ensures { record { answer = result; work = work.new } ≡ boundIn e n k t.now work.old }
 {
     let form = find_form(e, n, k, t, work);
     let Verdict::Fine = form else {
@@ -37,9 +37,7 @@ fn bound_in(e: Edition, n: u64, k: u64, t: &[u8], work: &mut [u8]) -> BoundAnswe
 
 // A number of cells of the edition with the number w: no network of fewer carries the table, wired in any way at all.
 pub fn bound_cells(w: u64, n: u64, k: u64, t: &[u8], work: &mut [u8]) -> BoundAnswer
-    ensures { λ r. ⌜
-        record { answer = r; work = now (work .exit) } ≡ boundOutcome w n k (now (t .entry)) (now (work .entry))
-        ⌝ }
+    ensures { record { answer = result; work = work.new } ≡ boundOutcome w n k t.now work.old }
 {
     let told = form::told(w, n);
     let Verdict::Fine = told else {

@@ -1,28 +1,25 @@
 // A lower bound on the cells of a table.
+ghost use Rattle.std.specs.Prelude.{◌≡◌, ◌+◌, ◌^◌, ◌<◌, ◌≤◌, max, length, replicate};
+ghost use Rattle.bits.specs.Numbers.{number};
+ghost use Rattle.tables.specs.Table.{mostInputs, tableLength, tableBit};
+ghost use Rattle.tables.specs.Counting.{CountingIn};
+ghost use Rattle.best.specs.Counting.{bestCounting};
+ghost use Rattle.search.specs.Counted.{splitIn};
+ghost use Rattle.chains.specs.Aside.{sheetAside};
+ghost use Rattle.tables.specs.Work.{workLength};
+ghost use Rattle.finding.specs.FindBest.{own_of};
+ghost use Rattle.bounds.specs.Least.{reaching, bySplit, byChain, cellBound};
+
 use bits::sets::members;
 use joins::deciding::is_tree;
-use search::counted::Counted;
-use search::counted::search_counting;
+use search::counted::{Counted, search_counting};
 use tables::clear;
-use tables::counting::CountingInputs;
-use tables::counting::counting_inputs;
-ghost use mathlib.Core.Path.{_≡_};
-ghost use Prim.Native.Nat.{_+_, _^_, _<_, _≤_, max};
-ghost use lib.ListN.{length, replicate};
-ghost use Rattle·bits.specs.Numbers.{number};
-ghost use Rattle·tables.specs.Table.{mostInputs, tableLength, tableBit};
-ghost use Rattle·tables.specs.Counting.{CountingIn};
-ghost use Rattle·best.specs.Counting.{bestCounting};
-ghost use Rattle·search.specs.Counted.{splitIn};
-ghost use Rattle·chains.specs.Aside.{sheetAside};
-ghost use Rattle·tables.specs.Work.{workLength};
-ghost use Rattle·finding.specs.FindBest.{ownOf};
-ghost use Rattle·bounds·specs.specs.Least.{reaching, bySplit, byChain, cellBound};
+use tables::counting::{CountingInputs, counting_inputs};
 
 // The greater of 3 and the least number of cells of k inputs that can bring c of them to one output.
 fn by_reach(c: u32, k: u32) -> u32
-    requires { ⌜ (2 ≤ k) × (k < c) × (c ≤ mostInputs) ⌝ }
-    ensures { λ m. ⌜ m ≡ max 3 (reaching c k) ⌝ }
+    requires { (2 ≤ k) × (k < c) × (c ≤ mostInputs) }
+    ensures { result ≡ max 3 (reaching c k) }
 {
     let m = (c + k - 3) / (k - 1);
     if m < 3 {
@@ -34,11 +31,9 @@ fn by_reach(c: u32, k: u32) -> u32
 // With cells of two inputs: a tree has one node fewer than inputs that count, and where there is no tree as many cells
 // are needed as inputs count.
 fn by_tree(t: &[u8], n: u32, counting: CountingInputs) -> u32
-    requires { ⌜
-        (1 ≤ n) × (n ≤ mostInputs) × (length (now t) ≡ tableLength n) × (2 < counting .many)
-        × CountingIn n (tableBit (now t)) counting
-        ⌝ }
-    ensures { λ r. ⌜ r ≡ byChain (counting .many) (sheetAside n 2 (number (2 ^ n) (tableBit (now (t .entry))))) ⌝ }
+    requires { (1 ≤ n) × (n ≤ mostInputs) × (length t.now ≡ tableLength n) × (2 < counting.many)
+        × CountingIn n (tableBit t.now) counting }
+    ensures { result ≡ byChain counting.many (sheetAside n 2 (number (2 ^ n) (tableBit t.now))) }
 {
     let c = counting.many;
     if is_tree(t, n, counting.mask) {
@@ -49,7 +44,7 @@ fn by_tree(t: &[u8], n: u32, counting: CountingInputs) -> u32
 
 // The own mask of what was found, and 0 where that is no split.
 fn own_in(found: Counted) -> u16
-    ensures { λ r. ⌜ r ≡ ownOf (splitIn found) ⌝ }
+    ensures { result ≡ own_of (splitIn found) }
 {
     match found {
         Counted::Few => 0,
@@ -60,14 +55,10 @@ fn own_in(found: Counted) -> u16
 
 // Else one look for the best split: two cells do where H is left with at most k inputs.
 fn by_split(t: &[u8], n: u32, k: u32, counting: CountingInputs, work: &mut [u8]) -> u32
-    requires { ⌜
-        (n ≤ mostInputs) × (2 ≤ k) × (k < counting .many) × (length (now t) ≡ tableLength n)
-        × (workLength ≤ length (now work)) × CountingIn n (tableBit (now t)) counting
-        ⌝ }
-    ensures { λ r. ⌜
-        (r ≡ bySplit n k (counting .many) (bestCounting n 1 (tableBit (now (t .entry))) k))
-        × (now (work .exit) ≡ replicate (length (now (work .entry))) 0)
-        ⌝ }
+    requires { (n ≤ mostInputs) × (2 ≤ k) × (k < counting.many) × (length t.now ≡ tableLength n)
+        × (workLength ≤ length work.old) × CountingIn n (tableBit t.now) counting }
+    ensures { (result ≡ bySplit n k counting.many (bestCounting n 1 (tableBit t.now) k))
+        × (work.new ≡ replicate (length work.old) 0) }
 {
     let c = counting.many;
     let found = search_counting(t, n, counting, 1, k, work);
@@ -79,14 +70,10 @@ fn by_split(t: &[u8], n: u32, k: u32, counting: CountingInputs, work: &mut [u8])
 
 // The bound, in a work area, which is then cleared.
 pub fn cell_bound(t: &[u8], n: u32, k: u32, work: &mut [u8]) -> u32
-    requires { ⌜
-        (1 ≤ n) × (n ≤ mostInputs) × (2 ≤ k) × (k ≤ mostInputs) × (length (now t) ≡ tableLength n)
-        × (workLength ≤ length (now work))
-        ⌝ }
-    ensures { λ r. ⌜
-        (r ≡ cellBound n k (tableBit (now (t .entry))))
-        × (now (work .exit) ≡ replicate (length (now (work .entry))) 0)
-        ⌝ }
+    requires { (1 ≤ n) × (n ≤ mostInputs) × (2 ≤ k) × (k ≤ mostInputs) × (length t.now ≡ tableLength n)
+        × (workLength ≤ length work.old) }
+    ensures { (result ≡ cellBound n k (tableBit t.now))
+        × (work.new ≡ replicate (length work.old) 0) }
 {
     let counting = counting_inputs(t, n);
     if counting.many <= k {

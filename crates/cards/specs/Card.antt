@@ -1,10 +1,7 @@
 -- A card: four desks of 256 bytes, one after another. A desk has 15 places for records, then one status record: the
 -- open mark, n, the count of cells and 13 zero bytes.
-use mathlib.Core.Path.{_≡_}
-use mathlib.Core.List.{List}
-use Prim.Native.Nat.{ℕ, _+_, _-_, _*_, _/_, _<_}
-use lib.ListN.{length, getD, take, drop}
-use Rattle·sheets.specs.Edition.{recordSize, mostRecords, mostDesk}
+use Rattle.std.specs.Prelude.{◌≡◌, List, ℕ, ◌+◌, ◌-◌, ◌*◌, ◌/◌, ◌<◌, length, get_or, take, drop}
+use Rattle.sheets.specs.Edition.{recordSize, mostRecords, mostDesk}
 
 -- how many desks a card has; they are counted from 1
 abbrev pub desks : ℕ
@@ -38,15 +35,15 @@ ownBytes c d = take deskBytes (drop (base d) c)
 
 -- the open mark, which comes first in the status record
 abbrev pub openMark : List ℕ → ℕ
-openMark o = getD o placeBytes 0
+openMark o = get_or o placeBytes 0
 
 -- n, which comes next
 abbrev pub inputsOn : List ℕ → ℕ
-inputsOn o = getD o (placeBytes + 1) 0
+inputsOn o = get_or o (placeBytes + 1) 0
 
 -- and the count of cells
 abbrev pub countOn : List ℕ → ℕ
-countOn o = getD o (placeBytes + 2) 0
+countOn o = get_or o (placeBytes + 2) 0
 
 -- the sheet that it holds: as many records as the count says, from its first place on
 abbrev pub sheetOn : List ℕ → List ℕ
@@ -58,4 +55,4 @@ pub record SameUse (o p : List ℕ) : Type 0 where
   pub marks : openMark o ≡ openMark p
   pub ns : inputsOn o ≡ inputsOn p
   pub counts : countOn o ≡ countOn p
-  pub used : (j : ℕ) → j < recordSize * countOn o → j < placeBytes → getD o j 0 ≡ getD p j 0
+  pub used : (j : ℕ) → j < recordSize * countOn o → j < placeBytes → get_or o j 0 ≡ get_or p j 0

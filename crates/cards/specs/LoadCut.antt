@@ -1,8 +1,7 @@
 -- A load that is cut after some of its stores.
-use mathlib.Core.List.{List}
-use Prim.Native.Nat.{ℕ}
-use Rattle·cards·specs.specs.Stores.{cutLoad}
-use Rattle·cards·specs.specs.LoadDesk.{LoadOutcome, partOutcome}
+use Rattle.std.specs.Prelude.{List, ℕ}
+use Rattle.cards.specs.Stores.{cutLoad}
+use Rattle.cards.specs.LoadDesk.{LoadOutcome, partOutcome}
 
 -- as a load, after at most k stores
 abbrev pub cutOutcome : ℕ → List ℕ → ℕ → ℕ → List ℕ → LoadOutcome

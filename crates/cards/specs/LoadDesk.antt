@@ -1,13 +1,12 @@
 -- Load a sheet onto a desk of a card.
-use mathlib.Core.List.{List, _∷_}
-use Prim.Native.Nat.{ℕ}
-use Rattle·refusals.specs.declared.verdicts.Refusal.{Refusal}
-use Rattle·refusals.specs.declared.verdicts.Verdict.{Verdict}
-use Rattle·refusals.specs.declared.verdicts.Verdict.the-variants.{Fine, Refused}
-use Rattle·refusals.specs.Lines.{Line, verdict, reply}
-use Rattle·cards·specs.specs.declared.stores.Store.{Store}
-use Rattle·cards·specs.specs.Stores.{stored, loadStores}
-use Rattle·cards·specs.specs.Refusals.{badCard, badLoad, filedLines}
+use Rattle.std.specs.Prelude.{List, ◌∷◌, ℕ}
+use Rattle.refusals.specs.declared.verdicts.Refusal.{Refusal}
+use Rattle.refusals.specs.declared.verdicts.Verdict.{Verdict}
+use Rattle.refusals.specs.declared.verdicts.Verdict.TheVariants.{Fine, Refused}
+use Rattle.refusals.specs.Lines.{Line, verdict, reply}
+use Rattle.cards.specs.declared.stores.Store.{Store}
+use Rattle.cards.specs.Stores.{stored, loadStores}
+use Rattle.cards.specs.Refusals.{badCard, badLoad, filedLines}
 
 -- 20, 19, 1, 9, 10 and 15
 abbrev pub loadLines : List ℕ → ℕ → ℕ → List ℕ → List Line

@@ -1,8 +1,7 @@
 -- One store of a load.
-use mathlib.Core.List.{List}
-use Prim.Native.Nat.{ℕ}
-use Rattle·cards·specs.specs.Stores.{oneStore}
-use Rattle·cards·specs.specs.LoadDesk.{LoadOutcome, partOutcome}
+use Rattle.std.specs.Prelude.{List, ℕ}
+use Rattle.cards.specs.Stores.{oneStore}
+use Rattle.cards.specs.LoadDesk.{LoadOutcome, partOutcome}
 
 -- as a load, of which store i alone is made
 abbrev pub storeOutcome : ℕ → List ℕ → ℕ → ℕ → List ℕ → LoadOutcome

@@ -1,13 +1,9 @@
 -- Several loads going at once, at most one per desk: every order in which their stores can come.
-use mathlib.Core.Path.{_≡_}
-use mathlib.Core.Bool.{cond}
-use mathlib.Core.List.{List, [], _∷_, _++_}
-use Prim.Native.Nat.{ℕ}
-use lib.Dec.{eqb}
-use Rattle·cards·specs.specs.declared.stores.Store.{Store}
-use Rattle·refusals.specs.Lines.{verdict, reply}
-use Rattle·cards·specs.specs.Stores.{loadStores}
-use Rattle·cards·specs.specs.LoadDesk.{loadLines, loadOutcome}
+use Rattle.std.specs.Prelude.{◌≡◌, cond, List, [], ◌∷◌, ◌++◌, ℕ, eqb}
+use Rattle.cards.specs.declared.stores.Store.{Store}
+use Rattle.refusals.specs.Lines.{verdict, reply}
+use Rattle.cards.specs.Stores.{loadStores}
+use Rattle.cards.specs.LoadDesk.{loadLines, loadOutcome}
 
 -- a load that is asked for
 pub record Load : Type 0 where
@@ -16,18 +12,18 @@ pub record Load : Type 0 where
   pub sheet : List ℕ
 
 -- its stores
-abbrev pub storesOf : Load → List Store
-storesOf l = loadStores (l .desk) (l .inputs) (l .sheet)
+abbrev pub stores_of : Load → List Store
+stores_of l = loadStores l.desk l.inputs l.sheet
 
 -- the stores of loads one after another
 abbrev pub storesInTurn : List Load → List Store
 storesInTurn [] = []
-storesInTurn (l ∷ ls) = storesOf l ++ storesInTurn ls
+storesInTurn (l ∷ ls) = stores_of l ++ storesInTurn ls
 
 -- the loads of desk d, in their order
 abbrev pub loadsOf : ℕ → List Load → List Load
 loadsOf d [] = []
-loadsOf d (l ∷ ls) = cond (eqb (l .desk) d) (l ∷ loadsOf d ls) (loadsOf d ls)
+loadsOf d (l ∷ ls) = cond (eqb l.desk d) (l ∷ loadsOf d ls) (loadsOf d ls)
 
 -- what waits at each desk: the stores of its own loads, one load after another
 abbrev pub waiting : List Load → ℕ → List Store
@@ -49,9 +45,9 @@ pub data Mingling : (ℕ → List Store) → List Store → Type 0 where
 abbrev pub accepted : List ℕ → List Load → List Load
 accepted c [] = []
 accepted c (l ∷ ls) =
-    reply (verdict (loadLines c (l .desk) (l .inputs) (l .sheet))) (l ∷ accepted c ls) (λ r. accepted c ls)
+    reply (verdict (loadLines c l.desk l.inputs l.sheet)) (l ∷ accepted c ls) (λ r. accepted c ls)
 
 -- the card after one call of a load after another, refused ones too
 abbrev pub called : List Load → List ℕ → List ℕ
 called [] c = c
-called (l ∷ ls) c = called ls (loadOutcome c (l .desk) (l .inputs) (l .sheet) .card)
+called (l ∷ ls) c = called ls (loadOutcome c l.desk l.inputs l.sheet).card

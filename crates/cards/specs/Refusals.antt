@@ -1,15 +1,11 @@
 -- The lines on cards of the table of refusals. The code has their numbers with the others (refusals, src/verdicts.rt).
 -- For cards the order is its own: 20, 19, 18, then 1, 9, 10, 15 and 11.
-use mathlib.Core.Bool.{Bool, not, _&&_, _||_}
-use mathlib.Core.List.{List, [], _∷_, _++_}
-use Prim.Native.Nat.{ℕ, _+_}
-use lib.Dec.{leb, eqb}
-use lib.ListN.{length, getD}
-use Rattle·sheets.specs.Edition.{recordSize, mostRecords, firstEdition}
-use Rattle·refusals.specs.Numbers.{ofSheet, ofClosed, ofOtherDesk, ofCard}
-use Rattle·refusals.specs.Lines.{Line, line}
-use Rattle·refusals.specs.Refusals.{badInputs, sheetLines, unreadRecord}
-use Rattle·cards·specs.specs.Card.{desks, cardBytes, openMark, countOn}
+use Rattle.std.specs.Prelude.{Bool, not, ◌&&◌, ◌||◌, List, [], ◌∷◌, ◌++◌, ℕ, ◌+◌, leb, eqb, length, get_or}
+use Rattle.sheets.specs.Edition.{recordSize, mostRecords, firstEdition}
+use Rattle.refusals.specs.Numbers.{ofSheet, ofClosed, ofOtherDesk, ofCard}
+use Rattle.refusals.specs.Lines.{Line, line}
+use Rattle.refusals.specs.Refusals.{badInputs, sheetLines, unreadRecord}
+use Rattle.cards.specs.Card.{desks, cardBytes, openMark, countOn}
 
 -- 20: a card of another length
 abbrev pub badCard : List ℕ → Line
@@ -21,7 +17,7 @@ noDesk d = not (leb 1 d && leb d desks)
 
 -- whether a sheet of a record or more is for another desk than d, as the first record's byte says
 abbrev pub anotherDesk : ℕ → List ℕ → Bool
-anotherDesk d s = leb recordSize (length s) && not (eqb (getD s (firstEdition .most + 1) 0) d)
+anotherDesk d s = leb recordSize (length s) && not (eqb (get_or s (firstEdition.most + 1) 0) d)
 
 -- 19: a desk outside 1 to 4
 abbrev pub missingDesk : ℕ → Line

@@ -1,13 +1,12 @@
 -- Run a desk of a card at an assignment: one bit.
-use mathlib.Core.List.{List, [], _∷_}
-use Prim.Native.Nat.{ℕ}
-use Rattle·sheets.specs.Edition.{firstEdition}
-use Rattle·running.specs.declared.run_sheet.RunAnswer.{RunAnswer}
-use Rattle·refusals.specs.Lines.{Line, verdict, reply}
-use Rattle·refusals.specs.Refusals.{badInputs, badRecord, unreadRecord, badAssignment}
-use Rattle·running.specs.RunSheet.{runDone, runNot}
-use Rattle·cards·specs.specs.Card.{ownBytes, inputsOn, sheetOn}
-use Rattle·cards·specs.specs.Refusals.{badCard, missingDesk, closedDesk, badCount}
+use Rattle.std.specs.Prelude.{List, [], ◌∷◌, ℕ}
+use Rattle.sheets.specs.Edition.{firstEdition}
+use Rattle.running.specs.declared.run_sheet.RunAnswer.{RunAnswer}
+use Rattle.refusals.specs.Lines.{Line, verdict, reply}
+use Rattle.refusals.specs.Refusals.{badInputs, badRecord, unreadRecord, badAssignment}
+use Rattle.running.specs.RunSheet.{runDone, runNot}
+use Rattle.cards.specs.Card.{ownBytes, inputsOn, sheetOn}
+use Rattle.cards.specs.Refusals.{badCard, missingDesk, closedDesk, badCount}
 
 -- of a desk with the bytes o: 19, 18, 1, 9, 10, 15 and 11
 abbrev pub deskLines : List ℕ → ℕ → ℕ → List Line

@@ -1,15 +1,10 @@
 -- A load is a list of stores, one byte each.
-use mathlib.Core.Path.{_≡_}
-use mathlib.Core.List.{List, [], _∷_, _++_}
-use mathlib.Core.Bool.{cond}
-use Prim.Native.Nat.{ℕ, _+_, _-_, _<_}
-use lib.Dec.{eqb}
-use lib.ListN.{getD, set, take, drop}
-use Rattle·bits.specs.Lists.{listOf}
-use Rattle·sheets.specs.Edition.{recordSize, firstEdition}
-use Rattle·sheets.specs.Sheet.{records}
-use Rattle·cards·specs.specs.declared.stores.Store.{Store}
-use Rattle·cards·specs.specs.Card.{placeBytes, base, holder, openMark}
+use Rattle.std.specs.Prelude.{◌≡◌, List, [], ◌∷◌, ◌++◌, cond, ℕ, ◌+◌, ◌-◌, ◌<◌, eqb, get_or, set, take, drop}
+use Rattle.bits.specs.Lists.{list_of}
+use Rattle.sheets.specs.Edition.{recordSize, firstEdition}
+use Rattle.sheets.specs.Sheet.{records}
+use Rattle.cards.specs.declared.stores.Store.{Store}
+use Rattle.cards.specs.Card.{placeBytes, base, holder, openMark}
 
 -- the byte b goes to place a of the card
 abbrev pub storing : ℕ → ℕ → Store
@@ -18,21 +13,21 @@ storing a b = record { place = a; byte = b }
 -- a card after some stores, the first of them made first
 abbrev pub stored : List Store → List ℕ → List ℕ
 stored [] c = c
-stored (t ∷ ts) c = stored ts (set c (t .place) (t .byte))
+stored (t ∷ ts) c = stored ts (set c t.place t.byte)
 
 -- k stores upward from place a: the values of f
 abbrev pub upward : ℕ → ℕ → (ℕ → ℕ) → List Store
-upward a k f = listOf k (λ j. storing (a + j) (f j))
+upward a k f = list_of k (λ j. storing (a + j) (f j))
 
 -- ---- a load of the sheet s, of n inputs, onto desk d
 
 -- byte j of the record places: the sheet's; those of unused places are zero
 abbrev pub placeByte : List ℕ → ℕ → ℕ
-placeByte s j = getD s j 0
+placeByte s j = get_or s j 0
 
 -- byte j of the status record past its mark: n, the count of cells, 13 zeros
 abbrev pub statusByte : ℕ → List ℕ → ℕ → ℕ
-statusByte n s j = getD (n ∷ records firstEdition s ∷ []) j 0
+statusByte n s j = get_or (n ∷ records firstEdition s ∷ []) j 0
 
 -- the mark to b
 abbrev pub marking : ℕ → ℕ → Store
@@ -54,7 +49,7 @@ storeCount = placeBytes + recordSize + 1
 
 -- the store i of them
 abbrev pub storeAt : ℕ → ℕ → List ℕ → ℕ → Store
-storeAt d n s i = getD (loadStores d n s) i (storing 0 0)
+storeAt d n s i = get_or (loadStores d n s) i (storing 0 0)
 
 -- a load that is cut: the first k of its stores, all where it has no more
 abbrev pub cutLoad : ℕ → ℕ → ℕ → List ℕ → List Store
@@ -66,11 +61,11 @@ oneStore i d n s = take 1 (drop i (loadStores d n s))
 
 -- a desk with the bytes o holds the sheet s, of n inputs, and is open
 pub record Holds (o : List ℕ) (n : ℕ) (s : List ℕ) : Type 0 where
-  pub places : (j : ℕ) → j < placeBytes → getD o j 0 ≡ placeByte s j
+  pub places : (j : ℕ) → j < placeBytes → get_or o j 0 ≡ placeByte s j
   pub marked : openMark o ≡ 1
-  pub status : (j : ℕ) → j < recordSize - 1 → getD o (placeBytes + 1 + j) 0 ≡ statusByte n s j
+  pub status : (j : ℕ) → j < recordSize - 1 → get_or o (placeBytes + 1 + j) 0 ≡ statusByte n s j
 
 -- of any stores those into desk d, in their order
 abbrev pub onto : ℕ → List Store → List Store
 onto d [] = []
-onto d (t ∷ ts) = cond (eqb (holder (t .place)) d) (t ∷ onto d ts) (onto d ts)
+onto d (t ∷ ts) = cond (eqb (holder t.place) d) (t ∷ onto d ts) (onto d ts)

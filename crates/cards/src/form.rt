@@ -1,16 +1,15 @@
 // Lines that a load and a run share: 1, 9, 10 and 15 of a sheet for a desk.
+ghost use Rattle.std.specs.Prelude.{◌≡◌};
+ghost use Rattle.refusals.specs.Lines.{verdict};
+ghost use Rattle.cards.specs.Refusals.{filedLines};
+
 use refusals::form;
-use refusals::verdicts::Refusal;
-use refusals::verdicts::Verdict;
-use refusals::verdicts::refuse;
+use refusals::verdicts::{Refusal, Verdict, refuse};
 use sheets::kinds::Edition;
-ghost use mathlib.Core.Path.{_≡_};
-ghost use Rattle·refusals.specs.Lines.{verdict};
-ghost use Rattle·cards·specs.specs.Refusals.{filedLines};
 
 // Lines 1, 9, 10 and 15 of a sheet for desk d and n inputs.
 pub fn filed(d: u8, n: u64, s: &[u8]) -> Verdict
-    ensures { λ r. ⌜ r ≡ verdict (filedLines d n (now (s .entry))) ⌝ }
+    ensures { result ≡ verdict (filedLines d n s.now) }
 {
     if form::bad_inputs(n) {
         return refuse(Refusal::INPUTS);

@@ -1,15 +1,13 @@
 // The stores of a load: what the i-th of them is, and the loop that makes them in their order.
-use crate::sizes::DESK;
-use crate::sizes::INPUTS;
-use crate::sizes::MARK;
+ghost use Rattle.std.specs.Prelude.{◌≡◌, ◌-◌, ◌<◌, ◌≤◌, length, take, drop};
+ghost use Rattle.cards.specs.Card.{desks, placeBytes, cardBytes};
+ghost use Rattle.cards.specs.Stores.{placeByte, statusByte, storeCount, storeAt, loadStores, stored};
+
+use crate::sizes::{DESK, INPUTS, MARK};
 use sheets::kinds::Sheet;
-ghost use mathlib.Core.Path.{_≡_};
-ghost use Prim.Native.Nat.{_-_, _<_, _≤_};
-ghost use lib.ListN.{length, take, drop};
-ghost use Rattle·cards·specs.specs.Card.{desks, placeBytes, cardBytes};
-ghost use Rattle·cards·specs.specs.Stores.{placeByte, statusByte, storeCount, storeAt, loadStores, stored};
 
 // One byte goes to one place of a card.
+#[derive(Drop)]
 pub struct Store {
     pub place: usize,
     pub byte: u8,
@@ -17,7 +15,7 @@ pub struct Store {
 
 // Byte j of the record places: zero past the sheet's end.
 fn place_byte(s: &[u8], j: usize) -> u8
-    ensures { λ r. ⌜ r ≡ placeByte (now (s .entry)) j ⌝ }
+    ensures { result ≡ placeByte s.now j }
 {
     if s.len() <= j {
         return 0;
@@ -27,8 +25,8 @@ fn place_byte(s: &[u8], j: usize) -> u8
 
 // Byte j of the status record past its mark.
 fn status_byte(n: u8, s: &[u8], j: usize) -> u8
-    requires { ⌜ length (now s) ≤ placeBytes ⌝ }
-    ensures { λ r. ⌜ r ≡ statusByte n (now (s .entry)) j ⌝ }
+    requires { length s.now ≤ placeBytes }
+    ensures { result ≡ statusByte n s.now j }
 {
     if j == 0 {
         return n;
@@ -41,8 +39,8 @@ fn status_byte(n: u8, s: &[u8], j: usize) -> u8
 
 // Store i of a load of the sheet s, of n inputs, onto desk d.
 fn store_at(d: usize, n: u8, s: &[u8], i: usize) -> Store
-    requires { ⌜ (1 ≤ d) × (d ≤ desks) × (length (now s) ≤ placeBytes) × (i < storeCount) ⌝ }
-    ensures { λ r. ⌜ r ≡ storeAt d n (now (s .entry)) i ⌝ }
+    requires { (1 ≤ d) × (d ≤ desks) × (length s.now ≤ placeBytes) × (i < storeCount) }
+    ensures { result ≡ storeAt d n s.now i }
 {
     let base = DESK * (d - 1);
     if i == 0 {
@@ -71,14 +69,10 @@ fn store_at(d: usize, n: u8, s: &[u8], i: usize) -> Store
 
 // Makes the stores of a load from `first` up to `end`.
 pub fn make_stores(card: &mut [u8], d: usize, n: u8, s: &[u8], first: usize, end: usize)
-    requires { ⌜
-        (length (now card) ≡ cardBytes) × (1 ≤ d) × (d ≤ desks) × (length (now s) ≤ placeBytes)
-        × (first ≤ end) × (end ≤ storeCount)
-        ⌝ }
-    ensures { λ r. ⌜
-        now (card .exit)
-        ≡ stored (take (end - first) (drop first (loadStores d n (now (s .entry))))) (now (card .entry))
-        ⌝ }
+    requires { (length card.old ≡ cardBytes) × (1 ≤ d) × (d ≤ desks) × (length s.now ≤ placeBytes)
+        × (first ≤ end) × (end ≤ storeCount) }
+    ensures { card.new
+        ≡ stored (take (end - first) (drop first (loadStores d n s.now))) card.old }
 {
     let mut i = first;
     while i < end {

@@ -1,39 +1,39 @@
 -- What was proved of the chain, of the cells of a gate with what does not count set aside: it is the chain over what is
 -- kept of the gate's table F, so it gives F, keeps the record rules and has few cells. With one first cell at a step
 -- these are the laws of its sheet. Assumes nothing.
-use mathlib.Core.Path.{_≡_, sym, ap, ap₂, _∙_, subst}
-use mathlib.Core.Logic.{_↔_}
+use mathlib.Core.Path.{◌≡◌, sym, ap, ap₂, ◌∙◌, subst}
+use mathlib.Core.Logic.{◌↔◌}
 use mathlib.Core.Bool.{Bool}
 use mathlib.Core.List.{List}
-use Prim.Native.Nat.{ℕ, zero, suc, _+_, _-_, _*_, _^_, _<_, _≤_, max}
-use native.Mathlib.Nat.{mul-le-mul-right}
+use Prim.Native.Nat.{ℕ, zero, suc, ◌+◌, ◌-◌, ◌*◌, ◌^◌, ◌<◌, ◌≤◌, max}
+use native.Mathlib.Nat.{mul-le-mul_right}
 use native.Mathlib.Omega.{arith}
 use lib.ListN.{length}
-use Rattle·bits.specs.Numbers.{bit, number}
-use Rattle·bits.specs.Sets.{size}
-use Rattle·bits.proofs.Numbers.{number-lt, bit-number}
-use Rattle·bits.proofs.Sizes.{size-le}
-use Rattle·tables.specs.Counting.{AllCount, support, kept, tableOver}
-use Rattle·tables.proofs.Depending.{count-ext}
-use Rattle·tables.proofs.Over.{over-lt, over-ext, over-gather}
-use Rattle·tables.proofs.Keeping.{kept-sees, kept-some, kept-most, kept-ext}
-use Rattle·sheets.specs.declared.kinds.Edition.{Edition}
-use Rattle·sheets.specs.Edition.{mostRecords}
-use Rattle·sheets.specs.Network.{Cell, Gives}
-use Rattle·sheets.specs.Writing.{FitsFrom, AtMost}
-use Rattle·sheets.specs.Reading.{AllRead}
-use Rattle·chains·specs.specs.Chain.{pick, stuck, made, chain, inputs, sheetOf}
-use Rattle·chains·specs.specs.Aside.{keptSignals, keptTable, cellsAside, sheetAside}
-use Rattle·chains·specs.specs.Words.{Makes, Blocked}
-use Rattle·chains·specs.specs.Over.{MakesOver, BlockedOver}
-use Rattle·chains·proofs.proofs.Lists.{AllBelow, pick-length, pick-below, pick-rising, packed-pick, inputs-length}
-use Rattle·chains·proofs.proofs.Lists.{inputs-at, inputs-below, inputs-rising}
-use Rattle·chains·proofs.proofs.View.{over-made, over-stuck}
-use Rattle·chains·proofs.proofs.One.{makes-over, over-one, chain-stuck}
-use Rattle·chains·proofs.proofs.Once.{aside-plain, aside-once}
-use Rattle·chains·proofs.proofs.Right.{over-network, over-few}
-use Rattle·chains·proofs.proofs.Rules.{over-fits, over-most}
-use Rattle·chains·proofs.proofs.Read.{over-read}
+use Rattle.bits.specs.Numbers.{bit, number}
+use Rattle.bits.specs.Sets.{size}
+use Rattle.bits.proofs.Numbers.{number_lt, bit-number}
+use Rattle.bits.proofs.Sizes.{size-le}
+use Rattle.tables.specs.Counting.{AllCount, support, kept, tableOver}
+use Rattle.tables.proofs.Depending.{count-ext}
+use Rattle.tables.proofs.Over.{over-lt, over-ext, over-gather}
+use Rattle.tables.proofs.Keeping.{kept-sees, kept-some, kept-most, kept-ext}
+use Rattle.sheets.specs.declared.kinds.Edition.{Edition}
+use Rattle.sheets.specs.Edition.{mostRecords}
+use Rattle.sheets.specs.Network.{Cell, Gives}
+use Rattle.sheets.specs.Writing.{FitsFrom, AtMost}
+use Rattle.sheets.specs.Reading.{AllRead}
+use Rattle.chains.specs.Chain.{pick, stuck, made, chain, inputs, sheetOf}
+use Rattle.chains.specs.Aside.{keptSignals, keptTable, cellsAside, sheetAside}
+use Rattle.chains.specs.Words.{Makes, Blocked}
+use Rattle.chains.specs.Over.{MakesOver, BlockedOver}
+use Rattle.chains.proofs.Lists.{AllBelow, pick-length, pick-below, pick-rising, packed-pick, inputs-length}
+use Rattle.chains.proofs.Lists.{inputs-at, inputs-below, inputs-rising}
+use Rattle.chains.proofs.View.{over-made, over-stuck}
+use Rattle.chains.proofs.One.{makes-over, over-one, chain-stuck}
+use Rattle.chains.proofs.Once.{aside-plain, aside-once}
+use Rattle.chains.proofs.Right.{over-network, over-few}
+use Rattle.chains.proofs.Rules.{over-fits, over-most}
+use Rattle.chains.proofs.Read.{over-read}
 
 -- ---- the table F of n inputs, held in any way, and its number
 module _ (n : ℕ) (F : ℕ → Bool) where
@@ -47,9 +47,9 @@ module _ (n : ℕ) (F : ℕ → Bool) where
   unfolding keptSignals
   signals-are = ap₂ (λ (m s : ℕ). pick m (bit s) (inputs n)) (inputs-length n) kept-is
 
-  pub table-is : keptTable (inputs n) (number (2 ^ n) F) ≡ tableOver n (bit (kept n F)) F
+  pub table_is : keptTable (inputs n) (number (2 ^ n) F) ≡ tableOver n (bit (kept n F)) F
   unfolding keptTable
-  table-is =
+  table_is =
       ap₂ (λ (m s : ℕ). tableOver m (bit s) (bit (number (2 ^ n) F))) (inputs-length n) kept-is
       ∙ over-ext n (bit (kept n F)) (bit (number (2 ^ n) F)) F is
 
@@ -59,7 +59,7 @@ module _ (n : ℕ) (F : ℕ → Bool) where
   sheet-plain K all =
       let q = sym (inputs-length n) in
       aside-plain 1 n K n (inputs n) (number (2 ^ n) F)
-      (subst (λ (c : ℕ). number (2 ^ n) F < 2 ^ (2 ^ c)) q (number-lt (2 ^ n) F))
+      (subst (λ (c : ℕ). number (2 ^ n) F < 2 ^ (2 ^ c)) q (number_lt (2 ^ n) F))
       (subst (λ (c : ℕ). AllCount c (bit (number (2 ^ n) F))) q
       (count-ext n F (bit (number (2 ^ n) F)) (λ x h. sym (is x h)) all))
 
@@ -71,7 +71,7 @@ unfolding cellsAside
 cells-once m zero K F p q = absurd (omega arith)
 cells-once m (suc n) K F p q =
     aside-once m n K (suc n) (inputs (suc n)) (number (2 ^ suc n) F) q
-    ∙ ap₂ (chain m (suc n) K (suc n)) (signals-are (suc n) F) (table-is (suc n) F)
+    ∙ ap₂ (chain m (suc n) K (suc n)) (signals-are (suc n) F) (table_is (suc n) F)
 
 -- ---- its cells, with up to m first cells at each step
 module _ (m n K : ℕ) (F : ℕ → Bool) (p : 1 ≤ n) (q : 1 ≤ K) where
@@ -92,21 +92,21 @@ module _ (m n K : ℕ) (F : ℕ → Bool) (p : 1 ≤ n) (q : 1 ≤ K) where
   cells-made cs =
       let once = cells-once m n K F p q in
       let exactly = over-made m n K n l U cs p enough in
-      (λ e. exactly .0 (sym once ∙ e), λ c. once ∙ exactly .1 c)
+      (λ e. exactly.0 (sym once ∙ e), λ c. once ∙ exactly.1 c)
 
   -- and it is stuck exactly where a table of that chain with more than K inputs has no possible split
   pub cells-stuck : (cellsAside m n K (number (2 ^ n) F) ≡ stuck) ↔ BlockedOver m K n l U
   cells-stuck =
       let once = cells-once m n K F p q in
       let exactly = over-stuck m n K n l U p enough in
-      (λ e. exactly .0 (sym once ∙ e), λ w. once ∙ exactly .1 w)
+      (λ e. exactly.0 (sym once ∙ e), λ w. once ∙ exactly.1 w)
 
   low : AllBelow n l
   low = pick-below n S (inputs n) n (λ j h. inputs-below n j (omega (arith, inputs-length n)))
 
   module _ (cs : List Cell) (made-is : cellsAside m n K (number (2 ^ n) F) ≡ made cs) where
     makes : MakesOver m K n l U cs
-    makes = cells-made cs .0 made-is
+    makes = (cells-made cs).0 made-is
 
     -- demand 2: their network gives the table's bit at every assignment
     pub cells-give : Gives n K F cs
@@ -120,14 +120,14 @@ module _ (m n K : ℕ) (F : ℕ → Bool) (p : 1 ≤ n) (q : 1 ≤ K) where
     cells-few L h = over-few h makes low
 
     -- each cell fits its record, in every edition whose records hold K signals
-    pub cells-fit : (e : Edition) → K ≤ e .most → FitsFrom e n cs
-    cells-fit e h =
-        let size-is = pick-length n S (inputs n) in
+    pub cells_fit : (e : Edition) → K ≤ e.most → FitsFrom e n cs
+    cells_fit e h =
+        let size_is = pick-length n S (inputs n) in
         over-fits e h makes (record {
-          some = omega (arith, size-is, kept-some n F p);
+          some = omega (arith, size_is, kept-some n F p);
           below = low;
           rising = pick-rising n S (inputs n) (omega (arith, inputs-length n)) (inputs-rising n);
-          table = subst (λ (c : ℕ). U < 2 ^ (2 ^ c)) (sym size-is) (over-lt n S F);
+          table = subst (λ (c : ℕ). U < 2 ^ (2 ^ c)) (sym size_is) (over-lt n S F);
         })
 
     -- each but the last is read by a later one
@@ -139,7 +139,7 @@ module _ (m n K : ℕ) (F : ℕ → Bool) (p : 1 ≤ n) (q : 1 ≤ K) where
     cells-most =
         let few : length l - K ≤ size n (bit (support n F)) - K = omega
         (arith, pick-length n S (inputs n), kept-most n F) in
-        omega (arith, over-most makes, mul-le-mul-right m few)
+        omega (arith, over-most makes, mul-le-mul_right m few)
 
 -- ---- its sheet, with one first cell at each step
 module _ (n K : ℕ) (F : ℕ → Bool) (p : 1 ≤ n) (q : 1 ≤ K) where
@@ -147,7 +147,7 @@ module _ (n K : ℕ) (F : ℕ → Bool) (p : 1 ≤ n) (q : 1 ≤ K) where
   pub sheet-made : (cs : List Cell)
       → (sheetAside n K (number (2 ^ n) F) ≡ made cs)
       ↔ Makes K n (pick n (bit (kept n F)) (inputs n)) (tableOver n (bit (kept n F)) F) cs
-  sheet-made cs = let w = cells-made 1 n K F p q cs in (λ e. over-one (w .0 e), λ c. w .1 (makes-over c))
+  sheet-made cs = let w = cells-made 1 n K F p q cs in (λ e. over-one (w.0 e), λ c. w.1 (makes-over c))
 
   -- and stuck, exactly where a table of that chain with more than K inputs has no possible split
   pub sheet-stuck : (sheetAside n K (number (2 ^ n) F) ≡ stuck)
@@ -156,7 +156,7 @@ module _ (n K : ℕ) (F : ℕ → Bool) (p : 1 ≤ n) (q : 1 ≤ K) where
       let once = cells-once 1 n K F p q in
       let exactly = chain-stuck n K n (pick n (bit (kept n F)) (inputs n)) (tableOver n (bit (kept n F)) F) p
       (enough 1 n K F p q) in
-      (λ e. exactly .0 (sym once ∙ e), λ w. once ∙ exactly .1 w)
+      (λ e. exactly.0 (sym once ∙ e), λ w. once ∙ exactly.1 w)
 
   module _ (cs : List Cell) (made-is : sheetAside n K (number (2 ^ n) F) ≡ made cs) where
     pub table-gives : Gives n K F cs
@@ -165,8 +165,8 @@ module _ (n K : ℕ) (F : ℕ → Bool) (p : 1 ≤ n) (q : 1 ≤ K) where
     pub table-few : (L : ℕ) → K ≤ L → AtMost L cs
     table-few = cells-few 1 n K F p q cs made-is
 
-    pub table-fits : (e : Edition) → K ≤ e .most → FitsFrom e n cs
-    table-fits = cells-fit 1 n K F p q cs made-is
+    pub table_fits : (e : Edition) → K ≤ e.most → FitsFrom e n cs
+    table_fits = cells_fit 1 n K F p q cs made-is
 
     pub table-read : AllRead n cs
     table-read = cells-read 1 n K F p q cs made-is

@@ -1,31 +1,31 @@
 -- Every cell but the last is read: each signal at hand is kept until a cell reads it, and the last cell reads all that
 -- are left. Assumes nothing.
-use mathlib.Core.Path.{_≡_, refl, sym, ap, _∙_, subst}
-use mathlib.Core.Bool.{Bool, true, false, not, _||_}
-use mathlib.Core.List.{List, [], _∷_, _++_}
-use Prim.Native.Nat.{ℕ, zero, suc, _+_, _-_, _<_, _≤_}
-use native.Mathlib.Decide.{decLt}
+use mathlib.Core.Path.{◌≡◌, refl, sym, ap, ◌∙◌, subst}
+use mathlib.Core.Bool.{Bool, true, false, not, ◌||◌}
+use mathlib.Core.List.{List, [], ◌∷◌, ◌++◌}
+use Prim.Native.Nat.{ℕ, zero, suc, ◌+◌, ◌-◌, ◌<◌, ◌≤◌}
+use native.Mathlib.Decide.{dec_lt}
 use native.Mathlib.Nat.{not-suc-le-zero}
 use native.Mathlib.Omega.{arith}
-use lib.ListN.{length, getD, drop, length-append, List·getD-append}
-use lib.Seq.{getD-append-add}
-use borrow.Author.Tests.{ne-eqb}
-use Rattle·bits.specs.Numbers.{bit, val}
-use Rattle·bits.specs.Sets.{size}
-use Rattle·bits.specs.Lists.{listOf}
-use Rattle·bits.proofs.Bools.{or-left}
-use Rattle·bits.proofs.Lists.{length-list, list-at}
-use Rattle·bits.proofs.Sizes.{size-lt}
-use Rattle·splits.specs.Split.{readsD, readsH}
-use Rattle·sheets.specs.Network.{Cell, Wired}
-use Rattle·sheets.specs.Reading.{times, reads, AllRead}
-use Rattle·sheets.proofs.Unread.{times-at}
-use Rattle·chains·specs.specs.Chain.{pick, cellAt, newCells, signalsAfter}
-use Rattle·chains·specs.specs.Over.{MakesOver, ends, goes}
-use Rattle·chains·proofs.proofs.Lists.{AllBelow, pick-length}
-use Rattle·chains·proofs.proofs.Picked.{pick-at}
-use Rattle·chains·proofs.proofs.View.{after-inputs}
-use Rattle·chains·proofs.proofs.Right.{over-wired}
+use lib.ListN.{length, get_or, drop, length-append, get_or-append}
+use lib.Seq.{get_or-append-add}
+use borrow.Author.Tests.{ne_eqb}
+use Rattle.bits.specs.Numbers.{bit, val}
+use Rattle.bits.specs.Sets.{size}
+use Rattle.bits.specs.Lists.{list_of}
+use Rattle.bits.proofs.Bools.{or_left}
+use Rattle.bits.proofs.Lists.{length-list, list_at}
+use Rattle.bits.proofs.Sizes.{size-lt}
+use Rattle.splits.specs.Split.{readsD, readsH}
+use Rattle.sheets.specs.Network.{Cell, Wired}
+use Rattle.sheets.specs.Reading.{times, reads, AllRead}
+use Rattle.sheets.proofs.Unread.{times-at}
+use Rattle.chains.specs.Chain.{pick, cell_at, newCells, signalsAfter}
+use Rattle.chains.specs.Over.{MakesOver, ends, goes}
+use Rattle.chains.proofs.Lists.{AllBelow, pick-length}
+use Rattle.chains.proofs.Picked.{pick_at}
+use Rattle.chains.proofs.View.{after-inputs}
+use Rattle.chains.proofs.Right.{over-wired}
 
 -- ---- counting reads
 
@@ -33,13 +33,13 @@ pub reads-append : (s : ℕ) (cs ds : List Cell) → reads s (cs ++ ds) ≡ read
 reads-append s [] ds = omega arith
 reads-append s (c ∷ cs) ds = omega (arith, reads-append s cs ds)
 
-reads-list : (s r : ℕ) (f : ℕ → Cell) → 1 ≤ r → 1 ≤ times s (f 0 .signals) → 1 ≤ reads s (listOf r f)
-unfolding listOf
+reads-list : (s r : ℕ) (f : ℕ → Cell) → 1 ≤ r → 1 ≤ times s (f 0).signals → 1 ≤ reads s (list_of r f)
+unfolding list_of
 reads-list s zero f p h = absurd (not-suc-le-zero p)
 reads-list s (suc zero) f p h = omega arith
 reads-list s (suc (suc r)) f p h = omega (
   arith,
-  reads-append s (listOf (suc r) f) (f (suc r) ∷ []),
+  reads-append s (list_of (suc r) f) (f (suc r) ∷ []),
   reads-list s
       (suc r) f (omega arith) h,
 )
@@ -53,40 +53,40 @@ module _ (l : List ℕ) (r A B i : ℕ) where
   abbrev sH : ℕ → Bool
   sH = readsH (bit A) (bit B)
 
-  kept-at : (j : ℕ) → j < n → sH j ≡ true → getD (signalsAfter l r A B i) (size j sH) 0 ≡ getD l j 0
-  kept-at j h e = List·getD-append (pick n sH l) (listOf r (λ t. i + t)) 0 (size j sH)
-      (omega (arith, pick-length n sH l, size-lt n sH j h e)) ∙ pick-at n sH l j h e
+  kept_at : (j : ℕ) → j < n → sH j ≡ true → get_or (signalsAfter l r A B i) (size j sH) 0 ≡ get_or l j 0
+  kept_at j h e = get_or-append (pick n sH l) (list_of r (λ t. i + t)) 0 (size j sH)
+      (omega (arith, pick-length n sH l, size-lt n sH j h e)) ∙ pick_at n sH l j h e
 
-  new-at : (t : ℕ) → t < r → getD (signalsAfter l r A B i) (size n sH + t) 0 ≡ i + t
+  new-at : (t : ℕ) → t < r → get_or (signalsAfter l r A B i) (size n sH + t) 0 ≡ i + t
   new-at t h =
-      ap (λ (k : ℕ). getD (signalsAfter l r A B i) (k + t) 0) (sym (pick-length n sH l))
-      ∙ getD-append-add (pick n sH l) (listOf r (λ t. i + t)) t 0 ∙ list-at r (λ t. i + t) t 0 h
+      ap (λ (k : ℕ). get_or (signalsAfter l r A B i) (k + t) 0) (sym (pick-length n sH l))
+      ∙ get_or-append-add (pick n sH l) (list_of r (λ t. i + t)) t 0 ∙ list_at r (λ t. i + t) t 0 h
 
 -- ---- every signal at hand is read
 signals-read : {m K i : ℕ} {l : List ℕ} {T : ℕ} {cs : List Cell} → MakesOver m K i l T cs → (p : ℕ) → p < length l → 1
-    ≤ reads (getD l p 0) cs
+    ≤ reads (get_or l p 0) cs
 signals-read (ends {l = l} h) p q = omega (arith, times-at l p q)
 signals-read (goes {i = i} {l = l} {T = T} r A B {cs = cs} h b c) p q =
-    let s = getD l p 0 in
+    let s = get_or l p 0 in
     omega (arith, reads-append s (newCells l T r A B) cs, go (bit A p) refl (λ k g. signals-read c k g))
   where
     go : (t : Bool) → bit A p ≡ t → ((p : ℕ) → p < length (signalsAfter l r A B i) → 1
-        ≤ reads (getD (signalsAfter l r A B i) p 0) cs)
-        → 1 ≤ reads (getD l p 0) (newCells l T r A B) + reads (getD l p 0) cs
+        ≤ reads (get_or (signalsAfter l r A B i) p 0) cs)
+        → 1 ≤ reads (get_or l p 0) (newCells l T r A B) + reads (get_or l p 0) cs
     go true e ih =
         let sD = readsD (bit A) (bit B) in
-        let o : sD p ≡ true = or-left (bit A p) (bit B p) e in
-        let f : 1 ≤ times (getD (pick (length l) sD l) (size p sD) 0) (pick (length l) sD l) =
+        let o : sD p ≡ true = or_left (bit A p) (bit B p) e in
+        let f : 1 ≤ times (get_or (pick (length l) sD l) (size p sD) 0) (pick (length l) sD l) =
         times-at (pick (length l) sD l) (size p sD) (omega
         (arith, pick-length (length l) sD l, size-lt (length l) sD p q o)) in
-        let g : 1 ≤ times (getD l p 0) (pick (length l) sD l) = subst (λ (s : ℕ). 1 ≤ times s (pick (length l) sD l))
-        (pick-at (length l) sD l p q o) f in
-        omega (arith, reads-list (getD l p 0) r (cellAt l T A B) (b .works .some) g)
+        let g : 1 ≤ times (get_or l p 0) (pick (length l) sD l) = subst (λ (s : ℕ). 1 ≤ times s (pick (length l) sD l))
+        (pick_at (length l) sD l p q o) f in
+        omega (arith, reads-list (get_or l p 0) r (cell_at l T A B) b.works.some g)
     go false e ih =
         let s = readsH (bit A) (bit B) in
         let o : s p ≡ true = either (bit A p) (bit B p) e in
-        let g : 1 ≤ reads (getD l p 0) cs =
-        subst (λ (k : ℕ). 1 ≤ reads k cs) (kept-at l r A B i p q o)
+        let g : 1 ≤ reads (get_or l p 0) cs =
+        subst (λ (k : ℕ). 1 ≤ reads k cs) (kept_at l r A B i p q o)
         (ih (size p s) (omega (arith, after-inputs l r A B i, size-lt (length l) s p q o))) in
         omega arith
       where
@@ -96,10 +96,10 @@ signals-read (goes {i = i} {l = l} {T = T} r A B {cs = cs} h b c) p q =
         either false false z = refl
 
 -- every cell but the last, that is every signal from i on but the last, is read
-each-read : {m K i : ℕ} {l : List ℕ} {T : ℕ} {cs : List Cell} → MakesOver m K i l T cs → (s : ℕ) → i ≤ s → s + 1 < i
+each_read : {m K i : ℕ} {l : List ℕ} {T : ℕ} {cs : List Cell} → MakesOver m K i l T cs → (s : ℕ) → i ≤ s → s + 1 < i
     + length cs → 1 ≤ reads s cs
-each-read (ends h) s p q = absurd (omega arith)
-each-read (goes {i = i} {l = l} {T = T} r A B {cs = cs} h b c) s p q = elim (decLt s (i + r)) [
+each_read (ends h) s p q = absurd (omega arith)
+each_read (goes {i = i} {l = l} {T = T} r A B {cs = cs} h b c) s p q = elim (dec_lt s (i + r)) [
   | yes g ↦
       let n = length l in
       let sH = readsH (bit A) (bit B) in
@@ -113,34 +113,34 @@ each-read (goes {i = i} {l = l} {T = T} r A B {cs = cs} h b c) s p q = elim (dec
       omega (
         arith,
         reads-append s (newCells l T r A B) cs,
-        each-read c s (omega arith) (omega (
+        each_read c s (omega arith) (omega (
           arith,
           length-append (newCells l T r A B) cs,
           length-list r
-              (cellAt l T A B),
+              (cell_at l T A B),
         )),
       )
 ]
 
 -- ---- by a later cell, since no cell reads its own signal or a later one
 
-times-none : (l : List ℕ) (i s : ℕ) → AllBelow i l → i ≤ s → times s l ≡ 0
-times-none [] i s low h = refl
-times-none (x ∷ l) i s low h =
+times_none : (l : List ℕ) (i s : ℕ) → AllBelow i l → i ≤ s → times s l ≡ 0
+times_none [] i s low h = refl
+times_none (x ∷ l) i s low h =
     let b : x < i = low 0 (omega arith) in
-    omega (arith, ap val (ne-eqb s x (omega arith)), times-none l i s (λ j g. low (suc j) (omega arith)) h)
+    omega (arith, ap val (ne_eqb s x (omega arith)), times_none l i s (λ j g. low (suc j) (omega arith)) h)
 
 pub later-reads : (K i : ℕ) (cs : List Cell) → Wired K i cs → (j s : ℕ) → i + j ≤ s + 1 → reads s (drop j cs) ≡ reads s cs
 later-reads K i cs w zero s h = refl
 later-reads K i [] w (suc j) s h = refl
 later-reads K i (c ∷ cs) w (suc j) s h =
-    omega (arith, later-reads K (suc i) cs (w .2) j s (omega arith), times-none (c .signals) i s (w .1) (omega arith))
+    omega (arith, later-reads K (suc i) cs w.2 j s (omega arith), times_none c.signals i s w.1 (omega arith))
 
 pub over-read : {m K i : ℕ} {l : List ℕ} {T : ℕ} {cs : List Cell} → MakesOver m K i l T cs → AllBelow i l → AllRead i cs
 over-read {m} {K} {i} {l} {T} {cs} c low j h =
     omega (
       arith,
-      each-read c (i + j) (omega arith) (omega arith),
+      each_read c (i + j) (omega arith) (omega arith),
       later-reads K i cs (over-wired c low) (suc j) (i + j)
           (omega arith),
     )

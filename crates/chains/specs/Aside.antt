@@ -1,10 +1,8 @@
 -- The chain that sets aside the inputs that do not count, before each step and before the final cell.
-use Prim.Native.Nat.{ℕ, zero, suc}
-use mathlib.Core.List.{List}
-use lib.ListN.{length}
-use Rattle·bits.specs.Numbers.{bit}
-use Rattle·tables.specs.Counting.{kept, tableOver}
-use Rattle·chains·specs.specs.Chain.{pick, Made, stuck, step, inputs}
+use Rattle.std.specs.Prelude.{ℕ, zero, suc, List, length}
+use Rattle.bits.specs.Numbers.{bit}
+use Rattle.tables.specs.Counting.{kept, tableOver}
+use Rattle.chains.specs.Chain.{pick, Made, stuck, step, inputs}
 
 -- the signals that are kept of those of the table T over the signals l; where none counts that is the first one, for a
 -- gate's table signal 0

@@ -1,12 +1,10 @@
 -- The chain with up to m first cells at each step, in words: without the search, and without a bound on the number of
 -- steps.
-use mathlib.Core.List.{List, [], _∷_, _++_}
-use Prim.Native.Nat.{ℕ, _+_, _<_, _≤_}
-use lib.ListN.{length}
-use Rattle·bits.specs.Numbers.{bit}
-use Rattle·choices.specs.Best.{Splits, BestUpTo}
-use Rattle·sheets.specs.Network.{Cell}
-use Rattle·chains·specs.specs.Chain.{newCells, signalsAfter, tableAfter, lastCell}
+use Rattle.std.specs.Prelude.{List, [], ◌∷◌, ◌++◌, ℕ, ◌+◌, ◌<◌, ◌≤◌, length}
+use Rattle.bits.specs.Numbers.{bit}
+use Rattle.choices.specs.Best.{Splits, BestUpTo}
+use Rattle.sheets.specs.Network.{Cell}
+use Rattle.chains.specs.Chain.{newCells, signalsAfter, tableAfter, lastCell}
 
 -- the table T over the signals l makes these cells, the first giving signal i
 pub data MakesOver (m K : ℕ) : ℕ → List ℕ → ℕ → List Cell → Type 0 where
@@ -18,11 +16,11 @@ pub data MakesOver (m K : ℕ) : ℕ → List ℕ → ℕ → List Cell → Type
       → MakesOver m K (i + r) (signalsAfter l r A B i) (tableAfter l T r A B) cs
       → MakesOver m K i l T (newCells l T r A B ++ cs)
 
--- the table T′ over the signals l′ stands in the chain that starts with the table T over the signals l
-pub data InChainOver (m K : ℕ) (l′ : List ℕ) (T′ : ℕ) : ℕ → List ℕ → ℕ → Type 0 where
-  itself : {i : ℕ} → InChainOver m K l′ T′ i l′ T′
+-- the table T' over the signals l' stands in the chain that starts with the table T over the signals l
+pub data InChainOver (m K : ℕ) (l' : List ℕ) (T' : ℕ) : ℕ → List ℕ → ℕ → Type 0 where
+  itself : {i : ℕ} → InChainOver m K l' T' i l' T'
   later : {i : ℕ} {l : List ℕ} {T : ℕ} (r A B : ℕ) → K < length l → BestUpTo (length l) K m (bit T) r A B
-      → InChainOver m K l′ T′ (i + r) (signalsAfter l r A B i) (tableAfter l T r A B) → InChainOver m K l′ T′ i l T
+      → InChainOver m K l' T' (i + r) (signalsAfter l r A B i) (tableAfter l T r A B) → InChainOver m K l' T' i l T
 
 -- a table in the chain with more than K inputs has no possible split, for any r up to m
 pub record BlockedOver (m K i : ℕ) (l : List ℕ) (T : ℕ) : Type 0 where

@@ -1,18 +1,18 @@
 -- The chart of a split's columns has room for them, and its limit is 2 ^ r as the code makes it. Assumes nothing.
-use mathlib.Core.Path.{_≡_, sym, subst}
+use mathlib.Core.Path.{◌≡◌, sym, subst}
 use mathlib.Core.Bool.{Bool}
 use mathlib.Core.List.{List}
-use Prim.Native.Nat.{ℕ, _+_, _*_, _%_, _^_, _≤_}
+use Prim.Native.Nat.{ℕ, ◌+◌, ◌*◌, ◌%◌, ◌^◌, ◌≤◌}
 use native.Mathlib.Omega.{arith}
-use lib.Pow.{pow-add, pow-mono}
-use Rattle·bits.specs.Numbers.{bit}
-use Rattle·bits.specs.Sets.{size}
-use Rattle·bits.proofs.Machine.{shl-one}
-use Rattle·columns.specs.declared.split.Split.{Split}
-use Rattle·splits.specs.Columns.{mostFirst}
-use Rattle·columns.specs.Reading.{Chart, chartRoom}
-use Rattle·best.specs.Best.{Candidate}
-use Rattle·sheets.specs.Edition.{largestCell}
+use lib.Pow.{pow-add, pow_mono}
+use Rattle.bits.specs.Numbers.{bit}
+use Rattle.bits.specs.Sets.{size}
+use Rattle.bits.proofs.Machine.{shl_one}
+use Rattle.columns.specs.declared.split.Split.{Split}
+use Rattle.splits.specs.Columns.{mostFirst}
+use Rattle.columns.specs.Reading.{Chart, chartRoom}
+use Rattle.best.specs.Best.{Candidate}
+use Rattle.sheets.specs.Edition.{largestCell}
 
 -- r and the shared inputs make fewer than the cell has
 pub chart-room : {n r A B m : ℕ} → Candidate n largestCell r A B → 2 ^ r ≡ m → m * 2 ^ size n (bit B) ≤ chartRoom
@@ -21,13 +21,13 @@ chart-room {n} {r} {A} {B} k e =
     (omega (
       arith,
       pow-add 2 r (size n (bit B)),
-      pow-mono {i = r + size n (bit B)} {j = 7}
-          (omega (arith, k .more, k .most)),
+      pow_mono {i = r + size n (bit B)} {j = 7}
+          (omega (arith, k.more, k.most)),
     ))
 
 -- the limit as the code makes it
 pub power : {r : ℕ} → r ≤ mostFirst → 2 ^ r ≡ 1 * 2 ^ r % 2 ^ 64
-power {r} h = sym (shl-one 64 r (omega arith))
+power {r} h = sym (shl_one 64 r (omega arith))
 
 pub charted : {s : Split} {F : ℕ → Bool} {r : ℕ} {seen : List ℕ} → r ≤ mostFirst → Chart s F (1 * 2 ^ r % 2 ^ 64) seen
     → Chart s F (2 ^ r) seen

@@ -1,28 +1,28 @@
 -- The last cell's bit, read from the table where the chart says. Assumes nothing.
-use mathlib.Core.Path.{_≡_, sym, ap, _∙_, subst}
-use mathlib.Core.Bool.{Bool, true, false, _&&_}
+use mathlib.Core.Path.{◌≡◌, sym, ap, ◌∙◌, subst}
+use mathlib.Core.Bool.{Bool, true, false, ◌&&◌}
 use mathlib.Core.List.{List}
-use Prim.Native.Nat.{ℕ, _+_, _*_, _/_, _%_, _^_, _<_, _≤_}
-use native.Mathlib.Nat.{div-lt-iff-lt-mul, div-add-mod', mul-le-mul-right}
+use Prim.Native.Nat.{ℕ, ◌+◌, ◌*◌, ◌/◌, ◌%◌, ◌^◌, ◌<◌, ◌≤◌}
+use native.Mathlib.Nat.{div-lt_iff_lt-mul, div-add-mod', mul-le-mul_right}
 use native.Mathlib.Omega.{arith}
 use lib.Dec.{ltb}
-use lib.Pow.{pow-pos}
-use lib.ListN.{length, getD}
+use lib.Pow.{pow_pos}
+use lib.ListN.{length, get_or}
 use borrow.Author.Tests.{lt-ltb, le-ltb}
-use Rattle·bits.specs.Numbers.{bit}
-use Rattle·bits.specs.Sets.{rest, Apart, size, gather, spread}
-use Rattle·bits.proofs.Masks.{mask-size, mask-spread}
-use Rattle·bits.proofs.Numbers.{bit-number}
-use Rattle·bits.proofs.Spreading.{gather-lt, gather-zero}
-use Rattle·bits.proofs.Sums.{spread-two}
-use Rattle·columns.specs.declared.split.Split.{Split}
-use Rattle·splits.specs.Split.{readsH}
-use Rattle·splits.specs.Columns.{assign, column, columns}
-use Rattle·splits.specs.Pair.{bitH}
-use Rattle·columns.specs.Reading.{Held, Within, lastReads, sharedPart, columnOf, columnAt, columnsOf, Chart}
-use Rattle·splits.proofs.Parts.{assign-spread, assign-lt, rest-apart}
-use Rattle·columns.proofs.Reading.{beside-mask}
-use Rattle·charts·proofs.proofs.Charts.{row-room}
+use Rattle.bits.specs.Numbers.{bit}
+use Rattle.bits.specs.Sets.{rest, Apart, size, gather, spread}
+use Rattle.bits.proofs.Masks.{mask_size, mask_spread}
+use Rattle.bits.proofs.Numbers.{bit-number}
+use Rattle.bits.proofs.Spreading.{gather-lt, gather-zero}
+use Rattle.bits.proofs.Sums.{spread-two}
+use Rattle.columns.specs.declared.split.Split.{Split}
+use Rattle.splits.specs.Split.{readsH}
+use Rattle.splits.specs.Columns.{assign, column, columns}
+use Rattle.splits.specs.Pair.{bitH}
+use Rattle.columns.specs.Reading.{Held, Within, lastReads, sharedPart, columnOf, columnAt, columnsOf, Chart}
+use Rattle.splits.proofs.Parts.{assign-spread, assign-lt, rest-apart}
+use Rattle.columns.proofs.Reading.{beside-mask}
+use Rattle.charts.proofs.Charts.{row_room}
 
 -- x has the low bits of i at shared and free inputs, z bits at own inputs alone: x + z is an assignment
 module _ (n : ℕ) (F : ℕ → Bool) (A B : ℕ → Bool) (apart : Apart n A B) (i x z : ℕ)
@@ -45,7 +45,7 @@ module _ (n : ℕ) (F : ℕ → Bool) (A B : ℕ → Bool) (apart : Apart n A B)
   whole-lt = omega (arith, whole, assign-lt n A B (gather n A z) b c)
 
   -- where z stands for the column that i's high bits name, F gives H's bit there
-  whole-bit : column n F A B b (gather n A z) ≡ getD (columns n F A B b) (i / 2 ^ size n (readsH A B))
+  whole-bit : column n F A B b (gather n A z) ≡ get_or (columns n F A B b) (i / 2 ^ size n (readsH A B))
       (column n F A B b 0)
       → F (x + z) ≡ bitH n F A B i
   unfolding bitH column
@@ -54,61 +54,61 @@ module _ (n : ℕ) (F : ℕ → Bool) (A B : ℕ → Bool) (apart : Apart n A B)
       (gather-lt n (rest A B) x))
       ∙ ap (λ (m : ℕ). bit m c) stands
       ∙ ap (λ (y : ℕ).
-      bit (getD (columns n F A B (gather n B y)) (i / 2 ^ size n (readsH A B)) (column n F A B (gather n B y) 0))
+      bit (get_or (columns n F A B (gather n B y)) (i / 2 ^ size n (readsH A B)) (column n F A B (gather n B y) 0))
       (gather n (rest A B) y)) at
 
 -- the same in the numbers that the code has: `many` assignments of shared and free inputs, row b of the chart
 module _ {s : Split} (h : Held s) {F : ℕ → Bool} {limit : ℕ} {seen : List ℕ} (chart : Chart s F limit seen) (i : ℕ)
     {many : ℕ}
-    (all : many ≡ 2 ^ size (s .n) (bit (s .shared + s .free))) where
+    (all : many ≡ 2 ^ size s.n (bit (s.shared + s.free))) where
   abbrev bits : ℕ → Bool
-  bits = bitH (s .n) F (bit (s .own)) (bit (s .shared))
+  bits = bitH s.n F (bit s.own) (bit s.shared)
 
-  many-is : many ≡ 2 ^ size (s .n) (lastReads s)
-  many-is = all ∙ ap (λ (k : ℕ). 2 ^ k) (mask-size (s .n) (lastReads s) (s .shared + s .free) (beside-mask s h))
+  many_is : many ≡ 2 ^ size s.n (lastReads s)
+  many_is = all ∙ ap (λ (k : ℕ). 2 ^ k) (mask_size s.n (lastReads s) (s.shared + s.free) (beside-mask s h))
 
   -- the code's test for a spare bit
   tested : (t : Bool) → ltb i (limit * many) ≡ t → (t && bits i)
-      ≡ (ltb i (limit * 2 ^ size (s .n) (lastReads s)) && bits i)
-  tested t e = ap (λ (u : Bool). u && bits i) (sym e ∙ ap (λ (m : ℕ). ltb i (limit * m)) many-is)
+      ≡ (ltb i (limit * 2 ^ size s.n (lastReads s)) && bits i)
+  tested t e = ap (λ (u : Bool). u && bits i) (sym e ∙ ap (λ (m : ℕ). ltb i (limit * m)) many_is)
 
-  pub last-spare : limit ≤ i / many → false ≡ (ltb i (limit * 2 ^ size (s .n) (lastReads s)) && bits i)
+  pub last-spare : limit ≤ i / many → false ≡ (ltb i (limit * 2 ^ size s.n (lastReads s)) && bits i)
   last-spare l = tested false (le-ltb i (limit * many)
-      (omega (arith, mul-le-mul-right {m = limit} {n = i / many} many l, div-add-mod' i many)))
+      (omega (arith, mul-le-mul_right {m = limit} {n = i / many} many l, div-add-mod' i many)))
 
-  module _ {x b : ℕ} (l : i / many < limit) (made : x ≡ spread (s .n) (bit (s .shared + s .free)) (i % many))
+  module _ {x b : ℕ} (l : i / many < limit) (made : x ≡ spread s.n (bit (s.shared + s.free)) (i % many))
       (row : b ≡ sharedPart s x) where
     abbrev z : ℕ
-    z = getD seen (b * limit + i / many) 0
+    z = get_or seen (b * limit + i / many) 0
 
-    within : i / 2 ^ size (s .n) (lastReads s) < limit
-    within = subst (λ (k : ℕ). i / k < limit) many-is l
+    within : i / 2 ^ size s.n (lastReads s) < limit
+    within = subst (λ (k : ℕ). i / k < limit) many_is l
 
-    at : x ≡ spread (s .n) (lastReads s) (i % 2 ^ size (s .n) (lastReads s))
-    at = made ∙ mask-spread (s .n) (lastReads s) (s .shared + s .free) (beside-mask s h) (i % many)
-        ∙ ap (λ (k : ℕ). spread (s .n) (lastReads s) (i % k)) many-is
+    at : x ≡ spread s.n (lastReads s) (i % 2 ^ size s.n (lastReads s))
+    at = made ∙ mask_spread s.n (lastReads s) (s.shared + s.free) (beside-mask s h) (i % many)
+        ∙ ap (λ (k : ℕ). spread s.n (lastReads s) (i % k)) many_is
 
-    z-is : z ≡ getD seen (sharedPart s x * limit + i / 2 ^ size (s .n) (lastReads s)) 0
-    z-is = cc many-is
+    z-is : z ≡ get_or seen (sharedPart s x * limit + i / 2 ^ size s.n (lastReads s)) 0
+    z-is = cc many_is
 
-    own : Within (s .n) (s .own) z
-    own = subst (Within (s .n) (s .own)) (sym z-is)
-        (chart .own (sharedPart s x) _ (gather-lt (s .n) (bit (s .shared)) x) within)
+    own : Within s.n s.own z
+    own = subst (Within s.n s.own) (sym z-is)
+        (chart.own (sharedPart s x) _ (gather-lt s.n (bit s.shared) x) within)
 
     pub last-room : b * limit + i / many < length seen
     last-room =
-        let small : b < 2 ^ size (s .n) (bit (s .shared)) = omega (arith, row, gather-lt (s .n) (bit (s .shared)) x) in
-        omega (arith, row-room limit (2 ^ size (s .n) (bit (s .shared))) (length seen) b small (chart .long))
+        let small : b < 2 ^ size s.n (bit s.shared) = omega (arith, row, gather-lt s.n (bit s.shared) x) in
+        omega (arith, row_room limit (2 ^ size s.n (bit s.shared)) (length seen) b small chart.long)
 
-    pub last-lt : x + z < 2 ^ s .n
-    last-lt = whole-lt (s .n) F (bit (s .own)) (bit (s .shared)) (h .apart) i x z at own
+    pub last-lt : x + z < 2 ^ s.n
+    last-lt = whole-lt s.n F (bit s.own) (bit s.shared) h.apart i x z at own
 
-    pub last-bit : F (x + z) ≡ (ltb i (limit * 2 ^ size (s .n) (lastReads s)) && bits i)
-    last-bit =
-        whole-bit (s .n) F (bit (s .own)) (bit (s .shared)) (h .apart) i x z at own
-        (ap (columnAt s F (sharedPart s x)) z-is ∙ chart .stands (sharedPart s x) _
-        (gather-lt (s .n) (bit (s .shared)) x) within
-        ∙ ap (λ (a : ℕ). getD (columnsOf s F (sharedPart s x)) (i / 2 ^ size (s .n) (lastReads s))
-        (columnOf s F (sharedPart s x) a)) (gather-zero (s .n) (bit (s .own))))
-        ∙ tested true (lt-ltb i (limit * many) (div-lt-iff-lt-mul
-        (omega (arith, all, pow-pos (size (s .n) (bit (s .shared + s .free))))) .0 l))
+    pub last_bit : F (x + z) ≡ (ltb i (limit * 2 ^ size s.n (lastReads s)) && bits i)
+    last_bit =
+        whole-bit s.n F (bit s.own) (bit s.shared) h.apart i x z at own
+        (ap (columnAt s F (sharedPart s x)) z-is ∙ chart.stands (sharedPart s x) _
+        (gather-lt s.n (bit s.shared) x) within
+        ∙ ap (λ (a : ℕ). get_or (columnsOf s F (sharedPart s x)) (i / 2 ^ size s.n (lastReads s))
+        (columnOf s F (sharedPart s x) a)) (gather-zero s.n (bit s.own)))
+        ∙ tested true (lt-ltb i (limit * many) ((div-lt_iff_lt-mul
+        (omega (arith, all, pow_pos (size s.n (bit (s.shared + s.free)))))).0 l))

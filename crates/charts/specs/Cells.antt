@@ -1,18 +1,16 @@
 -- The tables of the first cells of a split, as they are handed back.
-use mathlib.Core.Bool.{Bool, cond}
-use Prim.Native.Nat.{ℕ, zero, suc}
-use lib.Dec.{ltb}
-use Rattle·charts·specs.specs.declared.pair.FirstCells.{FirstCells}
-use Rattle·bits.specs.Numbers.{bit}
-use Rattle·bits.specs.Sets.{size}
-use Rattle·tables.specs.declared.cell.CellTable.{CellTable}
-use Rattle·tables.specs.Cells.{heldTable, noTable, tableNumber}
-use Rattle·splits.specs.Split.{readsD}
-use Rattle·splits.specs.Pair.{codeAt}
+use Rattle.std.specs.Prelude.{Bool, cond, ℕ, zero, suc, ltb}
+use Rattle.charts.specs.declared.pair.FirstCells.{FirstCells}
+use Rattle.bits.specs.Numbers.{bit}
+use Rattle.bits.specs.Sets.{size}
+use Rattle.tables.specs.declared.cell.CellTable.{CellTable}
+use Rattle.tables.specs.Cells.{heldTable, noTable, tableNumber}
+use Rattle.splits.specs.Split.{readsD}
+use Rattle.splits.specs.Pair.{code_at}
 
 -- first cell t gives bit t of the code
 abbrev pub bitD : ℕ → (ℕ → Bool) → (ℕ → Bool) → (ℕ → Bool) → ℕ → ℕ → Bool
-bitD n F A B t v = bit (codeAt n F A B v) t
+bitD n F A B t v = bit (code_at n F A B v) t
 
 -- its table as it is held
 abbrev pub heldD : ℕ → (ℕ → Bool) → (ℕ → Bool) → (ℕ → Bool) → ℕ → CellTable
@@ -36,7 +34,7 @@ noCells = record { first = noTable; second = noTable; third = noTable }
 
 -- the table of first cell t among those handed back, as a number
 abbrev pub tableIn : FirstCells → ℕ → ℕ
-tableIn d zero = tableNumber (d .first)
-tableIn d (suc zero) = tableNumber (d .second)
-tableIn d (suc (suc zero)) = tableNumber (d .third)
+tableIn d zero = tableNumber d.first
+tableIn d (suc zero) = tableNumber d.second
+tableIn d (suc (suc zero)) = tableNumber d.third
 tableIn d (suc (suc (suc t))) = 0

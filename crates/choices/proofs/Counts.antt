@@ -1,27 +1,27 @@
 -- Nothing is written in vain: where the table depends on each of its inputs, H of the best split with up to m first
 -- cells does. On a shared or free input by what holds of each r (`next-reads`, best); on an output, else one first cell
 -- less would do, with a larger |A| - r. Assumes nothing.
-use mathlib.Core.Path.{_≡_, sym, subst}
-use mathlib.Core.Logic.{⊎-elim}
+use mathlib.Core.Path.{◌≡◌, sym, subst}
+use mathlib.Core.Logic.{⊎_elim}
 use mathlib.Core.Bool.{Bool}
-use Prim.Native.Nat.{ℕ, zero, suc, _+_, _-_, _^_, _<_}
-use native.Mathlib.Decide.{decLt}
+use Prim.Native.Nat.{ℕ, zero, suc, ◌+◌, ◌-◌, ◌^◌, ◌<◌}
+use native.Mathlib.Decide.{dec_lt}
 use native.Mathlib.Nat.{not-suc-le-zero}
 use native.Mathlib.Omega.{arith}
-use Rattle·bits.specs.Numbers.{bit}
-use Rattle·bits.specs.Sets.{size}
-use Rattle·bits.proofs.Numbers.{bit-number}
-use Rattle·bits.proofs.Members.{Place, place}
-use Rattle·tables.specs.Depends.{DependsOn}
-use Rattle·tables.specs.Counting.{AllCount, Ignores}
-use Rattle·tables.proofs.Depending.{depends-or, count-ext}
-use Rattle·splits.specs.Split.{readsH}
-use Rattle·splits.specs.Pair.{bitH, inputsH, tableH}
-use Rattle·splits.proofs.Asked.{output-counts}
-use Rattle·best.proofs.Next.{next-reads}
-use Rattle·choices·specs.specs.Best.{BestUpTo}
-use Rattle·choices·proofs.proofs.Best.{upto-own}
-use Rattle·choices·proofs.proofs.Fewer.{one-less}
+use Rattle.bits.specs.Numbers.{bit}
+use Rattle.bits.specs.Sets.{size}
+use Rattle.bits.proofs.Numbers.{bit-number}
+use Rattle.bits.proofs.Members.{Place, place}
+use Rattle.tables.specs.Depends.{DependsOn}
+use Rattle.tables.specs.Counting.{AllCount, Ignores}
+use Rattle.tables.proofs.Depending.{depends-or, count-ext}
+use Rattle.splits.specs.Split.{readsH}
+use Rattle.splits.specs.Pair.{bitH, inputsH, tableH}
+use Rattle.splits.proofs.Asked.{output-counts}
+use Rattle.best.proofs.Next.{next-reads}
+use Rattle.choices.specs.Best.{BestUpTo}
+use Rattle.choices.proofs.Best.{upto-own}
+use Rattle.choices.proofs.Fewer.{one_less}
 
 module _ (n K m A B : ℕ) (F : ℕ → Bool) (all : AllCount n F) where
   abbrev k : ℕ
@@ -35,31 +35,31 @@ module _ (n K m A B : ℕ) (F : ℕ → Bool) (all : AllCount n F) where
   reads-output zero b t h = absurd (not-suc-le-zero h)
   reads-output (suc zero) b t h =
       let e : k ≡ k + t = omega arith in
-      subst (DependsOn (k + 1) H) e (own (place n (bit A) 0 (omega (arith, b .works .candidate .more))))
+      subst (DependsOn (k + 1) H) e (own (place n (bit A) 0 (omega (arith, b.works.candidate.more))))
     where
       own : Place n (bit A) 0 → DependsOn (k + 1) H k
-      own w = output-counts n F (bit A) (bit B) (b .works .candidate .apart) (b .works .possible) (w .at) (w .below)
-          (w .member) (all (w .at) (w .below))
-  reads-output (suc (suc u)) b t h = ⊎-elim (λ d. d) (λ idle. absurd (never idle))
+      own w = output-counts n F (bit A) (bit B) b.works.candidate.apart b.works.possible w.at w.below
+          w.member (all w.at w.below)
+  reads-output (suc (suc u)) b t h = ⊎_elim (λ d. d) (λ idle. absurd (never idle))
       (depends-or (k + suc (suc u)) H (k + t) (omega arith))
     where
       never : Ignores (k + suc (suc u)) H (k + t) → ⊥
       never idle =
-          let c = b .works .candidate in
+          let c = b.works.candidate in
           omega (
             arith,
-            b .ahead (suc u) A B (record {
+            (b.ahead (suc u) A B (record {
               some = omega arith;
-              most = omega (arith, b .works .most);
+              most = omega (arith, b.works.most);
               candidate = record {
-                belowA = c .belowA;
-                belowB = c .belowB;
-                apart = c .apart;
-                more = omega (arith, c .more);
-                most = c .most;
+                belowA = c.belowA;
+                belowB = c.belowB;
+                apart = c.apart;
+                more = omega (arith, c.more);
+                most = c.most;
               };
-              possible = one-less n F (bit A) (bit B) (c .apart) (suc u) (b .works .possible) t h idle;
-            }) .largest,
+              possible = one_less n F (bit A) (bit B) c.apart (suc u) b.works.possible t h idle;
+            })).largest,
           )
 
 -- H depends on each of its inputs
@@ -76,7 +76,7 @@ upto-counts n K m F r A B b all =
     H = bitH n F (bit A) (bit B)
 
     each : AllCount (size n (readsH (bit A) (bit B)) + r) (bitH n F (bit A) (bit B))
-    each q h = elim (decLt q k) [
+    each q h = elim (dec_lt q k) [
       | yes l ↦ next-reads F (upto-own n K F m r A B b) all q l
       | no l ↦ let e : k + (q - k) ≡ q = omega arith
           in subst (DependsOn (k + r) H) e (reads-output n K m A B F all r b (q - k) (omega arith))

@@ -1,21 +1,21 @@
 -- What H ignores is not needed: without an output of a first cell that it ignores, one first cell less does. Assumes
 -- nothing.
-use mathlib.Core.Path.{_≡_, sym, ap, _∙_}
+use mathlib.Core.Path.{◌≡◌, sym, ap, ◌∙◌}
 use mathlib.Core.Bool.{Bool, cond}
-use Prim.Native.Nat.{ℕ, suc, _+_, _-_, _*_, _^_, _<_}
-use native.Mathlib.Decide.{decLt}
+use Prim.Native.Nat.{ℕ, suc, ◌+◌, ◌-◌, ◌*◌, ◌^◌, ◌<◌}
+use native.Mathlib.Decide.{dec_lt}
 use native.Mathlib.Omega.{arith}
 use lib.Dec.{ltb}
 use borrow.Author.Tests.{lt-ltb, le-ltb}
-use Rattle·bits.specs.Numbers.{bit, number}
-use Rattle·bits.specs.Sets.{Apart, size, gather}
-use Rattle·bits.proofs.Numbers.{bit-below, bit-number, number-lt}
-use Rattle·bits.proofs.Spreading.{gather-ext}
-use Rattle·tables.specs.Counting.{AlikeBut, Ignores}
-use Rattle·splits.specs.Split.{readsH, inputH, Possible}
-use Rattle·splits.specs.Pair.{bitH}
-use Rattle·splits.proofs.Asked.{code, code-small, code-sees, gives, input-lt, input-high}
-use Rattle·splits.proofs.Respect.{possible-of}
+use Rattle.bits.specs.Numbers.{bit, number}
+use Rattle.bits.specs.Sets.{Apart, size, gather}
+use Rattle.bits.proofs.Numbers.{bit_below, bit-number, number_lt}
+use Rattle.bits.proofs.Spreading.{gather_ext}
+use Rattle.tables.specs.Counting.{AlikeBut, Ignores}
+use Rattle.splits.specs.Split.{readsH, inputH, Possible}
+use Rattle.splits.specs.Pair.{bitH}
+use Rattle.splits.proofs.Asked.{code, code-small, code-sees, gives, input-lt, input-high}
+use Rattle.splits.proofs.Respect.{possible-of}
 
 module _ (n : ℕ) (F : ℕ → Bool) (A B : ℕ → Bool) (apart : Apart n A B) (u : ℕ) (P : Possible n F A B (suc u)) (t : ℕ)
     (lt : t < suc u)
@@ -32,8 +32,8 @@ module _ (n : ℕ) (F : ℕ → Bool) (A B : ℕ → Bool) (apart : Apart n A B)
   -- codes that are alike but for output t, behind the same inputs
   codes-alike : (x c d : ℕ) → ((s : ℕ) → s < suc u → (s ≡ t → ⊥) → bit c s ≡ bit d s)
       → AlikeBut (k + suc u) (k + t) (inputH n A B x c) (inputH n A B x d)
-  codes-alike x c d same i h ne = elim (decLt i k) [
-    | yes g ↦ bit-below (gather n (readsH A B) x) c k i g ∙ sym (bit-below (gather n (readsH A B) x) d k i g)
+  codes-alike x c d same i h ne = elim (dec_lt i k) [
+    | yes g ↦ bit_below (gather n (readsH A B) x) c k i g ∙ sym (bit_below (gather n (readsH A B) x) d k i g)
     | no g ↦ let e : i ≡ k + (i - k) = omega arith in
         ap (bit (inputH n A B x c)) e ∙ input-high n F A B apart (suc u) P x c (i - k)
         ∙ same (i - k) (omega arith) (λ z. ne (e ∙ ap (λ (m : ℕ). k + m) z))
@@ -54,7 +54,7 @@ module _ (n : ℕ) (F : ℕ → Bool) (A B : ℕ → Bool) (apart : Apart n A B)
   back : (x s : ℕ) → s < suc u → (s ≡ t → ⊥) → bit (given x) s ≡ bit (number (suc u) (filled (left x))) s
   unfolding filled left skip
   back x s h ne = sym (bit-number (suc u) (filled (left x)) s h
-      ∙ elim (decLt s t) [ yes l ↦ before l | no l ↦ beyond (omega arith) ])
+      ∙ elim (dec_lt s t) [ yes l ↦ before l | no l ↦ beyond (omega arith) ])
     where
       before : s < t → filled (left x) s ≡ bit (given x) s
       before l =
@@ -70,14 +70,14 @@ module _ (n : ℕ) (F : ℕ → Bool) (A B : ℕ → Bool) (apart : Apart n A B)
           ∙ ap (λ (b : Bool). bit (given x) (cond b (s - 1) (suc (s - 1)))) (le-ltb (s - 1) t (omega arith))
           ∙ ap (bit (given x)) e
 
-  pub one-less : Possible n F A B u
+  pub one_less : Possible n F A B u
   unfolding left
-  one-less =
+  one_less =
       possible-of n F A B u (λ s x. bit (given x) (skip s)) (λ d x. H (inputH n A B x (number (suc u) (filled d))))
       (λ s x y h. ap (λ (d : ℕ). bit d (skip s)) (code-sees n F A B apart (suc u) P x y h))
-      (λ d x y h. ap (λ (g : ℕ). H (g + number (suc u) (filled d) * 2 ^ k)) (gather-ext n (readsH A B) x y h))
+      (λ d x y h. ap (λ (g : ℕ). H (g + number (suc u) (filled d) * 2 ^ k)) (gather_ext n (readsH A B) x y h))
       (λ x h. gives n F A B apart (suc u) P x h
       ∙ idle (inputH n A B x (given x)) (inputH n A B x (number (suc u) (filled (left x))))
       (input-lt n F A B apart (suc u) P x (given x) (code-small n F A B apart (suc u) P x))
-      (input-lt n F A B apart (suc u) P x (number (suc u) (filled (left x))) (number-lt (suc u) (filled (left x))))
+      (input-lt n F A B apart (suc u) P x (number (suc u) (filled (left x))) (number_lt (suc u) (filled (left x))))
       (codes-alike x (given x) (number (suc u) (filled (left x))) (back x)))

@@ -1,22 +1,22 @@
 -- Leaving out what cannot be the best over r: dropping all whose |A| - r is `low` or less, for each r or at the end, is
 -- the same; a choice made needs only what beats it; and a split with all K inputs own is beaten by fewer first cells
 -- alone. Assumes nothing.
-use mathlib.Core.Path.{_≡_, refl, sym, ap, _∙_}
+use mathlib.Core.Path.{◌≡◌, refl, sym, ap, ◌∙◌}
 use mathlib.Core.Bool.{Bool, true, false, cond}
-use Prim.Native.Nat.{ℕ, zero, suc, _+_, _-_, _<_, _≤_}
-use native.Mathlib.Decide.{decLt}
+use Prim.Native.Nat.{ℕ, zero, suc, ◌+◌, ◌-◌, ◌<◌, ◌≤◌}
+use native.Mathlib.Decide.{dec_lt}
 use native.Mathlib.Omega.{arith}
 use lib.Dec.{ltb}
 use borrow.Author.Tests.{lt-ltb, le-ltb, ltb-true, ltb-false}
-use Rattle·bits.specs.Numbers.{bit}
-use Rattle·bits.specs.Sets.{size}
-use Rattle·best.specs.Search.{Answer, none, split, above, best}
-use Rattle·best.proofs.Best.{best-split, is-above, not-above}
-use Rattle·choices·specs.specs.Best.{Splits}
-use Rattle·choices·specs.specs.Search.{Choice, nothing, choice, better, sparing, firstOver, bestUpTo}
-use Rattle·choices·specs.specs.Chosen.{Floor, Whole}
-use Rattle·choices·proofs.proofs.First.{smaller}
-use Rattle·choices·proofs.proofs.Best.{upto-best, upto-none}
+use Rattle.bits.specs.Numbers.{bit}
+use Rattle.bits.specs.Sets.{size}
+use Rattle.best.specs.Search.{Answer, none, split, above, best}
+use Rattle.best.proofs.Best.{best-split, is-above, not-above}
+use Rattle.choices.specs.Best.{Splits}
+use Rattle.choices.specs.Search.{Choice, nothing, choice, better, sparing, firstOver, bestUpTo}
+use Rattle.choices.specs.Chosen.{Floor, Whole}
+use Rattle.choices.proofs.First.{smaller}
+use Rattle.choices.proofs.Best.{upto-best, upto-none}
 
 module _ (n low r A B : ℕ) where
   pub is-sparing : low + r < size n (bit A) → sparing n low (choice r A B) ≡ choice r A B
@@ -58,7 +58,7 @@ module _ (n r low q C D : ℕ) where
   unbeaten : (f : ℕ) → f + q ≤ size n (bit C) + r → (a : Answer) → better n r (choice q C D) (above n f a)
       ≡ better n r (choice q C D) a
   unbeaten f h none = refl
-  unbeaten f h (split A B) = elim (decLt f (size n (bit A))) [
+  unbeaten f h (split A B) = elim (dec_lt f (size n (bit A))) [
     | yes l ↦ ap (better n r (choice q C D)) (is-above n f A B l)
     | no l ↦ ap (better n r (choice q C D)) (not-above n f A B (omega arith))
         ∙ sym (ap (λ (t : Bool). cond t (choice r A B) (choice q C D))
@@ -79,31 +79,31 @@ module _ (n K : ℕ) (F : ℕ → Bool) where
     where
       go : (c : Choice) → bestUpTo n F K m ≡ c → sparing n 0 c ≡ c
       go nothing e = refl
-      go (choice r A B) e = is-sparing n 0 r A B (omega (arith, upto-best n K F m r A B .0 e .works .candidate .more))
+      go (choice r A B) e = is-sparing n 0 r A B (omega (arith, ((upto-best n K F m r A B).0 e).works.candidate.more))
 
   -- one r more
-  pub one-more : (r : ℕ) → 1 ≤ r → better n r (bestUpTo n F K (r - 1)) (best n r F K) ≡ bestUpTo n F K r
+  pub one_more : (r : ℕ) → 1 ≤ r → better n r (bestUpTo n F K (r - 1)) (best n r F K) ≡ bestUpTo n F K r
   unfolding firstOver
-  one-more zero h = absurd (omega arith)
-  one-more (suc k) h = let e : suc k - 1 ≡ k = omega arith
+  one_more zero h = absurd (omega arith)
+  one_more (suc k) h = let e : suc k - 1 ≡ k = omega arith
       in ap (λ (i : ℕ). better n (suc k) (bestUpTo n F K i) (best n (suc k) F K)) e
 
   module _ (m r A B : ℕ) (w : Whole n K m F r A B) where
     pub fits : Splits n K r F r A B
-    fits = let b = best-split n r F K A B (w .answer)
-        in record { some = w .some; most = omega arith; candidate = b .candidate; possible = b .possible }
+    fits = let b = best-split n r F K A B w.answer
+        in record { some = w.some; most = omega arith; candidate = b.candidate; possible = b.possible }
 
     pub whole-more : r < K
-    whole-more = omega (arith, w .whole, fits .candidate .more)
+    whole-more = omega (arith, w.whole, fits.candidate.more)
 
     -- fewer first cells are of use only where they spare as much
     fewer : (c : Choice) → better n r (sparing n (K - r - 1) c) (split A B) ≡ better n r c (split A B)
     fewer nothing = refl
-    fewer (choice q C D) = elim (decLt (K - r - 1 + q) (size n (bit C))) [
+    fewer (choice q C D) = elim (dec_lt (K - r - 1 + q) (size n (bit C))) [
       | yes l ↦ ap (λ (c : Choice). better n r c (split A B)) (is-sparing n (K - r - 1) q C D l)
       | no l ↦ ap (λ (c : Choice). better n r c (split A B)) (not-sparing n (K - r - 1) q C D (omega arith))
           ∙ sym (ap (λ (t : Bool). cond t (choice r A B) (choice q C D))
-          (lt-ltb (size n (bit C) + r) (size n (bit A) + q) (omega (arith, w .whole, whole-more))))
+          (lt-ltb (size n (bit C) + r) (size n (bit A) + q) (omega (arith, w.whole, whole-more))))
     ]
 
     -- more of them spare less
@@ -111,27 +111,27 @@ module _ (n K : ℕ) (F : ℕ → Bool) where
     more = go (bestUpTo n F K r) refl
       where
         go : (c : Choice) → bestUpTo n F K r ≡ c → c ≡ bestUpTo n F K m
-        go nothing e = absurd (upto-none n K F r .0 e r A B fits)
-        go (choice q C D) e = let b = upto-best n K F r q C D .0 e in let b′ = b .works in
-            sym (upto-best n K F m q C D .1 (record {
+        go nothing e = absurd ((upto-none n K F r).0 e r A B fits)
+        go (choice q C D) e = let b = (upto-best n K F r q C D).0 e in let b' = b.works in
+            sym ((upto-best n K F m q C D).1 (record {
               works = record {
-                some = b′ .some;
-                most = omega (arith, b′ .most, w .most);
-                candidate = b′ .candidate;
-                possible = b′ .possible;
+                some = b'.some;
+                most = omega (arith, b'.most, w.most);
+                candidate = b'.candidate;
+                possible = b'.possible;
               };
-              ahead = λ r′ A′ B′ k. elim (decLt r r′) [
-                | yes l ↦ smaller n (omega (arith, b .ahead r A B fits .largest, w .whole, k .candidate .most))
-                | no l ↦ b .ahead r′ A′ B′ (record {
-                  some = k .some;
+              ahead = λ r' A' B' k. elim (dec_lt r r') [
+                | yes l ↦ smaller n (omega (arith, (b.ahead r A B fits).largest, w.whole, k.candidate.most))
+                | no l ↦ b.ahead r' A' B' (record {
+                  some = k.some;
                   most = omega arith;
-                  candidate = k .candidate;
-                  possible = k .possible;
+                  candidate = k.candidate;
+                  possible = k.possible;
                 })
               ];
             }))
 
     pub whole-best : better n r (sparing n (K - r - 1) (bestUpTo n F K (r - 1))) (split A B) ≡ bestUpTo n F K m
     whole-best =
-        fewer (bestUpTo n F K (r - 1)) ∙ ap (better n r (bestUpTo n F K (r - 1))) (sym (w .answer))
-        ∙ one-more r (w .some) ∙ more
+        fewer (bestUpTo n F K (r - 1)) ∙ ap (better n r (bestUpTo n F K (r - 1))) (sym w.answer)
+        ∙ one_more r w.some ∙ more

@@ -1,22 +1,22 @@
 -- The best over r of the table over the inputs that count, its masks spread back, is the best over r over them:
 -- spreading keeps sizes. Assumes nothing.
-use mathlib.Core.Path.{_≡_, refl, sym, ap, ap₂, _∙_, fun-ext}
+use mathlib.Core.Path.{◌≡◌, refl, sym, ap, ap₂, ◌∙◌, fun_ext}
 use mathlib.Core.Bool.{Bool, true, false, cond}
 use mathlib.Core.List.{List}
-use Prim.Native.Nat.{ℕ, zero, suc, _+_, _^_}
+use Prim.Native.Nat.{ℕ, zero, suc, ◌+◌, ◌^◌}
 use lib.Dec.{ltb, eqb}
-use Rattle·bits.specs.Numbers.{bit, number}
-use Rattle·bits.specs.Sets.{size, spread}
-use Rattle·bits.proofs.Members.{size-spread}
-use Rattle·tables.specs.Table.{tableBit}
-use Rattle·tables.specs.declared.counting.CountingInputs.{CountingInputs}
-use Rattle·tables.specs.Counting.{CountingIn, tableOver}
-use Rattle·best.specs.Search.{Answer, none, split, best}
-use Rattle·best.specs.Counting.{spreadAnswer}
-use Rattle·best.proofs.Counting.{counting-found}
-use Rattle·choices·specs.specs.declared.over.Chosen.{Chosen}
-use Rattle·choices·specs.specs.Search.{Choice, nothing, choice, better, firstOver, bestUpTo, bestOver, spreadChoice}
-use Rattle·choices·specs.specs.Chosen.{choiceOf}
+use Rattle.bits.specs.Numbers.{bit, number}
+use Rattle.bits.specs.Sets.{size, spread}
+use Rattle.bits.proofs.Members.{size-spread}
+use Rattle.tables.specs.Table.{tableBit}
+use Rattle.tables.specs.declared.counting.CountingInputs.{CountingInputs}
+use Rattle.tables.specs.Counting.{CountingIn, tableOver}
+use Rattle.best.specs.Search.{Answer, none, split, best}
+use Rattle.best.specs.Counting.{spreadAnswer}
+use Rattle.best.proofs.Counting.{counting-found}
+use Rattle.choices.specs.declared.over.Chosen.{Chosen}
+use Rattle.choices.specs.Search.{Choice, nothing, choice, better, firstOver, bestUpTo, bestOver, spreadChoice}
+use Rattle.choices.specs.Chosen.{choice_of}
 
 module _ (n : ℕ) (s : ℕ → Bool) where
   spread-cond : (t : Bool) (c d : Choice) → spreadChoice n s (cond t c d)
@@ -44,19 +44,19 @@ module _ (n : ℕ) (s : ℕ → Bool) where
 
   -- a choice as the code holds it, spread
   pub spread-chosen : (c : Chosen)
-      → choiceOf (record { first = c .first; own = spread n s (c .own); shared = spread n s (c .shared) })
-      ≡ spreadChoice n s (choiceOf c)
-  spread-chosen c = sym (spread-cond (eqb (c .first) 0) nothing (choice (c .first) (c .own) (c .shared)))
+      → choice_of (record { first = c.first; own = spread n s c.own; shared = spread n s c.shared })
+      ≡ spreadChoice n s (choice_of c)
+  spread-chosen c = sym (spread-cond (eqb c.first 0) nothing (choice c.first c.own c.shared))
 
 -- where the table over the inputs that count stands in front of a list of bytes, the search there finds it
 pub over-found : (n m K : ℕ) (F : ℕ → Bool) (c : CountingInputs) (work : List ℕ) → CountingIn n F c
-    → number (2 ^ size n (bit (c .mask))) (tableBit work) ≡ tableOver n (bit (c .mask)) F
-    → spreadChoice n (bit (c .mask)) (bestUpTo (c .many) (tableBit work) K m) ≡ bestOver n F K m
+    → number (2 ^ size n (bit c.mask)) (tableBit work) ≡ tableOver n (bit c.mask) F
+    → spreadChoice n (bit c.mask) (bestUpTo c.many (tableBit work) K m) ≡ bestOver n F K m
 over-found n m K F c work w over =
-    ap (λ (k : ℕ). spreadChoice n (bit (c .mask)) (firstOver k found m))
-    (w .count ∙ ap (λ (s : ℕ). size n (bit s)) (sym (w .is)))
-    ∙ spread-first n (bit (c .mask)) found m
-    ∙ ap (λ (f : ℕ → Answer). firstOver n f m) (fun-ext (λ r. counting-found n r K F c work w over))
+    ap (λ (k : ℕ). spreadChoice n (bit c.mask) (firstOver k found m))
+    (w.count ∙ ap (λ (s : ℕ). size n (bit s)) (sym w.is))
+    ∙ spread-first n (bit c.mask) found m
+    ∙ ap (λ (f : ℕ → Answer). firstOver n f m) (fun_ext (λ r. counting-found n r K F c work w over))
   where
     found : ℕ → Answer
-    found r = best (c .many) r (tableBit work) K
+    found r = best c.many r (tableBit work) K

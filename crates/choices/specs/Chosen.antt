@@ -1,17 +1,14 @@
 -- What the code that looks for the best over r holds.
-use mathlib.Core.Path.{_≡_}
-use mathlib.Core.Bool.{Bool, cond}
-use Prim.Native.Nat.{ℕ, _+_, _^_, _<_, _≤_}
-use lib.Dec.{eqb}
-use Rattle·bits.specs.Numbers.{bit}
-use Rattle·bits.specs.Sets.{size}
-use Rattle·best.specs.Search.{Answer, none, split, above, best}
-use Rattle·choices·specs.specs.declared.over.Chosen.{Chosen}
-use Rattle·choices·specs.specs.Search.{Choice, nothing, choice, better}
+use Rattle.std.specs.Prelude.{◌≡◌, Bool, cond, ℕ, ◌+◌, ◌^◌, ◌<◌, ◌≤◌, eqb}
+use Rattle.bits.specs.Numbers.{bit}
+use Rattle.bits.specs.Sets.{size}
+use Rattle.best.specs.Search.{Answer, none, split, above, best}
+use Rattle.choices.specs.declared.over.Chosen.{Chosen}
+use Rattle.choices.specs.Search.{Choice, nothing, choice, better}
 
 -- how many first cells and the masks, or that there is nothing: no first cells
-abbrev pub choiceOf : Chosen → Choice
-choiceOf c = cond (eqb (c .first) 0) nothing (choice (c .first) (c .own) (c .shared))
+abbrev pub choice_of : Chosen → Choice
+choice_of c = cond (eqb c.first 0) nothing (choice c.first c.own c.shared)
 
 -- its own mask names n positions at most
 abbrev pub OwnBelow : ℕ → Choice → Type 0

@@ -1,11 +1,9 @@
 -- The best over r, to compute: of the best split of each r, the one with the largest |A| - r, and the least r of those.
-use mathlib.Core.Bool.{Bool, cond}
-use Prim.Native.Nat.{ℕ, zero, suc, _+_}
-use lib.Dec.{ltb}
-use Rattle·bits.specs.Numbers.{bit}
-use Rattle·bits.specs.Sets.{size, spread}
-use Rattle·best.specs.Search.{Answer, none, split, best}
-use Rattle·best.specs.Counting.{bestCounting}
+use Rattle.std.specs.Prelude.{Bool, cond, ℕ, zero, suc, ◌+◌, ltb}
+use Rattle.bits.specs.Numbers.{bit}
+use Rattle.bits.specs.Sets.{size, spread}
+use Rattle.best.specs.Search.{Answer, none, split, best}
+use Rattle.best.specs.Counting.{bestCounting}
 
 -- how many first cells, the own and the shared mask; or nothing
 pub data Choice : Type 0 where

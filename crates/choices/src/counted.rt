@@ -1,25 +1,22 @@
 // The best split over how many first cells there are, over the inputs that count.
-use crate::over::Chosen;
-use crate::over::find_upto;
+ghost use Rattle.std.specs.Prelude.{◌≡◌, ◌≤◌, length, replicate};
+ghost use Rattle.bits.specs.Numbers.{bit};
+ghost use Rattle.tables.specs.Table.{mostInputs, tableLength, tableBit};
+ghost use Rattle.tables.specs.Counting.{CountingIn};
+ghost use Rattle.splits.specs.Columns.{mostFirst};
+ghost use Rattle.choices.specs.Search.{bestOver, spreadChoice};
+ghost use Rattle.choices.specs.Chosen.{choice_of};
+
+use crate::over::{Chosen, find_upto};
 use columns::split::Split;
-use tables::aside::set_aside;
-use tables::aside::spread_mask;
+use tables::aside::{set_aside, spread_mask};
 use tables::clear;
 use tables::counting::CountingInputs;
-ghost use mathlib.Core.Path.{_≡_};
-ghost use Prim.Native.Nat.{_≤_};
-ghost use lib.ListN.{length, replicate};
-ghost use Rattle·bits.specs.Numbers.{bit};
-ghost use Rattle·tables.specs.Table.{mostInputs, tableLength, tableBit};
-ghost use Rattle·tables.specs.Counting.{CountingIn};
-ghost use Rattle·splits.specs.Columns.{mostFirst};
-ghost use Rattle·choices·specs.specs.Search.{bestOver, spreadChoice};
-ghost use Rattle·choices·specs.specs.Chosen.{choiceOf};
 
 // Masks over the members of a mask, spread back to the members.
 fn spread_back(n: u32, mask: u16, found: Chosen) -> Chosen
-    requires { ⌜ n ≤ mostInputs ⌝ }
-    ensures { λ c. ⌜ choiceOf c ≡ spreadChoice n (bit mask) (choiceOf found) ⌝ }
+    requires { n ≤ mostInputs }
+    ensures { choice_of result ≡ spreadChoice n (bit mask) (choice_of found) }
 {
     let a = spread_mask(n, mask, found.own);
     let b = spread_mask(n, mask, found.shared);
@@ -33,12 +30,10 @@ fn spread_back(n: u32, mask: u16, found: Chosen) -> Chosen
 // The best split with 1, 2 or 3 first cells of k inputs over the inputs that count, in a work area, which is then
 // cleared.
 pub fn find_over(t: &[u8], n: u32, counting: CountingInputs, k: u32, work: &mut [u8]) -> Chosen
-    requires { ⌜ (length (now t) ≡ tableLength n) × (n ≤ mostInputs) × CountingIn n (tableBit (now t)) counting
-        × (k ≤ mostInputs) × (length (now t) ≤ length (now work)) ⌝ }
-    ensures { λ c. ⌜
-        (choiceOf c ≡ bestOver n (tableBit (now (t .entry))) k mostFirst)
-        × (now (work .exit) ≡ replicate (length (now (work .entry))) 0)
-        ⌝ }
+    requires { (length t.now ≡ tableLength n) × (n ≤ mostInputs) × CountingIn n (tableBit t.now) counting
+        × (k ≤ mostInputs) × (length t.now ≤ length work.old) }
+    ensures { (choice_of result ≡ bestOver n (tableBit t.now) k mostFirst)
+        × (work.new ≡ replicate (length work.old) 0) }
 {
     set_aside(t, n, counting.mask, work);
     let found = find_upto(work, counting.many, Split::MOST_FIRST as u32, k);

@@ -1,19 +1,18 @@
 // The best split over how many first cells there are: of the best of each r, the first in the order.
+ghost use Rattle.std.specs.Prelude.{◌≡◌, ◌+◌, ◌*◌, ◌^◌, ◌<◌, ◌≤◌, length};
+ghost use Rattle.tables.specs.Table.{mostInputs, tableBit};
+ghost use Rattle.splits.specs.Columns.{mostFirst};
+ghost use Rattle.best.specs.Search.{split};
+ghost use Rattle.best.specs.Answers.{answer_of};
+ghost use Rattle.choices.specs.Search.{better, sparing, bestUpTo};
+ghost use Rattle.choices.specs.Chosen.{choice_of, OwnBelow, SplitBelow, Spares, Floor, AtOnce};
+
 use best::Found;
 use bits::sets::members;
-use search::search::find_above;
-use search::search::first_try;
-ghost use mathlib.Core.Path.{_≡_};
-ghost use Prim.Native.Nat.{_+_, _*_, _^_, _<_, _≤_};
-ghost use lib.ListN.{length};
-ghost use Rattle·tables.specs.Table.{mostInputs, tableBit};
-ghost use Rattle·splits.specs.Columns.{mostFirst};
-ghost use Rattle·best.specs.Search.{split};
-ghost use Rattle·best.specs.Answers.{answerOf};
-ghost use Rattle·choices·specs.specs.Search.{better, sparing, bestUpTo};
-ghost use Rattle·choices·specs.specs.Chosen.{choiceOf, OwnBelow, SplitBelow, Spares, Floor, AtOnce};
+use search::search::{find_above, first_try};
 
 // How many first cells, and the masks; no first cells where there is no such split.
+#[derive(Drop)]
 pub struct Chosen {
     pub first: u32,
     pub own: u16,
@@ -22,11 +21,9 @@ pub struct Chosen {
 
 // The choice so far, or a split with r first cells, if that has the larger |A| - r.
 fn larger(n: u32, r: u32, kept: Chosen, own: u16, shared: u16) -> Chosen
-    requires { ⌜
-        (1 ≤ r) × (r ≤ mostFirst) × (n ≤ mostInputs) × (kept .first ≤ mostFirst) × OwnBelow n (choiceOf kept)
-        × (own < 2 ^ n)
-        ⌝ }
-    ensures { λ c. ⌜ (choiceOf c ≡ better n r (choiceOf kept) (split own shared)) × (c .first ≤ mostFirst) ⌝ }
+    requires { (1 ≤ r) × (r ≤ mostFirst) × (n ≤ mostInputs) × (kept.first ≤ mostFirst) × OwnBelow n (choice_of kept)
+        × (own < 2 ^ n) }
+    ensures { (choice_of result ≡ better n r (choice_of kept) (split own shared)) × (result.first ≤ mostFirst) }
 {
     let fresh = Chosen {
         first: r,
@@ -44,9 +41,9 @@ fn larger(n: u32, r: u32, kept: Chosen, own: u16, shared: u16) -> Chosen
 
 // The same of what was found with r first cells.
 fn with_found(n: u32, r: u32, kept: Chosen, found: Found) -> Chosen
-    requires { ⌜ (1 ≤ r) × (r ≤ mostFirst) × (n ≤ mostInputs) × (kept .first ≤ mostFirst) ⌝ }
-    requires { ⌜ OwnBelow n (choiceOf kept) × SplitBelow n (answerOf found) ⌝ }
-    ensures { λ c. ⌜ (choiceOf c ≡ better n r (choiceOf kept) (answerOf found)) × (c .first ≤ mostFirst) ⌝ }
+    requires le_r { (1 ≤ r) × (r ≤ mostFirst) × (n ≤ mostInputs) × (kept.first ≤ mostFirst) }
+    requires own_below { OwnBelow n (choice_of kept) × SplitBelow n (answer_of found) }
+    ensures { (choice_of result ≡ better n r (choice_of kept) (answer_of found)) × (result.first ≤ mostFirst) }
 {
     let Found::Split(own, shared) = found else {
         return kept;
@@ -57,9 +54,9 @@ fn with_found(n: u32, r: u32, kept: Chosen, found: Found) -> Chosen
 // How many own inputs a split with r first cells must have more than, to be of use: as many as make it spare no more
 // than the choice so far; without one, `low` more than r.
 fn floor(n: u32, r: u32, kept: Chosen, low: u32) -> u32
-    requires { ⌜ (n ≤ mostInputs) × (r ≤ mostFirst) × (low ≤ mostInputs) × OwnBelow n (choiceOf kept)
-        × Spares n low (choiceOf kept) ⌝ }
-    ensures { λ f. ⌜ Floor n r low (choiceOf kept) f ⌝ }
+    requires { (n ≤ mostInputs) × (r ≤ mostFirst) × (low ≤ mostInputs) × OwnBelow n (choice_of kept)
+        × Spares n low (choice_of kept) }
+    ensures { Floor n r low (choice_of kept) result }
 {
     if kept.first == 0 {
         return low + r;
@@ -69,12 +66,8 @@ fn floor(n: u32, r: u32, kept: Chosen, low: u32) -> u32
 
 // The best split with up to `most` first cells of k inputs, if its |A| - r is more than `low`.
 fn find_sparing(t: &[u8], n: u32, most: u32, k: u32, low: u32) -> Chosen
-    requires { ⌜
-        (n ≤ mostInputs) × (most ≤ mostFirst) × (2 ^ n ≤ 8 * length (now t)) × (k ≤ mostInputs) × (low ≤ mostInputs)
-        ⌝ }
-    ensures { λ c. ⌜
-        (choiceOf c ≡ sparing n low (bestUpTo n (tableBit (now (t .entry))) k most)) × (c .first ≤ mostFirst)
-        ⌝ }
+    requires { (n ≤ mostInputs) × (most ≤ mostFirst) × (2 ^ n ≤ 8 * length t.now) × (k ≤ mostInputs) × (low ≤ mostInputs) }
+    ensures { (choice_of result ≡ sparing n low (bestUpTo n (tableBit t.now) k most)) × (result.first ≤ mostFirst) }
 {
     let mut kept = Chosen {
         first: 0,
@@ -92,8 +85,8 @@ fn find_sparing(t: &[u8], n: u32, most: u32, k: u32, low: u32) -> Chosen
 
 // The least number of first cells whose very first candidate is possible, and that split; or nothing.
 fn at_once(t: &[u8], n: u32, upto: u32, k: u32) -> Chosen
-    requires { ⌜ (n ≤ mostInputs) × (upto ≤ mostFirst) × (2 ^ n ≤ 8 * length (now t)) ⌝ }
-    ensures { λ c. ⌜ AtOnce n k upto (tableBit (now (t .entry))) (choiceOf c) ⌝ }
+    requires { (n ≤ mostInputs) × (upto ≤ mostFirst) × (2 ^ n ≤ 8 * length t.now) }
+    ensures { AtOnce n k upto (tableBit t.now) (choice_of result) }
 {
     let mut r: u32 = 1;
     while r <= upto {
@@ -117,8 +110,8 @@ fn at_once(t: &[u8], n: u32, upto: u32, k: u32) -> Chosen
 // The best split with up to `most` first cells of k inputs. A split found at once has k own inputs: more first cells
 // spare less, and fewer are of use only where they spare as much.
 pub fn find_upto(t: &[u8], n: u32, most: u32, k: u32) -> Chosen
-    requires { ⌜ (n ≤ mostInputs) × (most ≤ mostFirst) × (2 ^ n ≤ 8 * length (now t)) × (k ≤ mostInputs) ⌝ }
-    ensures { λ c. ⌜ (choiceOf c ≡ bestUpTo n (tableBit (now (t .entry))) k most) × (c .first ≤ mostFirst) ⌝ }
+    requires { (n ≤ mostInputs) × (most ≤ mostFirst) × (2 ^ n ≤ 8 * length t.now) × (k ≤ mostInputs) }
+    ensures { (choice_of result ≡ bestUpTo n (tableBit t.now) k most) × (result.first ≤ mostFirst) }
 {
     let early = at_once(t, n, most, k);
     if early.first == 0 {

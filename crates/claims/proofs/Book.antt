@@ -1,14 +1,14 @@
 -- The book of three-input tables: what is claimed of it. Assumes nothing.
-use mathlib.Core.Path.{_≡_, sym, _∙_}
-use mathlib.Core.Logic.{_↔_}
-use Prim.Native.Nat.{ℕ, _<_}
+use mathlib.Core.Path.{◌≡◌, sym, ◌∙◌}
+use mathlib.Core.Logic.{◌↔◌}
+use Prim.Native.Nat.{ℕ, ◌<◌}
 use lib.Dec.{lit<}
-use Rattle·bits.specs.Lists.{listOf}
-use Rattle·turning.specs.Ways.{Reachable}
-use Rattle·book.specs.Book.{tableCount, LeastReachable, entry, different}
-use Rattle·turning.proofs.Group.{reach-same, reach-back, reach-on}
-use Rattle·book.proofs.Entries.{entry-least, least-once, same-entry}
-use Rattle·book.proofs.Printed.{book, printed, how-many}
+use Rattle.bits.specs.Lists.{list_of}
+use Rattle.turning.specs.Ways.{Reachable}
+use Rattle.book.specs.Book.{tableCount, LeastReachable, entry, different}
+use Rattle.turning.proofs.Group.{reach-same, reach-back, reach-on}
+use Rattle.book.proofs.Entries.{entry-least, least-once, same-entry}
+use Rattle.book.proofs.Printed.{book, printed, how-many}
 
 -- each entry is reachable, and no smaller number is
 pub book-least : (f : ℕ) → f < tableCount → LeastReachable f (entry f)
@@ -23,7 +23,7 @@ pub book-once : (f a b : ℕ) → a ≡ entry f → b ≡ entry f → a ≡ b
 book-once f a b p q = p ∙ sym q
 
 -- it has 14 different entries
-pub book-entries : different (listOf tableCount entry) ≡ 14
+pub book-entries : different (list_of tableCount entry) ≡ 14
 book-entries = how-many
 
 -- 80 goes to 01, 96 to 69, E8 to 17

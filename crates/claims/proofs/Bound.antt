@@ -1,111 +1,111 @@
 -- A lower bound on the cells of a table: what is claimed of it, in a told edition. That no network has fewer cells is
 -- said of networks alone, without splits or the search. Assumes nothing.
-use mathlib.Core.Path.{_≡_, refl, sym, ap, _∙_, subst}
-use mathlib.Core.Bool.{Bool, true, false, Bool·beq}
-use mathlib.Core.List.{List, [], _∷_}
-use Prim.Native.Nat.{ℕ, _+_, _-_, _*_, _<_, _≤_}
+use mathlib.Core.Path.{◌≡◌, refl, sym, ap, ◌∙◌, subst}
+use mathlib.Core.Bool.{Bool, true, false, beq}
+use mathlib.Core.List.{List, [], ◌∷◌}
+use Prim.Native.Nat.{ℕ, ◌+◌, ◌-◌, ◌*◌, ◌<◌, ◌≤◌}
 use native.Mathlib.Omega.{arith}
 use lib.Dec.{ltb}
-use lib.ListN.{length, getD, replicate}
+use lib.ListN.{length, get_or, replicate}
 use borrow.Author.Tests.{ltb-true}
-use Rattle·bits.specs.Numbers.{bit, number}
-use Rattle·bits.specs.Below.{every, least}
-use Rattle·bits.specs.Sets.{size, disjoint, gather, spread}
-use Rattle·bits.specs.Lists.{listOf}
-use Rattle·bits.proofs.Bools.{beq-same}
-use Rattle·bits.proofs.Below.{every-at}
-use Rattle·tables.specs.Table.{tableBit}
-use Rattle·tables.specs.Counting.{counts, support, kept, tableOver}
-use Rattle·splits.specs.Columns.{firsts, assign, column, columns, fewColumns}
-use Rattle·splits.specs.Pair.{code, codeAt, tableD, bitH, tableH}
-use Rattle·best.specs.Search.{first, tryB, tryA, best}
-use Rattle·best.specs.Counting.{bestCounting}
-use Rattle·choices.specs.Search.{firstOver}
-use Rattle·sheets.specs.declared.kinds.Edition.{Edition}
-use Rattle·sheets.specs.Edition.{IsEdition, editionOf}
-use Rattle·sheets.specs.Network.{Cell, output, run, Gives, Carries}
-use Rattle·sheets.proofs.Wiring.{cells-length}
-use Rattle·chains.specs.Chain.{pick, step, stuck, made}
-use Rattle·chains.specs.Aside.{keptSignals, keptTable, chainAside, cellsAside}
-use Rattle·fewest.specs.Fewest.{Fewest}
-use Rattle·chains.proofs.Aside.{sheet-stuck}
-use Rattle·refusals.specs.declared.verdicts.Refusal.{Refusal}
-use Rattle·refusals.specs.declared.verdicts.Verdict.the-variants.{Fine, Refused}
-use Rattle·refusals.specs.Lines.{InOrder, verdict, numberOf}
-use Rattle·refusals.proofs.Lines.{in-order}
-use Rattle·refusals.proofs.Lent.{form-leaves}
-use Rattle·refusals.proofs.Tests.{Sound, sound}
-use Rattle·bounds.specs.declared.bound_cells.BoundAnswer.{BoundAnswer}
-use Rattle·bounds.specs.Bound.{counted, Bound}
-use Rattle·bounds.specs.Least.{cellBound}
-use Rattle·bounds.specs.BoundCells.{BoundOutcome, boundDone, boundNot, boundLines, boundOutcome}
-use Rattle·bounds.proofs.Bound.{least-bound}
-use Rattle·bounds.proofs.Sound.{bound-sound, bound-once, bound-reaches, bound-asks, bound-fewest, bound-made}
-use Rattle·bounds.proofs.Sound.{bound-carried, bound-three, fewest-bound, three-bound, enough-bound, pairs-bound}
-use Rattle·bounds.proofs.Sound.{stuck-bound}
-use Rattle·making.specs.MakeSheet.{sheetFor, makeForm, makeOutcome}
-use Rattle·any_gate.specs.MakeAny.{anyOutcome}
-use Rattle·claims·specs.specs.Words.{ByLines, recordsOf, networkOf}
-use Rattle·claims·proofs.proofs.Verdicts.{says-verdict, is-done, is-refused, by-lines}
-use Rattle·claims·proofs.proofs.Made.{IsMade, is-made, not-stuck}
-use Rattle·claims·proofs.proofs.MakeSheet.{made-gives, made-blocked, blocked-refused}
-use Rattle·claims·proofs.proofs.MakeAny.{any-network-gives, any-fewest}
+use Rattle.bits.specs.Numbers.{bit, number}
+use Rattle.bits.specs.Below.{every, least}
+use Rattle.bits.specs.Sets.{size, disjoint, gather, spread}
+use Rattle.bits.specs.Lists.{list_of}
+use Rattle.bits.proofs.Bools.{beq_same}
+use Rattle.bits.proofs.Below.{every-at}
+use Rattle.tables.specs.Table.{tableBit}
+use Rattle.tables.specs.Counting.{counts, support, kept, tableOver}
+use Rattle.splits.specs.Columns.{firsts, assign, column, columns, fewColumns}
+use Rattle.splits.specs.Pair.{code, code_at, tableD, bitH, tableH}
+use Rattle.best.specs.Search.{first, tryB, tryA, best}
+use Rattle.best.specs.Counting.{bestCounting}
+use Rattle.choices.specs.Search.{firstOver}
+use Rattle.sheets.specs.declared.kinds.Edition.{Edition}
+use Rattle.sheets.specs.Edition.{IsEdition, editionOf}
+use Rattle.sheets.specs.Network.{Cell, output, run, Gives, Carries}
+use Rattle.sheets.proofs.Wiring.{cells-length}
+use Rattle.chains.specs.Chain.{pick, step, stuck, made}
+use Rattle.chains.specs.Aside.{keptSignals, keptTable, chainAside, cellsAside}
+use Rattle.fewest.specs.Fewest.{Fewest}
+use Rattle.chains.proofs.Aside.{sheet-stuck}
+use Rattle.refusals.specs.declared.verdicts.Refusal.{Refusal}
+use Rattle.refusals.specs.declared.verdicts.Verdict.TheVariants.{Fine, Refused}
+use Rattle.refusals.specs.Lines.{InOrder, verdict, number_of}
+use Rattle.refusals.proofs.Lines.{in_order}
+use Rattle.refusals.proofs.Lent.{form-leaves}
+use Rattle.refusals.proofs.Tests.{Sound, sound}
+use Rattle.bounds.specs.declared.bound_cells.BoundAnswer.{BoundAnswer}
+use Rattle.bounds.specs.Bound.{counted, Bound}
+use Rattle.bounds.specs.Least.{cellBound}
+use Rattle.bounds.specs.BoundCells.{BoundOutcome, boundDone, boundNot, boundLines, boundOutcome}
+use Rattle.bounds.proofs.Bound.{least-bound}
+use Rattle.bounds.proofs.Sound.{bound-sound, bound-once, bound-reaches, bound-asks, bound-fewest, bound-made}
+use Rattle.bounds.proofs.Sound.{bound-carried, bound-three, fewest-bound, three-bound, enough-bound, pairs-bound}
+use Rattle.bounds.proofs.Sound.{stuck-bound}
+use Rattle.making.specs.MakeSheet.{sheetFor, makeForm, makeOutcome}
+use Rattle.any_gate.specs.MakeAny.{anyOutcome}
+use Rattle.claims.specs.Words.{ByLines, recordsOf, networkOf}
+use Rattle.claims.proofs.Verdicts.{says-verdict, is-done, is-refused, by_lines}
+use Rattle.claims.proofs.Made.{IsMade, is_made, not_stuck}
+use Rattle.claims.proofs.MakeSheet.{made-gives, made-blocked, blocked-refused}
+use Rattle.claims.proofs.MakeAny.{any-network-gives, any-fewest}
 
 module _ (w n K : ℕ) (t work : List ℕ) where
-  says : boundOutcome w n K t work .answer .verdict ≡ verdict (boundLines w n K t work)
+  says : (boundOutcome w n K t work).answer.verdict ≡ verdict (boundLines w n K t work)
   unfolding boundOutcome
-  says = says-verdict (λ (o : BoundOutcome). o .answer .verdict) (boundDone n K t work) (boundNot work) refl (λ r. refl)
+  says = says-verdict (λ (o : BoundOutcome). o.answer.verdict) (boundDone n K t work) (boundNot work) refl (λ r. refl)
       (verdict (boundLines w n K t work))
 
   -- the verdict is that of 1, of 2 for the edition, and of lines 1 to 4 and 6 in that edition
-  pub bound-lines : ByLines (boundOutcome w n K t work .answer .verdict) (boundLines w n K t work)
-  bound-lines = by-lines (boundLines w n K t work) refl (boundOutcome w n K t work .answer .verdict) says
+  pub bound-lines : ByLines (boundOutcome w n K t work).answer.verdict (boundLines w n K t work)
+  bound-lines = by_lines (boundLines w n K t work) refl (boundOutcome w n K t work).answer.verdict says
 
   -- refused: the bound is 0, and the work area is as it was found
-  pub bound-refused : (r : Refusal) → boundOutcome w n K t work .answer .verdict ≡ Refused r
-      → (boundOutcome w n K t work .answer .least ≡ 0) × (boundOutcome w n K t work .work ≡ work)
+  pub bound-refused : (r : Refusal) → (boundOutcome w n K t work).answer.verdict ≡ Refused r
+      → ((boundOutcome w n K t work).answer.least ≡ 0) × ((boundOutcome w n K t work).work ≡ work)
   unfolding boundOutcome
   bound-refused r h =
-      let q = is-refused (λ (o : BoundOutcome). o .answer .verdict) (boundDone n K t work) (boundNot work) refl
+      let q = is-refused (λ (o : BoundOutcome). o.answer.verdict) (boundDone n K t work) (boundNot work) refl
       (λ u. refl) (verdict (boundLines w n K t work)) r h in (
-        ap (λ o. o .answer .least) q,
-        ap (λ o. o .work) q
+        ap (λ o. o.answer.least) q,
+        ap (λ o. o.work) q
             ∙ form-leaves (boundLines w n K t work) r refl (sym says ∙ h) work,
       )
 
   -- two outcomes that keep the promise are equal: the answer, and the work area afterwards
-  pub bounded-once : (a a′ : BoundAnswer) (l l′ : List ℕ) → record { answer = a; work = l } ≡ boundOutcome w n K t work
-      → record { answer = a′; work = l′ } ≡ boundOutcome w n K t work → (a ≡ a′) × (l ≡ l′)
-  bounded-once a a′ l l′ p q = (ap (λ o. o .answer) (p ∙ sym q), ap (λ o. o .work) (p ∙ sym q))
+  pub bounded-once : (a a' : BoundAnswer) (l l' : List ℕ) → record { answer = a; work = l } ≡ boundOutcome w n K t work
+      → record { answer = a'; work = l' } ≡ boundOutcome w n K t work → (a ≡ a') × (l ≡ l')
+  bounded-once a a' l l' p q = (ap (λ o. o.answer) (p ∙ sym q), ap (λ o. o.work) (p ∙ sym q))
 
   -- ---- done
-  module _ (done : boundOutcome w n K t work .answer .verdict ≡ Fine) where
+  module _ (done : (boundOutcome w n K t work).answer.verdict ≡ Fine) where
     abbrev F : ℕ → Bool
     F = tableBit t
 
     -- the bound
     abbrev L : ℕ
-    L = boundOutcome w n K t work .answer .least
+    L = (boundOutcome w n K t work).answer.least
 
     is : boundOutcome w n K t work ≡ boundDone n K t work
     unfolding boundOutcome
-    is = is-done (λ (o : BoundOutcome). o .answer .verdict) (boundDone n K t work) (boundNot work) refl (λ r. refl)
+    is = is-done (λ (o : BoundOutcome). o.answer.verdict) (boundDone n K t work) (boundNot work) refl (λ r. refl)
         (verdict (boundLines w n K t work)) done
 
     gate : Sound (editionOf w) n K t
-    gate = let o = in-order (boundLines w n K t work) (sym says ∙ done) .1 .1
-        in sound (editionOf w) n K t (o .0, (o .1 .0, (o .1 .1 .0, (o .1 .1 .1 .0, tt))))
+    gate = let o = (in_order (boundLines w n K t work) (sym says ∙ done)).1.1
+        in sound (editionOf w) n K t (o.0, (o.1.0, (o.1.1.0, (o.1.1.1.0, tt))))
 
     some : 1 ≤ K
-    some = omega (arith, gate .two)
+    some = omega (arith, gate.two)
 
     -- the whole of the work area is zeros
-    pub bound-clears : boundOutcome w n K t work .work ≡ replicate (length work) 0
-    bound-clears = ap (λ o. o .work) is
+    pub bound-clears : (boundOutcome w n K t work).work ≡ replicate (length work) 0
+    bound-clears = ap (λ o. o.work) is
 
     -- it is the bound in words (`least-bound`, bounds), and there is one only (`bound-once`, bounds)
     pub bound-is : Bound n K F L
-    bound-is = subst (Bound n K F) (sym (ap (λ o. o .answer .least) is)) (least-bound n K F (gate .some) (gate .two))
+    bound-is = subst (Bound n K F) (sym (ap (λ o. o.answer.least) is)) (least-bound n K F gate.some gate.two)
 
     pub bound-only : (M : ℕ) → Bound n K F M → M ≡ L
     bound-only M b = bound-once n K F b bound-is
@@ -120,13 +120,13 @@ module _ (w n K : ℕ) (t work : List ℕ) where
 
     -- 1 or 2: so many cells carry the table (`bound-carried`, bounds)
     pub small-carried : L ≤ 2 → Carries n K L F
-    small-carried = bound-carried n K F (gate .some) (gate .two) bound-is
+    small-carried = bound-carried n K F gate.some gate.two bound-is
 
     -- ---- it never falls short of what was known of networks
 
     -- demand 3: where neither one nor two cells carry the table, 3 or more (`bound-three`, bounds)
     pub bound-from-three : (Carries n K 1 F → ⊥) → (Carries n K 2 F → ⊥) → 3 ≤ L
-    bound-from-three = bound-three n K F (gate .some) (gate .two) bound-is
+    bound-from-three = bound-three n K F gate.some gate.two bound-is
 
     -- the reach of m cells: L cells reach the inputs that count, and no number below what these ask for (`bound-asks`,
     -- bounds)
@@ -140,75 +140,75 @@ module _ (w n K : ℕ) (t work : List ℕ) where
     module _ (e : Edition) (ok : IsEdition e) (d : ℕ) (sheet room : List ℕ) where
       -- 1 or 2, and form and room in order: make is done, and writes so many cells (`bound-made`, bounds)
       pub small-made : L ≤ 2 → InOrder (makeForm e d n K t sheet room)
-          → (makeOutcome e d n K t sheet room .answer .verdict ≡ Fine)
-          × (makeOutcome e d n K t sheet room .answer .count ≡ L)
-      small-made h form = go (bound-made n K F (gate .some) (gate .two) bound-is h)
+          → ((makeOutcome e d n K t sheet room).answer.verdict ≡ Fine)
+          × ((makeOutcome e d n K t sheet room).answer.count ≡ L)
+      small-made h form = go (bound-made n K F gate.some gate.two bound-is h)
         where
           go : (cs : List Cell) × (sheetFor n K t ≡ made cs) × (length cs ≡ L)
-              → (makeOutcome e d n K t sheet room .answer .verdict ≡ Fine)
-              × (makeOutcome e d n K t sheet room .answer .count ≡ L)
-          go p = let m = not-stuck e d n K t sheet room form (p .0) (p .1) in (
-            ap (λ o. o .answer .verdict) (m .0 .outcome),
-            ap (λ o. o .answer .count) (m .0 .outcome) ∙ ap length (m .1) ∙ p .2,
+              → ((makeOutcome e d n K t sheet room).answer.verdict ≡ Fine)
+              × ((makeOutcome e d n K t sheet room).answer.count ≡ L)
+          go p = let m = not_stuck e d n K t sheet room form p.0 p.1 in (
+            ap (λ o. o.answer.verdict) m.0.outcome,
+            ap (λ o. o.answer.count) m.0.outcome ∙ ap length m.1 ∙ p.2,
           )
 
-      module _ (ready : makeOutcome e d n K t sheet room .answer .verdict ≡ Fine) where
+      module _ (ready : (makeOutcome e d n K t sheet room).answer.verdict ≡ Fine) where
         m : IsMade e d n K t sheet room
-        m = is-made e d n K t sheet room ready
+        m = is_made e d n K t sheet room ready
 
-        count : makeOutcome e d n K t sheet room .answer .count ≡ length (m .cells)
-        count = ap (λ o. o .answer .count) (m .outcome)
+        count : (makeOutcome e d n K t sheet room).answer.count ≡ length m.cells
+        count = ap (λ o. o.answer.count) m.outcome
 
         -- a sheet of so many cells has the fewest
-        pub count-fewest : makeOutcome e d n K t sheet room .answer .count ≤ L
+        pub count-fewest : (makeOutcome e d n K t sheet room).answer.count ≤ L
             → Fewest n K F (networkOf e (makeOutcome e d n K t sheet room))
         count-fewest h =
             bound-met (networkOf e (makeOutcome e d n K t sheet room)) (made-gives e d n K t sheet room ok ready)
             (omega (
               arith,
               cells-length e (recordsOf e (makeOutcome e d n K t sheet room)) 0
-                  (makeOutcome e d n K t sheet room .answer .count),
+                  (makeOutcome e d n K t sheet room).answer.count,
             ))
 
         -- a sheet of at most three cells has so many (`three-bound`, bounds)
-        pub three-count : makeOutcome e d n K t sheet room .answer .count ≤ 3
-            → makeOutcome e d n K t sheet room .answer .count ≡ L
-        three-count h = count ∙ three-bound n K F (gate .some) (gate .two) bound-is (m .cells) (m .chain)
+        pub three-count : (makeOutcome e d n K t sheet room).answer.count ≤ 3
+            → (makeOutcome e d n K t sheet room).answer.count ≡ L
+        three-count h = count ∙ three-bound n K F gate.some gate.two bound-is m.cells m.chain
             (omega (arith, count))
 
         -- so has one with no more cells than the inputs that count ask for (`enough-bound`, bounds)
-        pub enough-count : (makeOutcome e d n K t sheet room .answer .count - 1) * (K - 1) + 1 < counted n F
-            → makeOutcome e d n K t sheet room .answer .count ≡ L
+        pub enough-count : ((makeOutcome e d n K t sheet room).answer.count - 1) * (K - 1) + 1 < counted n F
+            → (makeOutcome e d n K t sheet room).answer.count ≡ L
         enough-count h =
-            count ∙ enough-bound n K F (gate .some) (gate .two) bound-is (m .cells) (m .chain)
+            count ∙ enough-bound n K F gate.some gate.two bound-is m.cells m.chain
             (subst (λ (k : ℕ). (k - 1) * (K - 1) + 1 < counted n F) count h)
 
         -- E9: and every one with K = 2 (`pairs-bound`, bounds)
-        pub pairs-count : K ≡ 2 → makeOutcome e d n K t sheet room .answer .count ≡ L
-        pairs-count two = count ∙ pairs-bound n K F (gate .some) (gate .two) bound-is (m .cells) (m .chain) two
+        pub pairs-count : K ≡ 2 → (makeOutcome e d n K t sheet room).answer.count ≡ L
+        pairs-count two = count ∙ pairs-bound n K F gate.some gate.two bound-is m.cells m.chain two
 
       -- where make with K = 2 is refused as 8 it is as many as inputs count (`stuck-bound`, bounds)
-      pub refused-count : K ≡ 2 → numberOf (makeOutcome e d n K t sheet room .answer .verdict) ≡ 8 → L ≡ counted n F
+      pub refused-count : K ≡ 2 → number_of (makeOutcome e d n K t sheet room).answer.verdict ≡ 8 → L ≡ counted n F
       refused-count two h =
-          stuck-bound n K F (gate .some) (gate .two) bound-is two
-          (sheet-stuck n K F (gate .some) some .1 (made-blocked e d n K t sheet room h))
+          stuck-bound n K F gate.some gate.two bound-is two
+          ((sheet-stuck n K F gate.some some).1 (made-blocked e d n K t sheet room h))
 
       -- the same of a sheet that make_any writes, with several first cells where one is too few
-      module _ (ready : anyOutcome e d n K t sheet room .answer .verdict ≡ Fine) where
-        long : length (networkOf e (anyOutcome e d n K t sheet room)) ≡ anyOutcome e d n K t sheet room .answer .count
+      module _ (ready : (anyOutcome e d n K t sheet room).answer.verdict ≡ Fine) where
+        long : length (networkOf e (anyOutcome e d n K t sheet room)) ≡ (anyOutcome e d n K t sheet room).answer.count
         long = cells-length e (recordsOf e (anyOutcome e d n K t sheet room)) 0
-            (anyOutcome e d n K t sheet room .answer .count)
+            (anyOutcome e d n K t sheet room).answer.count
 
-        pub any-count-fewest : anyOutcome e d n K t sheet room .answer .count ≤ L
+        pub any-count-fewest : (anyOutcome e d n K t sheet room).answer.count ≤ L
             → Fewest n K F (networkOf e (anyOutcome e d n K t sheet room))
         any-count-fewest h = bound-met (networkOf e (anyOutcome e d n K t sheet room))
             (any-network-gives e d n K t sheet room ready ok) (omega (arith, long))
 
-        pub any-three-count : anyOutcome e d n K t sheet room .answer .count ≤ 3
-            → anyOutcome e d n K t sheet room .answer .count ≡ L
+        pub any-three-count : (anyOutcome e d n K t sheet room).answer.count ≤ 3
+            → (anyOutcome e d n K t sheet room).answer.count ≡ L
         any-three-count h =
             sym long
-            ∙ fewest-bound n K F (gate .some) (gate .two) bound-is (networkOf e (anyOutcome e d n K t sheet room))
+            ∙ fewest-bound n K F gate.some gate.two bound-is (networkOf e (anyOutcome e d n K t sheet room))
             (any-fewest e d n K t sheet room ready ok h) (omega (arith, long))
 
 -- ---- where so many cells carry the table, and make is not done: document 01's chain takes one first cell at each
@@ -226,11 +226,11 @@ threeCells =
     ∷ record { signals = 4 ∷ 5 ∷ 6 ∷ []; table = 0xD4 }
     ∷ []
 
-below : (l : List ℕ) (i : ℕ) → every (length l) (λ j. ltb (getD l j 0) i) ≡ true → (j : ℕ) → j < length l → getD l j 0
+below : (l : List ℕ) (i : ℕ) → every (length l) (λ j. ltb (get_or l j 0) i) ≡ true → (j : ℕ) → j < length l → get_or l j 0
     < i
-below l i e j h = ltb-true (getD l j 0) i (every-at (length l) (λ j. ltb (getD l j 0) i) e j h)
+below l i e j h = ltb-true (get_or l j 0) i (every-at (length l) (λ j. ltb (get_or l j 0) i) e j h)
 
-five-same : every 32 (λ x. Bool·beq (run false 5 threeCells (bit x)) (tableBit five x)) ≡ true
+five-same : every 32 (λ x. beq (run false 5 threeCells (bit x)) (tableBit five x)) ≡ true
 unfolding run output number
 five-same = refl
 
@@ -242,8 +242,8 @@ five-carried = record {
     below (0 ∷ 1 ∷ 3 ∷ []) 5 refl,
     (omega arith, below (0 ∷ 2 ∷ 3 ∷ []) 6 refl, (omega arith, below (4 ∷ 5 ∷ 6 ∷ []) 7 refl, tt)),
   );
-  gives = λ x h. beq-same (run false 5 threeCells (bit x)) (tableBit five x)
-      (every-at 32 (λ x. Bool·beq (run false 5 threeCells (bit x)) (tableBit five x)) five-same x h);
+  gives = λ x h. beq_same (run false 5 threeCells (bit x)) (tableBit five x)
+      (every-at 32 (λ x. beq (run false 5 threeCells (bit x)) (tableBit five x)) five-same x h);
 }
 
 -- the bound is 3: they are the fewest
@@ -261,12 +261,12 @@ five-fewest =
 
 -- and make is refused as 8, in every edition and for every desk
 five-stuck : sheetFor 5 3 five ≡ stuck
-unfolding cellsAside chainAside step firstOver keptSignals keptTable kept support counts tableOver pick listOf best
-    first tryA tryB disjoint fewColumns tableD tableH codeAt code bitH columns column assign firsts number size gather
+unfolding cellsAside chainAside step firstOver keptSignals keptTable kept support counts tableOver pick list_of best
+    first tryA tryB disjoint fewColumns tableD tableH code_at code bitH columns column assign firsts number size gather
     spread least
 five-stuck = refl
 
 pub five-refused : (e : Edition) (d : ℕ) (sheet work : List ℕ) → InOrder (makeForm e d 5 3 five sheet work)
-    → numberOf (makeOutcome e d 5 3 five sheet work .answer .verdict) ≡ 8
+    → number_of (makeOutcome e d 5 3 five sheet work).answer.verdict ≡ 8
 five-refused e d sheet work form = blocked-refused e d 5 3 five sheet work form
-    (sheet-stuck 5 3 (tableBit five) (omega arith) (omega arith) .0 five-stuck)
+    ((sheet-stuck 5 3 (tableBit five) (omega arith) (omega arith)).0 five-stuck)

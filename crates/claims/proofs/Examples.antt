@@ -3,45 +3,45 @@
 -- A and B (find), the count and the records (make), the bit and the index (run), the index and the table (rebuild), the
 -- place and the table (a formula read), or the place and the text (a formula written). Of the bench program it is all
 -- that it writes.
-use mathlib.Core.Path.{_≡_, refl}
-use mathlib.Core.List.{List, [], _∷_}
+use mathlib.Core.Path.{◌≡◌, refl}
+use mathlib.Core.List.{List, [], ◌∷◌}
 use Prim.Native.Nat.{ℕ}
 use lib.ListN.{replicate}
-use Rattle·bits.specs.Numbers.{number}
-use Rattle·bits.specs.Below.{least}
-use Rattle·bits.specs.Sets.{size, disjoint, gather, spread}
-use Rattle·bits.specs.Lists.{listOf}
-use Rattle·tables.specs.Table.{spareClear, tableOf}
-use Rattle·tables.specs.Cells.{joined}
-use Rattle·tables.specs.Counting.{counts, support, kept, tableOver}
-use Rattle·splits.specs.Columns.{firsts, assign, column, columns, fewColumns, firstBroken}
-use Rattle·splits.specs.Pair.{code, codeAt, tableD, bitH, tableH, bytesH}
-use Rattle·best.specs.Search.{first, tryB, tryA, best}
-use Rattle·best.specs.Counting.{bestCounting}
-use Rattle·sheets.specs.Network.{output, run}
-use Rattle·sheets.specs.Record.{cellOf, spareOk, byteOk, keeps}
-use Rattle·sheets.specs.Sheet.{cellsFrom, sheetBit, rebuilt}
-use Rattle·sheets.specs.Writing.{recordByte, encode}
-use Rattle·choices.specs.Search.{firstOver}
-use Rattle·chains.specs.Chain.{pick, step}
-use Rattle·chains.specs.Aside.{keptSignals, keptTable, chainAside, cellsAside}
-use Rattle·splitting.specs.TrySplit.{tryOutcome}
-use Rattle·finding.specs.FindBest.{findOutcome}
-use Rattle·sheets.specs.Desk.{deskOf}
-use Rattle·running.specs.RunSheet.{runOutcome}
-use Rattle·rebuilding.specs.RebuildTable.{rebuildOutcome}
-use Rattle·making.specs.MakeSheet.{makeOutcome}
-use Rattle·programs.specs.BenchProgram.{asked}
-use Rattle·values.specs.Formula.{value}
-use Rattle·formulas.specs.Reading.{reader, textOf}
-use Rattle·formulas.specs.ReadFormula.{readIn}
-use Rattle·printing.specs.Print.{inTurn, printed}
-use Rattle·printing.specs.WriteFormula.{writeOutcome}
-use Rattle·claims·specs.specs.Questions.{Question, trying, finding, making, running, rebuilding, parsing, printing}
-use Rattle·claims·specs.specs.Questions.{reading, Example, answers, expected}
+use Rattle.bits.specs.Numbers.{number}
+use Rattle.bits.specs.Below.{least}
+use Rattle.bits.specs.Sets.{size, disjoint, gather, spread}
+use Rattle.bits.specs.Lists.{list_of}
+use Rattle.tables.specs.Table.{spareClear, table_of}
+use Rattle.tables.specs.Cells.{joined}
+use Rattle.tables.specs.Counting.{counts, support, kept, tableOver}
+use Rattle.splits.specs.Columns.{firsts, assign, column, columns, fewColumns, firstBroken}
+use Rattle.splits.specs.Pair.{code, code_at, tableD, bitH, tableH, bytesH}
+use Rattle.best.specs.Search.{first, tryB, tryA, best}
+use Rattle.best.specs.Counting.{bestCounting}
+use Rattle.sheets.specs.Network.{output, run}
+use Rattle.sheets.specs.Record.{cell_of, spareOk, byteOk, keeps}
+use Rattle.sheets.specs.Sheet.{cellsFrom, sheetBit, rebuilt}
+use Rattle.sheets.specs.Writing.{recordByte, encode}
+use Rattle.choices.specs.Search.{firstOver}
+use Rattle.chains.specs.Chain.{pick, step}
+use Rattle.chains.specs.Aside.{keptSignals, keptTable, chainAside, cellsAside}
+use Rattle.splitting.specs.TrySplit.{tryOutcome}
+use Rattle.finding.specs.FindBest.{findOutcome}
+use Rattle.sheets.specs.Desk.{deskOf}
+use Rattle.running.specs.RunSheet.{runOutcome}
+use Rattle.rebuilding.specs.RebuildTable.{rebuildOutcome}
+use Rattle.making.specs.MakeSheet.{makeOutcome}
+use Rattle.programs.specs.BenchProgram.{asked}
+use Rattle.values.specs.Formula.{value}
+use Rattle.formulas.specs.Reading.{reader, text_of}
+use Rattle.formulas.specs.ReadFormula.{readIn}
+use Rattle.printing.specs.Print.{in_turn, printed}
+use Rattle.printing.specs.WriteFormula.{writeOutcome}
+use Rattle.claims.specs.Questions.{Question, trying, finding, making, running, rebuilding, parsing, printing}
+use Rattle.claims.specs.Questions.{reading, Example, answers, expected}
 
-infix 90 _gets_
-abbrev pub _gets_ : Question → List ℕ → Example
+infix 90 ◌gets◌
+abbrev pub ◌gets◌ : Question → List ℕ → Example
 q gets a = record { asks = q; gets = a }
 
 -- the record of a cell that reads signal 0
@@ -143,9 +143,9 @@ listing =
     ∷ []
 
 pub examples : answers listing ≡ expected listing
-unfolding listing asked deskOf readIn textOf reader value writeOutcome inTurn printed tryOutcome findOutcome
+unfolding listing asked deskOf readIn text_of reader value writeOutcome in_turn printed tryOutcome findOutcome
     makeOutcome runOutcome rebuildOutcome cellsAside chainAside step firstOver keptSignals keptTable kept support counts
-    tableOver bestCounting pick listOf best first tryA tryB disjoint fewColumns firstBroken tableD tableH bytesH codeAt
-    code bitH columns column assign firsts number size gather spread least spareClear tableOf joined output run cellOf
+    tableOver bestCounting pick list_of best first tryA tryB disjoint fewColumns firstBroken tableD tableH bytesH code_at
+    code bitH columns column assign firsts number size gather spread least spareClear table_of joined output run cell_of
     spareOk byteOk keeps cellsFrom sheetBit rebuilt recordByte encode
 examples = refl

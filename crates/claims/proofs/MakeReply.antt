@@ -1,18 +1,18 @@
 -- What make and its kin return and leave, whatever their lines and their cells: done with these cells, or refused.
 -- Assumes nothing.
-use mathlib.Core.Path.{_≡_, refl, sym, ap, _∙_}
+use mathlib.Core.Path.{◌≡◌, refl, sym, ap, ◌∙◌}
 use mathlib.Core.List.{List}
 use Prim.Native.Nat.{ℕ}
-use Rattle·sheets.specs.declared.kinds.Edition.{Edition}
-use Rattle·sheets.specs.Network.{Cell}
-use Rattle·refusals.specs.declared.verdicts.Refusal.{Refusal}
-use Rattle·refusals.specs.declared.verdicts.Verdict.{Verdict}
-use Rattle·refusals.specs.declared.verdicts.Verdict.the-variants.{Fine, Refused}
-use Rattle·refusals.specs.Lines.{reply}
-use Rattle·refusals.specs.Lent.{workAfter}
-use Rattle·making.specs.declared.make_sheet.MakeAnswer.{MakeAnswer}
-use Rattle·making.specs.MakeSheet.{MakeOutcome, makeDone, makeNot}
-use Rattle·claims·proofs.proofs.Verdicts.{says-verdict, is-done, is-refused, area-left}
+use Rattle.sheets.specs.declared.kinds.Edition.{Edition}
+use Rattle.sheets.specs.Network.{Cell}
+use Rattle.refusals.specs.declared.verdicts.Refusal.{Refusal}
+use Rattle.refusals.specs.declared.verdicts.Verdict.{Verdict}
+use Rattle.refusals.specs.declared.verdicts.Verdict.TheVariants.{Fine, Refused}
+use Rattle.refusals.specs.Lines.{reply}
+use Rattle.refusals.specs.Lent.{workAfter}
+use Rattle.making.specs.declared.make_sheet.MakeAnswer.{MakeAnswer}
+use Rattle.making.specs.MakeSheet.{MakeOutcome, makeDone, makeNot}
+use Rattle.claims.proofs.Verdicts.{says-verdict, is-done, is-refused, area-left}
 
 module _ (e : Edition) (d : ℕ) (cs : List Cell) (sheet work : List ℕ) (v : Verdict) where
   abbrev done : MakeOutcome
@@ -23,7 +23,7 @@ module _ (e : Edition) (d : ℕ) (cs : List Cell) (sheet work : List ℕ) (v : V
   made = reply v (makeDone e d cs sheet work) (makeNot sheet work)
 
   abbrev says : MakeOutcome → Verdict
-  says o = o .answer .verdict
+  says o = o.answer.verdict
 
   -- the verdict is v
   pub reply-says : says made ≡ v
@@ -34,19 +34,19 @@ module _ (e : Edition) (d : ℕ) (cs : List Cell) (sheet work : List ℕ) (v : V
   reply-done = is-done says done (makeNot sheet work) refl (λ r. refl) v
 
   -- refused: the count is 0, and the sheet is as it was lent
-  pub reply-refused : (r : Refusal) → says made ≡ Refused r → (made .answer .count ≡ 0) × (made .sheet ≡ sheet)
+  pub reply-refused : (r : Refusal) → says made ≡ Refused r → (made.answer.count ≡ 0) × (made.sheet ≡ sheet)
   reply-refused r h =
       let q = is-refused says done (makeNot sheet work) refl (λ r. refl) v r h in
-      (ap (λ o. o .answer .count) q, ap (λ o. o .sheet) q)
+      (ap (λ o. o.answer.count) q, ap (λ o. o.sheet) q)
 
   -- the work area is left as the verdict says
-  pub reply-left : made .work ≡ workAfter (says made) work
+  pub reply-left : made.work ≡ workAfter (says made) work
   reply-left =
-      area-left says done (makeNot sheet work) refl (λ r. refl) (λ (o : MakeOutcome). o .work) work refl (λ r. refl) v
+      area-left says done (makeNot sheet work) refl (λ r. refl) (λ (o : MakeOutcome). o.work) work refl (λ r. refl) v
 
 -- two outcomes that are one are equal in each part
-pub parts-once : (o : MakeOutcome) (a a′ : MakeAnswer) (l l′ w w′ : List ℕ)
-    → record { answer = a; sheet = l; work = w } ≡ o → record { answer = a′; sheet = l′; work = w′ } ≡ o
-    → (a ≡ a′) × (l ≡ l′) × (w ≡ w′)
-parts-once o a a′ l l′ w w′ p q =
-    let e = p ∙ sym q in (ap (λ o. o .answer) e, ap (λ o. o .sheet) e, ap (λ o. o .work) e)
+pub parts-once : (o : MakeOutcome) (a a' : MakeAnswer) (l l' w w' : List ℕ)
+    → record { answer = a; sheet = l; work = w } ≡ o → record { answer = a'; sheet = l'; work = w' } ≡ o
+    → (a ≡ a') × (l ≡ l') × (w ≡ w')
+parts-once o a a' l l' w w' p q =
+    let e = p ∙ sym q in (ap (λ o. o.answer) e, ap (λ o. o.sheet) e, ap (λ o. o.work) e)

@@ -1,26 +1,26 @@
 -- Read a gate into a table: what is claimed of it beside what holds of both readers (ReadFormula, with counts). Assumes
 -- nothing.
-use mathlib.Core.Path.{_≡_, refl, sym, ap, ap₂, _∙_, fun-ext}
+use mathlib.Core.Path.{◌≡◌, refl, sym, ap, ap₂, ◌∙◌, fun_ext}
 use mathlib.Core.Bool.{true, false}
-use mathlib.Core.List.{List, [], _∷_}
-use Prim.Native.Nat.{ℕ, _+_}
+use mathlib.Core.List.{List, [], ◌∷◌}
+use Prim.Native.Nat.{ℕ, ◌+◌}
 use lib.Dec.{leb}
-use Rattle·tables.specs.Table.{tableOf}
-use Rattle·refusals.specs.declared.verdicts.Verdict.{Verdict}
-use Rattle·refusals.specs.declared.verdicts.Verdict.the-variants.{Fine}
-use Rattle·refusals.specs.Lines.{InOrder, numberOf, placeOf}
-use Rattle·refusals.specs.Refusals.{badInputs, badTable}
-use Rattle·refusals.proofs.Lines.{in-order}
-use Rattle·values.specs.Formula.{Allowed, FormulaIn, joined, counted, value, ones}
-use Rattle·bits.specs.Numbers.{val, number}
-use Rattle·bits.specs.Lists.{listOf}
-use Rattle·formulas.specs.Text.{ReadAs}
-use Rattle·formulas.specs.Reading.{TextAnswer, reader, textOf, valueIn}
-use Rattle·formulas.specs.ReadFormula.{readLines, readIn, readOutcome}
-use Rattle·formulas.specs.ReadGate.{gateOutcome}
-use Rattle·formulas.proofs.Place.{read-as}
-use Rattle·formulas.proofs.Wider.{widened, value-wider, spells-wider}
-use Rattle·claims·proofs.proofs.ReadFormula.{read-says, read-exactly, read-whole}
+use Rattle.tables.specs.Table.{table_of}
+use Rattle.refusals.specs.declared.verdicts.Verdict.{Verdict}
+use Rattle.refusals.specs.declared.verdicts.Verdict.TheVariants.{Fine}
+use Rattle.refusals.specs.Lines.{InOrder, number_of, placeOf}
+use Rattle.refusals.specs.Refusals.{badInputs, badTable}
+use Rattle.refusals.proofs.Lines.{in_order}
+use Rattle.values.specs.Formula.{Allowed, FormulaIn, joined, counted, value, ones}
+use Rattle.bits.specs.Numbers.{val, number}
+use Rattle.bits.specs.Lists.{list_of}
+use Rattle.formulas.specs.Text.{ReadAs}
+use Rattle.formulas.specs.Reading.{TextAnswer, reader, text_of, valueIn}
+use Rattle.formulas.specs.ReadFormula.{readLines, readIn, readOutcome}
+use Rattle.formulas.specs.ReadGate.{gateOutcome}
+use Rattle.formulas.proofs.Place.{read_as}
+use Rattle.formulas.proofs.Wider.{widened, value-wider, spells-wider}
+use Rattle.claims.proofs.ReadFormula.{read-says, read-exactly, read_whole}
 
 -- ---- what a count is: at least t of the list, each of whose sums counts one where it is 1
 module _ (F G : FormulaIn true) (x : ℕ) where
@@ -35,33 +35,33 @@ module _ (F G : FormulaIn true) (x : ℕ) where
 -- ---- a text without counts is read as before
 
 pub gate-stands : (n : ℕ) (s : List ℕ) (F : FormulaIn false) → ReadAs false n s F → ReadAs true n s (widened F)
-gate-stands n s F r = record { short = r .short; stands = spells-wider (r .stands) }
+gate-stands n s F r = record { short = r.short; stands = spells-wider r.stands }
 
-pub gate-as-formula : (n : ℕ) (s table : List ℕ) → readOutcome n s table .verdict ≡ Fine → gateOutcome n s table
+pub gate-as-formula : (n : ℕ) (s table : List ℕ) → (readOutcome n s table).verdict ≡ Fine → gateOutcome n s table
     ≡ readOutcome n s table
-gate-as-formula n s table done = go (read-exactly false n s table form .0 done)
+gate-as-formula n s table done = go ((read-exactly false n s table form).0 done)
   where
     form : InOrder (badInputs n ∷ badTable n table ∷ [])
-    form = let w = in-order (readLines false n s table) (sym (read-says false n s table) ∙ done) in
-        (w .0, (w .1 .0, tt))
+    form = let w = in_order (readLines false n s table) (sym (read-says false n s table) ∙ done) in
+        (w.0, (w.1.0, tt))
 
-    same : (F : FormulaIn false) → ReadAs false n s F → valueIn (textOf true n s) ≡ valueIn (textOf false n s)
+    same : (F : FormulaIn false) → ReadAs false n s F → valueIn (text_of true n s) ≡ valueIn (text_of false n s)
     same F r =
-        ap (λ (a : TextAnswer true). valueIn a) (read-as true n s (widened F) .1 (gate-stands n s F r))
-        ∙ fun-ext (value-wider F) ∙ sym (ap (λ (a : TextAnswer false). valueIn a) (read-as false n s F .1 r))
+        ap (λ (a : TextAnswer true). valueIn a) ((read_as true n s (widened F)).1 (gate-stands n s F r))
+        ∙ fun_ext (value-wider F) ∙ sym (ap (λ (a : TextAnswer false). valueIn a) ((read_as false n s F).1 r))
 
     go : (F : FormulaIn false) × ReadAs false n s F → gateOutcome n s table ≡ readOutcome n s table
     go w =
-        let fine = read-exactly true n s table form .1 (widened (w .0), gate-stands n s (w .0) (w .1)) in
+        let fine = (read-exactly true n s table form).1 (widened w.0, gate-stands n s w.0 w.1) in
         ap₂ (λ (v : Verdict) (l : List ℕ). record { verdict = v; table = l }) (fine ∙ sym done)
-        (read-whole true n s table fine ∙ ap (tableOf n) (same (w .0) (w .1))
-        ∙ sym (read-whole false n s table done))
+        (read_whole true n s table fine ∙ ap (table_of n) (same w.0 w.1)
+        ∙ sym (read_whole false n s table done))
 
 -- ---- the examples of counts
 
 -- the number, the place, and the lent table, preset to AA
 abbrev said : ℕ → List ℕ → List ℕ
-said n s = let o = gateOutcome n s (0xAA ∷ []) in numberOf (o .verdict) ∷ placeOf (o .verdict) ∷ o .table
+said n s = let o = gateOutcome n s (0xAA ∷ []) in number_of o.verdict ∷ placeOf o.verdict ∷ o.table
 
 -- `2(a,b,c)` is the majority; `2(a,b` ends too soon; `17(a)`, `0(a)` and `2a` can't be continued at 1, `2(a,)` at 4; `1`
 -- is the constant
@@ -73,5 +73,5 @@ pub gate-examples :
     × (said 3 (50 ∷ 97 ∷ []) ≡ 16 ∷ 1 ∷ 0xAA ∷ [])
     × (said 3 (50 ∷ 40 ∷ 97 ∷ 44 ∷ 41 ∷ []) ≡ 16 ∷ 4 ∷ 0xAA ∷ [])
     × (said 3 (49 ∷ []) ≡ 0 ∷ 0 ∷ 0xFF ∷ [])
-unfolding readIn textOf reader value tableOf number listOf
+unfolding readIn text_of reader value table_of number list_of
 gate-examples = (refl, refl, refl, refl, refl, refl, refl)

@@ -1,24 +1,24 @@
 -- Keep the shorter of two sheets: what is claimed of it, over any edition, each sheet being for its own desk. Assumes
 -- nothing.
-use mathlib.Core.Path.{_≡_, refl, sym, ap, _∙_, subst}
-use mathlib.Core.Logic.{_↔_, _⊎_, inl, inr}
+use mathlib.Core.Path.{◌≡◌, refl, sym, ap, ◌∙◌, subst}
+use mathlib.Core.Logic.{◌↔◌, ◌⊎◌, inl, inr}
 use mathlib.Core.Bool.{Bool, true, false, cond}
 use mathlib.Core.List.{List, []}
-use Prim.Native.Nat.{ℕ, _<_, _≤_}
+use Prim.Native.Nat.{ℕ, ◌<◌, ◌≤◌}
 use native.Mathlib.Omega.{arith}
 use lib.Dec.{leb}
 use borrow.Author.Tests.{leb-true, leb-false}
-use Rattle·sheets.specs.declared.kinds.Edition.{Edition}
-use Rattle·sheets.specs.Sheet.{records}
-use Rattle·sheets.specs.Desk.{deskOf}
-use Rattle·refusals.specs.declared.verdicts.Refusal.{Refusal}
-use Rattle·refusals.specs.declared.verdicts.Verdict.{Verdict}
-use Rattle·refusals.specs.declared.verdicts.Verdict.the-variants.{Fine, Refused}
-use Rattle·refusals.specs.Lines.{numberOf}
-use Rattle·refusals.proofs.Lines.{not-fine, another}
-use Rattle·comparing.specs.declared.shorter.Kept.{Kept}
-use Rattle·inspection.specs.CheckSheet.{checkLines, checkOutcome, checkOwn}
-use Rattle·comparing.specs.Shorter.{whichKept, keptOutcome, partOf, shorterOutcome, Shortest}
+use Rattle.sheets.specs.declared.kinds.Edition.{Edition}
+use Rattle.sheets.specs.Sheet.{records}
+use Rattle.sheets.specs.Desk.{deskOf}
+use Rattle.refusals.specs.declared.verdicts.Refusal.{Refusal}
+use Rattle.refusals.specs.declared.verdicts.Verdict.{Verdict}
+use Rattle.refusals.specs.declared.verdicts.Verdict.TheVariants.{Fine, Refused}
+use Rattle.refusals.specs.Lines.{number_of}
+use Rattle.refusals.proofs.Lines.{not-fine, another}
+use Rattle.comparing.specs.declared.shorter.Kept.{Kept}
+use Rattle.inspection.specs.CheckSheet.{checkLines, checkOutcome, checkOwn}
+use Rattle.comparing.specs.Shorter.{whichKept, keptOutcome, part_of, shorterOutcome, Shortest}
 
 -- the three ways it can go, by the verdicts a and b and the numbers of records i and j: which is kept, and what the
 -- call beside says
@@ -27,7 +27,7 @@ data Goes (a b : Verdict) (i j : ℕ) : ℕ → Verdict → Type 0 where
   second : b ≡ Fine → (a ≡ Fine → j < i) → Goes a b i j 2 Fine
   neither : (r s : Refusal) → a ≡ Refused r → b ≡ Refused s → Goes a b i j 0 (Refused r)
 
-goes : (a b : Verdict) (i j : ℕ) → Goes a b i j (whichKept a b i j .which) (whichKept a b i j .verdict)
+goes : (a b : Verdict) (i j : ℕ) → Goes a b i j (whichKept a b i j).which (whichKept a b i j).verdict
 goes Fine Fine i j = go (leb i j) refl
   where
     go : (t : Bool) → leb i j ≡ t → Goes Fine Fine i j (cond t 1 2) Fine
@@ -44,13 +44,13 @@ not-one r s p q (inr h) = not-fine s (sym h ∙ q)
 
 is-first : {a b : Verdict} {i j k : ℕ} {v : Verdict} → Goes a b i j k v → (k ≡ 1) ↔ ((a ≡ Fine) × (b ≡ Fine → i ≤ j))
 is-first (first p q) = (λ h. (p, q), λ h. refl)
-is-first (second p q) = (λ h. absurd (omega (arith, h)), λ h. absurd (omega (arith, q (h .0), h .1 p)))
-is-first (neither r s p q) = (λ h. absurd (omega (arith, h)), λ h. absurd (not-fine r (sym (h .0) ∙ p)))
+is-first (second p q) = (λ h. absurd (omega (arith, h)), λ h. absurd (omega (arith, q h.0, h.1 p)))
+is-first (neither r s p q) = (λ h. absurd (omega (arith, h)), λ h. absurd (not-fine r (sym h.0 ∙ p)))
 
 is-second : {a b : Verdict} {i j k : ℕ} {v : Verdict} → Goes a b i j k v → (k ≡ 2) ↔ ((b ≡ Fine) × (a ≡ Fine → j < i))
-is-second (first p q) = (λ h. absurd (omega (arith, h)), λ h. absurd (omega (arith, q (h .0), h .1 p)))
+is-second (first p q) = (λ h. absurd (omega (arith, h)), λ h. absurd (omega (arith, q h.0, h.1 p)))
 is-second (second p q) = (λ h. (p, q), λ h. refl)
-is-second (neither r s p q) = (λ h. absurd (omega (arith, h)), λ h. absurd (not-fine s (sym (h .0) ∙ q)))
+is-second (neither r s p q) = (λ h. absurd (omega (arith, h)), λ h. absurd (not-fine s (sym h.0 ∙ q)))
 
 is-neither : {a b : Verdict} {i j k : ℕ} {v : Verdict} → Goes a b i j k v → (a ≡ Fine → ⊥) → (b ≡ Fine → ⊥) → (k ≡ 0)
     × (v ≡ a)
@@ -59,14 +59,14 @@ is-neither (second p q) f g = absurd (g p)
 is-neither (neither r s p q) f g = (refl, sym p)
 
 is-done : {a b : Verdict} {i j k : ℕ} {v : Verdict} → Goes a b i j k v
-    → ((r : Refusal) → a ≡ Refused r → r .number ≡ 0 → ⊥) → (numberOf v ≡ 0) ↔ ((a ≡ Fine) ⊎ (b ≡ Fine))
+    → ((r : Refusal) → a ≡ Refused r → r.number ≡ 0 → ⊥) → (number_of v ≡ 0) ↔ ((a ≡ Fine) ⊎ (b ≡ Fine))
 is-done (first p q) f = (λ h. inl p, λ h. refl)
 is-done (second p q) f = (λ h. inr p, λ h. refl)
 is-done (neither r s p q) f = (λ h. absurd (f r p h), λ h. absurd (not-one r s p q h))
 
 module _ (e : Edition) (n : ℕ) (t x y : List ℕ) where
-  went : Goes (checkOwn e n t x) (checkOwn e n t y) (records e x) (records e y) (keptOutcome e n t x y .which)
-      (keptOutcome e n t x y .verdict)
+  went : Goes (checkOwn e n t x) (checkOwn e n t y) (records e x) (records e y) (keptOutcome e n t x y).which
+      (keptOutcome e n t x y).verdict
   unfolding keptOutcome
   went = goes (checkOwn e n t x) (checkOwn e n t y) (records e x) (records e y)
 
@@ -82,10 +82,10 @@ module _ (e : Edition) (n : ℕ) (t x y : List ℕ) where
   -- if either is accepted, what is handed back is accepted, and no accepted one of the two has fewer records
   pub shorter-shortest : (checkOwn e n t x ≡ Fine) ⊎ (checkOwn e n t y ≡ Fine)
       → Shortest e n t x y (shorterOutcome e n t x y)
-  shorter-shortest one = go (keptOutcome e n t x y .which) (keptOutcome e n t x y .verdict) went
+  shorter-shortest one = go (keptOutcome e n t x y).which (keptOutcome e n t x y).verdict went
     where
       go : (k : ℕ) (v : Verdict) → Goes (checkOwn e n t x) (checkOwn e n t y) (records e x) (records e y) k v
-          → Shortest e n t x y (partOf k x y)
+          → Shortest e n t x y (part_of k x y)
       go _ _ (first p q) = record { one = inl refl; accepted = p; fewest = of-both (records e x) (λ h. omega arith) q }
       go _ _ (second p q) = record {
         one = inr refl;
@@ -95,43 +95,43 @@ module _ (e : Edition) (n : ℕ) (t x y : List ℕ) where
       go _ _ (neither r s p q) = absurd (not-one r s p q one)
 
   -- it is the first exactly if that is accepted, and the second isn't accepted with fewer records
-  pub which-first : (keptOutcome e n t x y .which ≡ 1)
+  pub which-first : ((keptOutcome e n t x y).which ≡ 1)
       ↔ ((checkOwn e n t x ≡ Fine) × (checkOwn e n t y ≡ Fine → records e x ≤ records e y))
   which-first = is-first went
 
   -- the second exactly if that is accepted, and the first isn't accepted with as few
-  pub which-second : (keptOutcome e n t x y .which ≡ 2)
+  pub which-second : ((keptOutcome e n t x y).which ≡ 2)
       ↔ ((checkOwn e n t y ≡ Fine) × (checkOwn e n t x ≡ Fine → records e y < records e x))
   which-second = is-second went
 
   -- on a tie the first is handed back
   pub shorter-tie : checkOwn e n t x ≡ Fine → records e x ≡ records e y → shorterOutcome e n t x y ≡ x
-  shorter-tie h q = ap (λ (k : ℕ). partOf k x y) (which-first .1 (h, λ a. omega (arith, q)))
+  shorter-tie h q = ap (λ (k : ℕ). part_of k x y) (which-first.1 (h, λ a. omega (arith, q)))
 
   -- where neither is accepted nothing is, and the call beside says what the check says of the first
   pub shorter-neither : (checkOwn e n t x ≡ Fine → ⊥) → (checkOwn e n t y ≡ Fine → ⊥)
-      → (keptOutcome e n t x y .which ≡ 0) × ((shorterOutcome e n t x y ≡ [])
-      × (keptOutcome e n t x y .verdict ≡ checkOwn e n t x))
-  shorter-neither f g = let w = is-neither went f g in (w .0, (ap (λ (k : ℕ). partOf k x y) (w .0), w .1))
+      → ((keptOutcome e n t x y).which ≡ 0) × ((shorterOutcome e n t x y ≡ [])
+      × ((keptOutcome e n t x y).verdict ≡ checkOwn e n t x))
+  shorter-neither f g = let w = is-neither went f g in (w.0, (ap (λ (k : ℕ). part_of k x y) w.0, w.1))
 
   -- no refusal of the check has the number 0
-  numbered : (r : Refusal) → checkOwn e n t x ≡ Refused r → r .number ≡ 0 → ⊥
+  numbered : (r : Refusal) → checkOwn e n t x ≡ Refused r → r.number ≡ 0 → ⊥
   unfolding checkOutcome
   numbered r p = another (checkLines e (deskOf e x) n t x) 0 r refl p
 
   -- the call beside returns 0 exactly when one of them is accepted
-  pub beside-done : (numberOf (keptOutcome e n t x y .verdict) ≡ 0)
+  pub beside-done : (number_of (keptOutcome e n t x y).verdict ≡ 0)
       ↔ ((checkOwn e n t x ≡ Fine) ⊎ (checkOwn e n t y ≡ Fine))
   beside-done = is-done went numbered
 
   -- two answers that keep the promise are equal
-  pub shorter-once : (s s′ : List ℕ) → s ≡ shorterOutcome e n t x y → s′ ≡ shorterOutcome e n t x y → s ≡ s′
-  shorter-once s s′ p q = p ∙ sym q
+  pub shorter-once : (s s' : List ℕ) → s ≡ shorterOutcome e n t x y → s' ≡ shorterOutcome e n t x y → s ≡ s'
+  shorter-once s s' p q = p ∙ sym q
 
   -- and so with which, and what the call beside says
-  pub kept-once : (k k′ : Kept) → k ≡ keptOutcome e n t x y → k′ ≡ keptOutcome e n t x y → k ≡ k′
-  kept-once k k′ p q = p ∙ sym q
+  pub kept-once : (k k' : Kept) → k ≡ keptOutcome e n t x y → k' ≡ keptOutcome e n t x y → k ≡ k'
+  kept-once k k' p q = p ∙ sym q
 
-  pub beside-once : (v v′ : Verdict) → v ≡ keptOutcome e n t x y .verdict → v′ ≡ keptOutcome e n t x y .verdict
-      → v ≡ v′
-  beside-once v v′ p q = p ∙ sym q
+  pub beside-once : (v v' : Verdict) → v ≡ (keptOutcome e n t x y).verdict → v' ≡ (keptOutcome e n t x y).verdict
+      → v ≡ v'
+  beside-once v v' p q = p ∙ sym q

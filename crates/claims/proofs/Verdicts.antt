@@ -1,18 +1,18 @@
 -- What every call's verdict says, once for all calls: it is the verdict of the call's lines, and it settles what is
 -- returned and left. Assumes nothing.
-use mathlib.Core.Path.{_≡_, refl, sym, ap, _∙_}
-use mathlib.Core.Logic.{_⊎_, inl, inr}
+use mathlib.Core.Path.{◌≡◌, refl, sym, ap, ◌∙◌}
+use mathlib.Core.Logic.{◌⊎◌, inl, inr}
 use mathlib.Core.Bool.{Bool, true, false}
-use mathlib.Core.List.{List, [], _∷_, _++_}
+use mathlib.Core.List.{List, [], ◌∷◌, ◌++◌}
 use Prim.Native.Nat.{ℕ}
 use lib.ListN.{length, replicate}
-use Rattle·refusals.specs.declared.verdicts.Refusal.{Refusal}
-use Rattle·refusals.specs.declared.verdicts.Verdict.{Verdict}
-use Rattle·refusals.specs.declared.verdicts.Verdict.the-variants.{Fine, Refused}
-use Rattle·refusals.specs.Lines.{Line, InOrder, verdict, numberOf, placeOf, reply, Given}
-use Rattle·refusals.specs.Lent.{workAfter}
-use Rattle·refusals.proofs.Lines.{others, given, done, another, naming-only, names-nothing}
-use Rattle·claims·specs.specs.Words.{ByLines}
+use Rattle.refusals.specs.declared.verdicts.Refusal.{Refusal}
+use Rattle.refusals.specs.declared.verdicts.Verdict.{Verdict}
+use Rattle.refusals.specs.declared.verdicts.Verdict.TheVariants.{Fine, Refused}
+use Rattle.refusals.specs.Lines.{Line, InOrder, verdict, number_of, placeOf, reply, Given}
+use Rattle.refusals.specs.Lent.{workAfter}
+use Rattle.refusals.proofs.Lines.{others, given, done, another, naming-only, names-nothing}
+use Rattle.claims.specs.Words.{ByLines}
 
 -- a call's verdict is that of its lines
 module _ {A : Type 0} (says : A → Verdict) (done : A) (refused : Refusal → A) (f : says done ≡ Fine)
@@ -35,30 +35,30 @@ module _ {A : Type 0} (says : A → Verdict) (done : A) (refused : Refusal → A
     area-left Fine = p ∙ sym (ap (λ (u : Verdict). workAfter u work) f)
     area-left (Refused r) = q r ∙ sym (ap (λ (u : Verdict). workAfter u work) (g r))
 
-pub by-lines : (ls : List Line) → others 0 ls ≡ true → (v : Verdict) → v ≡ verdict ls → ByLines v ls
-by-lines ls o v e = record {
+pub by_lines : (ls : List Line) → others 0 ls ≡ true → (v : Verdict) → v ≡ verdict ls → ByLines v ls
+by_lines ls o v e = record {
   listed = cases v e;
   exactly = λ k some. rw e (given ls k some);
   done = rw e (done ls o);
 }
   where
-    cases : (u : Verdict) → u ≡ verdict ls → (u ≡ Fine) ⊎ Given (numberOf u) ls
+    cases : (u : Verdict) → u ≡ verdict ls → (u ≡ Fine) ⊎ Given (number_of u) ls
     cases Fine q = inl refl
-    cases (Refused r) q = inr (given ls (r .number) (another ls 0 r o (sym q)) .0 (ap numberOf (sym q)))
+    cases (Refused r) q = inr ((given ls r.number (another ls 0 r o (sym q))).0 (ap number_of (sym q)))
 
 -- lines that are in order with others after them
 pub order-before : (ls ms : List Line) → InOrder (ls ++ ms) → InOrder ls
 order-before [] ms w = tt
-order-before (l ∷ ls) ms w = (w .0, order-before ls ms (w .1))
+order-before (l ∷ ls) ms w = (w.0, order-before ls ms w.1)
 
 -- where its lines name something by some numbers alone, a verdict by another names nothing
-pub no-place : (p : ℕ → Bool) (ls : List Line) → naming-only p ls ≡ true → {v : Verdict} → v ≡ verdict ls
-    → p (numberOf v) ≡ false → placeOf v ≡ 0
-no-place p ls only says h =
-    ap placeOf says ∙ names-nothing p ls only (ap (λ (v : Verdict). p (numberOf v)) (sym says) ∙ h)
+pub no_place : (p : ℕ → Bool) (ls : List Line) → naming-only p ls ≡ true → {v : Verdict} → v ≡ verdict ls
+    → p (number_of v) ≡ false → placeOf v ≡ 0
+no_place p ls only says h =
+    ap placeOf says ∙ names-nothing p ls only (ap (λ (v : Verdict). p (number_of v)) (sym says) ∙ h)
 
 -- a work area after 0 or 8 is zeros
-pub work-cleared : (v : Verdict) (work : List ℕ) → (numberOf v ≡ 0) ⊎ (numberOf v ≡ 8) → workAfter v work
+pub work-cleared : (v : Verdict) (work : List ℕ) → (number_of v ≡ 0) ⊎ (number_of v ≡ 8) → workAfter v work
     ≡ replicate (length work) 0
 work-cleared v work (inl e) = rw e
 work-cleared v work (inr e) = rw e

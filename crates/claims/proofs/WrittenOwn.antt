@@ -1,23 +1,23 @@
 -- Every written outcome by the calls that read the sheet's own desk: it is the desk that the sheet was made for.
 -- Assumes nothing.
-use mathlib.Core.Path.{_≡_, sym, ap, subst, _∙_}
+use mathlib.Core.Path.{◌≡◌, sym, ap, subst, ◌∙◌}
 use mathlib.Core.List.{List}
-use Prim.Native.Nat.{ℕ, _^_, _<_}
+use Prim.Native.Nat.{ℕ, ◌^◌, ◌<◌}
 use lib.ListN.{length}
-use Rattle·tables.specs.Table.{tableLength, tableBit}
-use Rattle·sheets.specs.declared.kinds.Edition.{Edition}
-use Rattle·sheets.specs.Edition.{IsEdition}
-use Rattle·sheets.specs.Sheet.{records, Good}
-use Rattle·sheets.specs.Desk.{OneDesk, deskOf}
-use Rattle·sheets.proofs.Desks.{good-one-desk, good-desk}
-use Rattle·refusals.specs.declared.verdicts.Verdict.the-variants.{Fine}
-use Rattle·running.specs.RunSheet.{runOutcome, runOwn}
-use Rattle·rebuilding.specs.RebuildTable.{rebuildOutcome, rebuildOwn}
-use Rattle·making.specs.MakeSheet.{MakeOutcome}
-use Rattle·inspection.specs.CheckSheet.{checkOutcome, checkOwn}
-use Rattle·claims·specs.specs.Words.{AllBytes, recordsOf}
-use Rattle·claims·proofs.proofs.Written.{IsWritten, outcome-runs, outcome-rebuilds}
-use Rattle·claims·proofs.proofs.CheckSheet.{outcome-rules, outcome-accepted}
+use Rattle.tables.specs.Table.{tableLength, tableBit}
+use Rattle.sheets.specs.declared.kinds.Edition.{Edition}
+use Rattle.sheets.specs.Edition.{IsEdition}
+use Rattle.sheets.specs.Sheet.{records, Good}
+use Rattle.sheets.specs.Desk.{OneDesk, deskOf}
+use Rattle.sheets.proofs.Desks.{good-one-desk, good-desk}
+use Rattle.refusals.specs.declared.verdicts.Verdict.TheVariants.{Fine}
+use Rattle.running.specs.RunSheet.{runOutcome, runOwn}
+use Rattle.rebuilding.specs.RebuildTable.{rebuildOutcome, rebuildOwn}
+use Rattle.making.specs.MakeSheet.{MakeOutcome}
+use Rattle.inspection.specs.CheckSheet.{checkOutcome, checkOwn}
+use Rattle.claims.specs.Words.{AllBytes, recordsOf}
+use Rattle.claims.proofs.Written.{IsWritten, outcome-runs, outcome-rebuilds}
+use Rattle.claims.proofs.CheckSheet.{outcome-rules, outcome-accepted}
 
 module _ (e : Edition) (ok : IsEdition e) (d n K : ℕ) (t sheet work : List ℕ) (o : MakeOutcome)
     (w : IsWritten e d n K t sheet work o) where
@@ -26,7 +26,7 @@ module _ (e : Edition) (ok : IsEdition e) (d n K : ℕ) (t sheet work : List ℕ
 
   -- each record is for that desk
   pub outcome-desk : deskOf e (recordsOf e o) ≡ d
-  outcome-desk = good-desk e n s ok (records e s) d (w .desk) (outcome-rules e ok d n K t sheet work o w)
+  outcome-desk = good-desk e n s ok (records e s) d w.desk (outcome-rules e ok d n K t sheet work o w)
 
   pub outcome-one-desk : OneDesk e (recordsOf e o) (records e (recordsOf e o)) d
   outcome-one-desk =

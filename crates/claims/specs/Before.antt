@@ -2,32 +2,30 @@
 -- had to be read, make and the shorter of two before there were desks, and make_any before there was a sheet of
 -- cofactors: kept to say where nothing has changed. The other calls answered before there were desks as they now do for
 -- the desk 0.
-use mathlib.Core.List.{List, [], _∷_, _++_}
-use Prim.Native.Nat.{ℕ, _^_}
-use lib.Dec.{leb}
-use Rattle·bits.specs.Numbers.{number}
-use Rattle·tables.specs.Table.{tableBit}
-use Rattle·best.specs.Search.{best}
-use Rattle·sheets.specs.declared.kinds.Edition.{Edition}
-use Rattle·sheets.specs.Sheet.{records}
-use Rattle·splits.specs.Columns.{mostFirst}
-use Rattle·chains.specs.Chain.{sheetOf}
-use Rattle·chains.specs.Aside.{cellsAside, sheetAside}
-use Rattle·cofactors.specs.Any.{Any, either}
-use Rattle·refusals.specs.Numbers.{ofNothing}
-use Rattle·refusals.specs.Lines.{line, verdict, reply}
-use Rattle·refusals.specs.Refusals.{gateLines, shortSheet, noneBest}
-use Rattle·making.specs.Refusals.{chainStuck}
-use Rattle·refusals.specs.declared.verdicts.Verdict.{Verdict}
-use Rattle·finding.specs.FindBest.{FindOutcome, findForm, findDone, findNot}
-use Rattle·running.specs.declared.run_sheet.RunAnswer.{RunAnswer}
-use Rattle·running.specs.RunSheet.{runForm, runDone, runNot}
-use Rattle·rebuilding.specs.RebuildTable.{RebuildOutcome, rebuildForm, rebuildDone, rebuildNot}
-use Rattle·making.specs.MakeSheet.{MakeOutcome, sheetFor, cellsIn, makeForm, makeDone, makeNot}
-use Rattle·any_gate.specs.MakeAny.{cellsAny, anySays}
-use Rattle·comparing.specs.declared.shorter.Kept.{Kept}
-use Rattle·inspection.specs.CheckSheet.{tableLines, againstLines, checkOutcome}
-use Rattle·comparing.specs.Shorter.{whichKept}
+use Rattle.std.specs.Prelude.{List, [], ◌∷◌, ◌++◌, ℕ, ◌^◌, leb}
+use Rattle.bits.specs.Numbers.{number}
+use Rattle.tables.specs.Table.{tableBit}
+use Rattle.best.specs.Search.{best}
+use Rattle.sheets.specs.declared.kinds.Edition.{Edition}
+use Rattle.sheets.specs.Sheet.{records}
+use Rattle.splits.specs.Columns.{mostFirst}
+use Rattle.chains.specs.Chain.{sheetOf}
+use Rattle.chains.specs.Aside.{cellsAside, sheetAside}
+use Rattle.cofactors.specs.Any.{Any, either}
+use Rattle.refusals.specs.Numbers.{ofNothing}
+use Rattle.refusals.specs.Lines.{line, verdict, reply}
+use Rattle.refusals.specs.Refusals.{gateLines, shortSheet, noneBest}
+use Rattle.making.specs.Refusals.{chainStuck}
+use Rattle.refusals.specs.declared.verdicts.Verdict.{Verdict}
+use Rattle.finding.specs.FindBest.{FindOutcome, findForm, findDone, findNot}
+use Rattle.running.specs.declared.run_sheet.RunAnswer.{RunAnswer}
+use Rattle.running.specs.RunSheet.{runForm, runDone, runNot}
+use Rattle.rebuilding.specs.RebuildTable.{RebuildOutcome, rebuildForm, rebuildDone, rebuildNot}
+use Rattle.making.specs.MakeSheet.{MakeOutcome, sheetFor, cells_in, makeForm, makeDone, makeNot}
+use Rattle.any_gate.specs.MakeAny.{cellsAny, anySays}
+use Rattle.comparing.specs.declared.shorter.Kept.{Kept}
+use Rattle.inspection.specs.CheckSheet.{tableLines, againstLines, checkOutcome}
+use Rattle.comparing.specs.Shorter.{whichKept}
 
 -- 7 where n is at most K, and the best split of the whole table
 abbrev pub findBefore : Edition → ℕ → ℕ → List ℕ → List ℕ → FindOutcome
@@ -39,7 +37,7 @@ findBefore e n K t work =
 abbrev pub makeBefore : Edition → ℕ → ℕ → ℕ → List ℕ → List ℕ → List ℕ → MakeOutcome
 makeBefore e d n K t sheet work =
     let c = sheetOf n K (number (2 ^ n) (tableBit t)) in
-    reply (verdict (makeForm e d n K t sheet work ++ (chainStuck c ∷ []))) (makeDone e d (cellsIn c) sheet work)
+    reply (verdict (makeForm e d n K t sheet work ++ (chainStuck c ∷ []))) (makeDone e d (cells_in c) sheet work)
     (makeNot sheet work)
 
 -- by 1, 9, 10 and 11 alone
@@ -59,7 +57,7 @@ abbrev pub makeDeskless : Edition → ℕ → ℕ → List ℕ → List ℕ → 
 makeDeskless e n K t sheet work =
     let c = sheetFor n K t in
     reply (verdict (gateLines e n K t ++ (shortSheet e sheet work ∷ chainStuck c ∷ [])))
-    (makeDone e 0 (cellsIn c) sheet work) (makeNot sheet work)
+    (makeDone e 0 (cells_in c) sheet work) (makeNot sheet work)
 
 -- both sheets for bench use
 abbrev pub keptDeskless : Edition → ℕ → List ℕ → List ℕ → List ℕ → Kept

@@ -1,24 +1,22 @@
 -- A question to the bench, and what the definitions answer: the number, the values, and the result bytes as they are
 -- afterwards.
-use mathlib.Core.List.{List, [], _∷_}
-use Prim.Native.Nat.{ℕ, _*_}
-use lib.ListN.{replicate, take}
-use Rattle·bits.specs.Numbers.{val}
-use Rattle·tables.specs.Cells.{tableNumber}
-use Rattle·sheets.specs.Edition.{recordSize, mostRecords, firstEdition}
-use Rattle·tables.specs.Work.{workLength}
-use Rattle·refusals.specs.Lines.{numberOf, placeOf}
-use Rattle·splitting.specs.TrySplit.{TryOutcome, tryOutcome}
-use Rattle·finding.specs.FindBest.{FindOutcome, findOutcome}
-use Rattle·running.specs.declared.run_sheet.RunAnswer.{RunAnswer}
-use Rattle·running.specs.RunSheet.{runOwn}
-use Rattle·rebuilding.specs.RebuildTable.{RebuildOutcome, rebuildOwn}
-use Rattle·making.specs.MakeSheet.{MakeOutcome, makeOutcome}
-use Rattle·programs.specs.BenchProgram.{written}
-use Rattle·formulas.specs.Text.{mostText}
-use Rattle·formulas.specs.ReadFormula.{ReadOutcome, readOutcome}
-use Rattle·printing.specs.WriteFormula.{WriteOutcome, writeOwn}
-use Rattle·claims·specs.specs.Words.{recordsOf}
+use Rattle.std.specs.Prelude.{List, [], ◌∷◌, ℕ, ◌*◌, replicate, take}
+use Rattle.bits.specs.Numbers.{val}
+use Rattle.tables.specs.Cells.{tableNumber}
+use Rattle.sheets.specs.Edition.{recordSize, mostRecords, firstEdition}
+use Rattle.tables.specs.Work.{workLength}
+use Rattle.refusals.specs.Lines.{number_of, placeOf}
+use Rattle.splitting.specs.TrySplit.{TryOutcome, tryOutcome}
+use Rattle.finding.specs.FindBest.{FindOutcome, findOutcome}
+use Rattle.running.specs.declared.run_sheet.RunAnswer.{RunAnswer}
+use Rattle.running.specs.RunSheet.{runOwn}
+use Rattle.rebuilding.specs.RebuildTable.{RebuildOutcome, rebuildOwn}
+use Rattle.making.specs.MakeSheet.{MakeOutcome, makeOutcome}
+use Rattle.programs.specs.BenchProgram.{written}
+use Rattle.formulas.specs.Text.{mostText}
+use Rattle.formulas.specs.ReadFormula.{ReadOutcome, readOutcome}
+use Rattle.printing.specs.WriteFormula.{WriteOutcome, writeOwn}
+use Rattle.claims.specs.Words.{recordsOf}
 
 -- what the bench can be asked
 pub data Question : Type 0 where
@@ -53,32 +51,32 @@ lentText = replicate mostText 0xAA
 -- the number, D, where it broke and how many columns there are, the room
 abbrev pub sayTry : TryOutcome → List ℕ
 sayTry o =
-    numberOf (o .answer .verdict) ∷ tableNumber (o .answer .d .first) ∷ placeOf (o .answer .verdict)
-    ∷ o .answer .columns ∷ o .room
+    number_of o.answer.verdict ∷ tableNumber o.answer.d.first ∷ placeOf o.answer.verdict
+    ∷ o.answer.columns ∷ o.room
 
 -- the number and the masks
 abbrev pub sayFind : FindOutcome → List ℕ
-sayFind o = numberOf (o .answer .verdict) ∷ o .answer .own ∷ o .answer .shared ∷ []
+sayFind o = number_of o.answer.verdict ∷ o.answer.own ∷ o.answer.shared ∷ []
 
 -- of the sheet, the records that were written
 abbrev pub sayMake : MakeOutcome → List ℕ
-sayMake o = numberOf (o .answer .verdict) ∷ o .answer .count ∷ recordsOf firstEdition o
+sayMake o = number_of o.answer.verdict ∷ o.answer.count ∷ recordsOf firstEdition o
 
 -- the number, the bit, the index
 abbrev pub sayRun : RunAnswer → List ℕ
-sayRun a = numberOf (a .verdict) ∷ val (a .bit) ∷ placeOf (a .verdict) ∷ []
+sayRun a = number_of a.verdict ∷ val a.bit ∷ placeOf a.verdict ∷ []
 
 -- the number, the index, the table
 abbrev pub sayRebuild : RebuildOutcome → List ℕ
-sayRebuild o = numberOf (o .verdict) ∷ placeOf (o .verdict) ∷ o .table
+sayRebuild o = number_of o.verdict ∷ placeOf o.verdict ∷ o.table
 
 -- the number, the place, the table
 abbrev pub sayRead : ReadOutcome → List ℕ
-sayRead o = numberOf (o .verdict) ∷ placeOf (o .verdict) ∷ o .table
+sayRead o = number_of o.verdict ∷ placeOf o.verdict ∷ o.table
 
 -- the number and the place; of the room, the text that was written
 abbrev pub sayWrite : WriteOutcome → List ℕ
-sayWrite o = numberOf (o .answer .verdict) ∷ placeOf (o .answer .verdict) ∷ take (o .answer .length) (o .room)
+sayWrite o = number_of o.answer.verdict ∷ placeOf o.answer.verdict ∷ take o.answer.length o.room
 
 -- what the definitions answer, in the first edition; what is made is for bench use
 abbrev pub answer : Question → List ℕ
@@ -99,9 +97,9 @@ pub record Example : Type 0 where
 -- the answers to a list of examples
 abbrev pub answers : List Example → List (List ℕ)
 answers [] = []
-answers (e ∷ l) = answer (e .asks) ∷ answers l
+answers (e ∷ l) = answer e.asks ∷ answers l
 
 -- and what each is to get
 abbrev pub expected : List Example → List (List ℕ)
 expected [] = []
-expected (e ∷ l) = e .gets ∷ expected l
+expected (e ∷ l) = e.gets ∷ expected l

@@ -1,14 +1,10 @@
 -- Words that the claims on times use.
-use mathlib.Core.Path.{_≡_}
-use mathlib.Core.Bool.{true, false}
-use mathlib.Core.List.{List}
-use Prim.Native.Nat.{ℕ, _+_, _<_}
-use lib.Ieee.{Float}
-use Rattle·sheets.specs.declared.kinds.Edition.{Edition}
-use Rattle·sheets.specs.Sheet.{recordAt, records}
-use Rattle·times.specs.declared.input_time.InputTime.{InputTime}
-use Rattle·times.specs.InputTimes.{inRange, soundTime, given, timeAt}
-use Rattle·times.specs.Sixteenths.{inSixteenths, timeInSixteenths}
+use Rattle.std.specs.Prelude.{◌≡◌, true, false, List, ℕ, ◌+◌, ◌<◌, Float}
+use Rattle.sheets.specs.declared.kinds.Edition.{Edition}
+use Rattle.sheets.specs.Sheet.{recordAt, records}
+use Rattle.times.specs.declared.input_time.InputTime.{InputTime}
+use Rattle.times.specs.InputTimes.{in_range, soundTime, given, timeAt}
+use Rattle.times.specs.Sixteenths.{inSixteenths, timeInSixteenths}
 
 -- some cell of a sheet reads signal t
 pub record Reads (e : Edition) (s : List ℕ) (t : ℕ) : Type 0 where
@@ -21,7 +17,7 @@ pub record Reads (e : Edition) (s : List ℕ) (t : ℕ) : Type 0 where
 -- the delay and the times of the n inputs are numbers in range and not crossed, and a time is there for each input that
 -- some cell reads
 pub record SoundTimes (e : Edition) (n : ℕ) (s : List ℕ) (delay : Float) (ts : List InputTime) : Type 0 where
-  pub delayed : inRange delay ≡ true
+  pub delayed : in_range delay ≡ true
   pub sound : (j : ℕ) → j < n → soundTime (timeAt ts j) ≡ true
   pub there : (j : ℕ) → j < n → given (timeAt ts j) ≡ false → Reads e s j → ⊥
 

@@ -1,51 +1,45 @@
 -- Words that the claims use.
-use mathlib.Core.Path.{_≡_}
-use mathlib.Core.Logic.{_↔_, _⊎_}
-use mathlib.Core.Bool.{Bool, true, _&&_}
-use mathlib.Core.List.{List, [], _∷_}
-use Prim.Native.Nat.{ℕ, _+_, _*_, _^_, _<_, _≤_}
-use lib.Dec.{leb}
-use lib.ListN.{length, getD, take, drop}
-use Rattle·bits.specs.Sets.{size}
-use Rattle·splits.specs.Columns.{columns}
-use Rattle·sheets.specs.declared.kinds.Edition.{Edition}
-use Rattle·sheets.specs.Network.{Cell}
-use Rattle·sheets.specs.Record.{Keeps}
-use Rattle·sheets.specs.Sheet.{recordAt, records, sheetCells}
-use Rattle·refusals.specs.declared.verdicts.Verdict.{Verdict}
-use Rattle·refusals.specs.declared.verdicts.Verdict.the-variants.{Fine}
-use Rattle·refusals.specs.Lines.{Line, InOrder, Given, numberOf, lineAt}
-use Rattle·making.specs.MakeSheet.{MakeOutcome}
+use Rattle.std.specs.Prelude.{◌≡◌, ◌↔◌, ◌⊎◌, Bool, true, ◌&&◌, List, [], ◌∷◌, ℕ, ◌+◌, ◌*◌, ◌^◌, ◌<◌, ◌≤◌, leb, length, get_or, take, drop}
+use Rattle.bits.specs.Sets.{size}
+use Rattle.splits.specs.Columns.{columns}
+use Rattle.sheets.specs.declared.kinds.Edition.{Edition}
+use Rattle.sheets.specs.Network.{Cell}
+use Rattle.sheets.specs.Record.{Keeps}
+use Rattle.sheets.specs.Sheet.{recordAt, records, sheetCells}
+use Rattle.refusals.specs.declared.verdicts.Verdict.{Verdict}
+use Rattle.refusals.specs.declared.verdicts.Verdict.TheVariants.{Fine}
+use Rattle.refusals.specs.Lines.{Line, InOrder, Given, number_of, line_at}
+use Rattle.making.specs.MakeSheet.{MakeOutcome}
 
 -- a verdict is the one that a call's lines ask for
 pub record ByLines (v : Verdict) (ls : List Line) : Type 0 where
   -- done, or the number of the first line of the list that holds
-  pub listed : (v ≡ Fine) ⊎ Given (numberOf v) ls
+  pub listed : (v ≡ Fine) ⊎ Given (number_of v) ls
   -- a number is given exactly when its line holds and no earlier one does
-  pub exactly : (k : ℕ) → (k ≡ 0 → ⊥) → (numberOf v ≡ k) ↔ Given k ls
+  pub exactly : (k : ℕ) → (k ≡ 0 → ⊥) → (number_of v ≡ k) ↔ Given k ls
   -- and 0, done, exactly when no line holds
-  pub done : (numberOf v ≡ 0) ↔ InOrder ls
+  pub done : (number_of v ≡ 0) ↔ InOrder ls
 
 -- the numbers of the lines are k or more, and never fall
 abbrev pub rising : ℕ → List Line → Bool
 rising k [] = true
-rising k (l ∷ ls) = leb k (l .gives .number) && rising (l .gives .number) ls
+rising k (l ∷ ls) = leb k l.gives.number && rising l.gives.number ls
 
 -- no line that holds has a lower number than the verdict's
 abbrev pub Lowest : Verdict → List Line → Type 0
-Lowest v ls = (i : ℕ) → i < length ls → lineAt ls i .holds ≡ true → numberOf v ≤ lineAt ls i .gives .number
+Lowest v ls = (i : ℕ) → i < length ls → (line_at ls i).holds ≡ true → number_of v ≤ (line_at ls i).gives.number
 
 -- what a lent slice of u8 holds: every number is a byte
 abbrev pub AllBytes : List ℕ → Type 0
-AllBytes t = (i : ℕ) → i < length t → getD t i 0 < 256
+AllBytes t = (i : ℕ) → i < length t → get_or t i 0 < 256
 
 -- the records that make wrote: so many of the first bytes of the lent sheet, as they are afterwards
 abbrev pub recordsOf : Edition → MakeOutcome → List ℕ
-recordsOf e o = take (e .size * o .answer .count) (o .sheet)
+recordsOf e o = take (e.size * o.answer.count) o.sheet
 
 -- the network that these bytes say
 abbrev pub networkOf : Edition → MakeOutcome → List Cell
-networkOf e o = sheetCells e (recordsOf e o) (o .answer .count)
+networkOf e o = sheetCells e (recordsOf e o) o.answer.count
 
 -- record i of a sheet is the first that breaks the record rules (the desk's byte is d; it may read only signals below
 -- n + i)
@@ -59,12 +53,12 @@ pub record Breaks (n : ℕ) (F : ℕ → Bool) (A B : ℕ → Bool) (m b k : ℕ
   pub within : b < 2 ^ size n B
   pub count : k ≡ length (columns n F A B b)
   pub more : m < length (columns n F A B b)
-  pub before : (b′ : ℕ) → b′ < b → length (columns n F A B b′) ≤ m
+  pub before : (b' : ℕ) → b' < b → length (columns n F A B b') ≤ m
 
 -- two outcomes of make that differ in the desk's byte of their records alone: answer, work area, every other byte of a
 -- record, and the bytes after the last record are the same
-pub record OtherDesk (e : Edition) (o o′ : MakeOutcome) : Type 0 where
-  pub answer : o .answer ≡ o′ .answer
-  pub work : o .work ≡ o′ .work
-  pub bytes : (i j : ℕ) → (j ≡ e .most + 1 → ⊥) → recordAt e (recordsOf e o) i j ≡ recordAt e (recordsOf e o′) i j
-  pub rest : drop (e .size * o .answer .count) (o .sheet) ≡ drop (e .size * o′ .answer .count) (o′ .sheet)
+pub record OtherDesk (e : Edition) (o o' : MakeOutcome) : Type 0 where
+  pub answer : o.answer ≡ o'.answer
+  pub work : o.work ≡ o'.work
+  pub bytes : (i j : ℕ) → (j ≡ e.most + 1 → ⊥) → recordAt e (recordsOf e o) i j ≡ recordAt e (recordsOf e o') i j
+  pub rest : drop (e.size * o.answer.count) o.sheet ≡ drop (e.size * o'.answer.count) o'.sheet

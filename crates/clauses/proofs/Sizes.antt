@@ -1,41 +1,41 @@
 -- How many variables there are, and that each has its own place among them. Assumes nothing.
-use mathlib.Core.Path.{_≡_}
-use Prim.Native.Nat.{ℕ, suc, _+_, _*_, _<_, _≤_}
-use native.Mathlib.Nat.{mul-le-mul, mul-le-mul-right, add-mul}
+use mathlib.Core.Path.{◌≡◌}
+use Prim.Native.Nat.{ℕ, suc, ◌+◌, ◌*◌, ◌<◌, ◌≤◌}
+use native.Mathlib.Nat.{mul-le-mul, mul-le-mul_right, add-mul}
 use native.Mathlib.Omega.{arith}
-use Rattle·clauses·specs.specs.declared.variables.Size.{Size}
-use Rattle·clauses·specs.specs.declared.variables.Variable.{Variable}
-use Rattle·clauses·specs.specs.declared.variables.Variable.the-variants.{Reads, Many, Differ, Apart, Same}
-use Rattle·clauses·specs.specs.Variables.{IsSize, signals, Named, numberOf, variables, numberLimit}
-use Rattle·clauses·specs.specs.Variables.{differFrom, apartFrom, sameFrom}
-use Rattle·clauses·specs.specs.Variables.{readsMany, manyMany, differMany, apartMany, sameMany}
+use Rattle.clauses.specs.declared.variables.Size.{Size}
+use Rattle.clauses.specs.declared.variables.Variable.{Variable}
+use Rattle.clauses.specs.declared.variables.Variable.TheVariants.{Reads, Many, Differ, Apart, Same}
+use Rattle.clauses.specs.Variables.{IsSize, signals, Named, number_of, variables, numberLimit}
+use Rattle.clauses.specs.Variables.{differFrom, apartFrom, sameFrom}
+use Rattle.clauses.specs.Variables.{readsMany, manyMany, differMany, apartMany, sameMany}
 
 -- place p of row i lies among m rows of w places
-pub row-below : (i m p w : ℕ) → i < m → p < w → i * w + p < m * w
-row-below i m p w h k =
-    let s : (i + 1) * w ≤ m * w = mul-le-mul-right w (omega arith) in
+pub row_below : (i m p w : ℕ) → i < m → p < w → i * w + p < m * w
+row_below i m p w h k =
+    let s : (i + 1) * w ≤ m * w = mul-le-mul_right w (omega arith) in
     omega (arith, s, add-mul i 1 w)
 
 -- the products that the numbers are made of
 pub record Most (z : Size) : Type 0 where
-  pub reads : z .cells * signals z ≤ 465
-  pub signal : z .cells * (signals z + 1) ≤ 480
-  pub many : z .cells * (signals z + 1) * (z .cell + 2) ≤ 4800
-  pub row : z .cells * z .rows ≤ 7680
-  pub differ : z .cells * z .rows * z .rows ≤ 3932160
-  pub cells : z .cells * z .cells ≤ 225
-  pub cellRow : z .cells * z .cells * z .rows ≤ 115200
-  pub apart : z .cells * z .cells * z .rows * z .rows ≤ 58982400
-  pub inputs : z .inputs * z .inputs ≤ 256
-  pub same : z .inputs * z .inputs * (z .cells + 1) ≤ 4096
+  pub reads : z.cells * signals z ≤ 465
+  pub signal : z.cells * (signals z + 1) ≤ 480
+  pub many : z.cells * (signals z + 1) * (z.cell + 2) ≤ 4800
+  pub row : z.cells * z.rows ≤ 7680
+  pub differ : z.cells * z.rows * z.rows ≤ 3932160
+  pub cells : z.cells * z.cells ≤ 225
+  pub cellRow : z.cells * z.cells * z.rows ≤ 115200
+  pub apart : z.cells * z.cells * z.rows * z.rows ≤ 58982400
+  pub inputs : z.inputs * z.inputs ≤ 256
+  pub same : z.inputs * z.inputs * (z.cells + 1) ≤ 4096
 
 pub most : (z : Size) → IsSize z → Most z
 most z h =
-    let n = h .inputs in let m = h .cells in let r = h .rows in
+    let n = h.inputs in let m = h.cells in let r = h.rows in
     let s : signals z ≤ 31 = omega arith in
     let s1 : signals z + 1 ≤ 32 = omega arith in
-    let k2 : z .cell + 2 ≤ 10 = omega (arith, h .cell) in
-    let m1 : z .cells + 1 ≤ 16 = omega arith in record {
+    let k2 : z.cell + 2 ≤ 10 = omega (arith, h.cell) in
+    let m1 : z.cells + 1 ≤ 16 = omega arith in record {
       reads = mul-le-mul m s;
       signal = mul-le-mul m s1;
       many = mul-le-mul (mul-le-mul m s1) k2;
@@ -50,24 +50,24 @@ most z h =
 
 -- where a variable lies among those of its kind, from the first field on
 pub two-below : (a A b B c C : ℕ) → a < A → b < B → c < C → (a * B + b) * C + c < A * B * C
-two-below a A b B c C p q r = row-below (a * B + b) (A * B) c C (row-below a A b B p q) r
+two-below a A b B c C p q r = row_below (a * B + b) (A * B) c C (row_below a A b B p q) r
 
 pub three-below : (a A b B c C d D : ℕ) → a < A → b < B → c < C → d < D
     → ((a * B + b) * C + c) * D + d < A * B * C * D
-three-below a A b B c C d D p q r s = row-below ((a * B + b) * C + c) (A * B * C) d D (two-below a A b B c C p q r) s
+three-below a A b B c C d D p q r s = row_below ((a * B + b) * C + c) (A * B * C) d D (two-below a A b B c C p q r) s
 
 -- each number is below V
-pub number-below : (z : Size) (x : Variable) → Named z x → numberOf z x < variables z
-unfolding numberOf readsMany manyMany differMany apartMany sameMany
-number-below z (Reads i p) h = omega (arith, row-below i (z .cells) p (signals z) (h .0) (h .1))
+pub number-below : (z : Size) (x : Variable) → Named z x → number_of z x < variables z
+unfolding number_of readsMany manyMany differMany apartMany sameMany
+number-below z (Reads i p) h = omega (arith, row_below i z.cells p (signals z) h.0 h.1)
 number-below z (Many i p t) h =
-    omega (arith, two-below i (z .cells) p (signals z + 1) t (z .cell + 2) (h .0) (h .1) (h .2))
+    omega (arith, two-below i z.cells p (signals z + 1) t (z.cell + 2) h.0 h.1 h.2)
 number-below z (Differ i a b) h =
-    omega (arith, two-below i (z .cells) a (z .rows) b (z .rows) (h .0) (h .1) (h .2))
+    omega (arith, two-below i z.cells a z.rows b z.rows h.0 h.1 h.2)
 number-below z (Apart i j a b) h =
-    omega (arith, three-below i (z .cells) j (z .cells) a (z .rows) b (z .rows) (h .0) (h .1) (h .2) (h .3))
+    omega (arith, three-below i z.cells j z.cells a z.rows b z.rows h.0 h.1 h.2 h.3)
 number-below z (Same p q i) h =
-    omega (arith, two-below p (z .inputs) q (z .inputs) i (z .cells + 1) (h .0) (h .1) (h .2))
+    omega (arith, two-below p z.inputs q z.inputs i (z.cells + 1) h.0 h.1 h.2)
 
 -- and V is small
 pub variables-most : (z : Size) → IsSize z → variables z < numberLimit
@@ -87,33 +87,33 @@ from z h = let k = most z h in record { differ = omega arith; apart = omega arit
 -- a number as it is computed stays small
 module _ (z : Size) (h : IsSize z) where
   pub reads-small : (i p : ℕ) → Named z (Reads i p) → i * signals z + p < 465
-  reads-small i p w = omega (arith, most z h .reads, row-below i (z .cells) p (signals z) (w .0) (w .1))
+  reads-small i p w = omega (arith, (most z h).reads, row_below i z.cells p (signals z) w.0 w.1)
 
   pub many-small : (i p t : ℕ) → Named z (Many i p t) → (i * (signals z + 1) + p < 480)
-      × ((i * (signals z + 1) + p) * (z .cell + 2) + t < 4800)
+      × ((i * (signals z + 1) + p) * (z.cell + 2) + t < 4800)
   many-small i p t w =
-      let x = row-below i (z .cells) p (signals z + 1) (w .0) (w .1) in
-      let y = two-below i (z .cells) p (signals z + 1) t (z .cell + 2) (w .0) (w .1) (w .2) in
-      (omega (arith, most z h .signal), omega (arith, most z h .many))
+      let x = row_below i z.cells p (signals z + 1) w.0 w.1 in
+      let y = two-below i z.cells p (signals z + 1) t (z.cell + 2) w.0 w.1 w.2 in
+      (omega (arith, (most z h).signal), omega (arith, (most z h).many))
 
-  pub differ-small : (i a b : ℕ) → Named z (Differ i a b) → (i * z .rows + a < 7680)
-      × ((i * z .rows + a) * z .rows + b < 3932160)
+  pub differ-small : (i a b : ℕ) → Named z (Differ i a b) → (i * z.rows + a < 7680)
+      × ((i * z.rows + a) * z.rows + b < 3932160)
   differ-small i a b w =
-      let x = row-below i (z .cells) a (z .rows) (w .0) (w .1) in
-      let y = two-below i (z .cells) a (z .rows) b (z .rows) (w .0) (w .1) (w .2) in
-      (omega (arith, most z h .row), omega (arith, most z h .differ))
+      let x = row_below i z.cells a z.rows w.0 w.1 in
+      let y = two-below i z.cells a z.rows b z.rows w.0 w.1 w.2 in
+      (omega (arith, (most z h).row), omega (arith, (most z h).differ))
 
-  pub apart-small : (i j a b : ℕ) → Named z (Apart i j a b) → (i * z .cells + j < 225)
-      × ((i * z .cells + j) * z .rows + a < 115200) × (((i * z .cells + j) * z .rows + a) * z .rows + b < 58982400)
+  pub apart-small : (i j a b : ℕ) → Named z (Apart i j a b) → (i * z.cells + j < 225)
+      × ((i * z.cells + j) * z.rows + a < 115200) × (((i * z.cells + j) * z.rows + a) * z.rows + b < 58982400)
   apart-small i j a b w =
-      let x = row-below i (z .cells) j (z .cells) (w .0) (w .1) in
-      let y = two-below i (z .cells) j (z .cells) a (z .rows) (w .0) (w .1) (w .2) in
-      let v = three-below i (z .cells) j (z .cells) a (z .rows) b (z .rows) (w .0) (w .1) (w .2) (w .3) in
-      (omega (arith, most z h .cells), omega (arith, most z h .cellRow), omega (arith, most z h .apart))
+      let x = row_below i z.cells j z.cells w.0 w.1 in
+      let y = two-below i z.cells j z.cells a z.rows w.0 w.1 w.2 in
+      let v = three-below i z.cells j z.cells a z.rows b z.rows w.0 w.1 w.2 w.3 in
+      (omega (arith, (most z h).cells), omega (arith, (most z h).cellRow), omega (arith, (most z h).apart))
 
-  pub same-small : (p q i : ℕ) → Named z (Same p q i) → (p * z .inputs + q < 256)
-      × ((p * z .inputs + q) * (z .cells + 1) + i < 4096)
+  pub same-small : (p q i : ℕ) → Named z (Same p q i) → (p * z.inputs + q < 256)
+      × ((p * z.inputs + q) * (z.cells + 1) + i < 4096)
   same-small p q i w =
-      let x = row-below p (z .inputs) q (z .inputs) (w .0) (w .1) in
-      let y = two-below p (z .inputs) q (z .inputs) i (z .cells + 1) (w .0) (w .1) (w .2) in
-      (omega (arith, most z h .inputs), omega (arith, most z h .same))
+      let x = row_below p z.inputs q z.inputs w.0 w.1 in
+      let y = two-below p z.inputs q z.inputs i (z.cells + 1) w.0 w.1 w.2 in
+      (omega (arith, (most z h).inputs), omega (arith, (most z h).same))

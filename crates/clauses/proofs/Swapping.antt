@@ -1,24 +1,24 @@
 -- Two inputs can be swapped if two columns of the split that has them as own inputs are equal. Assumes nothing.
-use mathlib.Core.Path.{_≡_, refl, sym, ap, ap₂, subst, _∙_}
-use mathlib.Core.Bool.{Bool, true, false, cond, not, _||_, Bool·beq, or-false}
-use Prim.Native.Nat.{ℕ, _+_, _*_, _%_, _^_, _<_, _≤_}
+use mathlib.Core.Path.{◌≡◌, refl, sym, ap, ap₂, subst, ◌∙◌}
+use mathlib.Core.Bool.{Bool, true, false, cond, not, ◌||◌, beq, or-false}
+use Prim.Native.Nat.{ℕ, ◌+◌, ◌*◌, ◌%◌, ◌^◌, ◌<◌, ◌≤◌}
 use native.Mathlib.Nat.{add-zero}
 use native.Mathlib.Omega.{arith}
 use lib.Dec.{eqb}
-use lib.Pow.{pow-mono, pow-pos}
-use borrow.Author.Tests.{eq-eqb, ne-eqb, eqb-true}
-use Rattle·bits.specs.Numbers.{bit, number, flipped}
-use Rattle·bits.specs.Sets.{Apart, rest, size, gather, spread}
-use Rattle·bits.proofs.Bools.{clash, iff, beq-same, same-beq}
-use Rattle·bits.proofs.Below.{every-at, every-all}
-use Rattle·bits.proofs.Numbers.{number-lt, bit-number, number-ext, bit-zero}
-use Rattle·bits.proofs.Members.{same-bits}
-use Rattle·bits.proofs.Spreading.{gather-lt, spread-gather, bit-spread, spread-lt}
-use Rattle·bits.proofs.Single.{single, plus-bit, plus-lt}
-use Rattle·bits.proofs.Sums.{sum-mask}
-use Rattle·columns.specs.declared.split.Split.{Split}
-use Rattle·columns.specs.Reading.{Held, Without, alike}
-use Rattle·clauses·specs.specs.Swapping.{swapped, unchanged, swappable}
+use lib.Pow.{pow_mono, pow_pos}
+use borrow.Author.Tests.{eq-eqb, ne_eqb, eqb-true}
+use Rattle.bits.specs.Numbers.{bit, number, flipped}
+use Rattle.bits.specs.Sets.{Apart, rest, size, gather, spread}
+use Rattle.bits.proofs.Bools.{clash, iff, beq_same, same-beq}
+use Rattle.bits.proofs.Below.{every-at, every-all}
+use Rattle.bits.proofs.Numbers.{number_lt, bit-number, number-ext, bit-zero}
+use Rattle.bits.proofs.Members.{same_bits}
+use Rattle.bits.proofs.Spreading.{gather-lt, spread-gather, bit-spread, spread-lt}
+use Rattle.bits.proofs.Single.{single, plus-bit, plus-lt}
+use Rattle.bits.proofs.Sums.{sum-mask}
+use Rattle.columns.specs.declared.split.Split.{Split}
+use Rattle.columns.specs.Reading.{Held, Without, alike}
+use Rattle.clauses.specs.Swapping.{swapped, unchanged, swappable}
 
 module _ (n p q : ℕ) (pq : p < q) (qn : q < n) where
   -- the assignment with u at p, v at q, and else as r has it
@@ -28,25 +28,25 @@ module _ (n p q : ℕ) (pq : p < q) (qn : q < n) where
   pub at : Bool → Bool → ℕ → ℕ
   at u v r = number n (with u v r)
 
-  at-lt : (u v : Bool) (r : ℕ) → at u v r < 2 ^ n
+  at_lt : (u v : Bool) (r : ℕ) → at u v r < 2 ^ n
   unfolding at
-  at-lt u v r = number-lt n (with u v r)
+  at_lt u v r = number_lt n (with u v r)
 
-  bit-at : (u v : Bool) (r j : ℕ) → j < n → bit (at u v r) j ≡ with u v r j
+  bit_at : (u v : Bool) (r j : ℕ) → j < n → bit (at u v r) j ≡ with u v r j
   unfolding at
-  bit-at u v r j l = bit-number n (with u v r) j l
+  bit_at u v r j l = bit-number n (with u v r) j l
 
-  at-p : (u v : Bool) (r : ℕ) → bit (at u v r) p ≡ u
-  at-p u v r = bit-at u v r p (omega arith) ∙ simp (eq-eqb p p refl)
+  at_p : (u v : Bool) (r : ℕ) → bit (at u v r) p ≡ u
+  at_p u v r = bit_at u v r p (omega arith) ∙ simp (eq-eqb p p refl)
 
   at-q : (u v : Bool) (r : ℕ) → bit (at u v r) q ≡ v
   at-q u v r =
-      bit-at u v r q qn ∙ simp (ne-eqb q p (λ e. omega arith), eq-eqb q q refl)
+      bit_at u v r q qn ∙ simp (ne_eqb q p (λ e. omega arith), eq-eqb q q refl)
 
   -- swapped, it has the two the other way round
-  swap-at : (f u v : Bool) (r : ℕ) → swapped n f p q (at u v r) ≡ at (flipped f v) (flipped f u) r
+  swap_at : (f u v : Bool) (r : ℕ) → swapped n f p q (at u v r) ≡ at (flipped f v) (flipped f u) r
   unfolding swapped at
-  swap-at f u v r =
+  swap_at f u v r =
       number-ext n (λ j. cond (eqb j p) (flipped f (bit (at u v r) q)) (cond (eqb j q) (flipped f (bit (at u v r) p))
       (bit (at u v r) j))) (with (flipped f v) (flipped f u) r) (λ j l. go j l (eqb j p) (eqb j q) refl refl)
     where
@@ -54,8 +54,8 @@ module _ (n p q : ℕ) (pq : p < q) (qn : q < n) where
           → cond s (flipped f (bit (at u v r) q)) (cond t (flipped f (bit (at u v r) p)) (bit (at u v r) j))
           ≡ cond s (flipped f v) (cond t (flipped f u) (bit r j))
       go j l true t e d = ap (flipped f) (at-q u v r)
-      go j l false true e d = ap (flipped f) (at-p u v r)
-      go j l false false e d = bit-at u v r j l ∙ simp (e, d)
+      go j l false true e d = ap (flipped f) (at_p u v r)
+      go j l false false e d = bit_at u v r j l ∙ simp (e, d)
 
   module _ (L : ℕ) (off : (j : ℕ) → j < n → bit L j ≡ not (eqb j p || eqb j q)) where
     -- what an assignment has beside the two
@@ -64,8 +64,8 @@ module _ (n p q : ℕ) (pq : p < q) (qn : q < n) where
 
     whole : (x : ℕ) → x < 2 ^ n → x ≡ at (bit x p) (bit x q) (beside x)
     whole x l =
-        same-bits n x (at (bit x p) (bit x q) (beside x)) l (at-lt (bit x p) (bit x q) (beside x)) (λ j k.
-        sym (bit-at (bit x p) (bit x q) (beside x) j k ∙ go j k (eqb j p) (eqb j q) refl refl))
+        same_bits n x (at (bit x p) (bit x q) (beside x)) l (at_lt (bit x p) (bit x q) (beside x)) (λ j k.
+        sym (bit_at (bit x p) (bit x q) (beside x) j k ∙ go j k (eqb j p) (eqb j q) refl refl))
       where
         go : (j : ℕ) → j < n → (s t : Bool) → eqb j p ≡ s → eqb j q ≡ t
             → cond s (bit x p) (cond t (bit x q) (bit (beside x) j)) ≡ bit x j
@@ -115,29 +115,29 @@ module _ (n p q : ℕ) (pq : p < q) (qn : q < n) where
       turn true false false r e = sym e
 
       there : (g : Bool) (r : ℕ) → swapped n g p q (at (not g) false r) ≡ at g true r
-      there true r = swap-at true false false r
-      there false r = swap-at false true false r
+      there true r = swap_at true false false r
+      there false r = swap_at false true false r
 
       pub columns-tell : alike n F L x y ≡ unchanged n F f p q
       unfolding alike unchanged
       columns-tell = iff (alike n F L x y) (unchanged n F f p q) to from
         where
           to : alike n F L x y ≡ true → unchanged n F f p q ≡ true
-          to h = every-all (2 ^ n) (λ w. Bool·beq (F (swapped n f p q w)) (F w)) (λ w l.
+          to h = every-all (2 ^ n) (λ w. beq (F (swapped n f p q w)) (F w)) (λ w l.
               let k = gather n (bit L) w in
-              let e = beq-same (F (x + spread n (bit L) k)) (F (y + spread n (bit L) k)) (every-at (2 ^ size n (bit L))
-              (λ c. Bool·beq (F (x + spread n (bit L) c)) (F (y + spread n (bit L) c))) h k (gather-lt n (bit L) w)) in
+              let e = beq_same (F (x + spread n (bit L) k)) (F (y + spread n (bit L) k)) (every-at (2 ^ size n (bit L))
+              (λ c. beq (F (x + spread n (bit L) c)) (F (y + spread n (bit L) c))) h k (gather-lt n (bit L) w)) in
               same-beq (F (swapped n f p q w)) (F w) (
-              ap (λ (z : ℕ). F (swapped n f p q z)) (whole w l) ∙ ap F (swap-at f (bit w p) (bit w q) (beside w))
+              ap (λ (z : ℕ). F (swapped n f p q z)) (whole w l) ∙ ap F (swap_at f (bit w p) (bit w q) (beside w))
               ∙ turn f (bit w p) (bit w q) (beside w) (sym (ap F (first k)) ∙ e ∙ ap F (second k))
               ∙ sym (ap F (whole w l))))
 
           from : unchanged n F f p q ≡ true → alike n F L x y ≡ true
-          from h = every-all (2 ^ size n (bit L)) (λ c. Bool·beq (F (x + spread n (bit L) c)) (F (y + spread n (bit L) c)))
+          from h = every-all (2 ^ size n (bit L)) (λ c. beq (F (x + spread n (bit L) c)) (F (y + spread n (bit L) c)))
               (λ k l.
               let r = spread n (bit L) k in
-              let e = beq-same (F (swapped n f p q (at (not f) false r))) (F (at (not f) false r)) (every-at (2 ^ n)
-              (λ w. Bool·beq (F (swapped n f p q w)) (F w)) h (at (not f) false r) (at-lt (not f) false r)) in
+              let e = beq_same (F (swapped n f p q (at (not f) false r))) (F (at (not f) false r)) (every-at (2 ^ n)
+              (λ w. beq (F (swapped n f p q w)) (F w)) h (at (not f) false r) (at_lt (not f) false r)) in
               same-beq (F (x + r)) (F (y + r)) (
               ap F (first k) ∙ sym e ∙ ap F (there f r) ∙ sym (ap F (second k))))
 
@@ -149,32 +149,32 @@ module _ (n p q x y : ℕ) (pq : p < q) (qn : q < n) (ex : x ≡ 2 ^ p) (ey : y 
   x-bit : (j : ℕ) → j < n → bit x j ≡ eqb j p
   x-bit j l = ap (λ (m : ℕ). bit m j) ex ∙ single-bit p (omega arith) j l
 
-  x-lt : x < 2 ^ n
-  x-lt = omega (arith, ex, single n p (omega arith), number-lt n (λ k. eqb k p))
+  x_lt : x < 2 ^ n
+  x_lt = omega (arith, ex, single n p (omega arith), number_lt n (λ k. eqb k p))
 
   y-bit : (j : ℕ) → j < n → bit y j ≡ eqb j q
   y-bit j l = ap (λ (m : ℕ). bit m j) ey ∙ single-bit q qn j l
 
   y-lt : y < 2 ^ n
-  y-lt = omega (arith, ey, single n q qn, number-lt n (λ k. eqb k q))
+  y-lt = omega (arith, ey, single n q qn, number_lt n (λ k. eqb k q))
 
   x-off : bit x q ≡ false
-  x-off = x-bit q qn ∙ ne-eqb q p (λ e. omega arith)
+  x-off = x-bit q qn ∙ ne_eqb q p (λ e. omega arith)
 
   pub both-lt : x + y < 2 ^ n
-  both-lt = omega (arith, ey, plus-lt n x q x-lt qn x-off)
+  both-lt = omega (arith, ey, plus-lt n x q x_lt qn x-off)
 
   both-bit : (j : ℕ) → j < n → bit (x + y) j ≡ (eqb j p || eqb j q)
   both-bit j l =
-      ap (λ (m : ℕ). bit (x + m) j) ey ∙ plus-bit n x q x-lt qn x-off j l ∙ ap (λ (t : Bool). t || eqb j q) (x-bit j l)
+      ap (λ (m : ℕ). bit (x + m) j) ey ∙ plus-bit n x q x_lt qn x-off j l ∙ ap (λ (t : Bool). t || eqb j q) (x-bit j l)
 
   pub none-shared : Apart n (bit (x + y)) (bit 0)
   none-shared j l e = absurd (clash e (bit-zero j))
 
-  module _ (s : Split) (h : Held s) (en : s .n ≡ n) (eo : s .own ≡ x + y) (es : s .shared ≡ 0) where
-    off : (j : ℕ) → j < n → bit (s .free) j ≡ not (eqb j p || eqb j q)
+  module _ (s : Split) (h : Held s) (en : s.n ≡ n) (eo : s.own ≡ x + y) (es : s.shared ≡ 0) where
+    off : (j : ℕ) → j < n → bit s.free j ≡ not (eqb j p || eqb j q)
     off j l =
-        ap (λ (m : ℕ). bit m j) (h .free) ∙ bit-number (s .n) (rest (bit (s .own)) (bit (s .shared))) j (omega (arith, en))
+        ap (λ (m : ℕ). bit m j) h.free ∙ bit-number s.n (rest (bit s.own) (bit s.shared)) j (omega (arith, en))
         ∙ ap₂ (λ (a b : Bool). not (a || b)) (ap (λ (m : ℕ). bit m j) eo ∙ both-bit j l)
         (ap (λ (m : ℕ). bit m j) es ∙ bit-zero j)
         ∙ ap not (or-false (eqb j p || eqb j q))
@@ -182,13 +182,13 @@ module _ (n p q x y : ℕ) (pq : p < q) (qn : q < n) (ex : x ≡ 2 ^ p) (ey : y 
     -- a number with bits at the two alone
     module _ (m : ℕ) (u v : Bool) (ml : m < 2 ^ n)
         (mb : (j : ℕ) → j < n → bit m j ≡ cond (eqb j p) u (cond (eqb j q) v false)) where
-      apart : Without (s .n) (s .free) m
+      apart : Without s.n s.free m
       apart = record {
         below = subst (λ (k : ℕ). m < 2 ^ k) (sym en) ml;
         clear = λ j l e. go j (omega (arith, en)) e (eqb j p) (eqb j q) refl refl;
       }
         where
-          go : (j : ℕ) → j < n → bit (s .free) j ≡ true → (a b : Bool) → eqb j p ≡ a → eqb j q ≡ b → bit m j ≡ false
+          go : (j : ℕ) → j < n → bit s.free j ≡ true → (a b : Bool) → eqb j p ≡ a → eqb j q ≡ b → bit m j ≡ false
           go j l e true b d f = absurd (clash e (off j l ∙ simp (d)))
           go j l e false true d f = absurd (clash e (off j l ∙ simp (d, f)))
           go j l e false false d f = mb j l ∙ simp (d, f)
@@ -210,8 +210,8 @@ module _ (n p q x y : ℕ) (pq : p < q) (qn : q < n) (ex : x ≡ 2 ^ p) (ey : y 
         go false true e f = refl
         go false false e f = refl
 
-    bits-none : (j : ℕ) → j < n → bit 0 j ≡ cond (eqb j p) false (cond (eqb j q) false false)
-    bits-none j l = bit-zero j ∙ go (eqb j p) (eqb j q)
+    bits_none : (j : ℕ) → j < n → bit 0 j ≡ cond (eqb j p) false (cond (eqb j q) false false)
+    bits_none j l = bit-zero j ∙ go (eqb j p) (eqb j q)
       where
         go : (a b : Bool) → false ≡ cond a false (cond b false false)
         go true b = refl
@@ -226,36 +226,36 @@ module _ (n p q x y : ℕ) (pq : p < q) (qn : q < n) (ex : x ≡ 2 ^ p) (ey : y 
         go false true = refl
         go false false = refl
 
-    pub apart-x : Without (s .n) (s .free) x
-    apart-x = apart x true false x-lt bits-x
+    pub apart-x : Without s.n s.free x
+    apart-x = apart x true false x_lt bits-x
 
-    pub apart-y : Without (s .n) (s .free) y
+    pub apart-y : Without s.n s.free y
     apart-y = apart y false true y-lt bits-y
 
-    pub apart-none : Without (s .n) (s .free) 0
-    apart-none = apart 0 false false (pow-pos n) bits-none
+    pub apart_none : Without s.n s.free 0
+    apart_none = apart 0 false false (pow_pos n) bits_none
 
-    pub apart-both : Without (s .n) (s .free) (x + y)
+    pub apart-both : Without s.n s.free (x + y)
     apart-both = apart (x + y) true true both-lt bits-both
 
     -- where they differ the columns are equal, or where they agree
-    pub swaps : (F : ℕ → Bool) → alike (s .n) F (s .free) x y ≡ unchanged n F false p q
+    pub swaps : (F : ℕ → Bool) → alike s.n F s.free x y ≡ unchanged n F false p q
     swaps F =
-        ap (λ (k : ℕ). alike k F (s .free) x y) en
-        ∙ columns-tell n p q pq qn (s .free) off F false x y (start-at n p q pq qn (s .free) off x true false x-lt bits-x)
-        (start-at n p q pq qn (s .free) off y false true y-lt bits-y)
+        ap (λ (k : ℕ). alike k F s.free x y) en
+        ∙ columns-tell n p q pq qn s.free off F false x y (start-at n p q pq qn s.free off x true false x_lt bits-x)
+        (start-at n p q pq qn s.free off y false true y-lt bits-y)
 
-    pub flips : (F : ℕ → Bool) → alike (s .n) F (s .free) 0 (x + y) ≡ unchanged n F true p q
+    pub flips : (F : ℕ → Bool) → alike s.n F s.free 0 (x + y) ≡ unchanged n F true p q
     flips F =
-        ap (λ (k : ℕ). alike k F (s .free) 0 (x + y)) en
-        ∙ columns-tell n p q pq qn (s .free) off F true 0 (x + y)
-        (start-at n p q pq qn (s .free) off 0 false false (pow-pos n) bits-none)
-        (start-at n p q pq qn (s .free) off (x + y) true true both-lt bits-both)
+        ap (λ (k : ℕ). alike k F s.free 0 (x + y)) en
+        ∙ columns-tell n p q pq qn s.free off F true 0 (x + y)
+        (start-at n p q pq qn s.free off 0 false false (pow_pos n) bits_none)
+        (start-at n p q pq qn s.free off (x + y) true true both-lt bits-both)
 
-    pub told-yes : (F : ℕ → Bool) {r : Bool} → r ≡ alike (s .n) F (s .free) x y → r ≡ true → true ≡ swappable n F p q
+    pub told-yes : (F : ℕ → Bool) {r : Bool} → r ≡ alike s.n F s.free x y → r ≡ true → true ≡ swappable n F p q
     told-yes F {r} e t = sym (ap (λ (b : Bool). b || unchanged n F true p q) (sym (swaps F) ∙ sym e ∙ t))
 
-    pub told-no : (F : ℕ → Bool) {r w : Bool} → r ≡ alike (s .n) F (s .free) x y → r ≡ false
-        → w ≡ alike (s .n) F (s .free) 0 (x + y) → w ≡ swappable n F p q
+    pub told-no : (F : ℕ → Bool) {r w : Bool} → r ≡ alike s.n F s.free x y → r ≡ false
+        → w ≡ alike s.n F s.free 0 (x + y) → w ≡ swappable n F p q
     told-no F {r} {w} e t d =
         d ∙ flips F ∙ sym (ap (λ (b : Bool). b || unchanged n F true p q) (sym (swaps F) ∙ sym e ∙ t))

@@ -1,20 +1,17 @@
 -- The clause of a step of kinds 1 to 14, and when such a step is in order.
-use mathlib.Core.Path.{_≡_}
-use mathlib.Core.Bool.{Bool, cond, not, _&&_, Bool·beq}
-use mathlib.Core.List.{List, [], _∷_, _++_}
-use Prim.Native.Nat.{ℕ, zero, suc, _+_, _-_}
-use lib.Dec.{eqb, leb, ltb}
-use Rattle·bits.specs.Numbers.{bit}
-use Rattle·bits.specs.Lists.{listOf}
-use Rattle·clauses·specs.specs.declared.variables.Size.{Size}
-use Rattle·clauses·specs.specs.declared.variables.Variable.{Variable}
-use Rattle·clauses·specs.specs.declared.variables.Variable.the-variants.{Reads, Many, Differ, Apart, Same}
-use Rattle·clauses·specs.specs.declared.variables.Literal.{Literal}
-use Rattle·clauses·specs.specs.declared.variables.Literal.the-variants.{Said, Denied}
-use Rattle·clauses·specs.specs.declared.given.Given.{Given}
-use Rattle·clauses·specs.specs.declared.given.Given.the-variants.{OneMore, AsMany, None, Most, Cause, Read, Differs}
-use Rattle·clauses·specs.specs.declared.given.Given.the-variants.{Even, Table, Used, Swap, Sorted, Both, Neither}
-use Rattle·clauses·specs.specs.Swapping.{swappable}
+use Rattle.std.specs.Prelude.{◌≡◌, Bool, cond, not, ◌&&◌, List, [], ◌∷◌, ◌++◌, ℕ, zero, suc, ◌+◌, ◌-◌, eqb, leb, ltb}
+use Rattle.std.specs.Bool.{beq}
+use Rattle.bits.specs.Numbers.{bit}
+use Rattle.bits.specs.Lists.{list_of}
+use Rattle.clauses.specs.declared.variables.Size.{Size}
+use Rattle.clauses.specs.declared.variables.Variable.{Variable}
+use Rattle.clauses.specs.declared.variables.Variable.TheVariants.{Reads, Many, Differ, Apart, Same}
+use Rattle.clauses.specs.declared.variables.Literal.{Literal}
+use Rattle.clauses.specs.declared.variables.Literal.TheVariants.{Said, Denied}
+use Rattle.clauses.specs.declared.given.Given.{Given}
+use Rattle.clauses.specs.declared.given.Given.TheVariants.{OneMore, AsMany, None, Most, Cause, Read, Differs}
+use Rattle.clauses.specs.declared.given.Given.TheVariants.{Even, Table, Used, Swap, Sorted, Both, Neither}
+use Rattle.clauses.specs.Swapping.{swappable}
 
 -- what is asked: the size, the table, and the assignment of each row
 pub record Question : Type 0 where
@@ -29,17 +26,17 @@ those (suc n) s f = cond (s n) (those n s f ++ (f n ∷ [])) (those n s f)
 
 -- the rows a and b differ at the input p
 abbrev pub rowsDiffer : (ℕ → ℕ) → ℕ → ℕ → ℕ → Bool
-rowsDiffer row a b p = not (Bool·beq (bit (row a) p) (bit (row b) p))
+rowsDiffer row a b p = not (beq (bit (row a) p) (bit (row b) p))
 
 -- kind 5: cell i differs, so an input that it reads does, or a cell
 abbrev pub causes : Size → (ℕ → ℕ) → ℕ → ℕ → ℕ → List Literal
 causes z row i a b =
     Denied (Differ i a b)
-    ∷ (those (z .inputs) (rowsDiffer row a b) (λ p. Said (Reads i p)) ++ listOf i (λ j. Said (Apart i j a b)))
+    ∷ (those z.inputs (rowsDiffer row a b) (λ p. Said (Reads i p)) ++ list_of i (λ j. Said (Apart i j a b)))
 
 -- kind 10: the later cells that may read cell i
 abbrev pub readers : Size → ℕ → List Literal
-readers z i = listOf (z .cells - (i + 1)) (λ k. Said (Reads (i + 1 + k) (z .inputs + i)))
+readers z i = list_of (z.cells - (i + 1)) (λ k. Said (Reads (i + 1 + k) (z.inputs + i)))
 
 -- kind 8: of d, x, y an even number is true; each s rules out one way in which it would be odd
 abbrev pub evenly : Variable → Variable → Variable → ℕ → List Literal
@@ -49,22 +46,22 @@ evenly d x y s =
     (cond (eqb s 2) (Said d ∷ Denied x ∷ Said y ∷ []) (Said d ∷ Said x ∷ Denied y ∷ [])))
 
 -- kind 9: the last cell differs at two rows if the table does
-abbrev pub asTable : Bool → Variable → List Literal
-asTable same x = cond same (Denied x ∷ []) (Said x ∷ [])
+abbrev pub as_table : Bool → Variable → List Literal
+as_table same x = cond same (Denied x ∷ []) (Said x ∷ [])
 
 -- the clause, kind by kind
 unfoldable pub clause : Question → Given → List Literal
 clause q (OneMore i p t) = Denied (Reads i p) ∷ Denied (Many i p t) ∷ Said (Many i (p + 1) (t + 1)) ∷ []
 clause q (AsMany i p t) = Denied (Many i p t) ∷ Said (Many i (p + 1) t) ∷ []
 clause q (None i) = Said (Many i 0 0) ∷ []
-clause q (Most i) = Denied (Many i (q .size .inputs + i) (q .size .cell + 1)) ∷ []
-clause q (Cause i a b) = causes (q .size) (q .row) i a b
-clause q (Read i j a b) = Denied (Apart i j a b) ∷ Said (Reads i (q .size .inputs + j)) ∷ []
+clause q (Most i) = Denied (Many i (q.size.inputs + i) (q.size.cell + 1)) ∷ []
+clause q (Cause i a b) = causes q.size q.row i a b
+clause q (Read i j a b) = Denied (Apart i j a b) ∷ Said (Reads i (q.size.inputs + j)) ∷ []
 clause q (Differs i j a b) = Denied (Apart i j a b) ∷ Said (Differ j a b) ∷ []
 clause q (Even i a b s) = evenly (Differ i a b) (Differ i 0 a) (Differ i 0 b) s
 clause q (Table a b) =
-    asTable (Bool·beq (q .table (q .row a)) (q .table (q .row b))) (Differ (q .size .cells - 1) a b)
-clause q (Used i) = readers (q .size) i
+    as_table (beq (q.table (q.row a)) (q.table (q.row b))) (Differ (q.size.cells - 1) a b)
+clause q (Used i) = readers q.size i
 clause q (Swap p r) = Said (Same p r 0) ∷ []
 clause q (Sorted p r i) = Denied (Same p r i) ∷ Denied (Reads i r) ∷ Said (Reads i p) ∷ []
 clause q (Both p r i) = Denied (Same p r i) ∷ Denied (Reads i r) ∷ Said (Same p r (i + 1)) ∷ []
@@ -72,18 +69,18 @@ clause q (Neither p r i) = Denied (Same p r i) ∷ Said (Reads i p) ∷ Said (Sa
 
 -- a cell, two rows, two inputs in order
 abbrev pub isCell : Size → ℕ → Bool
-isCell z i = ltb i (z .cells)
+isCell z i = ltb i z.cells
 
 abbrev pub areRows : Size → ℕ → ℕ → Bool
-areRows z a b = ltb a (z .rows) && ltb b (z .rows)
+areRows z a b = ltb a z.rows && ltb b z.rows
 
 abbrev pub areInputs : Size → ℕ → ℕ → Bool
-areInputs z p r = ltb p r && ltb r (z .inputs)
+areInputs z p r = ltb p r && ltb r z.inputs
 
 -- in order: what the fields name exists, and of kind 11 the two inputs of the table F are swappable
 unfoldable pub inOrder : Size → (ℕ → Bool) → Given → Bool
-inOrder z F (OneMore i p t) = isCell z i && (ltb p (z .inputs + i) && leb t (z .cell))
-inOrder z F (AsMany i p t) = isCell z i && (ltb p (z .inputs + i) && leb t (z .cell + 1))
+inOrder z F (OneMore i p t) = isCell z i && (ltb p (z.inputs + i) && leb t z.cell)
+inOrder z F (AsMany i p t) = isCell z i && (ltb p (z.inputs + i) && leb t (z.cell + 1))
 inOrder z F (None i) = isCell z i
 inOrder z F (Most i) = isCell z i
 inOrder z F (Cause i a b) = isCell z i && areRows z a b
@@ -91,8 +88,8 @@ inOrder z F (Read i j a b) = isCell z i && (ltb j i && areRows z a b)
 inOrder z F (Differs i j a b) = isCell z i && (ltb j i && areRows z a b)
 inOrder z F (Even i a b s) = isCell z i && (areRows z a b && leb s 3)
 inOrder z F (Table a b) = areRows z a b
-inOrder z F (Used i) = ltb (i + 1) (z .cells)
-inOrder z F (Swap p r) = areInputs z p r && swappable (z .inputs) F p r
+inOrder z F (Used i) = ltb (i + 1) z.cells
+inOrder z F (Swap p r) = areInputs z p r && swappable z.inputs F p r
 inOrder z F (Sorted p r i) = areInputs z p r && isCell z i
 inOrder z F (Both p r i) = areInputs z p r && isCell z i
 inOrder z F (Neither p r i) = areInputs z p r && isCell z i

@@ -1,15 +1,12 @@
 -- A clause as the code holds it: up to three literals, or one of two lists.
-use mathlib.Core.Path.{_≡_}
-use mathlib.Core.List.{List, [], _∷_}
-use Prim.Native.Nat.{ℕ, _+_, _*_, _^_, _<_, _≤_}
-use lib.ListN.{length}
-use Rattle·clauses·specs.specs.declared.variables.Size.{Size}
-use Rattle·clauses·specs.specs.declared.variables.Literal.{Literal}
-use Rattle·clauses·specs.specs.declared.shapes.Shape.{Shape}
-use Rattle·clauses·specs.specs.declared.shapes.Shape.the-variants.{One, Two, Three, Causes, Readers}
-use Rattle·clauses·specs.specs.Variables.{Named, variableOf}
-use Rattle·clauses·specs.specs.Clause.{causes, readers}
-use Rattle·clauses·specs.specs.Step.{rowsIn, rowAt}
+use Rattle.std.specs.Prelude.{◌≡◌, List, [], ◌∷◌, ℕ, ◌+◌, ◌*◌, ◌^◌, ◌<◌, ◌≤◌, length}
+use Rattle.clauses.specs.declared.variables.Size.{Size}
+use Rattle.clauses.specs.declared.variables.Literal.{Literal}
+use Rattle.clauses.specs.declared.shapes.Shape.{Shape}
+use Rattle.clauses.specs.declared.shapes.Shape.TheVariants.{One, Two, Three, Causes, Readers}
+use Rattle.clauses.specs.Variables.{Named, variableOf}
+use Rattle.clauses.specs.Clause.{causes, readers}
+use Rattle.clauses.specs.Step.{rowsIn, row_at}
 
 -- its literals, the rows being `row`
 abbrev pub literalsIn : Size → (ℕ → ℕ) → Shape → List Literal
@@ -26,6 +23,6 @@ AllNamed z (l ∷ ls) = Named z (variableOf l) × AllNamed z ls
 
 -- a certificate whose header is in order has the rows that the size says, each an assignment of the inputs
 pub record HasRows (z : Size) (c : List ℕ) : Type 0 where
-  pub count : z .rows ≡ rowsIn c
-  pub room : 2 + 2 * z .rows ≤ length c
-  pub below : (a : ℕ) → a < z .rows → rowAt c a < 2 ^ z .inputs
+  pub count : z.rows ≡ rowsIn c
+  pub room : 2 + 2 * z.rows ≤ length c
+  pub below : (a : ℕ) → a < z.rows → row_at c a < 2 ^ z.inputs

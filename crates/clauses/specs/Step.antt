@@ -1,48 +1,44 @@
 -- A step of a certificate: its fields, its length and its clause, read off the certificate's bytes. (Bytes past the end
 -- are read as 0; a step that runs past the end is not in order.)
-use mathlib.Core.Bool.{Bool, cond}
-use mathlib.Core.List.{List, [], _∷_, map}
-use Prim.Native.Nat.{ℕ, _+_, _*_}
-use lib.Dec.{eqb}
-use lib.ListN.{getD}
-use Rattle·bits.specs.Lists.{byteAt, listOf}
-use Rattle·tables.specs.Table.{tableBit}
-use Rattle·clauses·specs.specs.declared.variables.Size.{Size}
-use Rattle·clauses·specs.specs.declared.fields.Fields.{Fields}
-use Rattle·clauses·specs.specs.declared.given.Given.{Given}
-use Rattle·clauses·specs.specs.declared.given.Given.the-variants.{OneMore, AsMany, None, Most, Cause, Read, Differs}
-use Rattle·clauses·specs.specs.declared.given.Given.the-variants.{Even, Table, Used, Swap, Sorted, Both, Neither}
-use Rattle·clauses·specs.specs.Variables.{literalOf}
-use Rattle·clauses·specs.specs.Clause.{Question, clause}
+use Rattle.std.specs.Prelude.{Bool, cond, List, [], ◌∷◌, map, ℕ, ◌+◌, ◌*◌, eqb, get_or}
+use Rattle.bits.specs.Lists.{byte_at, list_of}
+use Rattle.tables.specs.Table.{tableBit}
+use Rattle.clauses.specs.declared.variables.Size.{Size}
+use Rattle.clauses.specs.declared.fields.Fields.{Fields}
+use Rattle.clauses.specs.declared.given.Given.{Given}
+use Rattle.clauses.specs.declared.given.Given.TheVariants.{OneMore, AsMany, None, Most, Cause, Read, Differs}
+use Rattle.clauses.specs.declared.given.Given.TheVariants.{Even, Table, Used, Swap, Sorted, Both, Neither}
+use Rattle.clauses.specs.Variables.{literalOf}
+use Rattle.clauses.specs.Clause.{Question, clause}
 
 -- numbers of two and of four bytes, least byte first
 unfoldable pub two : List ℕ → ℕ → ℕ
-two c at = byteAt c at + 256 * byteAt c (at + 1)
+two c at = byte_at c at + 256 * byte_at c (at + 1)
 
 unfoldable pub four : List ℕ → ℕ → ℕ
 four c at =
-    byteAt c at + 256 * byteAt c (at + 1) + 65536 * byteAt c (at + 2) + 16777216 * byteAt c (at + 3)
+    byte_at c at + 256 * byte_at c (at + 1) + 65536 * byte_at c (at + 2) + 16777216 * byte_at c (at + 3)
 
 -- the header: how many rows, and the rows
 abbrev pub rowsIn : List ℕ → ℕ
 rowsIn c = two c 0
 
-abbrev pub rowAt : List ℕ → ℕ → ℕ
-rowAt c a = two c (2 + 2 * a)
+abbrev pub row_at : List ℕ → ℕ → ℕ
+row_at c a = two c (2 + 2 * a)
 
 -- what is asked: n, K, m, the table, and the certificate's rows
 abbrev pub sizeWith : ℕ → ℕ → ℕ → List ℕ → Size
 sizeWith n K m c = record { inputs = n; cell = K; cells = m; rows = rowsIn c }
 
 abbrev pub questionIn : Size → List ℕ → List ℕ → Question
-questionIn z t c = record { size = z; table = tableBit t; row = rowAt c }
+questionIn z t c = record { size = z; table = tableBit t; row = row_at c }
 
 abbrev pub asked : ℕ → ℕ → ℕ → List ℕ → List ℕ → Question
 asked n K m t c = questionIn (sizeWith n K m c) t c
 
 -- the step that begins at a place: its kind
-abbrev pub kindAt : List ℕ → ℕ → ℕ
-kindAt c at = byteAt c at
+abbrev pub kind_at : List ℕ → ℕ → ℕ
+kind_at c at = byte_at c at
 
 -- of kind 0: how many literals, the literals, how many hints, the hints
 abbrev pub literalsAt : List ℕ → ℕ → ℕ
@@ -59,13 +55,13 @@ hintAt c at k = four c (at + 7 + 4 * literalsAt c at + 4 * k)
 
 -- of kinds 1 to 14: what stands so many bytes behind the kind, a byte or a row of two
 abbrev pub behind : List ℕ → ℕ → ℕ → ℕ
-behind c at k = byteAt c (at + k)
+behind c at k = byte_at c (at + k)
 
 abbrev pub rowBehind : List ℕ → ℕ → ℕ → ℕ
 rowBehind c at k = behind c at k + 256 * behind c at (k + 1)
 
-abbrev pub fieldsAt : List ℕ → ℕ → Fields
-fieldsAt c at = record {
+abbrev pub fields_at : List ℕ → ℕ → Fields
+fields_at c at = record {
   b1 = behind c at 1;
   b2 = behind c at 2;
   b3 = behind c at 3;
@@ -80,27 +76,27 @@ fieldsAt c at = record {
 -- the step as each kind has its fields, from 0 on, which has none of these
 unfoldable pub kindsOf : Fields → List Given
 kindsOf x =
-    None 0 ∷ OneMore (x .b1) (x .b2) (x .b3) ∷ AsMany (x .b1) (x .b2) (x .b3) ∷ None (x .b1) ∷ Most (x .b1)
-    ∷ Cause (x .b1) (x .r2) (x .r4) ∷ Read (x .b1) (x .b2) (x .r3) (x .r5) ∷ Differs (x .b1) (x .b2) (x .r3) (x .r5)
-    ∷ Even (x .b1) (x .r2) (x .r4) (x .b6) ∷ Table (x .r1) (x .r3) ∷ Used (x .b1) ∷ Swap (x .b1) (x .b2)
-    ∷ Sorted (x .b1) (x .b2) (x .b3) ∷ Both (x .b1) (x .b2) (x .b3) ∷ Neither (x .b1) (x .b2) (x .b3) ∷ []
+    None 0 ∷ OneMore x.b1 x.b2 x.b3 ∷ AsMany x.b1 x.b2 x.b3 ∷ None x.b1 ∷ Most x.b1
+    ∷ Cause x.b1 x.r2 x.r4 ∷ Read x.b1 x.b2 x.r3 x.r5 ∷ Differs x.b1 x.b2 x.r3 x.r5
+    ∷ Even x.b1 x.r2 x.r4 x.b6 ∷ Table x.r1 x.r3 ∷ Used x.b1 ∷ Swap x.b1 x.b2
+    ∷ Sorted x.b1 x.b2 x.b3 ∷ Both x.b1 x.b2 x.b3 ∷ Neither x.b1 x.b2 x.b3 ∷ []
 
 abbrev pub givenAt : List ℕ → ℕ → Given
-givenAt c at = getD (kindsOf (fieldsAt c at)) (kindAt c at) (None 0)
+givenAt c at = get_or (kindsOf (fields_at c at)) (kind_at c at) (None 0)
 
 -- how long a step of each kind is; one of kind 0 says it itself
 abbrev pub lengths : ℕ → List ℕ
 lengths derived = derived ∷ 4 ∷ 4 ∷ 2 ∷ 2 ∷ 6 ∷ 7 ∷ 7 ∷ 7 ∷ 5 ∷ 2 ∷ 3 ∷ 4 ∷ 4 ∷ 4 ∷ []
 
 -- and 0 for a kind that there isn't
-unfoldable pub lengthOf : ℕ → ℕ → ℕ
-lengthOf derived kind = getD (lengths derived) kind 0
+unfoldable pub length_of : ℕ → ℕ → ℕ
+length_of derived kind = get_or (lengths derived) kind 0
 
 abbrev pub stepLength : List ℕ → ℕ → ℕ
-stepLength c at = lengthOf (7 + 4 * literalsAt c at + 4 * hintsAt c at) (kindAt c at)
+stepLength c at = length_of (7 + 4 * literalsAt c at + 4 * hintsAt c at) (kind_at c at)
 
 -- the step's clause, in numbers
 unfoldable pub clauseAt : Question → List ℕ → ℕ → List ℕ
 clauseAt q c at =
-    cond (eqb (kindAt c at) 0) (listOf (literalsAt c at) (literalAt c at))
-    (map (literalOf (q .size)) (clause q (givenAt c at)))
+    cond (eqb (kind_at c at) 0) (list_of (literalsAt c at) (literalAt c at))
+    (map (literalOf q.size) (clause q (givenAt c at)))

@@ -1,40 +1,39 @@
 -- The variables, numbered from 0 one kind after the other.
-use mathlib.Core.Path.{_≡_}
-use Prim.Native.Nat.{ℕ, _+_, _*_, _<_, _≤_}
-use Rattle·tables.specs.Table.{mostInputs}
-use Rattle·clauses·specs.specs.declared.variables.Size.{Size}
-use Rattle·clauses·specs.specs.declared.variables.Variable.{Variable}
-use Rattle·clauses·specs.specs.declared.variables.Variable.the-variants.{Reads, Many, Differ, Apart, Same}
-use Rattle·clauses·specs.specs.declared.variables.Literal.{Literal}
-use Rattle·clauses·specs.specs.declared.variables.Literal.the-variants.{Said, Denied}
+use Rattle.std.specs.Prelude.{◌≡◌, ℕ, ◌+◌, ◌*◌, ◌<◌, ◌≤◌}
+use Rattle.tables.specs.Table.{mostInputs}
+use Rattle.clauses.specs.declared.variables.Size.{Size}
+use Rattle.clauses.specs.declared.variables.Variable.{Variable}
+use Rattle.clauses.specs.declared.variables.Variable.TheVariants.{Reads, Many, Differ, Apart, Same}
+use Rattle.clauses.specs.declared.variables.Literal.{Literal}
+use Rattle.clauses.specs.declared.variables.Literal.TheVariants.{Said, Denied}
 
 -- the limits of a question: n to 16, K to 8, m from 1 to 15, 512 rows
 pub record IsSize (z : Size) : Type 0 where
-  pub inputs : z .inputs ≤ mostInputs
-  pub cell : z .cell ≤ 8
-  pub some : 1 ≤ z .cells
-  pub cells : z .cells ≤ 15
-  pub rows : z .rows ≤ 512
+  pub inputs : z.inputs ≤ mostInputs
+  pub cell : z.cell ≤ 8
+  pub some : 1 ≤ z.cells
+  pub cells : z.cells ≤ 15
+  pub rows : z.rows ≤ 512
 
 -- N: the inputs and the cells
 abbrev pub signals : Size → ℕ
-signals z = z .inputs + z .cells
+signals z = z.inputs + z.cells
 
 -- how many variables there are of a kind
 unfoldable pub readsMany : Size → ℕ
-readsMany z = z .cells * signals z
+readsMany z = z.cells * signals z
 
 unfoldable pub manyMany : Size → ℕ
-manyMany z = z .cells * (signals z + 1) * (z .cell + 2)
+manyMany z = z.cells * (signals z + 1) * (z.cell + 2)
 
 unfoldable pub differMany : Size → ℕ
-differMany z = z .cells * z .rows * z .rows
+differMany z = z.cells * z.rows * z.rows
 
 unfoldable pub apartMany : Size → ℕ
-apartMany z = z .cells * z .cells * z .rows * z .rows
+apartMany z = z.cells * z.cells * z.rows * z.rows
 
 unfoldable pub sameMany : Size → ℕ
-sameMany z = z .inputs * z .inputs * (z .cells + 1)
+sameMany z = z.inputs * z.inputs * (z.cells + 1)
 
 -- where those of a kind begin
 abbrev pub differFrom : Size → ℕ
@@ -54,25 +53,25 @@ abbrev pub variables : Size → ℕ
 variables z = sameFrom z + sameMany z
 
 -- the number of a variable
-unfoldable pub numberOf : Size → Variable → ℕ
-numberOf z (Reads i p) = i * signals z + p
-numberOf z (Many i p t) = readsMany z + ((i * (signals z + 1) + p) * (z .cell + 2) + t)
-numberOf z (Differ i a b) = differFrom z + ((i * z .rows + a) * z .rows + b)
-numberOf z (Apart i j a b) = apartFrom z + (((i * z .cells + j) * z .rows + a) * z .rows + b)
-numberOf z (Same p q i) = sameFrom z + ((p * z .inputs + q) * (z .cells + 1) + i)
+unfoldable pub number_of : Size → Variable → ℕ
+number_of z (Reads i p) = i * signals z + p
+number_of z (Many i p t) = readsMany z + ((i * (signals z + 1) + p) * (z.cell + 2) + t)
+number_of z (Differ i a b) = differFrom z + ((i * z.rows + a) * z.rows + b)
+number_of z (Apart i j a b) = apartFrom z + (((i * z.cells + j) * z.rows + a) * z.rows + b)
+number_of z (Same p q i) = sameFrom z + ((p * z.inputs + q) * (z.cells + 1) + i)
 
 -- what a variable names exists, so that its number is its own and below V
 abbrev pub Named : Size → Variable → Type 0
-Named z (Reads i p) = (i < z .cells) × (p < signals z)
-Named z (Many i p t) = (i < z .cells) × (p < signals z + 1) × (t < z .cell + 2)
-Named z (Differ i a b) = (i < z .cells) × (a < z .rows) × (b < z .rows)
-Named z (Apart i j a b) = (i < z .cells) × (j < z .cells) × (a < z .rows) × (b < z .rows)
-Named z (Same p q i) = (p < z .inputs) × (q < z .inputs) × (i < z .cells + 1)
+Named z (Reads i p) = (i < z.cells) × (p < signals z)
+Named z (Many i p t) = (i < z.cells) × (p < signals z + 1) × (t < z.cell + 2)
+Named z (Differ i a b) = (i < z.cells) × (a < z.rows) × (b < z.rows)
+Named z (Apart i j a b) = (i < z.cells) × (j < z.cells) × (a < z.rows) × (b < z.rows)
+Named z (Same p q i) = (p < z.inputs) × (q < z.inputs) × (i < z.cells + 1)
 
 -- the number of a literal: 2 times its variable's, plus 1 if it is denied
 abbrev pub literalOf : Size → Literal → ℕ
-literalOf z (Said x) = 2 * numberOf z x
-literalOf z (Denied x) = 2 * numberOf z x + 1
+literalOf z (Said x) = 2 * number_of z x
+literalOf z (Denied x) = 2 * number_of z x + 1
 
 -- the variable of a literal
 abbrev pub variableOf : Literal → Variable

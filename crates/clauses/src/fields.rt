@@ -1,14 +1,14 @@
 // The fields of a step of kinds 1 to 14.
+ghost use Rattle.std.specs.Prelude.{◌≡◌, ◌+◌, ◌*◌, ◌<◌, get_or};
+ghost use Rattle.bits.specs.Lists.{byte_at};
+ghost use Rattle.clauses.specs.declared.given.Given.TheVariants.{None};
+ghost use Rattle.clauses.specs.Step.{kindsOf, givenAt, length_of};
+
 use crate::given::Given;
 use crate::numbers::byte_behind;
-ghost use mathlib.Core.Path.{_≡_};
-ghost use Prim.Native.Nat.{_+_, _*_, _<_};
-ghost use lib.ListN.{getD};
-ghost use Rattle·bits.specs.Lists.{byteAt};
-ghost use Rattle·clauses·specs.specs.declared.given.Given.the-variants.{None};
-ghost use Rattle·clauses·specs.specs.Step.{kindsOf, givenAt, lengthOf};
 
 // Bytes and rows, by how far behind its kind a step has them.
+#[derive(Drop)]
 pub struct Fields {
     pub b1: u8,
     pub b2: u8,
@@ -23,8 +23,8 @@ pub struct Fields {
 
 // The row that is named k bytes behind a place.
 fn row_behind(c: &[u8], at: usize, k: usize) -> u16
-    requires { ⌜ k < 7 ⌝ }
-    ensures { λ r. ⌜ r ≡ byteAt (now (c .entry)) (at + k) + 256 * byteAt (now (c .entry)) (at + (k + 1)) ⌝ }
+    requires { k < 7 }
+    ensures { result ≡ byte_at c.now (at + k) + 256 * byte_at c.now (at + (k + 1)) }
 {
     let low = byte_behind(c, at, k);
     let high = byte_behind(c, at, k + 1);
@@ -33,7 +33,7 @@ fn row_behind(c: &[u8], at: usize, k: usize) -> u16
 
 // The step of a kind that has these fields; of another kind there is nothing to say.
 fn given_of(kind: u8, x: Fields) -> Given
-    ensures { λ r. ⌜ r ≡ getD (kindsOf x) kind (None 0) ⌝ }
+    ensures { result ≡ get_or (kindsOf x) kind (None 0) }
 {
     if kind == 1 {
         return Given::OneMore(x.b1, x.b2, x.b3);
@@ -82,7 +82,7 @@ fn given_of(kind: u8, x: Fields) -> Given
 
 // The step at a place, if its kind is from 1 to 14.
 pub fn given_at(c: &[u8], at: usize) -> Given
-    ensures { λ r. ⌜ r ≡ givenAt (now (c .entry)) at ⌝ }
+    ensures { result ≡ givenAt c.now at }
 {
     let x = Fields {
         b1: byte_behind(c, at, 1),
@@ -103,7 +103,7 @@ const LENGTHS: [usize; 15] = [0, 4, 4, 2, 2, 6, 7, 7, 7, 5, 2, 3, 4, 4, 4];
 
 // How long a step of a kind is; 0 for a kind that there isn't.
 pub fn length_of(kind: u8) -> usize
-    ensures { λ r. ⌜ r ≡ lengthOf 0 kind ⌝ }
+    ensures { result ≡ length_of 0 kind }
 {
     if 14 < kind {
         return 0;

@@ -1,16 +1,14 @@
 // The steps of kinds 1 to 14: each names a clause by its fields.
+ghost use Rattle.std.specs.Prelude.{◌≡◌, ◌&&◌, ◌+◌, leb, ltb, length};
+ghost use Rattle.tables.specs.Table.{tableBit, tableLength};
+ghost use Rattle.clauses.specs.Variables.{IsSize};
+ghost use Rattle.clauses.specs.Clause.{inOrder};
+
 use crate::swaps::can_swap;
 use crate::variables::Size;
-ghost use mathlib.Core.Path.{_≡_};
-ghost use mathlib.Core.Bool.{_&&_};
-ghost use Prim.Native.Nat.{_+_};
-ghost use lib.Dec.{leb, ltb};
-ghost use lib.ListN.{length};
-ghost use Rattle·tables.specs.Table.{tableBit, tableLength};
-ghost use Rattle·clauses·specs.specs.Variables.{IsSize};
-ghost use Rattle·clauses·specs.specs.Clause.{inOrder};
 
 // In the order of their kinds, 1 to 14. Cells, signals, inputs and counts have a byte, rows two.
+#[derive(Drop)]
 pub enum Given {
     // i, p, t: who reads at least t of the signals below p, and p too, reads at least t + 1 of those below p + 1
     OneMore(u8, u8, u8),
@@ -44,7 +42,7 @@ pub enum Given {
 
 // Both of two tests.
 fn both(a: bool, b: bool) -> bool
-    ensures { λ r. ⌜ r ≡ (a && b) ⌝ }
+    ensures { result ≡ (a && b) }
 {
     if a {
         return b;
@@ -54,36 +52,36 @@ fn both(a: bool, b: bool) -> bool
 
 // A cell that there is.
 fn is_cell(z: Size, i: u8) -> bool
-    ensures { λ r. ⌜ r ≡ ltb i (z .cells) ⌝ }
+    ensures { result ≡ ltb i z.cells }
 {
     (i as usize) < z.cells
 }
 
 // Two rows that there are.
 fn are_rows(z: Size, a: u16, b: u16) -> bool
-    ensures { λ r. ⌜ r ≡ (ltb a (z .rows) && ltb b (z .rows)) ⌝ }
+    ensures { result ≡ (ltb a z.rows && ltb b z.rows) }
 {
     both((a as usize) < z.rows, (b as usize) < z.rows)
 }
 
 // Two inputs, the lower first.
 fn are_inputs(z: Size, p: u8, q: u8) -> bool
-    ensures { λ r. ⌜ r ≡ (ltb p q && ltb q (z .inputs)) ⌝ }
+    ensures { result ≡ (ltb p q && ltb q z.inputs) }
 {
     both(p < q, (q as usize) < z.inputs)
 }
 
 // Two inputs, the lower first, and a cell.
 fn are_sorted(z: Size, p: u8, q: u8, i: u8) -> bool
-    ensures { λ r. ⌜ r ≡ ((ltb p q && ltb q (z .inputs)) && ltb i (z .cells)) ⌝ }
+    ensures { result ≡ ((ltb p q && ltb q z.inputs) && ltb i z.cells) }
 {
     both(are_inputs(z, p, q), is_cell(z, i))
 }
 
 // A cell, a signal before it, and a count up to a limit.
 fn is_count(z: Size, i: u8, p: u8, t: u8, most: usize) -> bool
-    requires { ⌜ IsSize z ⌝ }
-    ensures { λ r. ⌜ r ≡ (ltb i (z .cells) && (ltb p (z .inputs + i) && leb t most)) ⌝ }
+    requires { IsSize z }
+    ensures { result ≡ (ltb i z.cells && (ltb p (z.inputs + i) && leb t most)) }
 {
     both(
         is_cell(z, i),
@@ -93,15 +91,15 @@ fn is_count(z: Size, i: u8, p: u8, t: u8, most: usize) -> bool
 
 // A cell, one before it, and two rows.
 fn are_cells(z: Size, i: u8, j: u8, a: u16, b: u16) -> bool
-    ensures { λ r. ⌜ r ≡ (ltb i (z .cells) && (ltb j i && (ltb a (z .rows) && ltb b (z .rows)))) ⌝ }
+    ensures { result ≡ (ltb i z.cells && (ltb j i && (ltb a z.rows && ltb b z.rows))) }
 {
     both(is_cell(z, i), both(j < i, are_rows(z, a, b)))
 }
 
 // Whether a step is in order.
 pub fn in_order(z: Size, t: &[u8], g: Given) -> bool
-    requires { ⌜ IsSize z × (length (now t) ≡ tableLength (z .inputs)) ⌝ }
-    ensures { λ r. ⌜ r ≡ inOrder z (tableBit (now (t .entry))) g ⌝ }
+    requires { IsSize z × (length t.now ≡ tableLength z.inputs) }
+    ensures { result ≡ inOrder z (tableBit t.now) g }
 {
     match g {
         Given::OneMore(i, p, t) => {

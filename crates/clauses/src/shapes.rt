@@ -1,21 +1,19 @@
 // The clause of a step as literals: at most three of them, or one of two lists.
+ghost use Rattle.std.specs.Prelude.{◌≡◌, true, ℕ, ◌<◌, length};
+ghost use Rattle.std.specs.Bool.{beq};
+ghost use Rattle.tables.specs.Table.{tableBit, tableLength};
+ghost use Rattle.clauses.specs.Variables.{IsSize};
+ghost use Rattle.clauses.specs.Clause.{clause, inOrder, evenly, as_table};
+ghost use Rattle.clauses.specs.Step.{row_at, questionIn};
+ghost use Rattle.clauses.specs.Shapes.{literalsIn, HasRows};
+
 use crate::given::Given;
 use crate::numbers::two_at;
-use crate::variables::Literal;
-use crate::variables::Size;
-use crate::variables::Variable;
+use crate::variables::{Literal, Size, Variable};
 use tables::bit_at;
-ghost use mathlib.Core.Path.{_≡_};
-ghost use mathlib.Core.Bool.{true, Bool·beq};
-ghost use Prim.Native.Nat.{ℕ, _<_};
-ghost use lib.ListN.{length};
-ghost use Rattle·tables.specs.Table.{tableBit, tableLength};
-ghost use Rattle·clauses·specs.specs.Variables.{IsSize};
-ghost use Rattle·clauses·specs.specs.Clause.{clause, inOrder, evenly, asTable};
-ghost use Rattle·clauses·specs.specs.Step.{rowAt, questionIn};
-ghost use Rattle·clauses·specs.specs.Shapes.{literalsIn, HasRows};
 
 // A clause of one, two or three literals; why a cell differs at two rows; the cells that may read one.
+#[derive(Drop)]
 pub enum Shape {
     One(Literal),
     Two(Literal, Literal),
@@ -26,21 +24,17 @@ pub enum Shape {
 
 // Row a of a certificate.
 pub fn row_at(z: Size, c: &[u8], a: usize) -> u32
-    requires { ⌜ IsSize z × HasRows z (now c) × (a < z .rows) ⌝ }
-    ensures { λ r. ⌜ r ≡ rowAt (now (c .entry)) a ⌝ }
+    requires { IsSize z × HasRows z c.now × (a < z.rows) }
+    ensures { result ≡ row_at c.now a }
 {
     two_at(c, 2 + 2 * a) as u32
 }
 
 // Whether the table's bits at two rows are the same.
 fn same_bits<'a>(z: Size, c: &'a [u8], t: &'a [u8], a: usize, b: usize) -> bool
-    requires { ⌜
-        IsSize z × HasRows z (now c) × (length (now t) ≡ tableLength (z .inputs)) × (a < z .rows) × (b < z .rows)
-        ⌝ }
-    ensures { λ r. ⌜
-        r ≡ Bool·beq (tableBit (now (t .entry)) (rowAt (now (c .entry)) a))
-        (tableBit (now (t .entry)) (rowAt (now (c .entry)) b))
-        ⌝ }
+    requires { IsSize z × HasRows z c.now × (length t.now ≡ tableLength z.inputs) × (a < z.rows) × (b < z.rows) }
+    ensures { result ≡ beq (tableBit t.now (row_at c.now a))
+        (tableBit t.now (row_at c.now b)) }
 {
     let x = bit_at(t, row_at(z, c, a));
     let y = bit_at(t, row_at(z, c, b));
@@ -52,7 +46,7 @@ fn same_bits<'a>(z: Size, c: &'a [u8], t: &'a [u8], a: usize, b: usize) -> bool
 
 // Kind 8.
 fn even_shape(d: Variable, x: Variable, y: Variable, s: u8) -> Shape
-    ensures { λ r. ⌜ ((z : Size) (row : ℕ → ℕ) → literalsIn z row r ≡ evenly d x y s) ⌝ }
+    ensures { (z : Size) (row : ℕ → ℕ) → literalsIn z row result ≡ evenly d x y s }
 {
     if s == 0 {
         return Shape::Three(Literal::Denied(d), Literal::Said(x), Literal::Said(y));
@@ -68,7 +62,7 @@ fn even_shape(d: Variable, x: Variable, y: Variable, s: u8) -> Shape
 
 // Kind 9.
 fn table_shape(same: bool, x: Variable) -> Shape
-    ensures { λ r. ⌜ ((z : Size) (row : ℕ → ℕ) → literalsIn z row r ≡ asTable same x) ⌝ }
+    ensures { (z : Size) (row : ℕ → ℕ) → literalsIn z row result ≡ as_table same x }
 {
     if same {
         return Shape::One(Literal::Denied(x));
@@ -78,13 +72,9 @@ fn table_shape(same: bool, x: Variable) -> Shape
 
 // The clause of a step that is in order.
 pub fn shape_of<'a>(z: Size, c: &'a [u8], t: &'a [u8], g: Given) -> Shape
-    requires { ⌜
-        IsSize z × HasRows z (now c) × (length (now t) ≡ tableLength (z .inputs))
-        × (inOrder z (tableBit (now t)) g ≡ true)
-        ⌝ }
-    ensures { λ r. ⌜
-        literalsIn z (rowAt (now (c .entry))) r ≡ clause (questionIn z (now (t .entry)) (now (c .entry))) g
-        ⌝ }
+    requires { IsSize z × HasRows z c.now × (length t.now ≡ tableLength z.inputs)
+        × (inOrder z (tableBit t.now) g ≡ true) }
+    ensures { literalsIn z (row_at c.now) result ≡ clause (questionIn z t.now c.now) g }
 {
     match g {
         Given::OneMore(i, p, k) => {

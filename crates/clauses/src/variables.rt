@@ -1,11 +1,11 @@
 // The variables, and their numbers.
-ghost use mathlib.Core.Path.{_≡_};
-ghost use Prim.Native.Nat.{_+_, _*_, _<_};
-ghost use Rattle·clauses·specs.specs.Variables.{IsSize, Named, numberOf, literalOf, variableOf, variables, numberLimit};
-ghost use Rattle·clauses·specs.specs.Variables.{differFrom, apartFrom, sameFrom};
-ghost use Rattle·clauses·specs.specs.declared.variables.Variable.the-variants.{Reads, Many, Differ, Apart, Same};
+ghost use Rattle.std.specs.Prelude.{◌≡◌, ◌+◌, ◌*◌, ◌<◌};
+ghost use Rattle.clauses.specs.Variables.{IsSize, Named, number_of, literalOf, variableOf, variables, numberLimit};
+ghost use Rattle.clauses.specs.Variables.{differFrom, apartFrom, sameFrom};
+ghost use Rattle.clauses.specs.declared.variables.Variable.TheVariants.{Reads, Many, Differ, Apart, Same};
 
 // What a certificate speaks of: n inputs, cells of at most K inputs, m cells, and how many rows the certificate names.
+#[derive(Drop)]
 pub struct Size {
     pub inputs: usize,
     pub cell: usize,
@@ -16,6 +16,7 @@ pub struct Size {
 // What is said of a network, i and j being cells, p and q signals, a and b rows: cell i reads signal p; cell i reads at
 // least t of the signals below p; cell i gives different bits at the rows a and b; cell i reads cell j, and that one
 // does; the inputs p and q are swappable, and each cell below i reads both or neither.
+#[derive(Drop)]
 pub enum Variable {
     Reads(usize, usize),
     Many(usize, usize, usize),
@@ -25,6 +26,7 @@ pub enum Variable {
 }
 
 // A variable, said or denied.
+#[derive(Drop)]
 pub enum Literal {
     Said(Variable),
     Denied(Variable),
@@ -32,80 +34,80 @@ pub enum Literal {
 
 // Where the variables begin that say at which rows a cell differs.
 fn differ_from(z: Size) -> usize
-    requires { ⌜ IsSize z ⌝ }
-    ensures { λ r. ⌜ r ≡ differFrom z ⌝ }
+    requires { IsSize z }
+    ensures { result ≡ differFrom z }
 {
     z.cells * (z.inputs + z.cells) + z.cells * (z.inputs + z.cells + 1) * (z.cell + 2)
 }
 
 // Where those begin that say at which rows a cell that it reads does.
 fn apart_from(z: Size) -> usize
-    requires { ⌜ IsSize z ⌝ }
-    ensures { λ r. ⌜ r ≡ apartFrom z ⌝ }
+    requires { IsSize z }
+    ensures { result ≡ apartFrom z }
 {
     differ_from(z) + z.cells * z.rows * z.rows
 }
 
 // Where those begin that say which inputs the same cells read.
 fn same_from(z: Size) -> usize
-    requires { ⌜ IsSize z ⌝ }
-    ensures { λ r. ⌜ r ≡ sameFrom z ⌝ }
+    requires { IsSize z }
+    ensures { result ≡ sameFrom z }
 {
     apart_from(z) + z.cells * z.cells * z.rows * z.rows
 }
 
 // How many there are in all.
 pub fn all_variables(z: Size) -> usize
-    requires { ⌜ IsSize z ⌝ }
-    ensures { λ r. ⌜ (r ≡ variables z) × (r < numberLimit) ⌝ }
+    requires { IsSize z }
+    ensures { (result ≡ variables z) × (result < numberLimit) }
 {
     same_from(z) + z.inputs * z.inputs * (z.cells + 1)
 }
 
 // Cell i reads signal p.
 fn reads(z: Size, i: usize, p: usize) -> usize
-    requires { ⌜ IsSize z × Named z (Reads i p) ⌝ }
-    ensures { λ r. ⌜ r ≡ numberOf z (Reads i p) ⌝ }
+    requires { IsSize z × Named z (Reads i p) }
+    ensures { result ≡ number_of z (Reads i p) }
 {
     i * (z.inputs + z.cells) + p
 }
 
 // Cell i reads at least t of the signals below p.
 fn many(z: Size, i: usize, p: usize, t: usize) -> usize
-    requires { ⌜ IsSize z × Named z (Many i p t) ⌝ }
-    ensures { λ r. ⌜ r ≡ numberOf z (Many i p t) ⌝ }
+    requires { IsSize z × Named z (Many i p t) }
+    ensures { result ≡ number_of z (Many i p t) }
 {
     z.cells * (z.inputs + z.cells) + ((i * (z.inputs + z.cells + 1) + p) * (z.cell + 2) + t)
 }
 
 // Cell i gives different bits at the rows a and b.
 fn differ(z: Size, i: usize, a: usize, b: usize) -> usize
-    requires { ⌜ IsSize z × Named z (Differ i a b) ⌝ }
-    ensures { λ r. ⌜ r ≡ numberOf z (Differ i a b) ⌝ }
+    requires { IsSize z × Named z (Differ i a b) }
+    ensures { result ≡ number_of z (Differ i a b) }
 {
     differ_from(z) + ((i * z.rows + a) * z.rows + b)
 }
 
 // Cell i reads cell j, and that one does.
 fn apart(z: Size, i: usize, j: usize, a: usize, b: usize) -> usize
-    requires { ⌜ IsSize z × Named z (Apart i j a b) ⌝ }
-    ensures { λ r. ⌜ r ≡ numberOf z (Apart i j a b) ⌝ }
+    requires { IsSize z × Named z (Apart i j a b) }
+    ensures { result ≡ number_of z (Apart i j a b) }
 {
     apart_from(z) + (((i * z.cells + j) * z.rows + a) * z.rows + b)
 }
 
 // The inputs p and q are swappable, and each cell below i reads both or neither.
 fn same(z: Size, p: usize, q: usize, i: usize) -> usize
-    requires { ⌜ IsSize z × Named z (Same p q i) ⌝ }
-    ensures { λ r. ⌜ r ≡ numberOf z (Same p q i) ⌝ }
+    requires { IsSize z × Named z (Same p q i) }
+    ensures { result ≡ number_of z (Same p q i) }
 {
     same_from(z) + ((p * z.inputs + q) * (z.cells + 1) + i)
 }
 
 // The number of a variable.
 fn number_of(z: Size, x: Variable) -> usize
-    requires { ⌜ IsSize z × Named z x ⌝ }
-    ensures { λ r. ⌜ r ≡ numberOf z x ⌝ }
+    requires { IsSize z × Named z x }
+    ensures { result ≡ number_of z x }
 {
     match x {
         Variable::Reads(i, p) => reads(z, i, p),
@@ -118,8 +120,8 @@ fn number_of(z: Size, x: Variable) -> usize
 
 // The number of a literal.
 pub fn literal_of(z: Size, l: Literal) -> usize
-    requires { ⌜ IsSize z × Named z (variableOf l) ⌝ }
-    ensures { λ r. ⌜ (r ≡ literalOf z l) × (r < 2 * variables z) ⌝ }
+    requires { IsSize z × Named z (variableOf l) }
+    ensures { (result ≡ literalOf z l) × (result < 2 * variables z) }
 {
     match l {
         Literal::Said(x) => {

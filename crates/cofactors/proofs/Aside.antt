@@ -1,45 +1,45 @@
 -- The sheet of cofactors of a gate's table F, with what does not count set aside: where there is one, and that it gives
 -- F. Assumes nothing.
-use mathlib.Core.Path.{_≡_, refl, sym, ap, ap₂, _∙_, subst}
-use mathlib.Core.Logic.{_↔_}
-use mathlib.Core.Bool.{Bool, true, false, cond, _&&_}
+use mathlib.Core.Path.{◌≡◌, refl, sym, ap, ap₂, ◌∙◌, subst}
+use mathlib.Core.Logic.{◌↔◌}
+use mathlib.Core.Bool.{Bool, true, false, cond, ◌&&◌}
 use mathlib.Core.List.{List}
-use Prim.Native.Nat.{ℕ, _+_, _-_, _^_, _<_, _≤_}
-use native.Mathlib.Decide.{decLt}
+use Prim.Native.Nat.{ℕ, ◌+◌, ◌-◌, ◌^◌, ◌<◌, ◌≤◌}
+use native.Mathlib.Decide.{dec_lt}
 use native.Mathlib.Omega.{arith}
 use lib.Dec.{leb, ltb}
 use lib.ListN.{length}
-use lib.Pow.{pow-pos}
+use lib.Pow.{pow_pos}
 use borrow.Author.Tests.{leb-true, le-leb, ltb-true, lt-ltb}
-use Rattle·bits.specs.Numbers.{bit, number}
-use Rattle·bits.specs.Sets.{size}
-use Rattle·bits.proofs.Bools.{and-left, and-right, false-of}
-use Rattle·tables.specs.Counting.{support, kept, tableOver}
-use Rattle·tables.proofs.Over.{over-gather}
-use Rattle·tables.proofs.Keeping.{kept-sees, two-kept, some-kept}
-use Rattle·sheets.specs.declared.kinds.Edition.{Edition}
-use Rattle·sheets.specs.Edition.{mostRecords}
-use Rattle·sheets.specs.Network.{Cell, Gives}
-use Rattle·sheets.specs.Writing.{FitsFrom}
-use Rattle·sheets.specs.Reading.{AllRead}
-use Rattle·chains.specs.Chain.{pick, Made, stuck, made, inputs}
-use Rattle·chains.proofs.Lists.{AllBelow, Rising, pick-length, pick-below, pick-rising, packed-pick, inputs-length}
-use Rattle·chains.proofs.Lists.{inputs-at, inputs-below, inputs-rising}
-use Rattle·chains.proofs.Aside.{signals-are, table-is}
-use Rattle·cofactors·specs.specs.Cofactors.{cofactorCells, cofactorCount, mostSelecting, hasCofactors, cofactorsOf}
-use Rattle·cofactors·specs.specs.Cofactors.{cofactorsAside}
-use Rattle·cofactors·specs.specs.Chosen.{Near}
-use Rattle·cofactors·proofs.proofs.Cofactors.{cofactors-give, cofactors-fit, cofactors-wired, cofactors-read}
-use Rattle·cofactors·proofs.proofs.Count.{cofactors-count, count-most}
+use Rattle.bits.specs.Numbers.{bit, number}
+use Rattle.bits.specs.Sets.{size}
+use Rattle.bits.proofs.Bools.{and_left, and_right, false_of}
+use Rattle.tables.specs.Counting.{support, kept, tableOver}
+use Rattle.tables.proofs.Over.{over-gather}
+use Rattle.tables.proofs.Keeping.{kept-sees, two-kept, some-kept}
+use Rattle.sheets.specs.declared.kinds.Edition.{Edition}
+use Rattle.sheets.specs.Edition.{mostRecords}
+use Rattle.sheets.specs.Network.{Cell, Gives}
+use Rattle.sheets.specs.Writing.{FitsFrom}
+use Rattle.sheets.specs.Reading.{AllRead}
+use Rattle.chains.specs.Chain.{pick, Made, stuck, made, inputs}
+use Rattle.chains.proofs.Lists.{AllBelow, Rising, pick-length, pick-below, pick-rising, packed-pick, inputs-length}
+use Rattle.chains.proofs.Lists.{inputs-at, inputs-below, inputs-rising}
+use Rattle.chains.proofs.Aside.{signals-are, table_is}
+use Rattle.cofactors.specs.Cofactors.{cofactorCells, cofactorCount, mostSelecting, hasCofactors, cofactorsOf}
+use Rattle.cofactors.specs.Cofactors.{cofactorsAside}
+use Rattle.cofactors.specs.Chosen.{Near}
+use Rattle.cofactors.proofs.Cofactors.{cofactors-give, cofactors-fit, cofactors-wired, cofactors-read}
+use Rattle.cofactors.proofs.Count.{cofactors-count, count_most}
 
 near-true : (K c : ℕ) → hasCofactors K c ≡ true → Near K c
 near-true K c h = record {
-  more = ltb-true K c (and-left (ltb K c) (leb c (K + mostSelecting K)) h);
-  few = leb-true c (K + mostSelecting K) (and-right (ltb K c) (leb c (K + mostSelecting K)) h);
+  more = ltb-true K c (and_left (ltb K c) (leb c (K + mostSelecting K)) h);
+  few = leb-true c (K + mostSelecting K) (and_right (ltb K c) (leb c (K + mostSelecting K)) h);
 }
 
 true-near : (K c : ℕ) → Near K c → hasCofactors K c ≡ true
-true-near K c w = ap₂ _&&_ (lt-ltb K c (w .more)) (le-leb c (K + mostSelecting K) (w .few))
+true-near K c w = ap₂ ◌&&◌ (lt-ltb K c w.more) (le-leb c (K + mostSelecting K) w.few)
 
 module _ (n K : ℕ) (F : ℕ → Bool) (two : 2 ≤ K) where
   abbrev l : List ℕ
@@ -56,8 +56,8 @@ module _ (n K : ℕ) (F : ℕ → Bool) (two : 2 ≤ K) where
   kept-count = pick-length n (bit (kept n F)) (inputs n)
 
   -- where more than K are kept, those count
-  pub kept-near : K < size n (bit (kept n F)) → length (pick n (bit (kept n F)) (inputs n)) ≡ size n (bit (support n F))
-  kept-near h = kept-count ∙ ap (λ (s : ℕ). size n (bit s)) (two-kept n F (omega arith))
+  pub kept_near : K < size n (bit (kept n F)) → length (pick n (bit (kept n F)) (inputs n)) ≡ size n (bit (support n F))
+  kept_near h = kept-count ∙ ap (λ (s : ℕ). size n (bit s)) (two-kept n F (omega arith))
 
   pub near-kept : K < size n (bit (support n F)) → length (pick n (bit (kept n F)) (inputs n))
       ≡ size n (bit (support n F))
@@ -66,7 +66,7 @@ module _ (n K : ℕ) (F : ℕ → Bool) (two : 2 ≤ K) where
   pub aside-is : cofactorsAside n K (number (2 ^ n) F) ≡ cofactorsOf K n (pick n (bit (kept n F)) (inputs n))
       (tableOver n (bit (kept n F)) F)
   unfolding cofactorsAside
-  aside-is = ap₂ (cofactorsOf K n) (signals-are n F) (table-is n F)
+  aside-is = ap₂ (cofactorsOf K n) (signals-are n F) (table_is n F)
 
   by-test : (b : Bool) → hasCofactors K (length l) ≡ b → cofactorsAside n K (number (2 ^ n) F)
       ≡ cond b (made (cofactorCells K n l U)) stuck
@@ -79,13 +79,13 @@ module _ (n K : ℕ) (F : ℕ → Bool) (two : 2 ≤ K) where
   kept-made w = by-test true (true-near K (length l) (subst (Near K) (sym kept-count) w))
 
   pub kept-stuck : (Near K (size n (bit (kept n F))) → ⊥) → cofactorsAside n K (number (2 ^ n) F) ≡ stuck
-  kept-stuck h = by-test false (false-of (hasCofactors K (length l)) (λ e. h (subst (Near K) kept-count
+  kept-stuck h = by-test false (false_of (hasCofactors K (length l)) (λ e. h (subst (Near K) kept-count
       (near-true K (length l) e))))
 
   -- and so where so few more count
   pub near-made : Near K (size n (bit (support n F))) → cofactorsAside n K (number (2 ^ n) F)
       ≡ made (cofactorCells K n (pick n (bit (kept n F)) (inputs n)) (tableOver n (bit (kept n F)) F))
-  near-made w = kept-made (subst (Near K) (sym (near-kept (w .more)) ∙ kept-count) w)
+  near-made w = kept-made (subst (Near K) (sym (near-kept w.more) ∙ kept-count) w)
 
   -- and nowhere else
   pub made-near : (cs : List Cell) → cofactorsAside n K (number (2 ^ n) F) ≡ made cs
@@ -100,23 +100,23 @@ module _ (n K : ℕ) (F : ℕ → Bool) (two : 2 ≤ K) where
           let w = near-true K (length l) q in
           let z = by-test true q in
           let same : made cs ≡ made (cofactorCells K n l U) = sym e ∙ z in
-          (subst (Near K) (kept-near (omega (arith, w .more, kept-count))) w, cc)
-      go false q = let z = by-test false q in let y : _≡_ {A = ℕ} 0 1 = cc in absurd (omega arith)
+          (subst (Near K) (kept_near (omega (arith, w.more, kept-count))) w, cc)
+      go false q = let z = by-test false q in let y : ◌≡◌ {A = ℕ} 0 1 = cc in absurd (omega arith)
 
   pub far-stuck : K + mostSelecting K < size n (bit (support n F)) → cofactorsAside n K (number (2 ^ n) F) ≡ stuck
   far-stuck h = go (cofactorsAside n K (number (2 ^ n) F)) refl
     where
       go : (x : Made) → cofactorsAside n K (number (2 ^ n) F) ≡ x → x ≡ stuck
       go stuck e = refl
-      go (made cs) e = absurd (omega (arith, made-near cs e .0 .few))
+      go (made cs) e = absurd (omega (arith, (made-near cs e).0.few))
 
   pub stuck-far : cofactorsAside n K (number (2 ^ n) F) ≡ stuck → K < size n (bit (support n F))
       → K + mostSelecting K < size n (bit (support n F))
-  stuck-far e h = elim (decLt (K + mostSelecting K) c) [
+  stuck-far e h = elim (dec_lt (K + mostSelecting K) c) [
     | yes g ↦ g
     | no g ↦
         let m = near-made (record { more = h; few = omega arith }) in
-        let z : _≡_ {A = ℕ} 0 1 = cc in
+        let z : ◌≡◌ {A = ℕ} 0 1 = cc in
         absurd (omega arith)
   ]
 
@@ -129,31 +129,31 @@ module _ (n K : ℕ) (F : ℕ → Bool) (two : 2 ≤ K) where
     rises = pick-rising n (bit (kept n F)) (inputs n) (omega (arith, inputs-length n)) (inputs-rising n)
 
     near : Near K c
-    near = made-near cs is .0
+    near = (made-near cs is).0
 
     more : K < length l
-    more = omega (arith, near .more, near-kept (near .more))
+    more = omega (arith, near.more, near-kept near.more)
 
-    cells-are : cofactorCells K n l U ≡ cs
-    cells-are = sym (made-near cs is .1)
+    cells_are : cofactorCells K n l U ≡ cs
+    cells_are = sym (made-near cs is).1
 
     -- as many as is said
     pub aside-count : length cs ≡ cofactorCount K (size n (bit (support n F)) - K)
     aside-count =
-        let e = near-kept (near .more) in
-        ap length (sym cells-are) ∙ cofactors-count K n l U more (omega (arith, near .few))
+        let e = near-kept near.more in
+        ap length (sym cells_are) ∙ cofactors-count K n l U more (omega (arith, near.few))
         ∙ ap (λ (m : ℕ). cofactorCount K (m - K)) e
 
     pub aside-few : (3 ≤ length cs) × (length cs ≤ mostRecords)
     aside-few =
         let s = c - K in
-        let m = count-most K s (omega (arith, near .more)) (omega (arith, near .few)) in
-        (omega (arith, aside-count, m .0), omega (arith, aside-count, m .1))
+        let m = count_most K s (omega (arith, near.more)) (omega (arith, near.few)) in
+        (omega (arith, aside-count, m.0), omega (arith, aside-count, m.1))
 
     -- their network gives the table's bit at every assignment
     pub aside-gives : Gives n K F cs
-    aside-gives = subst (Gives n K F) cells-are (record {
-      some = omega (arith, ap length cells-are, aside-few .0);
+    aside-gives = subst (Gives n K F) cells_are (record {
+      some = omega (arith, ap length cells_are, aside-few.0);
       wired = cofactors-wired K n l U two more low rises;
       gives = λ x h.
           cofactors-give K n l U two more low rises (bit x) false
@@ -162,9 +162,9 @@ module _ (n K : ℕ) (F : ℕ → Bool) (two : 2 ≤ K) where
     })
 
     -- each fits its record, in every edition whose records hold K signals
-    pub aside-fits : (e : Edition) → K ≤ e .most → FitsFrom e n cs
-    aside-fits e h = subst (FitsFrom e n) cells-are (cofactors-fit K n l U two more low rises e h)
+    pub aside-fits : (e : Edition) → K ≤ e.most → FitsFrom e n cs
+    aside-fits e h = subst (FitsFrom e n) cells_are (cofactors-fit K n l U two more low rises e h)
 
     -- each but the last is read by a later one
     pub aside-read : AllRead n cs
-    aside-read = subst (AllRead n) cells-are (cofactors-read K n l U two more low rises)
+    aside-read = subst (AllRead n) cells_are (cofactors-read K n l U two more low rises)

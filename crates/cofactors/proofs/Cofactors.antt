@@ -1,36 +1,36 @@
 -- The sheet of cofactors: its network gives the table, its cells keep the record rules, each but the last is read, and
 -- there are as many as is said. Assumes nothing.
-use mathlib.Core.Path.{_≡_, refl, sym, ap, ap₂, _∙_, subst}
+use mathlib.Core.Path.{◌≡◌, refl, sym, ap, ap₂, ◌∙◌, subst}
 use mathlib.Core.Bool.{Bool, true, false, cond}
-use mathlib.Core.List.{List, [], _∷_, _++_}
-use Prim.Native.Nat.{ℕ, zero, suc, _+_, _-_, _*_, _^_, _<_, _≤_}
-use native.Mathlib.Decide.{decLt}
-use native.Mathlib.Nat.{add-comm}
+use mathlib.Core.List.{List, [], ◌∷◌, ◌++◌}
+use Prim.Native.Nat.{ℕ, zero, suc, ◌+◌, ◌-◌, ◌*◌, ◌^◌, ◌<◌, ◌≤◌}
+use native.Mathlib.Decide.{dec_lt}
+use native.Mathlib.Nat.{add_comm}
 use native.Mathlib.Omega.{arith}
 use lib.Dec.{leb}
-use lib.ListN.{length, getD, length-append}
-use lib.Pow.{pow-pos}
+use lib.ListN.{length, get_or, length-append}
+use lib.Pow.{pow_pos}
 use borrow.Author.Tests.{leb-true, leb-false, le-leb}
-use Rattle·bits.specs.Numbers.{bit, number}
-use Rattle·bits.specs.Lists.{listOf}
-use Rattle·bits.proofs.Bools.{clash}
-use Rattle·bits.proofs.Numbers.{number-lt, number-ext, bit-number}
-use Rattle·bits.proofs.Lists.{length-list, list-at}
-use Rattle·bits.proofs.Sums.{number-append}
-use Rattle·sheets.specs.declared.kinds.Edition.{Edition}
-use Rattle·sheets.specs.Network.{Cell, packed, output, run, Wired}
-use Rattle·sheets.specs.Writing.{Fits, FitsFrom}
-use Rattle·sheets.specs.Reading.{reads, AllRead}
-use Rattle·chains.proofs.Lists.{AllBelow, Rising, packed-list}
-use Rattle·chains.proofs.Each.{Each, each-append, each-list}
-use Rattle·chains.proofs.Rules.{each-fits}
-use Rattle·chains.proofs.Read.{reads-append, later-reads}
-use Rattle·networks.specs.Signals.{values}
-use Rattle·chains.proofs.Running.{values-append, after-old, after-new}
-use Rattle·cofactors·specs.specs.Cofactors.{cofactor, total, levels, byOnes, byTwos, widths, cofactorCells}
-use Rattle·cofactors·proofs.proofs.Groups.{run-last}
-use Rattle·cofactors·proofs.proofs.Selecting.{Ordered}
-use Rattle·cofactors·proofs.proofs.Levels.{AllSuit, final, some-final, levels-give, levels-fit, some-read, levels-own}
+use Rattle.bits.specs.Numbers.{bit, number}
+use Rattle.bits.specs.Lists.{list_of}
+use Rattle.bits.proofs.Bools.{clash}
+use Rattle.bits.proofs.Numbers.{number_lt, number-ext, bit-number}
+use Rattle.bits.proofs.Lists.{length-list, list_at}
+use Rattle.bits.proofs.Sums.{number_append}
+use Rattle.sheets.specs.declared.kinds.Edition.{Edition}
+use Rattle.sheets.specs.Network.{Cell, packed, output, run, Wired}
+use Rattle.sheets.specs.Writing.{Fits, FitsFrom}
+use Rattle.sheets.specs.Reading.{reads, AllRead}
+use Rattle.chains.proofs.Lists.{AllBelow, Rising, packed-list}
+use Rattle.chains.proofs.Each.{Each, each_append, each-list}
+use Rattle.chains.proofs.Rules.{each_fits}
+use Rattle.chains.proofs.Read.{reads-append, later-reads}
+use Rattle.networks.specs.Signals.{values}
+use Rattle.chains.proofs.Running.{values-append, after-old, after-new}
+use Rattle.cofactors.specs.Cofactors.{cofactor, total, levels, byOnes, byTwos, widths, cofactorCells}
+use Rattle.cofactors.proofs.Groups.{run-last}
+use Rattle.cofactors.proofs.Selecting.{Ordered}
+use Rattle.cofactors.proofs.Levels.{AllSuit, final, some-final, levels-give, levels-fit, some_read, levels-own}
 
 -- ---- the widths of the levels
 
@@ -79,13 +79,13 @@ module _ (K i : ℕ) (l : List ℕ) (T : ℕ) (two : 2 ≤ K) (more : K < length
     ws = widths K s
 
     abbrev q : ℕ → ℕ
-    q t = getD l (K + t) 0
+    q t = get_or l (K + t) 0
 
     abbrev f : ℕ → ℕ
     f v = i + v
 
     abbrev first : List Cell
-    first = listOf (2 ^ s) (cofactor K l T)
+    first = list_of (2 ^ s) (cofactor K l T)
 
     abbrev others : List Cell
     others = levels (leb 3 K) (i + 2 ^ s) ws q f
@@ -105,15 +105,15 @@ module _ (K i : ℕ) (l : List ℕ) (T : ℕ) (two : 2 ≤ K) (more : K < length
     selecting-some : 1 ≤ total ws
     selecting-some = omega (arith, widths-total K s)
 
-    cells-below : (v : ℕ) → AllBelow i (cofactor K l T v .signals)
+    cells-below : (v : ℕ) → AllBelow i (cofactor K l T v).signals
     cells-below v j h =
-        let g : j < K = omega (arith, length-list K (λ j. getD l j 0)) in
-        omega (arith, list-at K (λ j. getD l j 0) j 0 g, low j (omega arith))
+        let g : j < K = omega (arith, length-list K (λ j. get_or l j 0)) in
+        omega (arith, list_at K (λ j. get_or l j 0) j 0 g, low j (omega arith))
 
     -- ---- right at every assignment of the signals
     module _ (v : ℕ → Bool) where
       abbrev y : ℕ
-      y = number K (λ j. v (getD l j 0))
+      y = number K (λ j. v (get_or l j 0))
 
       abbrev w : ℕ → Bool
       w = values i first v
@@ -122,15 +122,15 @@ module _ (K i : ℕ) (l : List ℕ) (T : ℕ) (two : 2 ≤ K) (more : K < length
       cofactor-gives : (u : ℕ) → output (cofactor K l T u) v ≡ bit T (u * 2 ^ K + y)
       unfolding output
       cofactor-gives u =
-          ap (bit (number (2 ^ K) (λ y. bit T (u * 2 ^ K + y)))) (packed-list v K (λ j. getD l j 0))
-          ∙ bit-number (2 ^ K) (λ y. bit T (u * 2 ^ K + y)) y (number-lt K (λ j. v (getD l j 0)))
+          ap (bit (number (2 ^ K) (λ y. bit T (u * 2 ^ K + y)))) (packed-list v K (λ j. get_or l j 0))
+          ∙ bit-number (2 ^ K) (λ y. bit T (u * 2 ^ K + y)) y (number_lt K (λ j. v (get_or l j 0)))
 
       -- the number that the signals make
       together : number s (λ t. v (q t)) * 2 ^ K + y ≡ packed l v
       together =
           let e : K + s ≡ length l = omega arith in
-          add-comm (number s (λ t. v (q t)) * 2 ^ K) y ∙ sym (number-append K s (λ j. v (getD l j 0)))
-          ∙ ap (λ (m : ℕ). number m (λ j. v (getD l j 0))) e
+          add_comm (number s (λ t. v (q t)) * 2 ^ K) y ∙ sym (number_append K s (λ j. v (get_or l j 0)))
+          ∙ ap (λ (m : ℕ). number m (λ j. v (get_or l j 0))) e
 
       pub cofactors-give : (o : Bool) → run o i (cofactorCells K i l T) v ≡ bit T (packed l v)
       unfolding cofactorCells
@@ -140,22 +140,22 @@ module _ (K i : ℕ) (l : List ℕ) (T : ℕ) (two : 2 ≤ K) (more : K < length
           let u = number s (λ t. v (q t)) in
           let last = some-final (leb 3 K) K (i + 2 ^ s) ws q f selecting-some in
           run-last o i (first ++ others) v e (omega (arith, length-append first others))
-          (omega (arith, pow-pos s, last))
+          (omega (arith, pow_pos s, last))
           ∙ ap (λ (x : ℕ → Bool). x e) (values-append i first others v)
           ∙ ap (λ (m : ℕ). values (i + m) others w e) n
           ∙ levels-give (leb 3 K) K (i + 2 ^ s) i ws q f (widths-suit K s two) ordered w
           ∙ ap (λ (m : ℕ). w (i + number m (λ t. w (q t)))) (widths-total K s)
           ∙ ap (λ (m : ℕ). w (i + m)) (number-ext s (λ t. w (q t)) (λ t. v (q t))
           (λ t h. after-old i (cofactor K l T) v cells-below (2 ^ s) (q t) (low (K + t) (omega arith))))
-          ∙ after-new i (cofactor K l T) v cells-below (2 ^ s) u (number-lt s (λ t. v (q t))) ∙ cofactor-gives u
+          ∙ after-new i (cofactor K l T) v cells-below (2 ^ s) u (number_lt s (λ t. v (q t))) ∙ cofactor-gives u
           ∙ ap (bit T) together
 
     -- ---- the record rules
 
-    module _ (e : Edition) (h : K ≤ e .most) where
+    module _ (e : Edition) (h : K ≤ e.most) where
       one-fits : (v t : ℕ) → Fits e (i + t) (cofactor K l T v)
       one-fits v t =
-          let n = length-list K (λ j. getD l j 0) in
+          let n = length-list K (λ j. get_or l j 0) in
           record {
             some = omega arith;
             most = omega arith;
@@ -163,18 +163,18 @@ module _ (K i : ℕ) (l : List ℕ) (T : ℕ) (two : 2 ≤ K) (more : K < length
             rising = λ j g.
                 omega (
                   arith,
-                  list-at K (λ j. getD l j 0) j 0 (omega arith),
-                  list-at K (λ j. getD l j 0) (j + 1) 0 (omega arith),
+                  list_at K (λ j. get_or l j 0) j 0 (omega arith),
+                  list_at K (λ j. get_or l j 0) (j + 1) 0 (omega arith),
                   rises j (j + 1) (omega arith) (omega arith),
                 );
             table = subst (λ (m : ℕ). number (2 ^ K) (λ y. bit T (v * 2 ^ K + y)) < 2 ^ (2 ^ m)) (sym n)
-                (number-lt (2 ^ K) (λ y. bit T (v * 2 ^ K + y)));
+                (number_lt (2 ^ K) (λ y. bit T (v * 2 ^ K + y)));
           }
 
       pub cofactors-fit : FitsFrom e i (cofactorCells K i l T)
       unfolding cofactorCells
       cofactors-fit =
-          each-fits e i (first ++ others) (each-append (Fits e) i first others
+          each_fits e i (first ++ others) (each_append (Fits e) i first others
           (each-list (Fits e) i (2 ^ s) (cofactor K l T) (λ t. one-fits t t))
           (subst (λ (m : ℕ). Each (Fits e) (i + m) others) (sym (length-list (2 ^ s) (cofactor K l T)))
           (levels-fit (leb 3 K) K e (i + 2 ^ s) i ws q f h (widths-suit K s two) ordered)))
@@ -188,22 +188,22 @@ module _ (K i : ℕ) (l : List ℕ) (T : ℕ) (two : 2 ≤ K) (more : K < length
 
         go : (i : ℕ) (cs : List Cell) → FitsFrom (record { most = K; start = 0; size = 0 }) i cs → Wired K i cs
         go i [] p = tt
-        go i (c ∷ cs) p = (p .0 .most, p .0 .known, go (suc i) cs (p .1))
+        go i (c ∷ cs) p = (p.0.most, p.0.known, go (suc i) cs p.1)
 
     -- ---- each but the last is read
-    each-read : (x : ℕ) → i ≤ x → x + 1 < i + length (cofactorCells K i l T) → 1 ≤ reads x (cofactorCells K i l T)
+    each_read : (x : ℕ) → i ≤ x → x + 1 < i + length (cofactorCells K i l T) → 1 ≤ reads x (cofactorCells K i l T)
     unfolding cofactorCells
-    each-read x h g =
+    each_read x h g =
         let sum = reads-append x first others in
         let n = length-list (2 ^ s) (cofactor K l T) in
         let all = length-append first others in
         let u = widths-suit K s two in
-        elim (decLt x (i + 2 ^ s)) [
+        elim (dec_lt x (i + 2 ^ s)) [
           | yes b ↦
               let e : i + (x - i) ≡ x = omega arith in
               let t : x - i < 2 ^ total ws = omega (arith, ap (λ (m : ℕ). 2 ^ m) (widths-total K s)) in
               let r : 1 ≤ reads x others = subst (λ (m : ℕ). 1 ≤ reads m others) e
-              (some-read (leb 3 K) K (i + 2 ^ s) i ws q f selecting-some u ordered (x - i) t) in
+              (some_read (leb 3 K) K (i + 2 ^ s) i ws q f selecting-some u ordered (x - i) t) in
               omega arith
           | no b ↦ let r : 1 ≤ reads x others = levels-own (leb 3 K) K (i + 2 ^ s) i ws q f u ordered x (omega arith)
               (omega arith) in
@@ -213,6 +213,6 @@ module _ (K i : ℕ) (l : List ℕ) (T : ℕ) (two : 2 ≤ K) (more : K < length
     pub cofactors-read : AllRead i (cofactorCells K i l T)
     cofactors-read j h = omega (
       arith,
-      each-read (i + j) (omega arith) (omega arith),
+      each_read (i + j) (omega arith) (omega arith),
       later-reads K i (cofactorCells K i l T) cofactors-wired (suc j) (i + j) (omega arith),
     )

@@ -1,18 +1,18 @@
 -- How many cells the sheet of cofactors has. Assumes nothing.
-use mathlib.Core.Path.{_≡_, refl, sym, ap, ap₂, _∙_}
+use mathlib.Core.Path.{◌≡◌, refl, sym, ap, ap₂, ◌∙◌}
 use mathlib.Core.Bool.{Bool, true, false, cond}
-use mathlib.Core.List.{List, [], _∷_, _++_}
-use Prim.Native.Nat.{ℕ, zero, suc, _+_, _-_, _*_, _^_, _<_, _≤_}
+use mathlib.Core.List.{List, [], ◌∷◌, ◌++◌}
+use Prim.Native.Nat.{ℕ, zero, suc, ◌+◌, ◌-◌, ◌*◌, ◌^◌, ◌<◌, ◌≤◌}
 use native.Mathlib.Omega.{arith}
 use lib.Dec.{leb}
-use lib.ListN.{length, getD, length-append}
+use lib.ListN.{length, get_or, length-append}
 use borrow.Author.Tests.{leb-true, leb-false}
-use Rattle·bits.specs.Lists.{listOf}
-use Rattle·bits.proofs.Lists.{length-list}
-use Rattle·sheets.specs.Edition.{mostRecords}
-use Rattle·cofactors·specs.specs.Cofactors.{cofactor, cellsEach, joinOf, total, levels, byOnes, byTwos, widths}
-use Rattle·cofactors·specs.specs.Cofactors.{cofactorCells, ofThree, cofactorCount, mostSelecting}
-use Rattle·cofactors·proofs.proofs.Levels.{group, next, level-length}
+use Rattle.bits.specs.Lists.{list_of}
+use Rattle.bits.proofs.Lists.{length-list}
+use Rattle.sheets.specs.Edition.{mostRecords}
+use Rattle.cofactors.specs.Cofactors.{cofactor, cellsEach, join_of, total, levels, byOnes, byTwos, widths}
+use Rattle.cofactors.specs.Cofactors.{cofactorCells, ofThree, cofactorCount, mostSelecting}
+use Rattle.cofactors.proofs.Levels.{group, next, level-length}
 
 -- the cells of the levels
 abbrev levelCount : Bool → List ℕ → ℕ
@@ -25,13 +25,13 @@ levels-length one i [] q f = refl
 levels-length one i (w ∷ ws) q f =
     let k = total ws in
     let j = i + cellsEach one * 2 ^ k in
-    length-append (joinOf (2 ^ k) (group one i w k q f)) (levels one j ws (λ t. q (w + t)) (next one i w k q f))
+    length-append (join_of (2 ^ k) (group one i w k q f)) (levels one j ws (λ t. q (w + t)) (next one i w k q f))
     ∙ ap₂ (λ (a b : ℕ). a + b) (level-length one i w k q f)
     (levels-length one j ws (λ t. q (w + t)) (next one i w k q f))
 
 -- the three kinds of K
-by-kind : (K : ℕ) (P : Bool → Bool → Type 0) → P true true → P false true → P false false → P (leb 6 K) (leb 3 K)
-by-kind K P large middle two = go (leb 6 K) (leb 3 K) refl refl
+by_kind : (K : ℕ) (P : Bool → Bool → Type 0) → P true true → P false true → P false false → P (leb 6 K) (leb 3 K)
+by_kind K P large middle two = go (leb 6 K) (leb 3 K) refl refl
   where
     go : (a b : Bool) → leb 6 K ≡ a → leb 3 K ≡ b → P a b
     go true true p q = large
@@ -65,7 +65,7 @@ abbrev Counts : Bool → Bool → Type 0
 Counts a b = (s : ℕ) → 1 ≤ s → s ≤ cond b 3 2 → Counted a b s
 
 counts : (K : ℕ) → Counts (leb 6 K) (leb 3 K)
-counts K = by-kind K Counts
+counts K = by_kind K Counts
     (up-to-three (Counted true true) (refl, omega arith, omega arith, omega arith)
     (refl, omega arith, omega arith, omega arith) (refl, omega arith, omega arith, omega arith))
     (up-to-three (Counted false true) (refl, omega arith, omega arith, omega arith)
@@ -78,13 +78,13 @@ pub cofactors-count : (K i : ℕ) (l : List ℕ) (T : ℕ) → K < length l → 
 unfolding cofactorCells
 cofactors-count K i l T h g =
     let s = length l - K in
-    length-append (listOf (2 ^ s) (cofactor K l T)) (levels (leb 3 K) (i + 2 ^ s) (widths K s) (λ t. getD l (K + t) 0)
+    length-append (list_of (2 ^ s) (cofactor K l T)) (levels (leb 3 K) (i + 2 ^ s) (widths K s) (λ t. get_or l (K + t) 0)
     (λ v. i + v))
     ∙ ap₂ (λ (a b : ℕ). a + b) (length-list (2 ^ s) (cofactor K l T))
-    (levels-length (leb 3 K) (i + 2 ^ s) (widths K s) (λ t. getD l (K + t) 0) (λ v. i + v))
-    ∙ counts K s (omega arith) (omega arith) .0
+    (levels-length (leb 3 K) (i + 2 ^ s) (widths K s) (λ t. get_or l (K + t) 0) (λ v. i + v))
+    ∙ (counts K s (omega arith) (omega arith)).0
 
 -- a sheet has room for them; they are three at least, and more than the selecting signals
-pub count-most : (K s : ℕ) → 1 ≤ s → s ≤ mostSelecting K → (3 ≤ cofactorCount K s) × (cofactorCount K s ≤ mostRecords)
+pub count_most : (K s : ℕ) → 1 ≤ s → s ≤ mostSelecting K → (3 ≤ cofactorCount K s) × (cofactorCount K s ≤ mostRecords)
     × (s < cofactorCount K s)
-count-most K s h g = let c = counts K s h g in (c .1, c .2, c .3)
+count_most K s h g = let c = counts K s h g in (c.1, c.2, c.3)

@@ -1,30 +1,30 @@
 -- Level by level: the last cell gives the signal that the selecting ones name, the cells keep the record rules, and
 -- each but the last is read. Assumes nothing.
-use mathlib.Core.Path.{_≡_, refl, sym, ap, ap₂, _∙_, subst}
+use mathlib.Core.Path.{◌≡◌, refl, sym, ap, ap₂, ◌∙◌, subst}
 use mathlib.Core.Bool.{Bool, true, false}
-use mathlib.Core.List.{List, [], _∷_, _++_}
-use Prim.Native.Nat.{ℕ, zero, suc, _+_, _-_, _*_, _/_, _%_, _^_, _<_, _≤_}
-use native.Mathlib.Decide.{decLt}
-use native.Mathlib.Nat.{add-comm, mul-comm, mul-suc, mul-le-mul-left, mod-lt}
+use mathlib.Core.List.{List, [], ◌∷◌, ◌++◌}
+use Prim.Native.Nat.{ℕ, zero, suc, ◌+◌, ◌-◌, ◌*◌, ◌/◌, ◌%◌, ◌^◌, ◌<◌, ◌≤◌}
+use native.Mathlib.Decide.{dec_lt}
+use native.Mathlib.Nat.{add_comm, mul_comm, mul-suc, mul-le-mul_left, mod-lt}
 use native.Mathlib.Omega.{arith}
 use lib.ListN.{length, length-append}
-use lib.Pow.{pow-add, pow-pos, shr-lt, split}
-use Rattle·bits.specs.Numbers.{number}
-use Rattle·bits.proofs.Numbers.{number-lt, number-ext}
-use Rattle·bits.proofs.Sums.{number-append}
-use Rattle·sheets.specs.declared.kinds.Edition.{Edition}
-use Rattle·sheets.specs.Network.{Cell}
-use Rattle·sheets.specs.Writing.{Fits}
-use Rattle·sheets.specs.Reading.{reads}
-use Rattle·chains.proofs.Each.{Each, each-append}
-use Rattle·chains.proofs.Read.{reads-append}
-use Rattle·networks.specs.Signals.{values}
-use Rattle·networks.proofs.Values.{values-below}
-use Rattle·chains.proofs.Running.{values-append}
-use Rattle·cofactors·specs.specs.Cofactors.{selecting, cellsEach, joinOf, total, levels}
-use Rattle·cofactors·proofs.proofs.Groups.{length-join, each-join, values-join, reads-join}
-use Rattle·cofactors·proofs.proofs.Selecting.{Suits, Ordered, selecting-length, selects, selecting-fits}
-use Rattle·cofactors·proofs.proofs.Selecting.{selecting-reads, selecting-own}
+use lib.Pow.{pow-add, pow_pos, shr_lt, split}
+use Rattle.bits.specs.Numbers.{number}
+use Rattle.bits.proofs.Numbers.{number_lt, number-ext}
+use Rattle.bits.proofs.Sums.{number_append}
+use Rattle.sheets.specs.declared.kinds.Edition.{Edition}
+use Rattle.sheets.specs.Network.{Cell}
+use Rattle.sheets.specs.Writing.{Fits}
+use Rattle.sheets.specs.Reading.{reads}
+use Rattle.chains.proofs.Each.{Each, each_append}
+use Rattle.chains.proofs.Read.{reads-append}
+use Rattle.networks.specs.Signals.{values}
+use Rattle.networks.proofs.Values.{values-below}
+use Rattle.chains.proofs.Running.{values-append}
+use Rattle.cofactors.specs.Cofactors.{selecting, cellsEach, join_of, total, levels}
+use Rattle.cofactors.proofs.Groups.{length-join, each-join, values_join, reads-join}
+use Rattle.cofactors.proofs.Selecting.{Suits, Ordered, selecting-length, selects, selecting-fits}
+use Rattle.cofactors.proofs.Selecting.{selecting-reads, selecting-own}
 
 -- each level's width suits cells of K inputs
 abbrev pub AllSuit : Bool → ℕ → List ℕ → Type 0
@@ -37,7 +37,7 @@ some-cells false = omega arith
 
 -- signal t of group g, of 2 ^ w each
 index-lt : (w k g t : ℕ) → g < 2 ^ k → t < 2 ^ w → 2 ^ w * g + t < 2 ^ (w + k)
-index-lt w k g t h l = omega (arith, pow-add 2 w k, mul-suc (2 ^ w) g, mul-le-mul-left (2 ^ w) h)
+index-lt w k g t h l = omega (arith, pow-add 2 w k, mul-suc (2 ^ w) g, mul-le-mul_left (2 ^ w) h)
 
 -- ---- one level: its groups, and what stands on the next
 module _ (one : Bool) (i w k : ℕ) (q f : ℕ → ℕ) where
@@ -54,37 +54,37 @@ module _ (one : Bool) (i w k : ℕ) (q f : ℕ → ℕ) where
   each-group g = selecting-length one w (i + p * g) q (λ t. f (2 ^ w * g + t))
 
   abbrev level : List Cell
-  level = joinOf (2 ^ k) group
+  level = join_of (2 ^ k) group
 
-  pub level-length : length (joinOf (2 ^ k) group) ≡ cellsEach one * 2 ^ k
+  pub level-length : length (join_of (2 ^ k) group) ≡ cellsEach one * 2 ^ k
   level-length = length-join p group each-group (2 ^ k)
 
   place : (g : ℕ) → g < 2 ^ k → p * g + p ≤ p * 2 ^ k
-  place g h = omega (arith, mul-suc p g, mul-le-mul-left p h)
+  place g h = omega (arith, mul-suc p g, mul-le-mul_left p h)
 
   module _ (n : ℕ) (o : Ordered i n (w + k) (2 ^ (w + k)) q f) where
     group-ordered : (g : ℕ) → g < 2 ^ k → Ordered (i + p * g) n w (2 ^ w) q (λ t. f (2 ^ w * g + t))
     group-ordered g h = record {
-      first = λ t l. o .first t (omega arith);
-      rises = λ t l. o .rises t (omega arith);
-      from = λ t l. o .from (2 ^ w * g + t) (index-lt w k g t h l);
+      first = λ t l. o.first t (omega arith);
+      rises = λ t l. o.rises t (omega arith);
+      from = λ t l. o.from (2 ^ w * g + t) (index-lt w k g t h l);
       climbs = λ t l.
           let e : 2 ^ w * g + (t + 1) ≡ (2 ^ w * g + t) + 1 = omega arith in
           omega (
             arith,
             ap f e,
-            o .climbs (2 ^ w * g + t) (subst (λ (j : ℕ). j < 2 ^ (w + k)) e (index-lt w k g (t + 1) h l)),
+            o.climbs (2 ^ w * g + t) (subst (λ (j : ℕ). j < 2 ^ (w + k)) e (index-lt w k g (t + 1) h l)),
           );
-      below = λ t l. omega (arith, o .below (2 ^ w * g + t) (index-lt w k g t h l));
+      below = λ t l. omega (arith, o.below (2 ^ w * g + t) (index-lt w k g t h l));
     }
 
     pub next-ordered : Ordered (i + cellsEach one * 2 ^ k) n k (2 ^ k) (λ t. q (w + t))
         (λ g. i + cellsEach one * g + (cellsEach one - 1))
     next-ordered = record {
-      first = λ t l. o .first (w + t) (omega arith);
+      first = λ t l. o.first (w + t) (omega arith);
       rises = λ t l. let e : w + (t + 1) ≡ (w + t) + 1 = omega arith in
-          omega (arith, ap q e, o .rises (w + t) (omega arith));
-      from = λ g l. omega (arith, o .from 0 (pow-pos (w + k)), o .below 0 (pow-pos (w + k)));
+          omega (arith, ap q e, o.rises (w + t) (omega arith));
+      from = λ g l. omega (arith, o.from 0 (pow_pos (w + k)), o.below 0 (pow_pos (w + k)));
       climbs = λ g l. let e : g + 1 ≡ suc g = omega arith in
           omega (arith, mul-suc p g, some-cells one, ap (λ (j : ℕ). p * j) e);
       below = λ g l. omega (arith, place g l, some-cells one);
@@ -93,8 +93,8 @@ module _ (one : Bool) (i w k : ℕ) (q f : ℕ → ℕ) where
     module _ (K : ℕ) (u : Suits one K w) where
       -- group g gives the signal of its own that the first w selecting ones name
       pub level-gives : (v : ℕ → Bool) (g : ℕ) → g < 2 ^ k
-          → values i (joinOf (2 ^ k) group) v (next g) ≡ v (f (2 ^ w * g + number w (λ t. v (q t))))
-      level-gives v = values-join p group each-group i v (λ g. v (f (2 ^ w * g + number w (λ t. v (q t))))) (2 ^ k)
+          → values i (join_of (2 ^ k) group) v (next g) ≡ v (f (2 ^ w * g + number w (λ t. v (q t))))
+      level-gives v = values_join p group each-group i v (λ g. v (f (2 ^ w * g + number w (λ t. v (q t))))) (2 ^ k)
           (some-cells one) gives
         where
           gives : (g : ℕ) → g < 2 ^ k → (x : ℕ → Bool) → ((s : ℕ) → s < i → x s ≡ v s)
@@ -103,37 +103,37 @@ module _ (one : Bool) (i w k : ℕ) (q f : ℕ → ℕ) where
               let d = group-ordered g h in
               let at = number w (λ t. v (q t)) in
               let low : (t : ℕ) → t < w → q t < i = λ t l.
-              omega (arith, o .first t (omega arith), o .from 0 (pow-pos (w + k)), o .below 0 (pow-pos (w + k))) in
-              selects one K w (i + p * g) q (λ t. f (2 ^ w * g + t)) x u (λ t l. omega (arith, low t l)) (d .below)
+              omega (arith, o.first t (omega arith), o.from 0 (pow_pos (w + k)), o.below 0 (pow_pos (w + k))) in
+              selects one K w (i + p * g) q (λ t. f (2 ^ w * g + t)) x u (λ t l. omega (arith, low t l)) d.below
               ∙ ap (λ (j : ℕ). x (f (2 ^ w * g + j))) (number-ext w (λ t. x (q t)) (λ t. v (q t))
               (λ t l. same (q t) (low t l)))
-              ∙ same (f (2 ^ w * g + at)) (o .below (2 ^ w * g + at) (index-lt w k g at h (number-lt w (λ t. v (q t)))))
+              ∙ same (f (2 ^ w * g + at)) (o.below (2 ^ w * g + at) (index-lt w k g at h (number_lt w (λ t. v (q t)))))
 
-      pub level-fits : (e : Edition) → K ≤ e .most → Each (Fits e) i (joinOf (2 ^ k) group)
+      pub level-fits : (e : Edition) → K ≤ e.most → Each (Fits e) i (join_of (2 ^ k) group)
       level-fits e h = each-join p group each-group (Fits e) i (2 ^ k)
           (λ g l. selecting-fits one e K w (i + p * g) n q (λ t. f (2 ^ w * g + t)) h u (group-ordered g l))
 
       -- each signal that is selected from is read
-      pub level-reads : (t : ℕ) → t < 2 ^ (w + k) → 1 ≤ reads (f t) (joinOf (2 ^ k) group)
+      pub level-reads : (t : ℕ) → t < 2 ^ (w + k) → 1 ≤ reads (f t) (join_of (2 ^ k) group)
       level-reads t h =
           let g = t / 2 ^ w in
           let r = t % 2 ^ w in
-          let e : 2 ^ w * g + r ≡ t = omega (arith, split t w, mul-comm (2 ^ w) g) in
-          let j : t < 2 ^ (k + w) = subst (λ (m : ℕ). t < 2 ^ m) (add-comm w k) h in
-          let l : g < 2 ^ k = shr-lt k w j in
-          let z = selecting-reads one K w (i + p * g) q (λ t. f (2 ^ w * g + t)) r u (mod-lt t (pow-pos w)) in
+          let e : 2 ^ w * g + r ≡ t = omega (arith, split t w, mul_comm (2 ^ w) g) in
+          let j : t < 2 ^ (k + w) = subst (λ (m : ℕ). t < 2 ^ m) (add_comm w k) h in
+          let l : g < 2 ^ k = shr_lt k w j in
+          let z = selecting-reads one K w (i + p * g) q (λ t. f (2 ^ w * g + t)) r u (mod-lt t (pow_pos w)) in
           let y : 1 ≤ reads (f t) (group g) = subst (λ (m : ℕ). 1 ≤ reads (f m) (group g)) e z in
           omega (arith, reads-join p group each-group (f t) g (2 ^ k) l)
 
 -- each signal of the level is read within its group, or stands on the next level
 own-signal : (one : Bool) (i w k : ℕ) (q f : ℕ → ℕ) (s : ℕ) → i ≤ s → s < i + cellsEach one * 2 ^ k → (P : Type 0)
-    → (1 ≤ reads s (joinOf (2 ^ k) (group one i w k q f)) → P)
+    → (1 ≤ reads s (join_of (2 ^ k) (group one i w k q f)) → P)
     → ((g : ℕ) → g < 2 ^ k → next one i w k q f g ≡ s → P) → P
 own-signal true i w k q f s h l P own above = above (s - i) (omega arith) (omega arith)
 own-signal false i w k q f s h l P own above =
     let g = (s - i) / 3 in
     let d : g < 2 ^ k = omega arith in
-    elim (decLt (s + 1) (i + 3 * g + 3)) [
+    elim (dec_lt (s + 1) (i + 3 * g + 3)) [
       | yes z ↦ own (omega (
         arith,
         selecting-own false w (i + 3 * g) q (λ t. f (2 ^ w * g + t)) s (omega arith) z,
@@ -155,15 +155,15 @@ module _ (one : Bool) (K : ℕ) where
   final-last i w [] q f = omega (
     arith,
     some-cells one,
-    length-append (joinOf 1 (group one i w 0 q f)) [],
+    length-append (join_of 1 (group one i w 0 q f)) [],
     level-length one i w 0 q f,
   )
-  final-last i w (w′ ∷ ws) q f =
-      let k = total (w′ ∷ ws) in
+  final-last i w (w' ∷ ws) q f =
+      let k = total (w' ∷ ws) in
       omega (
         arith,
-        final-last (i + cellsEach one * 2 ^ k) w′ ws (λ t. q (w + t)) (next one i w k q f),
-        length-append (joinOf (2 ^ k) (group one i w k q f)) (levels one (i + cellsEach one * 2 ^ k) (w′ ∷ ws)
+        final-last (i + cellsEach one * 2 ^ k) w' ws (λ t. q (w + t)) (next one i w k q f),
+        length-append (join_of (2 ^ k) (group one i w k q f)) (levels one (i + cellsEach one * 2 ^ k) (w' ∷ ws)
             (λ t. q (w + t)) (next one i w k q f)),
         level-length one i w k q f,
       )
@@ -178,21 +178,21 @@ module _ (one : Bool) (K : ℕ) where
       let k = total ws in
       let j = i + cellsEach one * 2 ^ k in
       let rest = levels one j ws (λ t. q (w + t)) (next one i w k q f) in
-      let here = joinOf (2 ^ k) (group one i w k q f) in
+      let here = join_of (2 ^ k) (group one i w k q f) in
       let x = values i here v in
       let b = number k (λ t. v (q (w + t))) in
       let low : (t : ℕ) → t < k → q (w + t) < i = λ t l.
-      omega (arith, o .first (w + t) (omega arith), o .from 0 (pow-pos (w + k)), o .below 0 (pow-pos (w + k))) in
+      omega (arith, o.first (w + t) (omega arith), o.from 0 (pow_pos (w + k)), o.below 0 (pow_pos (w + k))) in
       let e : 2 ^ w * b + number w (λ t. v (q t)) ≡ number (w + k) (λ t. v (q t)) =
-      omega (arith, number-append w k (λ t. v (q t)), mul-comm (2 ^ w) b) in
+      omega (arith, number_append w k (λ t. v (q t)), mul_comm (2 ^ w) b) in
       ap (λ (y : ℕ → Bool). y (final j ws (next one i w k q f))) (values-append i here rest v)
       ∙ ap (λ (m : ℕ). values (i + m) rest x (final j ws (next one i w k q f))) (level-length one i w k q f)
-      ∙ levels-give j n ws (λ t. q (w + t)) (next one i w k q f) (u .1) (next-ordered one i w k q f n o) x
+      ∙ levels-give j n ws (λ t. q (w + t)) (next one i w k q f) u.1 (next-ordered one i w k q f n o) x
       ∙ ap (λ (m : ℕ). x (next one i w k q f m)) (number-ext k (λ t. x (q (w + t))) (λ t. v (q (w + t)))
       (λ t l. values-below i here v (q (w + t)) (low t l)))
-      ∙ level-gives one i w k q f n o K (u .0) v b (number-lt k (λ t. v (q (w + t)))) ∙ ap (λ (m : ℕ). v (f m)) e
+      ∙ level-gives one i w k q f n o K u.0 v b (number_lt k (λ t. v (q (w + t)))) ∙ ap (λ (m : ℕ). v (f m)) e
 
-  pub levels-fit : (e : Edition) (i n : ℕ) (ws : List ℕ) (q f : ℕ → ℕ) → K ≤ e .most → AllSuit one K ws
+  pub levels-fit : (e : Edition) (i n : ℕ) (ws : List ℕ) (q f : ℕ → ℕ) → K ≤ e.most → AllSuit one K ws
       → Ordered i n (total ws) (2 ^ total ws) q f → Each (Fits e) i (levels one i ws q f)
   unfolding levels
   levels-fit e i n [] q f h u o = tt
@@ -200,9 +200,9 @@ module _ (one : Bool) (K : ℕ) where
       let k = total ws in
       let j = cellsEach one * 2 ^ k in
       let rest = levels one (i + j) ws (λ t. q (w + t)) (next one i w k q f) in
-      each-append (Fits e) i (joinOf (2 ^ k) (group one i w k q f)) rest (level-fits one i w k q f n o K (u .0) e h)
+      each_append (Fits e) i (join_of (2 ^ k) (group one i w k q f)) rest (level-fits one i w k q f n o K u.0 e h)
       (subst (λ (m : ℕ). Each (Fits e) (i + m) rest) (sym (level-length one i w k q f))
-      (levels-fit e (i + j) n ws (λ t. q (w + t)) (next one i w k q f) h (u .1) (next-ordered one i w k q f n o)))
+      (levels-fit e (i + j) n ws (λ t. q (w + t)) (next one i w k q f) h u.1 (next-ordered one i w k q f n o)))
 
   -- each signal that is selected from is read
   levels-read : (i n w : ℕ) (ws : List ℕ) (q f : ℕ → ℕ) → AllSuit one K (w ∷ ws)
@@ -214,9 +214,9 @@ module _ (one : Bool) (K : ℕ) where
       let j = i + cellsEach one * 2 ^ k in
       omega (
         arith,
-        reads-append (f t) (joinOf (2 ^ k) (group one i w k q f)) (levels one j ws (λ t. q (w + t))
+        reads-append (f t) (join_of (2 ^ k) (group one i w k q f)) (levels one j ws (λ t. q (w + t))
             (next one i w k q f)),
-        level-reads one i w k q f n o K (u .0) t h,
+        level-reads one i w k q f n o K u.0 t h,
       )
 
   -- the same where at least one signal selects
@@ -225,10 +225,10 @@ module _ (one : Bool) (K : ℕ) where
   some-final i [] q f h = absurd (omega arith)
   some-final i (w ∷ ws) q f h = final-last i w ws q f
 
-  pub some-read : (i n : ℕ) (ws : List ℕ) (q f : ℕ → ℕ) → 1 ≤ total ws → AllSuit one K ws
+  pub some_read : (i n : ℕ) (ws : List ℕ) (q f : ℕ → ℕ) → 1 ≤ total ws → AllSuit one K ws
       → Ordered i n (total ws) (2 ^ total ws) q f → (t : ℕ) → t < 2 ^ total ws → 1 ≤ reads (f t) (levels one i ws q f)
-  some-read i n [] q f h u o t l = absurd (omega arith)
-  some-read i n (w ∷ ws) q f h u o t l = levels-read i n w ws q f u o t l
+  some_read i n [] q f h u o t l = absurd (omega arith)
+  some_read i n (w ∷ ws) q f h u o t l = levels-read i n w ws q f u o t l
 
   -- what stands on the next level is read there, but for the last signal of all
   standing : (i n w : ℕ) (ws : List ℕ) (q f : ℕ → ℕ) → AllSuit one K (w ∷ ws)
@@ -240,13 +240,13 @@ module _ (one : Bool) (K : ℕ) where
   standing i n w [] q f u o zero h l = absurd (omega (
     arith,
     some-cells one,
-    length-append (joinOf 1 (group one i w 0 q f)) [],
+    length-append (join_of 1 (group one i w 0 q f)) [],
     level-length one i w 0 q f,
   ))
   standing i n w [] q f u o (suc g) h l = absurd (omega arith)
-  standing i n w (w′ ∷ ws) q f u o g h l =
-      let k = total (w′ ∷ ws) in
-      levels-read (i + cellsEach one * 2 ^ k) n w′ ws (λ t. q (w + t)) (next one i w k q f) (u .1)
+  standing i n w (w' ∷ ws) q f u o g h l =
+      let k = total (w' ∷ ws) in
+      levels-read (i + cellsEach one * 2 ^ k) n w' ws (λ t. q (w + t)) (next one i w k q f) u.1
       (next-ordered one i w k q f n o) g h
 
   -- and each of the levels' own but the last
@@ -258,19 +258,19 @@ module _ (one : Bool) (K : ℕ) where
   levels-own i n (w ∷ ws) q f u o s h l =
       let k = total ws in
       let j = i + cellsEach one * 2 ^ k in
-      let here = joinOf (2 ^ k) (group one i w k q f) in
+      let here = join_of (2 ^ k) (group one i w k q f) in
       let rest = levels one j ws (λ t. q (w + t)) (next one i w k q f) in
       let both = reads-append s here rest in
       let sum = length-append here rest in
       let long = level-length one i w k q f in
-      elim (decLt s j) [
+      elim (dec_lt s j) [
         | yes g ↦ own-signal one i w k q f s h g (1 ≤ reads s (here ++ rest)) (λ r. omega arith)
             (λ m d e.
             let z : next one i w k q f m + 1 < i + length (levels one i (w ∷ ws) q f) =
             subst (λ (x : ℕ). x + 1 < i + length (here ++ rest)) (sym e) l in
             let y : 1 ≤ reads s rest = subst (λ (x : ℕ). 1 ≤ reads x rest) e (standing i n w ws q f u o m d z) in
             omega arith)
-        | no g ↦ let z : 1 ≤ reads s rest = levels-own j n ws (λ t. q (w + t)) (next one i w k q f) (u .1)
+        | no g ↦ let z : 1 ≤ reads s rest = levels-own j n ws (λ t. q (w + t)) (next one i w k q f) u.1
             (next-ordered one i w k q f n o) s (omega arith) (omega arith)
             in omega arith
       ]

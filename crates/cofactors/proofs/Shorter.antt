@@ -1,27 +1,27 @@
 -- The shorter of two lists of cells, and how the answer for any gate comes about. Assumes nothing.
-use mathlib.Core.Path.{_≡_, refl, ap, _∙_}
-use mathlib.Core.Logic.{_⊎_, inl, inr}
+use mathlib.Core.Path.{◌≡◌, refl, ap, ◌∙◌}
+use mathlib.Core.Logic.{◌⊎◌, inl, inr}
 use mathlib.Core.Bool.{Bool, true, false, cond}
 use mathlib.Core.List.{List}
-use Prim.Native.Nat.{ℕ, _<_, _≤_}
+use Prim.Native.Nat.{ℕ, ◌<◌, ◌≤◌}
 use native.Mathlib.Omega.{arith}
 use lib.Dec.{leb}
 use lib.ListN.{length}
 use borrow.Author.Tests.{leb-true, leb-false}
-use Rattle·sheets.specs.Edition.{mostRecords}
-use Rattle·sheets.specs.Network.{Cell}
-use Rattle·chains.specs.Chain.{Made, stuck, made}
-use Rattle·cofactors·specs.specs.Any.{Any, sheet, unsplit, overlong, shorter, either}
+use Rattle.sheets.specs.Edition.{mostRecords}
+use Rattle.sheets.specs.Network.{Cell}
+use Rattle.chains.specs.Chain.{Made, stuck, made}
+use Rattle.cofactors.specs.Any.{Any, sheet, unsplit, overlong, shorter, either}
 
-pub no-answer : {P : Type 0} {cs : List Cell} {a : Any} → a ≡ sheet cs → (a ≡ unsplit → P) × (a ≡ overlong → P)
-no-answer p = (
-  λ q. let z : _≡_ {A = ℕ} 0 1 = cc in absurd (omega arith),
-  λ q. let z : _≡_ {A = ℕ} 0 1 = cc
+pub no_answer : {P : Type 0} {cs : List Cell} {a : Any} → a ≡ sheet cs → (a ≡ unsplit → P) × (a ≡ overlong → P)
+no_answer p = (
+  λ q. let z : ◌≡◌ {A = ℕ} 0 1 = cc in absurd (omega arith),
+  λ q. let z : ◌≡◌ {A = ℕ} 0 1 = cc
       in absurd (omega arith),
 )
 
-pub not-stuck : {P : Type 0} {cs : List Cell} {x : Made} → x ≡ made cs → x ≡ stuck → P
-not-stuck p q = let z : _≡_ {A = ℕ} 0 1 = cc in absurd (omega arith)
+pub not_stuck : {P : Type 0} {cs : List Cell} {x : Made} → x ≡ made cs → x ≡ stuck → P
+not_stuck p q = let z : ◌≡◌ {A = ℕ} 0 1 = cc in absurd (omega arith)
 
 -- ---- the one with fewer cells
 module _ (x y : Made) where
@@ -45,7 +45,7 @@ module _ (x y : Made) where
     where
       go : (x y : Made) → shorter x y ≡ made cs → ((ds : List Cell) → y ≡ made ds → length ds ≤ m)
           → (x ≡ made cs) × (y ≡ stuck)
-      go stuck stuck e f = not-stuck e refl
+      go stuck stuck e f = not_stuck e refl
       go stuck (made ys) e f = let d : ys ≡ cs = cc in absurd (omega (arith, f ys refl, ap length d))
       go (made xs) stuck e f = (e, refl)
       go (made xs) (made ys) e f = absurd (pick (leb (length xs) (length ys)) refl e)
@@ -81,15 +81,15 @@ module _ (x y : Made) where
     where
       go : (x y : Made) → shorter x y ≡ stuck → (x ≡ stuck) × (y ≡ stuck)
       go stuck y e = (refl, e)
-      go (made xs) stuck e = not-stuck refl e
-      go (made xs) (made ys) e = not-stuck refl e
+      go (made xs) stuck e = not_stuck refl e
+      go (made xs) (made ys) e = not_stuck refl e
 
 -- ---- how an answer comes about, from what make's chain and the others make
 module _ (one more : Made) where
   pub data Came : Any → Type 0 where
     by-make : (cs : List Cell) → one ≡ made cs → Came (sheet cs)
     by-more : (cs : List Cell) → one ≡ stuck → more ≡ made cs → length cs ≤ mostRecords → Came (sheet cs)
-    too-long : (cs : List Cell) → one ≡ stuck → more ≡ made cs → mostRecords < length cs → Came overlong
+    too_long : (cs : List Cell) → one ≡ stuck → more ≡ made cs → mostRecords < length cs → Came overlong
     no-split : one ≡ stuck → more ≡ stuck → Came unsplit
 
 pub came : (one more : Made) → Came one more (either one more)
@@ -99,4 +99,4 @@ came stuck (made cs) = go (leb (length cs) mostRecords) refl
   where
     go : (t : Bool) → leb (length cs) mostRecords ≡ t → Came stuck (made cs) (cond t (sheet cs) overlong)
     go true q = by-more cs refl refl (leb-true (length cs) mostRecords q)
-    go false q = too-long cs refl refl (leb-false (length cs) mostRecords q)
+    go false q = too_long cs refl refl (leb-false (length cs) mostRecords q)

@@ -1,16 +1,12 @@
 -- A sheet for any gate: make's where there is one; else the cells of the chain with up to 3 first cells at each step or
 -- the sheet of cofactors, whichever has fewer cells, if a sheet has room for them.
-use mathlib.Core.Bool.{cond}
-use mathlib.Core.List.{List}
-use Prim.Native.Nat.{ℕ}
-use lib.Dec.{leb}
-use lib.ListN.{length}
-use Rattle·splits.specs.Columns.{mostFirst}
-use Rattle·sheets.specs.Edition.{mostRecords}
-use Rattle·sheets.specs.Network.{Cell}
-use Rattle·chains.specs.Chain.{Made, stuck, made}
-use Rattle·chains.specs.Aside.{cellsAside, sheetAside}
-use Rattle·cofactors·specs.specs.Cofactors.{cofactorsAside}
+use Rattle.std.specs.Prelude.{cond, List, ℕ, leb, length}
+use Rattle.splits.specs.Columns.{mostFirst}
+use Rattle.sheets.specs.Edition.{mostRecords}
+use Rattle.sheets.specs.Network.{Cell}
+use Rattle.chains.specs.Chain.{Made, stuck, made}
+use Rattle.chains.specs.Aside.{cellsAside, sheetAside}
+use Rattle.cofactors.specs.Cofactors.{cofactorsAside}
 
 -- the cells of a sheet; or that there is none; or that the cells are too many
 pub data Any : Type 0 where

@@ -1,12 +1,10 @@
 -- The sheet for a gate that make has none for, in words: which of the two it is.
-use mathlib.Core.List.{List}
-use Prim.Native.Nat.{ℕ, _+_, _-_, _<_, _≤_}
-use lib.ListN.{length}
-use Rattle·splits.specs.Columns.{mostFirst}
-use Rattle·sheets.specs.Edition.{mostRecords}
-use Rattle·sheets.specs.Network.{Cell}
-use Rattle·chains.specs.Over.{MakesOver, BlockedOver}
-use Rattle·cofactors·specs.specs.Cofactors.{cofactorCells, cofactorCount, mostSelecting}
+use Rattle.std.specs.Prelude.{List, ℕ, ◌+◌, ◌-◌, ◌<◌, ◌≤◌, length}
+use Rattle.splits.specs.Columns.{mostFirst}
+use Rattle.sheets.specs.Edition.{mostRecords}
+use Rattle.sheets.specs.Network.{Cell}
+use Rattle.chains.specs.Over.{MakesOver, BlockedOver}
+use Rattle.cofactors.specs.Cofactors.{cofactorCells, cofactorCount, mostSelecting}
 
 -- c inputs are more than K, and so few more that there is a sheet of cofactors
 pub record Near (K c : ℕ) : Type 0 where

@@ -1,22 +1,18 @@
 -- The sheet of cofactors of a table over more than K signals: a cell over the first K of them for each way to set the
 -- others, which then select one of these cells.
-use mathlib.Core.Bool.{Bool, true, false, cond, _&&_}
-use mathlib.Core.List.{List, [], _∷_, _++_}
-use Prim.Native.Nat.{ℕ, zero, suc, _+_, _-_, _*_, _/_, _%_, _^_}
-use lib.Dec.{leb, ltb}
-use lib.ListN.{length, getD}
-use Rattle·bits.specs.Numbers.{bit, number}
-use Rattle·bits.specs.Lists.{listOf}
-use Rattle·sheets.specs.Network.{Cell}
-use Rattle·chains.specs.Chain.{Made, stuck, made, inputs}
-use Rattle·chains.specs.Aside.{keptSignals, keptTable}
+use Rattle.std.specs.Prelude.{Bool, true, false, cond, ◌&&◌, List, [], ◌∷◌, ◌++◌, ℕ, zero, suc, ◌+◌, ◌-◌, ◌*◌, ◌/◌, ◌%◌, ◌^◌, leb, ltb, length, get_or}
+use Rattle.bits.specs.Numbers.{bit, number}
+use Rattle.bits.specs.Lists.{list_of}
+use Rattle.sheets.specs.Network.{Cell}
+use Rattle.chains.specs.Chain.{Made, stuck, made, inputs}
+use Rattle.chains.specs.Aside.{keptSignals, keptTable}
 
 -- ---- the cofactors
 
 -- cofactor v of the table T over the signals l: it reads the first K, and the others are as the bits of v
 abbrev pub cofactor : ℕ → List ℕ → ℕ → ℕ → Cell
 cofactor K l T v = record {
-  signals = listOf K (λ j. getD l j 0);
+  signals = list_of K (λ j. get_or l j 0);
   table = number (2 ^ K) (λ y. bit T (v * 2 ^ K + y));
 }
 
@@ -29,7 +25,7 @@ selector w = number (2 ^ (w + 2 ^ w)) (λ x. bit (x / 2 ^ w) (x % 2 ^ w))
 -- the cells that select one of the signals f 0, f 1, .. by w selecting signals q 0, q 1, ..: one cell where it has room
 -- for all of them; with cells of two inputs three, from signal i on, `!q & a`, `q & b` and the OR of these two
 abbrev pub selecting : Bool → ℕ → ℕ → (ℕ → ℕ) → (ℕ → ℕ) → List Cell
-selecting true w i q f = record { signals = listOf w q ++ listOf (2 ^ w) f; table = selector w } ∷ []
+selecting true w i q f = record { signals = list_of w q ++ list_of (2 ^ w) f; table = selector w } ∷ []
 selecting false w i q f =
     record { signals = q 0 ∷ f 0 ∷ []; table = 4 } ∷ record { signals = q 0 ∷ f 1 ∷ []; table = 8 }
     ∷ record { signals = i ∷ suc i ∷ []; table = 14 } ∷ []
@@ -42,9 +38,9 @@ cellsEach false = 3
 -- ---- level by level
 
 -- the lists h 0, .., h (m - 1), one behind the other
-unfoldable pub joinOf : ℕ → (ℕ → List Cell) → List Cell
-joinOf zero h = []
-joinOf (suc m) h = joinOf m h ++ h m
+unfoldable pub join_of : ℕ → (ℕ → List Cell) → List Cell
+join_of zero h = []
+join_of (suc m) h = join_of m h ++ h m
 
 -- how many selecting signals the levels use in all
 abbrev pub total : List ℕ → ℕ
@@ -59,7 +55,7 @@ levels one i [] q f = []
 levels one i (w ∷ ws) q f =
     let m = 2 ^ total ws in
     let p = cellsEach one in
-    joinOf m (λ g. selecting one w (i + p * g) q (λ t. f (2 ^ w * g + t)))
+    join_of m (λ g. selecting one w (i + p * g) q (λ t. f (2 ^ w * g + t)))
     ++ levels one (i + p * m) ws (λ t. q (w + t)) (λ g. i + p * g + (p - 1))
 
 -- s selecting signals, one on each level; or two, and on the last level what is left
@@ -82,8 +78,8 @@ widths K s = cond (leb 6 K) (byTwos s) (byOnes s)
 unfoldable pub cofactorCells : ℕ → ℕ → List ℕ → ℕ → List Cell
 cofactorCells K i l T =
     let s = length l - K in
-    listOf (2 ^ s) (cofactor K l T)
-    ++ levels (leb 3 K) (i + 2 ^ s) (widths K s) (λ t. getD l (K + t) 0) (λ v. i + v)
+    list_of (2 ^ s) (cofactor K l T)
+    ++ levels (leb 3 K) (i + 2 ^ s) (widths K s) (λ t. get_or l (K + t) 0) (λ v. i + v)
 
 -- a, b or c for 1, 2 or 3
 abbrev pub ofThree : ℕ → ℕ → ℕ → ℕ → ℕ

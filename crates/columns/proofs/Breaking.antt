@@ -1,23 +1,23 @@
 -- Where the column test fails: the least b that breaks decides the test, and its columns are told apart by so many own
 -- assignments. Assumes nothing.
-use mathlib.Core.Path.{_≡_, refl, sym, ap, _∙_}
+use mathlib.Core.Path.{◌≡◌, refl, sym, ap, ◌∙◌}
 use mathlib.Core.Bool.{Bool, true, false, not, cond}
-use mathlib.Core.List.{[], _∷_, _++_}
-use Prim.Native.Nat.{ℕ, zero, suc, _-_, _^_, _<_, _≤_}
+use mathlib.Core.List.{[], ◌∷◌, ◌++◌}
+use Prim.Native.Nat.{ℕ, zero, suc, ◌-◌, ◌^◌, ◌<◌, ◌≤◌}
 use native.Mathlib.Nat.{not-suc-le-zero}
-use native.Mathlib.Decide.{decLt}
+use native.Mathlib.Decide.{dec_lt}
 use native.Mathlib.Omega.{arith}
 use lib.Dec.{eqb, leb, ltb}
 use lib.ListN.{length, length-append}
-use borrow.Author.Tests.{eq-eqb, ne-eqb, lt-ltb, le-ltb, le-leb, lt-leb, ltb-true, ltb-false}
-use Rattle·bits.specs.Sets.{size}
-use Rattle·bits.proofs.Bools.{clash}
-use Rattle·bits.proofs.Below.{every-all, every-stop}
-use Rattle·bits.proofs.Least.{is-least}
-use Rattle·splits.specs.Columns.{member, firsts, column, columns, fewColumns, firstBroken}
-use Rattle·columns·specs.specs.declared.columns.Broken.{Broken}
-use Rattle·columns·specs.specs.Broken.{brokenAt, Several}
-use Rattle·splits.proofs.Firsts.{firsts-has}
+use borrow.Author.Tests.{eq-eqb, ne_eqb, lt-ltb, le-ltb, le-leb, lt-leb, ltb-true, ltb-false}
+use Rattle.bits.specs.Sets.{size}
+use Rattle.bits.proofs.Bools.{clash}
+use Rattle.bits.proofs.Below.{every-all, every-stop}
+use Rattle.bits.proofs.Least.{is-least}
+use Rattle.splits.specs.Columns.{member, firsts, column, columns, fewColumns, firstBroken}
+use Rattle.columns.specs.declared.columns.Broken.{Broken}
+use Rattle.columns.specs.Broken.{brokenAt, Several}
+use Rattle.splits.proofs.Firsts.{firsts-has}
 
 module _ (n : ℕ) (F : ℕ → Bool) (A B : ℕ → Bool) (m : ℕ) where
   -- how many columns b has
@@ -26,37 +26,37 @@ module _ (n : ℕ) (F : ℕ → Bool) (A B : ℕ → Bool) (m : ℕ) where
 
   pub broken-before : (b : ℕ) → b < firstBroken n F A B m → length (columns n F A B b) ≤ m
   unfolding firstBroken
-  broken-before b h = ltb-false m (many b) (is-least (2 ^ size n B) (λ b. ltb m (many b)) .before b h)
+  broken-before b h = ltb-false m (many b) ((is-least (2 ^ size n B) (λ b. ltb m (many b))).before b h)
 
   pub broken-there : firstBroken n F A B m < 2 ^ size n B → m < length (columns n F A B (firstBroken n F A B m))
   unfolding firstBroken
-  broken-there h = ltb-true m _ (is-least (2 ^ size n B) (λ b. ltb m (many b)) .here h)
+  broken-there h = ltb-true m _ ((is-least (2 ^ size n B) (λ b. ltb m (many b))).here h)
 
   pub broken-most : firstBroken n F A B m ≤ 2 ^ size n B
   unfolding firstBroken
-  broken-most = is-least (2 ^ size n B) (λ b. ltb m (many b)) .within
+  broken-most = (is-least (2 ^ size n B) (λ b. ltb m (many b))).within
 
   -- the test is that there is none
   pub broken-few : fewColumns n F A B m ≡ eqb (firstBroken n F A B m) (2 ^ size n B)
   unfolding fewColumns
-  broken-few = elim (decLt (firstBroken n F A B m) (2 ^ size n B)) [
+  broken-few = elim (dec_lt (firstBroken n F A B m) (2 ^ size n B)) [
     | yes l ↦ every-stop (2 ^ size n B) (λ b. leb (many b) m) (firstBroken n F A B m) l
         (lt-leb (many (firstBroken n F A B m)) m (broken-there l))
-        ∙ sym (ne-eqb (firstBroken n F A B m) (2 ^ size n B) (omega arith))
+        ∙ sym (ne_eqb (firstBroken n F A B m) (2 ^ size n B) (omega arith))
     | no l ↦ let e : firstBroken n F A B m ≡ 2 ^ size n B = omega (arith, broken-most) in
         every-all (2 ^ size n B) (λ b. leb (many b) m) (λ b h. le-leb (many b) m (broken-before b (omega (arith, e))))
         ∙ sym (eq-eqb (firstBroken n F A B m) (2 ^ size n B) e)
   ]
 
   pub broken-within : fewColumns n F A B m ≡ false → firstBroken n F A B m < 2 ^ size n B
-  broken-within e = elim (decLt (firstBroken n F A B m) (2 ^ size n B)) [
+  broken-within e = elim (dec_lt (firstBroken n F A B m) (2 ^ size n B)) [
     | yes l ↦ l
     | no l ↦ absurd (clash (eq-eqb (firstBroken n F A B m) (2 ^ size n B) (omega (arith, broken-most)))
         (sym broken-few ∙ e))
   ]
 
   -- some columns are counted exactly where it fails
-  pub broken-some : ltb 0 (brokenAt n F A B m .columns) ≡ not (fewColumns n F A B m)
+  pub broken-some : ltb 0 (brokenAt n F A B m).columns ≡ not (fewColumns n F A B m)
   broken-some = go (fewColumns n F A B m) refl
     where
       b : ℕ
@@ -64,7 +64,7 @@ module _ (n : ℕ) (F : ℕ → Bool) (A B : ℕ → Bool) (m : ℕ) where
 
       go : (t : Bool) → fewColumns n F A B m ≡ t
           → ltb 0 (cond {A = Broken} t (record { b = 0; columns = 0 })
-          (record { b = firstBroken n F A B m; columns = many (firstBroken n F A B m) }) .columns) ≡ not t
+          (record { b = firstBroken n F A B m; columns = many (firstBroken n F A B m) })).columns ≡ not t
       go true e = refl
       go false e = lt-ltb 0 (many b) (omega (arith, broken-there (broken-within e)))
 
@@ -86,32 +86,32 @@ firsts-several f (suc n) m h = go (member (f n) (firsts f n)) refl (firsts-sever
   where
     -- from those below n
     wider : Several f n m → Several f (suc n) m
-    wider w = record { at = w .at; below = λ i l. omega (arith, w .below i l); apart = w .apart }
+    wider w = record { at = w.at; below = λ i l. omega (arith, w.below i l); apart = w.apart }
 
     -- and n, whose value is not among theirs
     last : member (f n) (firsts f n) ≡ false → Several f n (m - 1) → 1 ≤ m → Several f (suc n) m
     last e w p = record { at = at; below = below; apart = apart }
       where
         at : ℕ → ℕ
-        at i = cond (ltb i m) (w .at i) n
+        at i = cond (ltb i m) (w.at i) n
 
-        low : (i : ℕ) → i < m → at i ≡ w .at i
-        low i l = ap (λ (t : Bool). cond t (w .at i) n) (lt-ltb i m l)
+        low : (i : ℕ) → i < m → at i ≡ w.at i
+        low i l = ap (λ (t : Bool). cond t (w.at i) n) (lt-ltb i m l)
 
         top : (i : ℕ) → i ≡ m → at i ≡ n
-        top i q = ap (λ (t : Bool). cond t (w .at i) n) (le-ltb i m (omega arith))
+        top i q = ap (λ (t : Bool). cond t (w.at i) n) (le-ltb i m (omega arith))
 
         below : (i : ℕ) → i ≤ m → at i < suc n
-        below i l = elim (decLt i m) [
-          | yes g ↦ omega (arith, low i g, w .below i (omega arith))
+        below i l = elim (dec_lt i m) [
+          | yes g ↦ omega (arith, low i g, w.below i (omega arith))
           | no g ↦ omega
               (arith, top i (omega arith))
         ]
 
         apart : (i j : ℕ) → i < j → j ≤ m → f (at i) ≡ f (at j) → ⊥
-        apart i j l g q = elim (decLt j m) [
-          | yes h ↦ w .apart i j l (omega arith) (sym (ap f (low i (omega arith))) ∙ q ∙ ap f (low j h))
-          | no h ↦ clash (firsts-has f n (w .at i) (w .below i (omega arith)))
+        apart i j l g q = elim (dec_lt j m) [
+          | yes h ↦ w.apart i j l (omega arith) (sym (ap f (low i (omega arith))) ∙ q ∙ ap f (low j h))
+          | no h ↦ clash (firsts-has f n (w.at i) (w.below i (omega arith)))
               (ap (λ (x : ℕ). member x (firsts f n)) (sym (ap f (low i (omega arith))) ∙ q ∙ ap f (top j (omega arith)))
               ∙ e)
         ]
@@ -119,9 +119,9 @@ firsts-several f (suc n) m h = go (member (f n) (firsts f n)) refl (firsts-sever
     go : (t : Bool) → member (f n) (firsts f n) ≡ t → ((m : ℕ) → m < length (firsts f n) → Several f n m) → m
         < length (cond t (firsts f n) (firsts f n ++ (f n ∷ []))) → Several f (suc n) m
     go true e ih h = wider (ih m h)
-    go false e ih h = elim (decLt m (length (firsts f n))) [
+    go false e ih h = elim (dec_lt m (length (firsts f n))) [
       | yes l ↦ wider (ih m l)
-      | no l ↦ elim (decLt 0 m) [
+      | no l ↦ elim (dec_lt 0 m) [
         | yes p ↦ last e (ih (m - 1) (omega (arith, length-append (firsts f n) (f n ∷ [])))) p
         | no p ↦ record { at = λ i. n; below = λ i g. omega arith; apart = λ i j g k q. omega arith }
       ]

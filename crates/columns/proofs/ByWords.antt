@@ -1,28 +1,28 @@
 -- Columns compared word by word: a part of the free inputs is a part of those from position 6 on, which names a word,
 -- and a part of those below, which names a place within it. Assumes nothing.
-use mathlib.Core.Path.{_≡_, sym, ap, _∙_}
-use mathlib.Core.Bool.{Bool, true, false, _||_}
-use Prim.Native.Nat.{ℕ, _+_, _-_, _*_, _/_, _%_, _^_, _<_, _≤_}
+use mathlib.Core.Path.{◌≡◌, sym, ap, ◌∙◌}
+use mathlib.Core.Bool.{Bool, true, false, ◌||◌}
+use Prim.Native.Nat.{ℕ, ◌+◌, ◌-◌, ◌*◌, ◌/◌, ◌%◌, ◌^◌, ◌<◌, ◌≤◌}
 use native.Mathlib.Nat.{mod-lt}
-use native.Mathlib.Decide.{decLt}
+use native.Mathlib.Decide.{dec_lt}
 use native.Mathlib.Omega.{arith}
-use lib.Bits.{bitAnd}
+use lib.Bits.{bit_and}
 use lib.Dec.{lit<}
-use lib.Pow.{pow-add, pow-pos}
-use Rattle·bits.specs.Numbers.{bit}
-use Rattle·bits.specs.Sets.{wordPositions, isSubset, size, gather, spread}
-use Rattle·bits.proofs.Below.{every-at, every-all}
-use Rattle·bits.proofs.Bools.{clash, false-of, beq-same, same-beq}
-use Rattle·bits.proofs.Machine.{part-spread, masked-bits, bits-masked}
-use Rattle·bits.proofs.Numbers.{number-lt, number-mod, number-bit, bit-number, bit-below, bit-shr, bit-mod, bit-high}
-use Rattle·bits.proofs.Numbers.{top-low, top-high}
-use Rattle·bits.proofs.Spreading.{spread-lt, gather-lt}
-use Rattle·bits.proofs.Subsets.{part-at, part-all}
-use Rattle·bits.proofs.Sums.{number-join}
-use Rattle·bits.proofs.Walking.{Walked}
-use Rattle·tables.proofs.Pieces.{spread-part, above-part, above-whole}
-use Rattle·columns·specs.specs.Reading.{Without, alike, highPart, lowPlaces}
-use Rattle·columns·proofs.proofs.Reading.{read-lt}
+use lib.Pow.{pow-add, pow_pos}
+use Rattle.bits.specs.Numbers.{bit}
+use Rattle.bits.specs.Sets.{wordPositions, isSubset, size, gather, spread}
+use Rattle.bits.proofs.Below.{every-at, every-all}
+use Rattle.bits.proofs.Bools.{clash, false_of, beq_same, same-beq}
+use Rattle.bits.proofs.Machine.{part-spread, masked-bits, bits-masked}
+use Rattle.bits.proofs.Numbers.{number_lt, number-mod, number_bit, bit-number, bit_below, bit-shr, bit-mod, bit_high}
+use Rattle.bits.proofs.Numbers.{top-low, top-high}
+use Rattle.bits.proofs.Spreading.{spread-lt, gather-lt}
+use Rattle.bits.proofs.Subsets.{part_at, part-all}
+use Rattle.bits.proofs.Sums.{number-join}
+use Rattle.bits.proofs.Walking.{Walked}
+use Rattle.tables.proofs.Pieces.{spread-part, above-part, above-whole}
+use Rattle.columns.specs.Reading.{Without, alike, highPart, lowPlaces}
+use Rattle.columns.proofs.Reading.{read-lt}
 
 -- part v of the high members: it steps from word to word
 abbrev pub step : ℕ → ℕ → ℕ → ℕ
@@ -37,11 +37,11 @@ module _ (n L : ℕ) (below : L < 2 ^ n) where
   -- with a place within the word it is a part of all
   module _ (v k : ℕ) (l : k < 64) (part : isSubset wordPositions (bit L) k ≡ true) where
     z-part : (j : ℕ) → bit (step n L v + k) j ≡ true → bit L j ≡ true
-    z-part j e = elim (decLt j wordPositions) [
+    z-part j e = elim (dec_lt j wordPositions) [
       | yes h ↦
           let q : step n L v + k ≡ k + step n L v / 64 * 2 ^ 6 = omega (arith, above-whole n L v) in
-          part-at wordPositions (bit L) k part j h (sym
-          (ap (λ (m : ℕ). bit m j) q ∙ bit-below k (step n L v / 64) 6 j h) ∙ e)
+          part_at wordPositions (bit L) k part j h (sym
+          (ap (λ (m : ℕ). bit m j) q ∙ bit_below k (step n L v / 64) 6 j h) ∙ e)
       | no h ↦
           let q : (step n L v + k) / 64 ≡ step n L v / 64 = omega (arith, above-whole n L v) in
           let i : j ≡ 6 + (j - 6) = omega arith in
@@ -52,7 +52,7 @@ module _ (n L : ℕ) (below : L < 2 ^ n) where
 
     whole : step n L v + k ≡ spread n (bit L) (gather n (bit L) (step n L v + k))
     whole = part-spread n (n + 6) (step n L v + k) L below
-        (omega (arith, spread-lt n (bit (highPart L)) v, pow-add 2 n 6, pow-pos n)) (λ j h. z-part j)
+        (omega (arith, spread-lt n (bit (highPart L)) v, pow-add 2 n 6, pow_pos n)) (λ j h. z-part j)
 
   -- and every part of all is made so
   module _ (c : ℕ) where
@@ -69,7 +69,7 @@ module _ (n L : ℕ) (below : L < 2 ^ n) where
     word-is : highPart z ≡ step n L word
     word-is =
         part-spread n n (highPart z) (highPart L) (omega (arith, below)) (omega (arith, spread-lt n (bit L) c))
-        (λ j l e. elim (decLt j wordPositions) [
+        (λ j l e. elim (dec_lt j wordPositions) [
           | yes h ↦ absurd (clash e (top-low z wordPositions j h))
           | no h ↦
               let g : wordPositions ≤ j = omega arith in
@@ -84,7 +84,7 @@ module _ (n L : ℕ) (below : L < 2 ^ n) where
     pub alike-even : alike n F L x y ≡ true → (v : ℕ) → Even n L F x y v
     unfolding alike
     alike-even e v k l part =
-        moved x ∙ beq-same _ _ (every-at (2 ^ size n (bit L)) _ e (gather n (bit L) (step n L v + k))
+        moved x ∙ beq_same _ _ (every-at (2 ^ size n (bit L)) _ e (gather n (bit L) (step n L v + k))
         (gather-lt n (bit L) (step n L v + k))) ∙ sym (moved y)
       where
         moved : (a : ℕ) → F (a + step n L v + k) ≡ F (a + spread n (bit L) (gather n (bit L) (step n L v + k)))
@@ -102,13 +102,13 @@ module _ (n L : ℕ) (below : L < 2 ^ n) where
   -- ---- the words that are read: f is part v of the high members
   module _ {many v f : ℕ} (walk : Walked n (highPart L) many f v) where
     at : f ≡ step n L v
-    at = walk .at
+    at = walk.at
 
     module _ {x : ℕ} (w : Without n L x) where
-      pub word-lt : x + f < 2 ^ n
-      word-lt =
+      pub word_lt : x + f < 2 ^ n
+      word_lt =
           let clear : Without n (highPart L) x = record
-          { below = w .below; clear = λ j l e. w .clear j l (above-part L j e) } in
+          { below = w.below; clear = λ j l e. w.clear j l (above-part L j e) } in
           omega (arith, at, read-lt n (highPart L) x clear v)
 
       -- a place is within the word
@@ -119,38 +119,38 @@ module _ (n L : ℕ) (below : L < 2 ^ n) where
             at,
             above-whole n L v,
             number-mod 6 x,
-            number-bit 6 k l,
+            number_bit 6 k l,
             number-join 6 (bit x) (bit k) apart,
-            number-lt 6 (λ j. bit x j || bit k j),
+            number_lt 6 (λ j. bit x j || bit k j),
           )
         where
           apart : (j : ℕ) → j < 6 → bit x j ≡ true → bit k j ≡ false
-          apart j h e = false-of (bit k j) (λ q. elim (decLt j n) [
-            | yes g ↦ clash e (w .clear j g (part-at wordPositions (bit L) k part j h q))
-            | no g ↦ clash e (bit-high x n j (w .below) (omega arith))
+          apart j h e = false_of (bit k j) (λ q. elim (dec_lt j n) [
+            | yes g ↦ clash e (w.clear j g (part_at wordPositions (bit L) k part j h q))
+            | no g ↦ clash e (bit_high x n j w.below (omega arith))
           ])
 
     -- a and b are the bits from x + f and from y + f on, as far as their words go
     module _ (F : ℕ → Bool) {x y low : ℕ} (a b : ℕ) (wx : Without n L x) (wy : Without n L y) (is : low ≡ lowPlaces L)
-        (at-x : (k : ℕ) → (x + f) % 64 + k < 64 → bit a k ≡ F (x + f + k))
-        (at-y : (k : ℕ) → (y + f) % 64 + k < 64 → bit b k ≡ F (y + f + k)) where
+        (at_x : (k : ℕ) → (x + f) % 64 + k < 64 → bit a k ≡ F (x + f + k))
+        (at_y : (k : ℕ) → (y + f) % 64 + k < 64 → bit b k ≡ F (y + f + k)) where
       low-lt : low < 2 ^ 64
       unfolding lowPlaces
-      low-lt = omega (arith, is, number-lt 64 (isSubset wordPositions (bit L)))
+      low-lt = omega (arith, is, number_lt 64 (isSubset wordPositions (bit L)))
 
-      low-bit : (k : ℕ) → k < 64 → bit low k ≡ isSubset wordPositions (bit L) k
+      low_bit : (k : ℕ) → k < 64 → bit low k ≡ isSubset wordPositions (bit L) k
       unfolding lowPlaces
-      low-bit k l = ap (λ (m : ℕ). bit m k) is ∙ bit-number 64 (isSubset wordPositions (bit L)) k l
+      low_bit k l = ap (λ (m : ℕ). bit m k) is ∙ bit-number 64 (isSubset wordPositions (bit L)) k l
 
-      pub equal-even : bitAnd a low ≡ bitAnd b low → Even n L F x y v
+      pub equal-even : bit_and a low ≡ bit_and b low → Even n L F x y v
       equal-even e k l part =
-          let same : bit a k ≡ bit b k = masked-bits 64 low a b low-lt e k (low-bit k l ∙ part) in
-          ap (λ (g : ℕ). F (x + g + k)) (sym at) ∙ sym (at-x k (place-fits wx k l part)) ∙ same
-          ∙ at-y k (place-fits wy k l part) ∙ ap (λ (g : ℕ). F (y + g + k)) at
+          let same : bit a k ≡ bit b k = masked-bits 64 low a b low-lt e k (low_bit k l ∙ part) in
+          ap (λ (g : ℕ). F (x + g + k)) (sym at) ∙ sym (at_x k (place-fits wx k l part)) ∙ same
+          ∙ at_y k (place-fits wy k l part) ∙ ap (λ (g : ℕ). F (y + g + k)) at
 
-      pub even-equal : Even n L F x y v → bitAnd a low ≡ bitAnd b low
+      pub even-equal : Even n L F x y v → bit_and a low ≡ bit_and b low
       even-equal h =
           bits-masked 64 low a b low-lt (λ k l e.
-          let part : isSubset wordPositions (bit L) k ≡ true = sym (low-bit k l) ∙ e in
-          at-x k (place-fits wx k l part) ∙ ap (λ (g : ℕ). F (x + g + k)) at ∙ h k l part
-          ∙ ap (λ (g : ℕ). F (y + g + k)) (sym at) ∙ sym (at-y k (place-fits wy k l part)))
+          let part : isSubset wordPositions (bit L) k ≡ true = sym (low_bit k l) ∙ e in
+          at_x k (place-fits wx k l part) ∙ ap (λ (g : ℕ). F (x + g + k)) at ∙ h k l part
+          ∙ ap (λ (g : ℕ). F (y + g + k)) (sym at) ∙ sym (at_y k (place-fits wy k l part)))

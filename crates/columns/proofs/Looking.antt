@@ -1,32 +1,32 @@
 -- Looking through the columns of b: the numbers seen so far stand for the different columns of the first a. Assumes
 -- nothing.
-use mathlib.Core.Path.{_≡_, refl, sym, ap, _∙_, subst}
-use mathlib.Core.Logic.{⊎-elim}
+use mathlib.Core.Path.{◌≡◌, refl, sym, ap, ◌∙◌, subst}
+use mathlib.Core.Logic.{⊎_elim}
 use mathlib.Core.Bool.{Bool, true, false}
 use mathlib.Core.List.{List, map}
-use Prim.Native.Nat.{ℕ, _+_, _^_, _<_, _≤_}
-use native.Mathlib.Decide.{decLt}
+use Prim.Native.Nat.{ℕ, ◌+◌, ◌^◌, ◌<◌, ◌≤◌}
+use native.Mathlib.Decide.{dec_lt}
 use native.Mathlib.Omega.{arith}
 use lib.Dec.{ltb}
-use lib.ListN.{length, getD, take, set, length-set}
-use lib.Seq.{getD-set-same, getD-set-other}
+use lib.ListN.{length, get_or, take, set, length-set}
+use lib.Seq.{get_or-set_same, get_or-set_other}
 use borrow.Author.Tests.{lt-ltb, le-ltb}
-use Rattle·bits.specs.Numbers.{bit}
-use Rattle·bits.specs.Sets.{size, gather}
-use Rattle·bits.proofs.Below.{below-suc}
-use Rattle·bits.proofs.Walking.{Walked, walked-turn, walked-gather, walked-within}
-use Rattle·columns·specs.specs.declared.split.Split.{Split}
-use Rattle·splits.specs.Columns.{index, firsts, columns}
-use Rattle·columns·specs.specs.Reading.{Within, columnOf, columnAt, columnsOf, Seen}
-use Rattle·splits.proofs.Stored.{step-old, step-new, too-many, reps-len}
+use Rattle.bits.specs.Numbers.{bit}
+use Rattle.bits.specs.Sets.{size, gather}
+use Rattle.bits.proofs.Below.{below_suc}
+use Rattle.bits.proofs.Walking.{Walked, walked-turn, walked-gather, walked-within}
+use Rattle.columns.specs.declared.split.Split.{Split}
+use Rattle.splits.specs.Columns.{index, firsts, columns}
+use Rattle.columns.specs.Reading.{Within, columnOf, columnAt, columnsOf, Seen}
+use Rattle.splits.proofs.Stored.{step-old, step-new, too_many, reps-len}
 
 -- the first k of `seen` stand for the different columns of the first a own assignments
 pub record SoFar (s : Split) (F : ℕ → Bool) (b limit : ℕ) (before seen : List ℕ) (k a : ℕ) : Type 0 where
   pub stands : map (columnAt s F b) (take k seen) ≡ firsts (columnOf s F b) a
   pub few : k ≤ limit
   pub long : length seen ≡ length before
-  pub own : (i : ℕ) → i < k → Within (s .n) (s .own) (getD seen i 0)
-  pub stay : (i : ℕ) → k ≤ i → getD seen i 0 ≡ getD before i 0
+  pub own : (i : ℕ) → i < k → Within s.n s.own (get_or seen i 0)
+  pub stay : (i : ℕ) → k ≤ i → get_or seen i 0 ≡ get_or before i 0
 
 pub looking-starts : {s : Split} {F : ℕ → Bool} {b limit : ℕ} {before : List ℕ} → SoFar s F b limit before before 0 0
 unfolding firsts
@@ -37,82 +37,82 @@ module _ {s : Split} {F : ℕ → Bool} {b limit : ℕ} {before seen : List ℕ}
     (w : SoFar s F b limit before seen k a)
     (room : limit ≤ length before) where
   within : k ≤ length seen
-  within = omega (arith, w .few, w .long)
+  within = omega (arith, w.few, w.long)
 
   -- one column more, read at z: its place among those seen is i
-  module _ {many z i : ℕ} (walk : Walked (s .n) (s .own) many z a) (l : a < many)
+  module _ {many z i : ℕ} (walk : Walked s.n s.own many z a) (l : a < many)
       (place : i ≡ index (columnAt s F b z) (map (columnAt s F b) (take k seen))) where
     stands-for : columnAt s F b z ≡ columnOf s F b a
     stands-for = ap (columnOf s F b) (walked-gather walk l)
 
     pub looking-old : (i ≡ k → ⊥) → SoFar s F b limit before seen k (a + 1)
     looking-old e = record {
-      stands = step-old (columnOf s F b) (columnAt s F b) seen k a z i within (w .stands) stands-for place e;
-      few = w .few;
-      long = w .long;
-      own = w .own;
-      stay = w .stay;
+      stands = step-old (columnOf s F b) (columnAt s F b) seen k a z i within w.stands stands-for place e;
+      few = w.few;
+      long = w.long;
+      own = w.own;
+      stay = w.stay;
     }
 
     pub looking-new : i ≡ k → (k ≡ limit → ⊥) → SoFar s F b limit before (set seen k z) (k + 1) (a + 1)
     looking-new e m = record {
-      stands = step-new (columnOf s F b) (columnAt s F b) seen k a z i within (w .stands) stands-for place e inside;
-      few = omega (arith, w .few);
-      long = length-set seen k z ∙ w .long;
-      own = λ j g. ⊎-elim
-          (λ g. subst (Within (s .n) (s .own)) (sym (getD-set-other seen k j z 0 (λ r. omega (arith, r)))) (w .own j g))
-          (λ r. subst (Within (s .n) (s .own)) (sym (here j r)) (walked-within walk l))
-          (below-suc {j = j} {n = k} (omega arith));
-      stay = λ j g. getD-set-other seen k j z 0 (λ r. omega (arith, r)) ∙ w .stay j (omega arith);
+      stands = step-new (columnOf s F b) (columnAt s F b) seen k a z i within w.stands stands-for place e inside;
+      few = omega (arith, w.few);
+      long = length-set seen k z ∙ w.long;
+      own = λ j g. ⊎_elim
+          (λ g. subst (Within s.n s.own) (sym (get_or-set_other seen k j z 0 (λ r. omega (arith, r)))) (w.own j g))
+          (λ r. subst (Within s.n s.own) (sym (here j r)) (walked-within walk l))
+          (below_suc {j = j} {n = k} (omega arith));
+      stay = λ j g. get_or-set_other seen k j z 0 (λ r. omega (arith, r)) ∙ w.stay j (omega arith);
     }
       where
         inside : k < length seen
-        inside = omega (arith, w .few, w .long)
+        inside = omega (arith, w.few, w.long)
 
-        here : (j : ℕ) → j ≡ k → getD (set seen k z) j 0 ≡ z
-        here j r = ap (λ (m : ℕ). getD (set seen k z) m 0) r ∙ getD-set-same seen k z 0 inside
+        here : (j : ℕ) → j ≡ k → get_or (set seen k z) j 0 ≡ z
+        here j r = ap (λ (m : ℕ). get_or (set seen k z) m 0) r ∙ get_or-set_same seen k z 0 inside
 
     pub looking-stops : i ≡ k → k ≡ limit → Seen s F b limit before seen (limit + 1)
     unfolding columns
     looking-stops e q =
-        let more = too-many (columnOf s F b) (columnAt s F b) seen k a z i within (w .stands) stands-for place e in
+        let more = too_many (columnOf s F b) (columnAt s F b) seen k a z i within w.stands stands-for place e in
         record {
           few = λ g. absurd (omega arith);
-          many = λ g. omega (arith, more (2 ^ size (s .n) (bit (s .own))) (walked-turn walk l));
+          many = λ g. omega (arith, more (2 ^ size s.n (bit s.own)) (walked-turn walk l));
           stands = λ g. absurd (omega arith);
-          own = λ j g m. w .own j (omega arith);
-          stay = λ j g. w .stay j (omega arith);
+          own = λ j g m. w.own j (omega arith);
+          stay = λ j g. w.stay j (omega arith);
         }
 
-  pub looking-ends : a ≡ 2 ^ size (s .n) (bit (s .own)) → Seen s F b limit before seen k
+  pub looking-ends : a ≡ 2 ^ size s.n (bit s.own) → Seen s F b limit before seen k
   unfolding columns
   looking-ends e =
-      let whole : map (columnAt s F b) (take k seen) ≡ columnsOf s F b = w .stands ∙ ap (firsts (columnOf s F b)) e in
+      let whole : map (columnAt s F b) (take k seen) ≡ columnsOf s F b = w.stands ∙ ap (firsts (columnOf s F b)) e in
       record {
         few = λ g. sym (reps-len (columnAt s F b) seen k within) ∙ ap length whole;
-        many = λ g. absurd (g (w .few));
+        many = λ g. absurd (g w.few);
         stands = λ g. whole;
-        own = λ j g m. w .own j g;
-        stay = w .stay;
+        own = λ j g m. w.own j g;
+        stay = w.stay;
       }
 
 -- what was seen settles the test at b, whose shared assignment is the number at hand of a walk
 module _ {s : Split} {F : ℕ → Bool} {limit : ℕ} {before seen : List ℕ} {k many base b : ℕ}
-    (walk : Walked (s .n) (s .shared) many base b)
-    (l : b < many) (w : Seen s F (gather (s .n) (bit (s .shared)) base) limit before seen k) where
-  pub seen-at : Seen s F b limit before seen k
-  seen-at = subst (λ (i : ℕ). Seen s F i limit before seen k) (walked-gather walk l) w
+    (walk : Walked s.n s.shared many base b)
+    (l : b < many) (w : Seen s F (gather s.n (bit s.shared) base) limit before seen k) where
+  pub seen_at : Seen s F b limit before seen k
+  seen_at = subst (λ (i : ℕ). Seen s F i limit before seen k) (walked-gather walk l) w
 
-  pub seen-few : k ≤ limit → ltb limit (length (columnsOf s F b)) ≡ false
-  seen-few h = le-ltb limit (length (columnsOf s F b)) (omega (arith, seen-at .few h))
+  pub seen_few : k ≤ limit → ltb limit (length (columnsOf s F b)) ≡ false
+  seen_few h = le-ltb limit (length (columnsOf s F b)) (omega (arith, seen_at.few h))
 
   pub seen-many : limit < k → ltb limit (length (columnsOf s F b)) ≡ true
-  seen-many h = lt-ltb limit (length (columnsOf s F b)) (seen-at .many (λ g. omega arith))
+  seen-many h = lt-ltb limit (length (columnsOf s F b)) (seen_at.many (λ g. omega arith))
 
   -- where the test holds, the limit was not passed
   pub seen-within : length (columnsOf s F b) ≤ limit → k ≤ limit
-  seen-within h = elim (decLt limit k) [
-    | yes g ↦ absurd (omega (arith, seen-at .many (λ m. omega arith)))
+  seen-within h = elim (dec_lt limit k) [
+    | yes g ↦ absurd (omega (arith, seen_at.many (λ m. omega arith)))
     | no g ↦ omega
         arith
   ]

@@ -1,28 +1,28 @@
 -- Columns read by adding spread numbers. Assumes nothing.
-use mathlib.Core.Path.{_≡_, refl, sym, ap, ap₂, _∙_, subst}
-use mathlib.Core.Bool.{Bool, true, false, not, _&&_, _||_}
-use Prim.Native.Nat.{ℕ, _+_, _^_, _<_}
+use mathlib.Core.Path.{◌≡◌, refl, sym, ap, ap₂, ◌∙◌, subst}
+use mathlib.Core.Bool.{Bool, true, false, not, ◌&&◌, ◌||◌}
+use Prim.Native.Nat.{ℕ, ◌+◌, ◌^◌, ◌<◌}
 use native.Mathlib.Omega.{arith}
 use lib.Dec.{eqb}
 use borrow.Author.Tests.{eqb-true}
-use Rattle·bits.specs.Numbers.{bit, number}
-use Rattle·bits.specs.Sets.{union, rest, size, gather, spread}
-use Rattle·bits.proofs.Bools.{iff, beq-same, same-beq}
-use Rattle·bits.proofs.Below.{every-at, every-all}
-use Rattle·bits.proofs.Numbers.{number-lt, number-ext, bit-number}
-use Rattle·bits.proofs.Sums.{number-join, sum-mask}
-use Rattle·bits.proofs.Spreading.{spread-zero, gather-spread, gather-zero}
-use Rattle·bits.proofs.Masks.{mask-lt, mask-bit, mask-size, mask-spread}
-use Rattle·tables.proofs.Pieces.{apart-lt}
-use Rattle·columns·specs.specs.declared.split.Split.{Split}
-use Rattle·splits.specs.Split.{readsD, readsH}
-use Rattle·splits.specs.Columns.{assign, column}
-use Rattle·columns·specs.specs.Reading.{Held, Without, Within, alike, columnAt}
-use Rattle·splits.proofs.Parts.{assign-spread, rest-apart, column-same}
+use Rattle.bits.specs.Numbers.{bit, number}
+use Rattle.bits.specs.Sets.{union, rest, size, gather, spread}
+use Rattle.bits.proofs.Bools.{iff, beq_same, same-beq}
+use Rattle.bits.proofs.Below.{every-at, every-all}
+use Rattle.bits.proofs.Numbers.{number_lt, number-ext, bit-number}
+use Rattle.bits.proofs.Sums.{number-join, sum-mask}
+use Rattle.bits.proofs.Spreading.{spread-zero, gather-spread, gather-zero}
+use Rattle.bits.proofs.Masks.{mask_lt, mask-bit, mask_size, mask_spread}
+use Rattle.tables.proofs.Pieces.{apart-lt}
+use Rattle.columns.specs.declared.split.Split.{Split}
+use Rattle.splits.specs.Split.{readsD, readsH}
+use Rattle.splits.specs.Columns.{assign, column}
+use Rattle.columns.specs.Reading.{Held, Without, Within, alike, columnAt}
+use Rattle.splits.proofs.Parts.{assign-spread, rest-apart, column-same}
 
 -- what is read stays an assignment
 pub read-lt : (n L x : ℕ) → Without n L x → (c : ℕ) → x + spread n (bit L) c < 2 ^ n
-read-lt n L x w c = apart-lt n x L c (w .below) (w .clear)
+read-lt n L x w c = apart-lt n x L c w.below w.clear
 
 -- a spread number has bits at the mask's members alone
 pub within-spread : (n m v : ℕ) → v < 2 ^ size n (bit m) → Within n m (spread n (bit m) v)
@@ -32,63 +32,63 @@ pub within-zero : (n m : ℕ) → Within n m 0
 within-zero n m = sym (ap (spread n (bit m)) (gather-zero n (bit m)) ∙ spread-zero n (bit m))
 
 -- ---- the columns of a split, at the shared assignment in `base`
-module _ (s : Split) (h : Held s) (F : ℕ → Bool) (base : ℕ) (shared : Within (s .n) (s .shared) base) where
+module _ (s : Split) (h : Held s) (F : ℕ → Bool) (base : ℕ) (shared : Within s.n s.shared base) where
   abbrev n : ℕ
-  n = s .n
+  n = s.n
 
   abbrev A : ℕ → Bool
-  A = bit (s .own)
+  A = bit s.own
 
   abbrev B : ℕ → Bool
-  B = bit (s .shared)
+  B = bit s.shared
 
   abbrev L : ℕ
-  L = s .free
+  L = s.free
 
   abbrev b : ℕ
   b = gather n B base
 
   -- the assignment that is read
-  pub reads : (z c : ℕ) → Within n (s .own) z → base + z + spread n (bit L) c ≡ assign n A B (gather n A z) b c
+  pub reads : (z c : ℕ) → Within n s.own z → base + z + spread n (bit L) c ≡ assign n A B (gather n A z) b c
   reads z c own =
       omega (
         arith,
         shared,
         own,
-        mask-spread n (rest A B) L (h .free) c,
-        assign-spread n A B (h .apart) (gather n A z) b c,
+        mask_spread n (rest A B) L h.free c,
+        assign-spread n A B h.apart (gather n A z) b c,
       )
 
-  same-size : size n (bit L) ≡ size n (rest A B)
-  same-size = mask-size n (rest A B) L (h .free)
+  same_size : size n (bit L) ≡ size n (rest A B)
+  same_size = mask_size n (rest A B) L h.free
 
   -- comparing bit by bit is comparing columns
-  pub alike-column : (z z′ : ℕ) → Within n (s .own) z → Within n (s .own) z′
-      → alike n F L (base + z) (base + z′) ≡ eqb (columnAt s F b z) (columnAt s F b z′)
+  pub alike-column : (z z' : ℕ) → Within n s.own z → Within n s.own z'
+      → alike n F L (base + z) (base + z') ≡ eqb (columnAt s F b z) (columnAt s F b z')
   unfolding alike column
-  alike-column z z′ own own′ = iff _ _ there (λ e. every-all (2 ^ size n (bit L)) _ (λ c l. same-beq _ _ (back e c l)))
+  alike-column z z' own own' = iff _ _ there (λ e. every-all (2 ^ size n (bit L)) _ (λ c l. same-beq _ _ (back e c l)))
     where
-      there : alike n F L (base + z) (base + z′) ≡ true → eqb (columnAt s F b z) (columnAt s F b z′) ≡ true
+      there : alike n F L (base + z) (base + z') ≡ true → eqb (columnAt s F b z) (columnAt s F b z') ≡ true
       there e =
-          column-same n F A B b (gather n A z) (gather n A z′)
-          (λ c l. sym (ap F (reads z c own)) ∙ beq-same _ _
-          (every-at (2 ^ size n (bit L)) _ e c (subst (λ (m : ℕ). c < 2 ^ m) (sym same-size) l))
-          ∙ ap F (reads z′ c own′))
+          column-same n F A B b (gather n A z) (gather n A z')
+          (λ c l. sym (ap F (reads z c own)) ∙ beq_same _ _
+          (every-at (2 ^ size n (bit L)) _ e c (subst (λ (m : ℕ). c < 2 ^ m) (sym same_size) l))
+          ∙ ap F (reads z' c own'))
 
-      back : eqb (columnAt s F b z) (columnAt s F b z′) ≡ true → (c : ℕ) → c < 2 ^ size n (bit L)
-          → F (base + z + spread n (bit L) c) ≡ F (base + z′ + spread n (bit L) c)
+      back : eqb (columnAt s F b z) (columnAt s F b z') ≡ true → (c : ℕ) → c < 2 ^ size n (bit L)
+          → F (base + z + spread n (bit L) c) ≡ F (base + z' + spread n (bit L) c)
       back e c l =
-          let l′ : c < 2 ^ size n (rest A B) = subst (λ (m : ℕ). c < 2 ^ m) same-size l in
+          let l' : c < 2 ^ size n (rest A B) = subst (λ (m : ℕ). c < 2 ^ m) same_size l in
           ap F (reads z c own)
-          ∙ sym (bit-number (2 ^ size n (rest A B)) (λ i. F (assign n A B (gather n A z) b i)) c l′)
-          ∙ ap (λ (m : ℕ). bit m c) (eqb-true (columnAt s F b z) (columnAt s F b z′) e)
-          ∙ bit-number (2 ^ size n (rest A B)) (λ i. F (assign n A B (gather n A z′) b i)) c l′
-          ∙ sym (ap F (reads z′ c own′))
+          ∙ sym (bit-number (2 ^ size n (rest A B)) (λ i. F (assign n A B (gather n A z) b i)) c l')
+          ∙ ap (λ (m : ℕ). bit m c) (eqb-true (columnAt s F b z) (columnAt s F b z') e)
+          ∙ bit-number (2 ^ size n (rest A B)) (λ i. F (assign n A B (gather n A z') b i)) c l'
+          ∙ sym (ap F (reads z' c own'))
 
   -- where the reading starts has no free position
-  pub start : (z : ℕ) → Within n (s .own) z → Without n L (base + z)
+  pub start : (z : ℕ) → Within n s.own z → Without n L (base + z)
   unfolding spread
-  start z own = record { below = subst (λ (m : ℕ). m < 2 ^ n) (sym sum) (number-lt n (λ j. f j || g j)); clear = clear }
+  start z own = record { below = subst (λ (m : ℕ). m < 2 ^ n) (sym sum) (number_lt n (λ j. f j || g j)); clear = clear }
     where
       f : ℕ → Bool
       f j = B j && bit b (size j B)
@@ -101,8 +101,8 @@ module _ (s : Split) (h : Held s) (F : ℕ → Bool) (base : ℕ) (shared : With
       meet false q u v k e = cc
 
       sum : base + z ≡ number n (λ j. f j || g j)
-      sum = ap₂ _+_ shared own ∙ number-join n f g (λ j l q. meet (B j) (A j) (bit b (size j B))
-          (bit (gather n A z) (size j A)) (h .apart j l) q)
+      sum = ap₂ ◌+◌ shared own ∙ number-join n f g (λ j l q. meet (B j) (A j) (bit b (size j B))
+          (bit (gather n A z) (size j A)) (h.apart j l) q)
 
       none : (p q u v : Bool) → not (p || q) ≡ true → ((q && u) || (p && v)) ≡ false
       none true q u v k = cc
@@ -113,27 +113,27 @@ module _ (s : Split) (h : Held s) (F : ℕ → Bool) (base : ℕ) (shared : With
       clear j l q =
           ap (λ (m : ℕ). bit m j) sum ∙ bit-number n (λ j. f j || g j) j l
           ∙ none (A j) (B j) (bit b (size j B)) (bit (gather n A z) (size j A))
-          (sym (mask-bit n (rest A B) L (h .free) j l) ∙ q)
+          (sym (mask-bit n (rest A B) L h.free j l) ∙ q)
 
 -- ---- the masks that the code makes
 
-pub free-lt : (s : Split) → Held s → s .free < 2 ^ s .n
-free-lt s h = mask-lt (s .n) (rest (bit (s .own)) (bit (s .shared))) (s .free) (h .free)
+pub free-lt : (s : Split) → Held s → s.free < 2 ^ s.n
+free-lt s h = mask_lt s.n (rest (bit s.own) (bit s.shared)) s.free h.free
 
-pub below-mask : (s : Split) → Held s → s .own + s .shared ≡ number (s .n) (readsD (bit (s .own)) (bit (s .shared)))
-below-mask s h = sum-mask (s .n) (s .own) (s .shared) (h .belowA) (h .belowB) (h .apart)
+pub below-mask : (s : Split) → Held s → s.own + s.shared ≡ number s.n (readsD (bit s.own) (bit s.shared))
+below-mask s h = sum-mask s.n s.own s.shared h.belowA h.belowB h.apart
 
-pub beside-mask : (s : Split) → Held s → s .shared + s .free ≡ number (s .n) (readsH (bit (s .own)) (bit (s .shared)))
+pub beside-mask : (s : Split) → Held s → s.shared + s.free ≡ number s.n (readsH (bit s.own) (bit s.shared))
 beside-mask s h =
-    sum-mask (s .n) (s .shared) (s .free) (h .belowB) (free-lt s h)
-    (λ j l e. rest-apart (s .n) A B j l (sym (free-bit j l) ∙ e))
-    ∙ number-ext (s .n) (union B (bit (s .free))) (readsH A B) (λ j l. ap (λ (t : Bool). B j || t) (free-bit j l))
+    sum-mask s.n s.shared s.free h.belowB (free-lt s h)
+    (λ j l e. rest-apart s.n A B j l (sym (free-bit j l) ∙ e))
+    ∙ number-ext s.n (union B (bit s.free)) (readsH A B) (λ j l. ap (λ (t : Bool). B j || t) (free-bit j l))
   where
     A : ℕ → Bool
-    A = bit (s .own)
+    A = bit s.own
 
     B : ℕ → Bool
-    B = bit (s .shared)
+    B = bit s.shared
 
-    free-bit : (j : ℕ) → j < s .n → bit (s .free) j ≡ rest A B j
-    free-bit = mask-bit (s .n) (rest A B) (s .free) (h .free)
+    free-bit : (j : ℕ) → j < s.n → bit s.free j ≡ rest A B j
+    free-bit = mask-bit s.n (rest A B) s.free h.free

@@ -1,10 +1,7 @@
 -- Where a split breaks.
-use mathlib.Core.Path.{_≡_}
-use mathlib.Core.Bool.{Bool, cond}
-use Prim.Native.Nat.{ℕ, _<_, _≤_}
-use lib.ListN.{length}
-use Rattle·columns·specs.specs.declared.columns.Broken.{Broken}
-use Rattle·splits.specs.Columns.{columns, fewColumns, firstBroken}
+use Rattle.std.specs.Prelude.{◌≡◌, Bool, cond, ℕ, ◌<◌, ◌≤◌, length}
+use Rattle.columns.specs.declared.columns.Broken.{Broken}
+use Rattle.splits.specs.Columns.{columns, fewColumns, firstBroken}
 
 -- the least b that has more than m different columns, and how many it has; both 0 where none has
 abbrev pub brokenAt : ℕ → (ℕ → Bool) → (ℕ → Bool) → (ℕ → Bool) → ℕ → Broken

@@ -1,16 +1,13 @@
 -- What the code holds while it reads the columns of a split.
-use mathlib.Core.Path.{_≡_}
-use mathlib.Core.Bool.{Bool, true, false, Bool·beq}
-use mathlib.Core.List.{List, map}
-use Prim.Native.Nat.{ℕ, _+_, _*_, _/_, _^_, _<_, _≤_}
-use lib.ListN.{length, getD, take}
-use Rattle·bits.specs.Numbers.{bit, number}
-use Rattle·bits.specs.Sets.{wordPositions, isSubset, rest, Apart, size, gather, spread}
-use Rattle·bits.specs.Below.{every}
-use Rattle·tables.specs.Table.{mostInputs}
-use Rattle·columns·specs.specs.declared.split.Split.{Split}
-use Rattle·splits.specs.Split.{readsD, readsH}
-use Rattle·splits.specs.Columns.{column, columns}
+use Rattle.std.specs.Prelude.{◌≡◌, Bool, true, false, List, map, ℕ, ◌+◌, ◌*◌, ◌/◌, ◌^◌, ◌<◌, ◌≤◌, length, get_or, take}
+use Rattle.std.specs.Bool.{beq}
+use Rattle.bits.specs.Numbers.{bit, number}
+use Rattle.bits.specs.Sets.{wordPositions, isSubset, rest, Apart, size, gather, spread}
+use Rattle.bits.specs.Below.{every}
+use Rattle.tables.specs.Table.{mostInputs}
+use Rattle.columns.specs.declared.split.Split.{Split}
+use Rattle.splits.specs.Split.{readsD, readsH}
+use Rattle.splits.specs.Columns.{column, columns}
 
 -- the members of a mask from position 6 on: their parts step from one word of a table to another
 abbrev pub highPart : ℕ → ℕ
@@ -22,17 +19,17 @@ lowPlaces L = number (2 ^ wordPositions) (isSubset wordPositions (bit L))
 
 -- a split of masks: the free mask follows from the two, and how the free inputs are read by words follows from it
 pub record Held (s : Split) : Type 0 where
-  pub most : s .n ≤ mostInputs
-  pub belowA : s .own < 2 ^ s .n
-  pub belowB : s .shared < 2 ^ s .n
-  pub apart : Apart (s .n) (bit (s .own)) (bit (s .shared))
-  pub free : s .free ≡ number (s .n) (rest (bit (s .own)) (bit (s .shared)))
-  pub words : s .words ≡ 2 ^ size (s .n) (bit (highPart (s .free)))
-  pub low : s .low ≡ lowPlaces (s .free)
+  pub most : s.n ≤ mostInputs
+  pub belowA : s.own < 2 ^ s.n
+  pub belowB : s.shared < 2 ^ s.n
+  pub apart : Apart s.n (bit s.own) (bit s.shared)
+  pub free : s.free ≡ number s.n (rest (bit s.own) (bit s.shared))
+  pub words : s.words ≡ 2 ^ size s.n (bit (highPart s.free))
+  pub low : s.low ≡ lowPlaces s.free
 
 -- F reads the same at x and at y, with each part of the mask L added
 unfoldable pub alike : ℕ → (ℕ → Bool) → ℕ → ℕ → ℕ → Bool
-alike n F L x y = every (2 ^ size n (bit L)) (λ c. Bool·beq (F (x + spread n (bit L) c)) (F (y + spread n (bit L) c)))
+alike n F L x y = every (2 ^ size n (bit L)) (λ c. beq (F (x + spread n (bit L) c)) (F (y + spread n (bit L) c)))
 
 -- x has no position of L
 pub record Without (n L x : ℕ) : Type 0 where
@@ -45,27 +42,27 @@ Within n m x = x ≡ spread n (bit m) (gather n (bit m) x)
 
 -- what the first cells of a split of masks read
 abbrev pub firstReads : Split → ℕ → Bool
-firstReads s = readsD (bit (s .own)) (bit (s .shared))
+firstReads s = readsD (bit s.own) (bit s.shared)
 
 -- what H reads besides their outputs
 abbrev pub lastReads : Split → ℕ → Bool
-lastReads s = readsH (bit (s .own)) (bit (s .shared))
+lastReads s = readsH (bit s.own) (bit s.shared)
 
 -- what x has at the own inputs, read in increasing position
 abbrev pub ownPart : Split → ℕ → ℕ
-ownPart s x = gather (s .n) (bit (s .own)) x
+ownPart s x = gather s.n (bit s.own) x
 
 -- and at the shared ones
 abbrev pub sharedPart : Split → ℕ → ℕ
-sharedPart s x = gather (s .n) (bit (s .shared)) x
+sharedPart s x = gather s.n (bit s.shared) x
 
 -- the bits of x at own and shared inputs
 abbrev pub readFrom : Split → ℕ → ℕ
-readFrom s x = spread (s .n) (firstReads s) (gather (s .n) (firstReads s) x)
+readFrom s x = spread s.n (firstReads s) (gather s.n (firstReads s) x)
 
 -- the column of (a,b)
 abbrev pub columnOf : Split → (ℕ → Bool) → ℕ → ℕ → ℕ
-columnOf s F b a = column (s .n) F (bit (s .own)) (bit (s .shared)) b a
+columnOf s F b a = column s.n F (bit s.own) (bit s.shared) b a
 
 -- the column read at z, a number with bits at own inputs alone, for b
 abbrev pub columnAt : Split → (ℕ → Bool) → ℕ → ℕ → ℕ
@@ -73,7 +70,7 @@ columnAt s F b z = columnOf s F b (ownPart s z)
 
 -- the different columns of b
 abbrev pub columnsOf : Split → (ℕ → Bool) → ℕ → List ℕ
-columnsOf s F b = columns (s .n) F (bit (s .own)) (bit (s .shared)) b
+columnsOf s F b = columns s.n F (bit s.own) (bit s.shared) b
 
 -- what is known after the columns of b were looked through up to a limit: how many there are, or that they are more
 -- than the limit; the first places of `seen` then stand for them, in order, and the places after those are as before
@@ -81,8 +78,8 @@ pub record Seen (s : Split) (F : ℕ → Bool) (b limit : ℕ) (before seen : Li
   pub few : k ≤ limit → k ≡ length (columnsOf s F b)
   pub many : (k ≤ limit → ⊥) → limit < length (columnsOf s F b)
   pub stands : k ≤ limit → map (columnAt s F b) (take k seen) ≡ columnsOf s F b
-  pub own : (i : ℕ) → i < k → i < limit → Within (s .n) (s .own) (getD seen i 0)
-  pub stay : (i : ℕ) → k ≤ i → getD seen i 0 ≡ getD before i 0
+  pub own : (i : ℕ) → i < k → i < limit → Within s.n s.own (get_or seen i 0)
+  pub stay : (i : ℕ) → k ≤ i → get_or seen i 0 ≡ get_or before i 0
 
 -- the room for a chart: 2 ^ r columns for each assignment of the shared inputs, r and these making at most 7
 abbrev pub chartRoom : ℕ
@@ -90,8 +87,8 @@ chartRoom = 2 ^ 7
 
 -- place b * limit + d of `seen` stands for column d of b, or for column 0 where b has no column d
 pub record Chart (s : Split) (F : ℕ → Bool) (limit : ℕ) (seen : List ℕ) : Type 0 where
-  pub long : limit * 2 ^ size (s .n) (bit (s .shared)) ≤ length seen
-  pub own : (b d : ℕ) → b < 2 ^ size (s .n) (bit (s .shared)) → d < limit
-      → Within (s .n) (s .own) (getD seen (b * limit + d) 0)
-  pub stands : (b d : ℕ) → b < 2 ^ size (s .n) (bit (s .shared)) → d < limit
-      → columnAt s F b (getD seen (b * limit + d) 0) ≡ getD (columnsOf s F b) d (columnAt s F b 0)
+  pub long : limit * 2 ^ size s.n (bit s.shared) ≤ length seen
+  pub own : (b d : ℕ) → b < 2 ^ size s.n (bit s.shared) → d < limit
+      → Within s.n s.own (get_or seen (b * limit + d) 0)
+  pub stands : (b d : ℕ) → b < 2 ^ size s.n (bit s.shared) → d < limit
+      → columnAt s F b (get_or seen (b * limit + d) 0) ≡ get_or (columnsOf s F b) d (columnAt s F b 0)

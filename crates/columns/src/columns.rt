@@ -1,18 +1,14 @@
 // The columns of a split: read by stepping from one spread number to the next, so that nothing is packed or unpacked.
-ghost use mathlib.Core.Path.{_≡_};
-ghost use mathlib.Core.List.{map};
-ghost use Prim.Native.Nat.{ℕ, _+_, _*_, _^_, _<_, _≤_};
-ghost use lib.ListN.{length, getD, take};
-ghost use Rattle·bits.specs.Numbers.{bit};
-ghost use Rattle·tables.specs.Table.{tableBit};
-ghost use Rattle·bits.specs.Sets.{size};
-ghost use Rattle·splits.specs.Columns.{index, mostOwn, mostColumns, fewColumns, firstBroken};
-ghost use Rattle·columns·specs.specs.Broken.{brokenAt};
-ghost use Rattle·columns·specs.specs.Reading.{Held, Without, Within, alike, sharedPart, columnAt, columnsOf, Seen};
+ghost use Rattle.std.specs.Prelude.{◌≡◌, map, ℕ, ◌+◌, ◌*◌, ◌^◌, ◌<◌, ◌≤◌, length, get_or, take};
+ghost use Rattle.bits.specs.Numbers.{bit};
+ghost use Rattle.tables.specs.Table.{tableBit};
+ghost use Rattle.bits.specs.Sets.{size};
+ghost use Rattle.splits.specs.Columns.{index, mostOwn, mostColumns, fewColumns, firstBroken};
+ghost use Rattle.columns.specs.Broken.{brokenAt};
+ghost use Rattle.columns.specs.Reading.{Held, Without, Within, alike, sharedPart, columnAt, columnsOf, Seen};
+
 use crate::split::Split;
-use bits::sets::next;
-use bits::sets::parts;
-use bits::sets::spread_out;
+use bits::sets::{next, parts, spread_out};
 use tables::words::bits_from;
 
 // So many different columns are told apart: those of 3 first cells.
@@ -22,6 +18,7 @@ const MOST_COLUMNS: usize = 8;
 const ALL_COLUMNS: usize = 256;
 
 // Where a split breaks: a shared assignment, and how many different columns it has.
+#[derive(Drop)]
 pub struct Broken {
     pub b: u32,
     pub columns: usize,
@@ -30,9 +27,9 @@ pub struct Broken {
 // Whether the columns read from x and from y on are equal: word by word, at the places that the free inputs below 6
 // make.
 pub fn same_column(t: &[u8], s: Split, x: u32, y: u32) -> bool
-    requires { ⌜ Held s × Without (s .n) (s .free) x × Without (s .n) (s .free) y ⌝ }
-    requires { ⌜ 2 ^ s .n ≤ 8 * length (now t) ⌝ }
-    ensures { λ r. ⌜ r ≡ alike (s .n) (tableBit (now (t .entry))) (s .free) x y ⌝ }
+    requires held { Held s × Without s.n s.free x × Without s.n s.free y }
+    requires n_bound { 2 ^ s.n ≤ 8 * length t.now }
+    ensures { result ≡ alike s.n (tableBit t.now) s.free x y }
 {
     let high = s.free / 64 * 64;
     let mut f: u32 = 0;
@@ -49,13 +46,11 @@ pub fn same_column(t: &[u8], s: Split, x: u32, y: u32) -> bool
 
 // The place of the column at z among those that the first k numbers seen stand for, and k where it is none of them.
 pub fn place<'a>(t: &'a [u8], s: Split, base: u32, z: u32, seen: &'a [u16], k: usize) -> usize
-    requires { ⌜ Held s × Within (s .n) (s .shared) base × Within (s .n) (s .own) z ⌝ }
-    requires { ⌜ 2 ^ s .n ≤ 8 * length (now t) ⌝ }
-    requires { ⌜ (k ≤ length (now seen)) × ((i : ℕ) → i < k → Within (s .n) (s .own) (getD (now seen) i 0)) ⌝ }
-    ensures { λ r. ⌜
-        r ≡ index (columnAt s (tableBit (now (t .entry))) (sharedPart s base) z)
-        (map (columnAt s (tableBit (now (t .entry))) (sharedPart s base)) (take k (now (seen .entry))))
-        ⌝ }
+    requires held { Held s × Within s.n s.shared base × Within s.n s.own z }
+    requires n_bound { 2 ^ s.n ≤ 8 * length t.now }
+    requires k_in_bounds { (k ≤ length seen.now) × ((i : ℕ) → i < k → Within s.n s.own (get_or seen.now i 0)) }
+    ensures { result ≡ index (columnAt s (tableBit t.now) (sharedPart s base) z)
+        (map (columnAt s (tableBit t.now) (sharedPart s base)) (take k seen.now)) }
 {
     let mut i: usize = 0;
     while i < k {
@@ -70,11 +65,9 @@ pub fn place<'a>(t: &'a [u8], s: Split, base: u32, z: u32, seen: &'a [u16], k: u
 // How many different columns the shared assignment at `base` has, or limit + 1 as soon as it has more than the limit.
 // The numbers seen stand for them, in order of first appearance.
 pub fn look_through(t: &[u8], s: Split, base: u32, limit: usize, seen: &mut [u16]) -> usize
-    requires { ⌜ Held s × Within (s .n) (s .shared) base × (limit ≤ length (now seen)) × (limit < 65536) ⌝ }
-    requires { ⌜ 2 ^ s .n ≤ 8 * length (now t) ⌝ }
-    ensures { λ r. ⌜
-        Seen s (tableBit (now (t .entry))) (sharedPart s base) limit (now (seen .entry)) (now (seen .exit)) r
-        ⌝ }
+    requires held { Held s × Within s.n s.shared base × (limit ≤ length seen.old) × (limit < 65536) }
+    requires n_bound { 2 ^ s.n ≤ 8 * length t.now }
+    ensures { Seen s (tableBit t.now) (sharedPart s base) limit seen.old seen.new result }
 {
     let many = parts(s.n, s.own);
     let mut k: usize = 0;
@@ -97,9 +90,9 @@ pub fn look_through(t: &[u8], s: Split, base: u32, limit: usize, seen: &mut [u16
 // The first of `many` shared assignments that has more different columns than the limit, or their number where none
 // has. It stops there, and as soon as there is one column too many.
 fn first_broken(t: &[u8], s: Split, many: u32, limit: usize) -> u32
-    requires { ⌜ Held s × (limit ≤ mostColumns) × (2 ^ s .n ≤ 8 * length (now t)) ⌝ }
-    requires { ⌜ many ≡ 2 ^ size (s .n) (bit (s .shared)) ⌝ }
-    ensures { λ r. ⌜ r ≡ firstBroken (s .n) (tableBit (now (t .entry))) (bit (s .own)) (bit (s .shared)) limit ⌝ }
+    requires held { Held s × (limit ≤ mostColumns) × (2 ^ s.n ≤ 8 * length t.now) }
+    requires many_value { many ≡ 2 ^ size s.n (bit s.shared) }
+    ensures { result ≡ firstBroken s.n (tableBit t.now) (bit s.own) (bit s.shared) limit }
 {
     let mut seen = [0u16; MOST_COLUMNS];
     let mut base: u32 = 0;
@@ -116,8 +109,8 @@ fn first_broken(t: &[u8], s: Split, many: u32, limit: usize) -> u32
 
 // The column test: whether no shared assignment has more different columns than the limit.
 pub fn few_columns(t: &[u8], s: Split, limit: usize) -> bool
-    requires { ⌜ Held s × (limit ≤ mostColumns) × (2 ^ s .n ≤ 8 * length (now t)) ⌝ }
-    ensures { λ r. ⌜ r ≡ fewColumns (s .n) (tableBit (now (t .entry))) (bit (s .own)) (bit (s .shared)) limit ⌝ }
+    requires { Held s × (limit ≤ mostColumns) × (2 ^ s.n ≤ 8 * length t.now) }
+    ensures { result ≡ fewColumns s.n (tableBit t.now) (bit s.own) (bit s.shared) limit }
 {
     let many = parts(s.n, s.shared);
     first_broken(t, s, many, limit) == many
@@ -125,9 +118,9 @@ pub fn few_columns(t: &[u8], s: Split, limit: usize) -> bool
 
 // How many different columns the shared assignment number b has.
 fn columns_at(t: &[u8], s: Split, b: u32) -> usize
-    requires { ⌜ Held s × (size (s .n) (bit (s .own)) ≤ mostOwn) × (2 ^ s .n ≤ 8 * length (now t)) ⌝ }
-    requires { ⌜ b < 2 ^ size (s .n) (bit (s .shared)) ⌝ }
-    ensures { λ r. ⌜ r ≡ length (columnsOf s (tableBit (now (t .entry))) b) ⌝ }
+    requires held { Held s × (size s.n (bit s.own) ≤ mostOwn) × (2 ^ s.n ≤ 8 * length t.now) }
+    requires b_bound { b < 2 ^ size s.n (bit s.shared) }
+    ensures { result ≡ length (columnsOf s (tableBit t.now) b) }
 {
     let mut seen = [0u16; ALL_COLUMNS];
     look_through(t, s, spread_out(s.n, s.shared, b), ALL_COLUMNS, &mut seen)
@@ -135,9 +128,9 @@ fn columns_at(t: &[u8], s: Split, b: u32) -> usize
 
 // Where the column test fails, and how many columns there are. They are counted only there.
 pub fn break_of(t: &[u8], s: Split, limit: usize) -> Broken
-    requires { ⌜ Held s × (limit ≤ mostColumns) × (2 ^ s .n ≤ 8 * length (now t)) ⌝ }
-    requires { ⌜ size (s .n) (bit (s .own)) ≤ mostOwn ⌝ }
-    ensures { λ r. ⌜ r ≡ brokenAt (s .n) (tableBit (now (t .entry))) (bit (s .own)) (bit (s .shared)) limit ⌝ }
+    requires held { Held s × (limit ≤ mostColumns) × (2 ^ s.n ≤ 8 * length t.now) }
+    requires own_bound { size s.n (bit s.own) ≤ mostOwn }
+    ensures { result ≡ brokenAt s.n (tableBit t.now) (bit s.own) (bit s.shared) limit }
 {
     let many = parts(s.n, s.shared);
     let b = first_broken(t, s, many, limit);

@@ -1,15 +1,15 @@
 // A split as the code holds it.
-ghost use mathlib.Core.Path.{_≡_};
-ghost use Prim.Native.Nat.{_^_, _<_, _≤_};
-ghost use Rattle·bits.specs.Numbers.{bit};
-ghost use Rattle·bits.specs.Sets.{Apart};
-ghost use Rattle·tables.specs.Table.{mostInputs};
-ghost use Rattle·columns·specs.specs.Reading.{Held};
-use bits::sets::parts;
-use bits::sets::subsets;
+ghost use Rattle.std.specs.Prelude.{◌≡◌, ◌^◌, ◌<◌, ◌≤◌};
+ghost use Rattle.bits.specs.Numbers.{bit};
+ghost use Rattle.bits.specs.Sets.{Apart};
+ghost use Rattle.tables.specs.Table.{mostInputs};
+ghost use Rattle.columns.specs.Reading.{Held};
+
+use bits::sets::{parts, subsets};
 
 // The own and the shared mask of a table of n inputs, with what reading its columns by words needs: the mask of the
 // free inputs, how many words a column lies in, and at which places of a word.
+#[derive(Drop)]
 pub struct Split {
     pub n: u32,
     pub own: u16,
@@ -24,8 +24,8 @@ impl Split {
     pub const MOST_FIRST: u64 = 3;
 
     pub fn of(n: u32, own: u16, shared: u16) -> Split
-        requires { ⌜ (n ≤ mostInputs) × (own < 2 ^ n) × (shared < 2 ^ n) × Apart n (bit own) (bit shared) ⌝ }
-        ensures { λ r. ⌜ Held r × (r .n ≡ n) × (r .own ≡ own) × (r .shared ≡ shared) ⌝ }
+        requires { (n ≤ mostInputs) × (own < 2 ^ n) × (shared < 2 ^ n) × Apart n (bit own) (bit shared) }
+        ensures { Held result × (result.n ≡ n) × (result.own ≡ own) × (result.shared ≡ shared) }
     {
         let all: u32 = (1 << n) - 1;
         let left = all - own as u32 - shared as u32;

@@ -1,16 +1,11 @@
 -- Keep the shorter of two sheets for one table.
-use mathlib.Core.Path.{_≡_}
-use mathlib.Core.Logic.{_⊎_}
-use mathlib.Core.Bool.{cond}
-use mathlib.Core.List.{List, []}
-use Prim.Native.Nat.{ℕ, _≤_}
-use lib.Dec.{eqb, leb}
-use Rattle·sheets.specs.declared.kinds.Edition.{Edition}
-use Rattle·sheets.specs.Sheet.{records}
-use Rattle·refusals.specs.declared.verdicts.Verdict.{Verdict}
-use Rattle·refusals.specs.declared.verdicts.Verdict.the-variants.{Fine, Refused}
-use Rattle·comparing·specs.specs.declared.shorter.Kept.{Kept}
-use Rattle·inspection.specs.CheckSheet.{checkOwn}
+use Rattle.std.specs.Prelude.{◌≡◌, ◌⊎◌, cond, List, [], ℕ, ◌≤◌, eqb, leb}
+use Rattle.sheets.specs.declared.kinds.Edition.{Edition}
+use Rattle.sheets.specs.Sheet.{records}
+use Rattle.refusals.specs.declared.verdicts.Verdict.{Verdict}
+use Rattle.refusals.specs.declared.verdicts.Verdict.TheVariants.{Fine, Refused}
+use Rattle.comparing.specs.declared.shorter.Kept.{Kept}
+use Rattle.inspection.specs.CheckSheet.{checkOwn}
 
 -- which of two sheets is kept (0 none, 1 the first, 2 the second), and the verdict of the call beside, by what the
 -- check says of each and by their numbers of records: of those accepted the one with fewer, the first on a tie
@@ -25,12 +20,12 @@ unfoldable pub keptOutcome : Edition → ℕ → List ℕ → List ℕ → List 
 keptOutcome e n t x y = whichKept (checkOwn e n t x) (checkOwn e n t y) (records e x) (records e y)
 
 -- the bytes of the one named, and none where none is
-abbrev pub partOf : ℕ → List ℕ → List ℕ → List ℕ
-partOf which x y = cond (eqb which 1) x (cond (eqb which 2) y [])
+abbrev pub part_of : ℕ → List ℕ → List ℕ → List ℕ
+part_of which x y = cond (eqb which 1) x (cond (eqb which 2) y [])
 
 -- what is handed back: the part of the one that is kept
 abbrev pub shorterOutcome : Edition → ℕ → List ℕ → List ℕ → List ℕ → List ℕ
-shorterOutcome e n t x y = partOf (keptOutcome e n t x y .which) x y
+shorterOutcome e n t x y = part_of (keptOutcome e n t x y).which x y
 
 -- in words, where one of the two is accepted: s is one of them, it is accepted, and no accepted one of them has fewer
 -- records

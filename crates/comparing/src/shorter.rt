@@ -1,12 +1,14 @@
 // Keeping the shorter of two sheets for one table: a part of what the caller lent, where it lies.
+ghost use Rattle.std.specs.Prelude.{◌≡◌};
+ghost use Rattle.sheets.specs.Edition.{IsEdition, firstEdition};
+ghost use Rattle.comparing.specs.Shorter.{whichKept, keptOutcome, part_of};
+
 use inspection::check_sheet::check_own;
 use refusals::verdicts::Verdict;
 use sheets::kinds::Edition;
-ghost use mathlib.Core.Path.{_≡_};
-ghost use Rattle·sheets.specs.Edition.{IsEdition, firstEdition};
-ghost use Rattle·comparing·specs.specs.Shorter.{whichKept, keptOutcome, partOf};
 
 // Which of two sheets is kept, and what the call beside says.
+#[derive(Drop)]
 pub struct Kept {
     // 0 none, 1 the first, 2 the second
     pub which: u64,
@@ -16,7 +18,7 @@ pub struct Kept {
 
 // By what the check says of each, and their numbers of records.
 fn keep(first: Verdict, second: Verdict, i: usize, j: usize) -> Kept
-    ensures { λ r. ⌜ r ≡ whichKept first second i j ⌝ }
+    ensures { result ≡ whichKept first second i j }
 {
     let Verdict::Fine = first else {
         let Verdict::Fine = second else {
@@ -50,8 +52,8 @@ fn keep(first: Verdict, second: Verdict, i: usize, j: usize) -> Kept
 
 // Looks over both sheets of an edition, each for its own desk.
 pub fn keep_in<'a>(e: Edition, n: u64, t: &'a [u8], first: &'a [u8], second: &'a [u8]) -> Kept
-    requires { ⌜ IsEdition e ⌝ }
-    ensures { λ r. ⌜ r ≡ keptOutcome e n (now (t .entry)) (now (first .entry)) (now (second .entry)) ⌝ }
+    requires { IsEdition e }
+    ensures { result ≡ keptOutcome e n t.now first.now second.now }
 {
     let one = check_own(e, n, t, first);
     let two = check_own(e, n, t, second);
@@ -60,14 +62,14 @@ pub fn keep_in<'a>(e: Edition, n: u64, t: &'a [u8], first: &'a [u8], second: &'a
 
 // Which of two sheets for one table is kept, and what the call beside says.
 pub fn keep_shorter<'a>(n: u64, t: &'a [u8], first: &'a [u8], second: &'a [u8]) -> Kept
-    ensures { λ r. ⌜ r ≡ keptOutcome firstEdition n (now (t .entry)) (now (first .entry)) (now (second .entry)) ⌝ }
+    ensures { result ≡ keptOutcome firstEdition n t.now first.now second.now }
 {
     keep_in(Edition::first(), n, t, first, second)
 }
 
 // The shorter of the two, handed back as it lies in the caller's memory; empty if neither is kept.
 pub fn part_of<'a>(which: u64, first: &'a [u8], second: &'a [u8]) -> &'a [u8]
-    ensures { λ r. ⌜ now r ≡ partOf which (now (first .entry)) (now (second .entry)) ⌝ }
+    ensures { result.now ≡ part_of which first.now second.now }
 {
     if which == 1 {
         return first;

@@ -1,32 +1,23 @@
 // Running a desk at an assignment. Past the card's length and the desk's number, only the desk's own bytes are handed
 // on.
+ghost use Rattle.std.specs.Prelude.{◌≡◌, false, length};
+ghost use Rattle.refusals.specs.Lines.{verdict};
+ghost use Rattle.cards.specs.Card.{deskBytes, sheetOn};
+ghost use Rattle.cards.specs.Refusals.{noDesk};
+ghost use Rattle.cards.specs.RunDesk.{deskLines, deskOutcome, runDeskOutcome};
+
 use cards::form::filed;
-use cards::sizes::CARD;
-use cards::sizes::COUNT;
-use cards::sizes::DESK;
-use cards::sizes::DESKS;
-use cards::sizes::INPUTS;
-use cards::sizes::MARK;
+use cards::sizes::{CARD, COUNT, DESK, DESKS, INPUTS, MARK};
 use refusals::form::outside;
-use refusals::verdicts::Refusal;
-use refusals::verdicts::Verdict;
-use refusals::verdicts::refuse;
+use refusals::verdicts::{Refusal, Verdict, refuse};
 use running::run_sheet::RunAnswer;
 use runs::running::bit_of;
-use sheets::kinds::Edition;
-use sheets::kinds::Sheet;
-ghost use mathlib.Core.Path.{_≡_};
-ghost use mathlib.Core.Bool.{false};
-ghost use lib.ListN.{length};
-ghost use Rattle·refusals.specs.Lines.{verdict};
-ghost use Rattle·cards.specs.Card.{deskBytes, sheetOn};
-ghost use Rattle·cards.specs.Refusals.{noDesk};
-ghost use Rattle·cards.specs.RunDesk.{deskLines, deskOutcome, runDeskOutcome};
+use sheets::kinds::{Edition, Sheet};
 
 // The sheet that a desk with the bytes o holds, where it lies.
 fn sheet_on(o: &[u8]) -> &[u8]
-    requires { ⌜ length (now o) ≡ deskBytes ⌝ }
-    ensures { λ r. ⌜ now r ≡ sheetOn (now (o .entry)) ⌝ }
+    requires { length o.now ≡ deskBytes }
+    ensures { result.now ≡ sheetOn o.now }
 {
     let m = o[COUNT] as usize;
     // So many would be all of the desk's bytes; line 9 refuses them.
@@ -39,8 +30,8 @@ fn sheet_on(o: &[u8]) -> &[u8]
 
 // Lines 18, 1, 9, 10, 15 and 11 of a desk with the bytes o.
 fn own_form(o: &[u8], d: u8, x: u64) -> Verdict
-    requires { ⌜ (length (now o) ≡ deskBytes) × (noDesk d ≡ false) ⌝ }
-    ensures { λ r. ⌜ r ≡ verdict (deskLines (now (o .entry)) d x) ⌝ }
+    requires { (length o.now ≡ deskBytes) × (noDesk d ≡ false) }
+    ensures { result ≡ verdict (deskLines o.now d x) }
 {
     if o[MARK] != 1 {
         return refuse(Refusal::CLOSED);
@@ -58,8 +49,8 @@ fn own_form(o: &[u8], d: u8, x: u64) -> Verdict
 
 // What desk d with the bytes o answers at the assignment x.
 fn run_bytes(o: &[u8], d: u8, x: u64) -> RunAnswer
-    requires { ⌜ (length (now o) ≡ deskBytes) × (noDesk d ≡ false) ⌝ }
-    ensures { λ r. ⌜ r ≡ deskOutcome (now (o .entry)) d x ⌝ }
+    requires { (length o.now ≡ deskBytes) × (noDesk d ≡ false) }
+    ensures { result ≡ deskOutcome o.now d x }
 {
     let form = own_form(o, d, x);
     let Verdict::Fine = form else {
@@ -78,7 +69,7 @@ fn run_bytes(o: &[u8], d: u8, x: u64) -> RunAnswer
 
 // Runs desk d of a card at the assignment x.
 pub fn run_desk(card: &[u8], d: u64, x: u64) -> RunAnswer
-    ensures { λ r. ⌜ r ≡ runDeskOutcome (now (card .entry)) d x ⌝ }
+    ensures { result ≡ runDeskOutcome card.now d x }
 {
     if card.len() != CARD {
         return RunAnswer {

@@ -1,26 +1,26 @@
 -- When a network is the fewest for want of reads: m cells count at most m (K - 1) + 1 inputs, so that fewer cells
 -- cannot count as many. It covers every one of cells that are full and read no signal twice. Assumes nothing.
-use mathlib.Core.Path.{_≡_, refl, sym, ap, _∙_, subst}
+use mathlib.Core.Path.{◌≡◌, refl, sym, ap, ◌∙◌, subst}
 use mathlib.Core.Bool.{Bool, true}
-use mathlib.Core.List.{List, [], _∷_}
-use Prim.Native.Nat.{ℕ, zero, suc, _+_, _-_, _*_, _<_, _≤_}
-use native.Mathlib.Nat.{mul-le-mul-right, mul-suc, suc-mul, not-suc-le-zero}
-use native.Mathlib.Decide.{decLt}
+use mathlib.Core.List.{List, [], ◌∷◌}
+use Prim.Native.Nat.{ℕ, zero, suc, ◌+◌, ◌-◌, ◌*◌, ◌<◌, ◌≤◌}
+use native.Mathlib.Nat.{mul-le-mul_right, mul-suc, suc-mul, not-suc-le-zero}
+use native.Mathlib.Decide.{dec_lt}
 use native.Mathlib.Omega.{arith}
 use lib.Dec.{eqb}
 use lib.ListN.{length}
 use borrow.Author.Tests.{eq-eqb}
-use Rattle·bits.specs.Numbers.{val}
-use Rattle·bits.specs.Sets.{size}
-use Rattle·bits.proofs.Sizes.{size-lt}
-use Rattle·bits.proofs.Counting.{size-all}
-use Rattle·tables.specs.Counting.{Counting, AllCount}
-use Rattle·sheets.specs.Network.{Cell, Wired, Gives, Carries}
-use Rattle·sheets.specs.Reading.{times, reads}
-use Rattle·networks.proofs.Sums.{sum}
-use Rattle·fewest·specs.specs.Fewest.{Fewest, Filled}
-use Rattle·chains.proofs.Lists.{AllBelow}
-use Rattle·fewest·proofs.proofs.Reach.{reach}
+use Rattle.bits.specs.Numbers.{val}
+use Rattle.bits.specs.Sets.{size}
+use Rattle.bits.proofs.Sizes.{size-lt}
+use Rattle.bits.proofs.Counting.{size-all}
+use Rattle.tables.specs.Counting.{Counting, AllCount}
+use Rattle.sheets.specs.Network.{Cell, Wired, Gives, Carries}
+use Rattle.sheets.specs.Reading.{times, reads}
+use Rattle.networks.proofs.Sums.{sum}
+use Rattle.fewest.specs.Fewest.{Fewest, Filled}
+use Rattle.chains.proofs.Lists.{AllBelow}
+use Rattle.fewest.proofs.Reach.{reach}
 
 -- so many cells as the inputs that count ask for are the fewest
 pub enough-inputs : (n K : ℕ) (F : ℕ → Bool) (cs : List Cell) (S : ℕ → Bool) → Counting n F S → Gives n K F cs
@@ -28,9 +28,9 @@ pub enough-inputs : (n K : ℕ) (F : ℕ → Bool) (cs : List Cell) (S : ℕ →
 enough-inputs n K F cs S counts N h = record { network = N; least = least }
   where
     least : (m : ℕ) → Carries n K m F → length cs ≤ m
-    least m C = elim (decLt m (length cs)) [
+    least m C = elim (dec_lt m (length cs)) [
       | yes l ↦ let g : m ≤ length cs - 1 = omega arith
-          in absurd (omega (arith, reach n K m F S counts C, mul-le-mul-right (K - 1) g))
+          in absurd (omega (arith, reach n K m F S counts C, mul-le-mul_right (K - 1) g))
       | no l ↦ omega arith
     ]
 
@@ -71,36 +71,36 @@ times-all n (x ∷ l) h =
 -- all places of all cells
 places : List Cell → ℕ
 places [] = 0
-places (c ∷ cs) = length (c .signals) + places cs
+places (c ∷ cs) = length c.signals + places cs
 
-reads-all : (n K i : ℕ) (cs : List Cell) → Wired K i cs → i + length cs ≤ suc n → places cs ≤ sum n (λ s. reads s cs)
+reads_all : (n K i : ℕ) (cs : List Cell) → Wired K i cs → i + length cs ≤ suc n → places cs ≤ sum n (λ s. reads s cs)
 unfolding places
-reads-all n K i [] w h = omega arith
-reads-all n K i (c ∷ cs) w h =
+reads_all n K i [] w h = omega arith
+reads_all n K i (c ∷ cs) w h =
     omega (
       arith,
-      sum-add n (λ s. times s (c .signals)) (λ s. reads s cs),
-      times-all n (c .signals) (λ j q. let b = w .1 j q in omega arith),
-      reads-all n K (suc i) cs (w .2) (omega arith),
+      sum-add n (λ s. times s c.signals) (λ s. reads s cs),
+      times-all n c.signals (λ j q. let b = w.1 j q in omega arith),
+      reads_all n K (suc i) cs w.2 (omega arith),
     )
 
 filled-places : (K : ℕ) (c : Cell) (cs : List Cell) → Filled K (c ∷ cs) → length cs * K + 2 ≤ places (c ∷ cs)
 unfolding places
 filled-places K c [] f = omega arith
-filled-places K c (d ∷ cs) f = omega (arith, filled-places K d cs (f .1), f .0, suc-mul (length cs) K)
+filled-places K c (d ∷ cs) f = omega (arith, filled-places K d cs f.1, f.0, suc-mul (length cs) K)
 
 filled-two : (K i : ℕ) (c : Cell) (cs : List Cell) → Filled K (c ∷ cs) → Wired K i (c ∷ cs) → 2 ≤ K
-filled-two K i c [] f w = omega (arith, w .0)
-filled-two K i c (d ∷ cs) f w = filled-two K (suc i) d cs (f .1) (w .2)
+filled-two K i c [] f w = omega (arith, w.0)
+filled-two K i c (d ∷ cs) f w = filled-two K (suc i) d cs f.1 w.2
 
 -- cells that are full but for the last, no signal read twice, every input counting: fewer cells do not do
 pub filled-fewest : (n K : ℕ) (F : ℕ → Bool) (cs : List Cell) → AllCount n F → Gives n K F cs → Filled K cs
     → ((s : ℕ) → reads s cs ≤ 1) → Fewest n K F cs
-filled-fewest n K F [] all N f once = absurd (not-suc-le-zero (N .some))
+filled-fewest n K F [] all N f once = absurd (not-suc-le-zero N.some)
 filled-fewest n K F (c ∷ cs) all N f once =
     let m = length cs in
-    let two = filled-two K n c cs f (N .wired) in
-    let read = reads-all (n + m) K n (c ∷ cs) (N .wired) (omega arith) in
+    let two = filled-two K n c cs f N.wired in
+    let read = reads_all (n + m) K n (c ∷ cs) N.wired (omega arith) in
     let q : m * K ≡ m * (K - 1) + m = let k : K ≡ suc (K - 1) = omega arith in ap (λ (z : ℕ). m * z) k
     ∙ mul-suc m (K - 1) in
     let e : suc m - 1 ≡ m = omega arith in

@@ -2,37 +2,37 @@
 -- for the inputs that are kept, and else the best split, whose A is at least as large as that of the two cells, leaves
 -- a table for one more. So every sheet of at most three cells is the fewest: were one or two enough, it would have so
 -- many. Assumes nothing.
-use mathlib.Core.Path.{_≡_, refl, sym, ap, subst}
+use mathlib.Core.Path.{◌≡◌, refl, sym, ap, subst}
 use mathlib.Core.Bool.{Bool, true}
-use mathlib.Core.List.{List, [], _∷_}
-use Prim.Native.Nat.{ℕ, _+_, _-_, _*_, _^_, _<_, _≤_}
-use native.Mathlib.Nat.{mul-le-mul-right}
-use native.Mathlib.Decide.{decLt}
+use mathlib.Core.List.{List, [], ◌∷◌}
+use Prim.Native.Nat.{ℕ, ◌+◌, ◌-◌, ◌*◌, ◌^◌, ◌<◌, ◌≤◌}
+use native.Mathlib.Nat.{mul-le-mul_right}
+use native.Mathlib.Decide.{dec_lt}
 use native.Mathlib.Omega.{arith}
 use lib.ListN.{length}
-use Rattle·bits.specs.Numbers.{bit, number}
-use Rattle·bits.specs.Sets.{size, gather}
-use Rattle·tables.specs.Counting.{Counting, support, kept, tableOver}
-use Rattle·tables.proofs.Depending.{support-counting}
-use Rattle·tables.proofs.Keeping.{kept-sees, two-kept}
-use Rattle·splits.specs.Split.{readsD, Possible}
-use Rattle·best.specs.Best.{Candidate, Best}
-use Rattle·best.specs.Search.{split, best}
-use Rattle·best.proofs.Best.{best-split, best-some}
-use Rattle·best.proofs.Counting.{gather-size, gather-candidate, gather-possible}
-use Rattle·sheets.specs.Network.{Cell, Gives, Carries}
-use Rattle·chains.specs.Chain.{pick, firstCell, nextSignals, nextTable, lastCell, made, inputs}
-use Rattle·chains.specs.Aside.{sheetAside}
-use Rattle·chains.specs.Words.{Makes, ends, goes}
-use Rattle·cofactors.specs.Any.{sheet, anyAside}
-use Rattle·fewest·specs.specs.Fewest.{Fewest}
-use Rattle·chains.proofs.Lists.{pick-length}
-use Rattle·chains.proofs.One.{next-length}
-use Rattle·cofactors.proofs.Any.{any-make}
-use Rattle·fewest·proofs.proofs.Reach.{reach}
-use Rattle·fewest·proofs.proofs.Enough.{enough-inputs}
-use Rattle·chains.proofs.Aside.{sheet-made, table-gives, table-most}
-use Rattle·fewest·proofs.proofs.Two as two
+use Rattle.bits.specs.Numbers.{bit, number}
+use Rattle.bits.specs.Sets.{size, gather}
+use Rattle.tables.specs.Counting.{Counting, support, kept, tableOver}
+use Rattle.tables.proofs.Depending.{support-counting}
+use Rattle.tables.proofs.Keeping.{kept-sees, two-kept}
+use Rattle.splits.specs.Split.{readsD, Possible}
+use Rattle.best.specs.Best.{Candidate, Best}
+use Rattle.best.specs.Search.{split, best}
+use Rattle.best.proofs.Best.{best-split, best-some}
+use Rattle.best.proofs.Counting.{gather-size, gather-candidate, gather-possible}
+use Rattle.sheets.specs.Network.{Cell, Gives, Carries}
+use Rattle.chains.specs.Chain.{pick, firstCell, nextSignals, nextTable, lastCell, made, inputs}
+use Rattle.chains.specs.Aside.{sheetAside}
+use Rattle.chains.specs.Words.{Makes, ends, goes}
+use Rattle.cofactors.specs.Any.{sheet, anyAside}
+use Rattle.fewest.specs.Fewest.{Fewest}
+use Rattle.chains.proofs.Lists.{pick-length}
+use Rattle.chains.proofs.One.{next-length}
+use Rattle.cofactors.proofs.Any.{any-make}
+use Rattle.fewest.proofs.Reach.{reach}
+use Rattle.fewest.proofs.Enough.{enough-inputs}
+use Rattle.chains.proofs.Aside.{sheet-made, table-gives, table-most}
+use Rattle.fewest.proofs.Two as two
 
 module _ (n K : ℕ) (F : ℕ → Bool) where
   abbrev S : ℕ → Bool
@@ -55,22 +55,22 @@ module _ (n K : ℕ) (F : ℕ → Bool) where
 
     -- one cell does not carry the table
     never-one : (m : ℕ) → Carries n K m F → 2 ≤ m
-    never-one m C = elim (decLt m 2) [
+    never-one m C = elim (dec_lt m 2) [
       | yes g ↦ absurd (omega (
         arith,
         reach n K m F S counting C,
-        mul-le-mul-right (K - 1)
+        mul-le-mul_right (K - 1)
             (let z : m ≤ 1 = omega arith in z),
       ))
       | no g ↦ omega arith
     ]
 
     -- where two do, the chain makes two
-    two-made : (c d : Cell) → Gives n K F (c ∷ d ∷ []) → Smallest
-    two-made c d N = go (best-some (length l) 1 (bit U) K (gather n S A) (gather n S B) candidate possible)
+    two_made : (c d : Cell) → Gives n K F (c ∷ d ∷ []) → Smallest
+    two_made c d N = go (best-some (length l) 1 (bit U) K (gather n S A) (gather n S B) candidate possible)
       where
-        size-is : size n S ≡ length l
-        size-is = sym (pick-length n S (inputs n))
+        size_is : size n S ≡ length l
+        size_is = sym (pick-length n S (inputs n))
 
         A : ℕ
         A = two.A n K F c d N S (kept-sees n F)
@@ -85,55 +85,55 @@ module _ (n K : ℕ) (F : ℕ → Bool) where
         inside = two.two-inside n K F c d N S (kept-sees n F)
 
         candidate : Candidate (length l) K 1 (gather n S A) (gather n S B)
-        candidate = subst (λ (m : ℕ). Candidate m K 1 (gather n S A) (gather n S B)) size-is
+        candidate = subst (λ (m : ℕ). Candidate m K 1 (gather n S A) (gather n S B)) size_is
             (gather-candidate n F S (kept-sees n F) K 1 A B whole inside)
 
         possible : Possible (length l) (bit U) (bit (gather n S A)) (bit (gather n S B)) 1
-        possible = subst (λ (m : ℕ). Possible m (bit U) (bit (gather n S A)) (bit (gather n S B)) 1) size-is
+        possible = subst (λ (m : ℕ). Possible m (bit U) (bit (gather n S A)) (bit (gather n S B)) 1) size_is
             (gather-possible n F S (kept-sees n F) K 1 A B whole inside
             (two.two-possible n K F c d N S (kept-sees n F)))
 
-        go : (A′ : ℕ) × (B′ : ℕ) × (best (length l) 1 (bit U) K ≡ split A′ B′) → Smallest
-        go w = from (w .0) (w .1) (best-split (length l) 1 (bit U) K (w .0) (w .1) (w .2))
+        go : (A' : ℕ) × (B' : ℕ) × (best (length l) 1 (bit U) K ≡ split A' B') → Smallest
+        go w = from w.0 w.1 (best-split (length l) 1 (bit U) K w.0 w.1 w.2)
           where
-            from : (A′ B′ : ℕ) → Best (length l) K 1 (bit U) A′ B′ → Smallest
-            from A′ B′ b =
-                let large = b .ahead (gather n S A) (gather n S B) candidate possible .largestA in
+            from : (A' B' : ℕ) → Best (length l) K 1 (bit U) A' B' → Smallest
+            from A' B' b =
+                let large = (b.ahead (gather n S A) (gather n S B) candidate possible).largestA in
                 let same = gather-size n F S (kept-sees n F) K 1 A B whole inside in
-                let here = ap (λ (m : ℕ). size m (bit (gather n S A))) size-is in
-                let short : length (nextSignals l A′ B′ n) ≤ K =
+                let here = ap (λ (m : ℕ). size m (bit (gather n S A))) size_is in
+                let short : length (nextSignals l A' B' n) ≤ K =
                 omega (
                   arith,
                   next-length l n b,
                   large,
                   same,
                   here,
-                  size-is,
+                  size_is,
                   two.two-large n K F c d N S (kept-sees n F)
                       counting more,
                 ) in
-                let longer : K < length l = omega (arith, size-is) in (
-                  firstCell l U A′ B′ ∷ lastCell (nextSignals l A′ B′ n) (nextTable l U A′ B′) ∷ [],
+                let longer : K < length l = omega (arith, size_is) in (
+                  firstCell l U A' B' ∷ lastCell (nextSignals l A' B' n) (nextTable l U A' B') ∷ [],
                   goes longer b
                       (ends short),
                   never-one,
                 )
 
   smallest : (m : ℕ) → 1 ≤ K → Carries n K m F → m ≤ 2 → Smallest
-  smallest m q C h = elim (decLt K (size n S)) [
+  smallest m q C h = elim (dec_lt K (size n S)) [
     | no g ↦ let few : length l ≤ K = omega (arith, pick-length n S (inputs n)) in
-        (lastCell l U ∷ [], ends few, λ m C. omega (arith, C .count, C .network .some))
-    | yes g ↦ long g (C .cells) (C .network) (omega (arith, C .count))
+        (lastCell l U ∷ [], ends few, λ m C. omega (arith, C.count, C.network.some))
+    | yes g ↦ long g C.cells C.network (omega (arith, C.count))
   ]
     where
       long : K < size n S → (ds : List Cell) → Gives n K F ds → length ds ≤ 2 → Smallest
-      long g [] N h = absurd (omega (arith, N .some))
+      long g [] N h = absurd (omega (arith, N.some))
       long g (a ∷ []) N h = absurd (omega (
         arith,
         never-one q g 1
             (record { cells = a ∷ []; count = refl; network = N }),
       ))
-      long g (a ∷ b ∷ []) N h = two-made q g a b N
+      long g (a ∷ b ∷ []) N h = two_made q g a b N
       long g (a ∷ b ∷ d ∷ ds) N h = absurd (omega arith)
 
 -- ---- the sheet of the gate's table F
@@ -144,8 +144,8 @@ module _ (n K : ℕ) (F : ℕ → Bool) (p : 1 ≤ n) (q : 1 ≤ K) where
   table-fewest m C h = go (smallest n K F m q C h)
     where
       go : Smallest n K F → (cs : List Cell) × (sheetAside n K (number (2 ^ n) F) ≡ made cs) × Fewest n K F cs
-      go w = let e = sheet-made n K F p q (w .0) .1 (w .1)
-          in (w .0, e, record { network = table-gives n K F p q (w .0) e; least = w .2 })
+      go w = let e = (sheet-made n K F p q w.0).1 w.1
+          in (w.0, e, record { network = table-gives n K F p q w.0 e; least = w.2 })
 
   -- every answer of at most three cells has the fewest, be it make's or another
   pub any-three : (cs : List Cell) → anyAside n K (number (2 ^ n) F) ≡ sheet cs → Gives n K F cs → length cs ≤ 3
@@ -153,13 +153,13 @@ module _ (n K : ℕ) (F : ℕ → Bool) (p : 1 ≤ n) (q : 1 ≤ K) where
   any-three cs is N h = record { network = N; least = least }
     where
       least : (m : ℕ) → Carries n K m F → length cs ≤ m
-      least m C = elim (decLt m 3) [ yes g ↦ from (table-fewest m C (omega arith)) | no g ↦ omega arith ]
+      least m C = elim (dec_lt m 3) [ yes g ↦ from (table-fewest m C (omega arith)) | no g ↦ omega arith ]
         where
           from : (ds : List Cell) × (sheetAside n K (number (2 ^ n) F) ≡ made ds) × Fewest n K F ds → length cs ≤ m
           from w =
-              let a = any-make n K (number (2 ^ n) F) (w .0) (w .1) in
-              let e : cs ≡ w .0 = cc in
-              omega (arith, ap length e, w .2 .least m C)
+              let a = any-make n K (number (2 ^ n) F) w.0 w.1 in
+              let e : cs ≡ w.0 = cc in
+              omega (arith, ap length e, w.2.least m C)
 
   module _ (cs : List Cell) (is : sheetAside n K (number (2 ^ n) F) ≡ made cs) where
     -- so has every sheet of at most three cells
@@ -174,7 +174,7 @@ module _ (n K : ℕ) (F : ℕ → Bool) (p : 1 ≤ n) (q : 1 ≤ K) where
 -- is a law of K = 2 alone: a larger cell may drop fewer signals than it brings inputs
 pub pairs-fewest : (n : ℕ) (F : ℕ → Bool) (cs : List Cell) → 1 ≤ n → sheetAside n 2 (number (2 ^ n) F) ≡ made cs
     → Fewest n 2 F cs
-pairs-fewest n F cs p e = elim (decLt 3 (length cs)) [
+pairs-fewest n F cs p e = elim (dec_lt 3 (length cs)) [
   | yes h ↦ table-enough n 2 F p (omega arith) cs e (omega (arith, table-most n 2 F p (omega arith) cs e))
   | no h ↦ table-three n 2 F p (omega arith) cs e (omega arith)
 ]

@@ -1,36 +1,36 @@
 -- AND, OR and XOR of any size: an operation for which order and grouping do not matter lets any set of inputs be joined
 -- first, in a cell of its own; and every input counts, since among neutral bits one other bit shows. So the sheet is
 -- made, and is the fewest. Assumes nothing.
-use mathlib.Core.Path.{_≡_, refl, sym, ap, ap₂, _∙_, subst}
-use mathlib.Core.Logic.{⊎-elim}
-use mathlib.Core.Bool.{Bool, true, false, cond, not, _&&_, _||_, xor}
-use mathlib.Core.Bool.{and-true, and-comm, and-assoc, or-false, or-comm, or-assoc}
-use mathlib.Core.List.{List, [], _∷_}
-use Prim.Native.Nat.{ℕ, zero, suc, _+_, _-_, _*_, _^_, _<_, _≤_}
+use mathlib.Core.Path.{◌≡◌, refl, sym, ap, ap₂, ◌∙◌, subst}
+use mathlib.Core.Logic.{⊎_elim}
+use mathlib.Core.Bool.{Bool, true, false, cond, not, ◌&&◌, ◌||◌, xor}
+use mathlib.Core.Bool.{and-true, and_comm, and_assoc, or-false, or_comm, or_assoc}
+use mathlib.Core.List.{List, [], ◌∷◌}
+use Prim.Native.Nat.{ℕ, zero, suc, ◌+◌, ◌-◌, ◌*◌, ◌^◌, ◌<◌, ◌≤◌}
 use native.Mathlib.Nat.{not-suc-le-zero}
-use native.Mathlib.Decide.{decLt}
+use native.Mathlib.Decide.{dec_lt}
 use native.Mathlib.Omega.{arith}
 use lib.Dec.{eqb}
 use lib.ListN.{length}
-use borrow.Author.Tests.{eq-eqb, ne-eqb}
-use Rattle·bits.specs.Numbers.{bit, number}
-use Rattle·bits.specs.Sets.{Agree}
-use Rattle·bits.proofs.Below.{below-suc}
-use Rattle·bits.proofs.Numbers.{bit-number, number-lt}
-use Rattle·tables.specs.Counting.{AllCount}
-use Rattle·splits.proofs.Respect.{possible-of}
-use Rattle·splits.proofs.Same.{possible-ext}
-use Rattle·sheets.specs.Network.{Cell}
-use Rattle·chains.specs.Chain.{lastCell, made, inputs}
-use Rattle·chains.specs.Aside.{sheetAside}
-use Rattle·chains.specs.Words.{Makes, ends}
-use Rattle·fewest·specs.specs.Fewest.{Fewest}
-use Rattle·fewest·specs.specs.Joining.{Joining, joined, joinTable, AnyOwn}
-use Rattle·chains.proofs.Lists.{inputs-length}
-use Rattle·chains.proofs.One.{made-exactly}
-use Rattle·fewest·proofs.proofs.Enough.{enough-all}
-use Rattle·chains.proofs.Aside.{sheet-plain, table-gives}
-use Rattle·fewest·proofs.proofs.AnyOwn.{MadeFull, any-made}
+use borrow.Author.Tests.{eq-eqb, ne_eqb}
+use Rattle.bits.specs.Numbers.{bit, number}
+use Rattle.bits.specs.Sets.{Agree}
+use Rattle.bits.proofs.Below.{below_suc}
+use Rattle.bits.proofs.Numbers.{bit-number, number_lt}
+use Rattle.tables.specs.Counting.{AllCount}
+use Rattle.splits.proofs.Respect.{possible-of}
+use Rattle.splits.proofs.Same.{possible-ext}
+use Rattle.sheets.specs.Network.{Cell}
+use Rattle.chains.specs.Chain.{lastCell, made, inputs}
+use Rattle.chains.specs.Aside.{sheetAside}
+use Rattle.chains.specs.Words.{Makes, ends}
+use Rattle.fewest.specs.Fewest.{Fewest}
+use Rattle.fewest.specs.Joining.{Joining, joined, joinTable, AnyOwn}
+use Rattle.chains.proofs.Lists.{inputs-length}
+use Rattle.chains.proofs.One.{made-exactly}
+use Rattle.fewest.proofs.Enough.{enough-all}
+use Rattle.chains.proofs.Aside.{sheet-plain, table-gives}
+use Rattle.fewest.proofs.AnyOwn.{MadeFull, any-made}
 
 module _ (op : Bool → Bool → Bool) (e : Bool) (J : Joining op e) where
   joined-ext : (n : ℕ) (v w : ℕ → Bool) → ((j : ℕ) → j < n → v j ≡ w j) → joined op e n v ≡ joined op e n w
@@ -55,14 +55,14 @@ module _ (op : Bool → Bool → Bool) (e : Bool) (J : Joining op e) where
   two-parts : (n : ℕ) (s : ℕ → Bool) (v : ℕ → Bool) → joined op e n v
       ≡ op (joined op e n (only s v)) (joined op e n (only (λ j. not (s j)) v))
   unfolding only
-  two-parts zero s v = sym (J .neutral e)
+  two-parts zero s v = sym (J.neutral e)
   two-parts (suc n) s v = ap (λ (t : Bool). op t (v n)) (two-parts n s v)
       ∙ go (s n) (joined op e n (only s v)) (joined op e n (only (λ j. not (s j)) v)) (v n)
     where
       go : (t a b c : Bool) → op (op a b) c ≡ op (op a (cond t c e)) (op b (cond (not t) c e))
       go true a b c =
-          J .grouping a b c ∙ ap (op a) (J .order b c) ∙ sym (J .grouping a c b) ∙ ap (op (op a c)) (sym (J .neutral b))
-      go false a b c = J .grouping a b c ∙ ap (λ (t : Bool). op t (op b c)) (sym (J .neutral a))
+          J.grouping a b c ∙ ap (op a) (J.order b c) ∙ sym (J.grouping a c b) ∙ ap (op (op a c)) (sym (J.neutral b))
+      go false a b c = J.grouping a b c ∙ ap (λ (t : Bool). op t (op b c)) (sym (J.neutral a))
 
   joined-own : (n : ℕ) → AnyOwn n (λ x. joined op e n (bit x))
   joined-own n A =
@@ -78,29 +78,29 @@ module _ (op : Bool → Bool → Bool) (e : Bool) (J : Joining op e) where
 
   joined-neutral : (n : ℕ) (v : ℕ → Bool) → ((j : ℕ) → j < n → v j ≡ e) → joined op e n v ≡ e
   joined-neutral zero v h = refl
-  joined-neutral (suc n) v h = ap₂ op (joined-neutral n v (λ j l. h j (omega arith))) (h n (omega arith)) ∙ J .neutral e
+  joined-neutral (suc n) v h = ap₂ op (joined-neutral n v (λ j l. h j (omega arith))) (h n (omega arith)) ∙ J.neutral e
 
   joined-one : (n j : ℕ) (v : ℕ → Bool) → j < n → ((i : ℕ) → i < n → (i ≡ j → ⊥) → v i ≡ e) → joined op e n v ≡ v j
   joined-one zero j v l h = absurd (not-suc-le-zero l)
   joined-one (suc n) j v l h =
-      ⊎-elim
+      ⊎_elim
       (λ g. ap₂ op (joined-one n j v g (λ i q r. h i (omega arith) r)) (h n (omega arith) (λ r. omega arith))
-      ∙ J .neutral (v j))
+      ∙ J.neutral (v j))
       (λ q. ap (λ (t : Bool). op t (v n)) (joined-neutral n v (λ i r. h i (omega arith) (λ z. omega arith)))
-      ∙ J .order e (v n) ∙ J .neutral (v n)
+      ∙ J.order e (v n) ∙ J.neutral (v n)
       ∙ ap v (sym q))
-      (below-suc l)
+      (below_suc l)
 
   joined-counts : (n : ℕ) → AllCount n (λ x. joined op e n (bit x))
   joined-counts n j l = record {
     x = number n flat;
     y = number n turned;
-    belowX = number-lt n flat;
-    belowY = number-lt n turned;
-    alike = λ i h q. bit-number n flat i h ∙ sym (bit-number n turned i h ∙ at-other i q);
+    belowX = number_lt n flat;
+    belowY = number_lt n turned;
+    alike = λ i h q. bit-number n flat i h ∙ sym (bit-number n turned i h ∙ at_other i q);
     differ = λ q. differs e (sym (joined-neutral n (bit (number n flat)) (λ i h. bit-number n flat i h)) ∙ q
-        ∙ joined-one n j (bit (number n turned)) l (λ i h r. bit-number n turned i h ∙ at-other i r)
-        ∙ bit-number n turned j l ∙ at-j);
+        ∙ joined-one n j (bit (number n turned)) l (λ i h r. bit-number n turned i h ∙ at_other i r)
+        ∙ bit-number n turned j l ∙ at_j);
   }
     where
       flat : ℕ → Bool
@@ -109,21 +109,21 @@ module _ (op : Bool → Bool → Bool) (e : Bool) (J : Joining op e) where
       turned : ℕ → Bool
       turned i = cond (eqb i j) (not e) e
 
-      at-other : (i : ℕ) → (i ≡ j → ⊥) → turned i ≡ e
-      at-other i q = ap (λ (t : Bool). cond t (not e) e) (ne-eqb i j q)
+      at_other : (i : ℕ) → (i ≡ j → ⊥) → turned i ≡ e
+      at_other i q = ap (λ (t : Bool). cond t (not e) e) (ne_eqb i j q)
 
-      at-j : turned j ≡ not e
-      at-j = ap (λ (t : Bool). cond t (not e) e) (eq-eqb j j refl)
+      at_j : turned j ≡ not e
+      at_j = ap (λ (t : Bool). cond t (not e) e) (eq-eqb j j refl)
 
       differs : (t : Bool) → t ≡ not t → ⊥
-      differs true q = let z : _≡_ {A = ℕ} 0 1 = cc in omega arith
-      differs false q = let z : _≡_ {A = ℕ} 0 1 = cc in omega arith
+      differs true q = let z : ◌≡◌ {A = ℕ} 0 1 = cc in omega arith
+      differs false q = let z : ◌≡◌ {A = ℕ} 0 1 = cc in omega arith
 
   -- ---- the sheet
 
   pub joining-fewest : (n K : ℕ) → 1 ≤ n → 2 ≤ K → (cs : List Cell) × (sheetAside n K (joinTable op e n) ≡ made cs)
       × Fewest n K (λ x. joined op e n (bit x)) cs
-  joining-fewest n K some two = elim (decLt 1 n) [
+  joining-fewest n K some two = elim (dec_lt 1 n) [
     | no h ↦
         let few : length (inputs n) ≤ K = omega (arith, inputs-length n) in
         let m = from (lastCell (inputs n) T ∷ []) (ends few) in (
@@ -131,7 +131,7 @@ module _ (op : Bool → Bool → Bool) (e : Bool) (J : Joining op e) where
           m,
           record {
             network = table-gives n K F some (omega arith) (lastCell (inputs n) T ∷ []) m;
-            least = λ k C. omega (arith, C .count, C .network .some);
+            least = λ k C. omega (arith, C.count, C.network.some);
           },
         )
     | yes h ↦ go (any-made n K n (inputs n) T two (omega (arith, inputs-length n)) (omega (arith, inputs-length n))
@@ -149,25 +149,25 @@ module _ (op : Bool → Bool → Bool) (e : Bool) (J : Joining op e) where
 
       -- every input counts, so nothing is set aside
       from : (cs : List Cell) → Makes K n (inputs n) (joinTable op e n) cs → sheetAside n K (joinTable op e n) ≡ made cs
-      from cs m = sheet-plain n F K (joined-counts n) ∙ made-exactly n K T cs some (omega arith) .1 m
+      from cs m = sheet-plain n F K (joined-counts n) ∙ (made-exactly n K T cs some (omega arith)).1 m
 
       go : MadeFull K n (inputs n) T → (cs : List Cell) × (sheetAside n K T ≡ made cs) × Fewest n K F cs
       go w =
-          let m = from (w .cells) (w .makes) in
-          let q : length (w .cells) - 1 ≡ w .p = omega (arith, w .count) in (
-            w .cells,
+          let m = from w.cells w.makes in
+          let q : length w.cells - 1 ≡ w.p = omega (arith, w.count) in (
+            w.cells,
             m,
-            enough-all n K F (w .cells) (joined-counts n) (table-gives n K F some (omega arith) (w .cells) m)
-                (subst (λ (z : ℕ). z * (K - 1) + 1 < n) (sym q) (omega (arith, w .full, inputs-length n))),
+            enough-all n K F w.cells (joined-counts n) (table-gives n K F some (omega arith) w.cells m)
+                (subst (λ (z : ℕ). z * (K - 1) + 1 < n) (sym q) (omega (arith, w.full, inputs-length n))),
           )
 
 -- ---- the three
 
-pub and-joins : Joining _&&_ true
-and-joins = record { neutral = and-true; order = and-comm; grouping = and-assoc }
+pub and-joins : Joining ◌&&◌ true
+and-joins = record { neutral = and-true; order = and_comm; grouping = and_assoc }
 
-pub or-joins : Joining _||_ false
-or-joins = record { neutral = or-false; order = or-comm; grouping = or-assoc }
+pub or-joins : Joining ◌||◌ false
+or-joins = record { neutral = or-false; order = or_comm; grouping = or_assoc }
 
 pub xor-joins : Joining xor false
 unfolding xor

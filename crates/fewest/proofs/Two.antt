@@ -1,37 +1,37 @@
 -- Two cells that carry a table of which more than K inputs count are a split of it whose members all count: D is the
 -- first cell, A what it alone reads, and H the second, both with the other inputs at 0. H reads the first cell and at
 -- most K - 1 inputs; so A is as large as two cells need. Assumes nothing.
-use mathlib.Core.Path.{_≡_, refl, sym, ap, ap₂, _∙_}
-use mathlib.Core.Bool.{Bool, true, false, cond, not, _&&_, _||_, or-false}
-use mathlib.Core.List.{[], _∷_}
-use Prim.Native.Nat.{ℕ, suc, _+_, _^_, _<_, _≤_}
+use mathlib.Core.Path.{◌≡◌, refl, sym, ap, ap₂, ◌∙◌}
+use mathlib.Core.Bool.{Bool, true, false, cond, not, ◌&&◌, ◌||◌, or-false}
+use mathlib.Core.List.{[], ◌∷◌}
+use Prim.Native.Nat.{ℕ, suc, ◌+◌, ◌^◌, ◌<◌, ◌≤◌}
 use native.Mathlib.Omega.{arith}
 use lib.Dec.{eqb}
-use borrow.Author.Tests.{eq-eqb, ne-eqb, eqb-false}
-use Rattle·bits.specs.Numbers.{bit, val, number}
-use Rattle·bits.specs.Sets.{Agree, size, gather, spread}
-use Rattle·bits.proofs.Bools.{clash, and-right}
-use Rattle·bits.proofs.Numbers.{number-lt, bit-number}
-use Rattle·bits.proofs.Spreading.{gather-bit, bit-spread, spread-lt}
-use Rattle·bits.proofs.Sizes.{size-sum}
-use Rattle·bits.proofs.Counting.{size-part}
-use Rattle·tables.specs.Counting.{Counting, Sees}
-use Rattle·tables.proofs.Over.{cleared}
-use Rattle·splits.specs.Split.{readsD, readsH, Possible}
-use Rattle·splits.specs.Columns.{member}
-use Rattle·splits.proofs.Respect.{possible-of}
-use Rattle·best.specs.Best.{Candidate}
-use Rattle·sheets.specs.Network.{Cell, output, run, Gives}
-use Rattle·networks.proofs.Values.{member-below, size-member, output-ext}
-use Rattle·fewest·proofs.proofs.Reach.{needed, counted-needed}
+use borrow.Author.Tests.{eq-eqb, ne_eqb, eqb-false}
+use Rattle.bits.specs.Numbers.{bit, val, number}
+use Rattle.bits.specs.Sets.{Agree, size, gather, spread}
+use Rattle.bits.proofs.Bools.{clash, and_right}
+use Rattle.bits.proofs.Numbers.{number_lt, bit-number}
+use Rattle.bits.proofs.Spreading.{gather-bit, bit-spread, spread-lt}
+use Rattle.bits.proofs.Sizes.{size-sum}
+use Rattle.bits.proofs.Counting.{size-part}
+use Rattle.tables.specs.Counting.{Counting, Sees}
+use Rattle.tables.proofs.Over.{cleared}
+use Rattle.splits.specs.Split.{readsD, readsH, Possible}
+use Rattle.splits.specs.Columns.{member}
+use Rattle.splits.proofs.Respect.{possible-of}
+use Rattle.best.specs.Best.{Candidate}
+use Rattle.sheets.specs.Network.{Cell, output, run, Gives}
+use Rattle.networks.proofs.Values.{member_below, size-member, output-ext}
+use Rattle.fewest.proofs.Reach.{needed, counted-needed}
 
 module _ (n K : ℕ) (F : ℕ → Bool) (c d : Cell) (N : Gives n K F (c ∷ d ∷ [])) (S : ℕ → Bool) (sees : Sees n F S) where
   -- what the first and the second cell read
   abbrev R₁ : ℕ → Bool
-  R₁ s = member s (c .signals)
+  R₁ s = member s c.signals
 
   abbrev R₂ : ℕ → Bool
-  R₂ s = member s (d .signals)
+  R₂ s = member s d.signals
 
   own : ℕ → Bool
   own j = S j && (R₁ j && not (R₂ j))
@@ -74,12 +74,12 @@ module _ (n K : ℕ) (F : ℕ → Bool) (c d : Cell) (N : Gives n K F (c ∷ d �
 
   gives-two : (x : ℕ) → x < 2 ^ n → F x ≡ output d (see x (output c (bit (only x))))
   unfolding run see only
-  gives-two x h = sym (cleared n F S sees x h) ∙ sym (N .gives (only x) (spread-lt n S (gather n S x)))
+  gives-two x h = sym (cleared n F S sees x h) ∙ sym (N.gives (only x) (spread-lt n S (gather n S x)))
 
   first-sees : (x y : ℕ) → Agree n (readsD (bit A) (bit B)) x y → output c (bit (only x)) ≡ output c (bit (only y))
   first-sees x y h = output-ext c (bit (only x)) (bit (only y)) (λ s m.
-      let l = member-below n (c .signals) (N .wired .1) s m in
-      only-agree x y s l (λ e. h s l (ap₂ _||_ (bitA s l) (bitB s l) ∙ read (S s) (R₁ s) (R₂ s) e m)))
+      let l = member_below n c.signals N.wired.1 s m in
+      only-agree x y s l (λ e. h s l (ap₂ ◌||◌ (bitA s l) (bitB s l) ∙ read (S s) (R₁ s) (R₂ s) e m)))
     where
       read : (t p q : Bool) → t ≡ true → p ≡ true → ((t && (p && not q)) || (t && (p && q))) ≡ true
       read true true true e f = refl
@@ -102,7 +102,7 @@ module _ (n K : ℕ) (F : ℕ → Bool) (c d : Cell) (N : Gives n K F (c ∷ d �
       go s m true q = refl
       go s m false q =
           let ne : s ≡ n → ⊥ = eqb-false s n q in
-          let l : s < n = omega (arith, member-below (suc n) (d .signals) (N .wired .2 .1) s m) in
+          let l : s < n = omega (arith, member_below (suc n) d.signals N.wired.2.1 s m) in
           only-agree x y s l (λ e. h s l (ap₂ (λ (a b : Bool). b || not (a || b)) (bitA s l) (bitB s l)
           ∙ read (S s) (R₁ s) (R₂ s) e m))
 
@@ -114,7 +114,7 @@ module _ (n K : ℕ) (F : ℕ → Bool) (c d : Cell) (N : Gives n K F (c ∷ d �
 
   -- all its members are members of S
   pub two-inside : (j : ℕ) → j < n → readsD (bit A) (bit B) j ≡ true → S j ≡ true
-  two-inside j l e = go (S j) (R₁ j) (R₂ j) (sym (ap₂ _||_ (bitA j l) (bitB j l)) ∙ e)
+  two-inside j l e = go (S j) (R₁ j) (R₂ j) (sym (ap₂ ◌||◌ (bitA j l) (bitB j l)) ∙ e)
     where
       go : (t p q : Bool) → ((t && (p && not q)) || (t && (p && q))) ≡ true → t ≡ true
       go true p q e = refl
@@ -124,12 +124,12 @@ module _ (n K : ℕ) (F : ℕ → Bool) (c d : Cell) (N : Gives n K F (c ∷ d �
   module _ (counting : Counting n F S) (more : K < size n S) where
     needed-one : (s : ℕ) → s < suc n → needed (suc n) (d ∷ []) s ≡ R₂ s
     unfolding needed
-    needed-one s h = ap₂ (λ (t u : Bool). t || (u && R₂ s)) (ne-eqb (suc s) (suc (suc n)) (omega arith))
+    needed-one s h = ap₂ (λ (t u : Bool). t || (u && R₂ s)) (ne_eqb (suc s) (suc (suc n)) (omega arith))
         (eq-eqb (suc (suc n)) (suc (suc n)) refl)
 
-    all-read : (s : ℕ) → s < n → S s ≡ true → (R₂ s || (R₂ n && R₁ s)) ≡ true
+    all_read : (s : ℕ) → s < n → S s ≡ true → (R₂ s || (R₂ n && R₁ s)) ≡ true
     unfolding needed
-    all-read s h e =
+    all_read s h e =
         sym (ap₂ (λ (t u : Bool). t || (u && R₁ s)) (needed-one s (omega arith)) (needed-one n (omega arith)))
         ∙ counted-needed n K F c (d ∷ []) N s h (counting s h e)
 
@@ -143,9 +143,9 @@ module _ (n K : ℕ) (F : ℕ → Bool) (c d : Cell) (N : Gives n K F (c ∷ d �
             absurd (omega (
               arith,
               size-part n S R₂ (λ j l m. sym (or-false (R₂ j)) ∙ ap (λ (t : Bool). R₂ j || (t && R₁ j)) (sym e)
-                  ∙ all-read j l m),
-              size-member n (d .signals),
-              N .wired .2 .0,
+                  ∙ all_read j l m),
+              size-member n d.signals,
+              N.wired.2.0,
             ))
 
     sizeA : size n S ≤ size n (bit A) + size n R₂
@@ -153,8 +153,8 @@ module _ (n K : ℕ) (F : ℕ → Bool) (c d : Cell) (N : Gives n K F (c ∷ d �
       arith,
       size-sum n (bit A) (λ j. S j && R₂ j) S (λ j h.
           ap (λ (t : Bool). val t + val (S j && R₂ j)) (bitA j h)
-          ∙ go (S j) (R₁ j) (R₂ j) (λ e. ap (λ (t : Bool). R₂ j || (t && R₁ j)) (sym linked) ∙ all-read j h e)),
-      size-part n (λ j. S j && R₂ j) R₂ (λ j h. and-right (S j) (R₂ j)),
+          ∙ go (S j) (R₁ j) (R₂ j) (λ e. ap (λ (t : Bool). R₂ j || (t && R₁ j)) (sym linked) ∙ all_read j h e)),
+      size-part n (λ j. S j && R₂ j) R₂ (λ j h. and_right (S j) (R₂ j)),
     )
       where
         go : (t p q : Bool) → (t ≡ true → (q || p) ≡ true) → val (t && (p && not q)) + val (t && q) ≡ val t
@@ -169,7 +169,7 @@ module _ (n K : ℕ) (F : ℕ → Bool) (c d : Cell) (N : Gives n K F (c ∷ d �
       arith,
       size-sum n (bit A) (bit B) (λ j. S j && R₁ j)
           (λ j h. ap₂ (λ (s t : Bool). val s + val t) (bitA j h) (bitB j h) ∙ go (S j) (R₁ j) (R₂ j)),
-      size-part n (λ j. S j && R₁ j) R₁ (λ j h. and-right (S j) (R₁ j)),
+      size-part n (λ j. S j && R₁ j) R₁ (λ j h. and_right (S j) (R₁ j)),
     )
       where
         go : (t p q : Bool) → val (t && (p && not q)) + val (t && (p && q)) ≡ val (t && p)
@@ -180,16 +180,16 @@ module _ (n K : ℕ) (F : ℕ → Bool) (c d : Cell) (N : Gives n K F (c ∷ d �
 
     pub two-large : size n S + 1 ≤ K + size n (bit A)
     unfolding size
-    two-large = omega (arith, sizeA, size-member (suc n) (d .signals), N .wired .2 .0, ap val linked)
+    two-large = omega (arith, sizeA, size-member (suc n) d.signals, N.wired.2.0, ap val linked)
 
     pub two-candidate : Candidate n K 1 A B
     unfolding A B
     two-candidate = record {
-      belowA = number-lt n own;
-      belowB = number-lt n shared;
+      belowA = number_lt n own;
+      belowB = number_lt n shared;
       apart = λ j l e. bitA j l ∙ go (S j) (R₁ j) (R₂ j) (sym (bitB j l) ∙ e);
       more = omega (arith, two-large);
-      most = omega (arith, sizeAB, size-member n (c .signals), N .wired .0);
+      most = omega (arith, sizeAB, size-member n c.signals, N.wired.0);
     }
       where
         go : (t p q : Bool) → (t && (p && q)) ≡ true → (t && (p && not q)) ≡ false

@@ -1,18 +1,18 @@
 -- What form and room of a look for the best split let through. Assumes nothing.
-use mathlib.Core.Path.{_≡_, sym, _∙_}
-use mathlib.Core.List.{List, [], _∷_}
-use Prim.Native.Nat.{ℕ, _≤_}
+use mathlib.Core.Path.{◌≡◌, sym, ◌∙◌}
+use mathlib.Core.List.{List, [], ◌∷◌}
+use Prim.Native.Nat.{ℕ, ◌≤◌}
 use lib.ListN.{length}
 use borrow.Author.Tests.{ltb-false}
-use Rattle·tables.specs.Work.{workLength}
-use Rattle·sheets.specs.declared.kinds.Edition.{Edition}
-use Rattle·refusals.specs.declared.verdicts.Verdict.{Verdict}
-use Rattle·refusals.specs.declared.verdicts.Verdict.the-variants.{Fine}
-use Rattle·refusals.specs.Lines.{verdict}
-use Rattle·refusals.specs.Refusals.{shortWork}
-use Rattle·refusals.proofs.Lines.{in-order}
-use Rattle·refusals.proofs.Tests.{Sound, sound-before}
-use Rattle·finding·specs.specs.FindBest.{findForm}
+use Rattle.tables.specs.Work.{workLength}
+use Rattle.sheets.specs.declared.kinds.Edition.{Edition}
+use Rattle.refusals.specs.declared.verdicts.Verdict.{Verdict}
+use Rattle.refusals.specs.declared.verdicts.Verdict.TheVariants.{Fine}
+use Rattle.refusals.specs.Lines.{verdict}
+use Rattle.refusals.specs.Refusals.{shortWork}
+use Rattle.refusals.proofs.Lines.{in_order}
+use Rattle.refusals.proofs.Tests.{Sound, sound-before}
+use Rattle.finding.specs.FindBest.{findForm}
 
 pub record Ready (e : Edition) (n K : ℕ) (t work : List ℕ) : Type 0 where
   pub gate : Sound e n K t
@@ -22,5 +22,5 @@ pub ready : (e : Edition) (n K : ℕ) (t work : List ℕ) (v : Verdict) → v �
     → Ready e n K t work
 ready e n K t work v looked fine = record {
   gate = sound-before e n K t (shortWork work ∷ []) v looked fine;
-  area = ltb-false (length work) workLength (in-order (findForm e n K t work) (sym looked ∙ fine) .1 .1 .1 .1 .0);
+  area = ltb-false (length work) workLength (in_order (findForm e n K t work) (sym looked ∙ fine)).1.1.1.1.0;
 }

@@ -1,16 +1,15 @@
 -- Find the best split: two masks.
-use mathlib.Core.List.{List, [], _∷_, _++_}
-use Prim.Native.Nat.{ℕ}
-use Rattle·tables.specs.Table.{tableBit}
-use Rattle·best.specs.Search.{Answer, none, split}
-use Rattle·best.specs.Counting.{bestCounting}
-use Rattle·sheets.specs.declared.kinds.Edition.{Edition}
-use Rattle·refusals.specs.declared.verdicts.Refusal.{Refusal}
-use Rattle·refusals.specs.declared.verdicts.Verdict.the-variants.{Fine, Refused}
-use Rattle·refusals.specs.Lines.{Line, verdict, reply}
-use Rattle·refusals.specs.Refusals.{gateLines, shortWork, nothingToSplit, noneBest}
-use Rattle·refusals.specs.Lent.{workAfter}
-use Rattle·finding·specs.specs.declared.find_best.FindAnswer.{FindAnswer}
+use Rattle.std.specs.Prelude.{List, [], ◌∷◌, ◌++◌, ℕ}
+use Rattle.tables.specs.Table.{tableBit}
+use Rattle.best.specs.Search.{Answer, none, split}
+use Rattle.best.specs.Counting.{bestCounting}
+use Rattle.sheets.specs.declared.kinds.Edition.{Edition}
+use Rattle.refusals.specs.declared.verdicts.Refusal.{Refusal}
+use Rattle.refusals.specs.declared.verdicts.Verdict.TheVariants.{Fine, Refused}
+use Rattle.refusals.specs.Lines.{Line, verdict, reply}
+use Rattle.refusals.specs.Refusals.{gateLines, shortWork, nothingToSplit, noneBest}
+use Rattle.refusals.specs.Lent.{workAfter}
+use Rattle.finding.specs.declared.find_best.FindAnswer.{FindAnswer}
 
 -- the best split of a gate's table, over the inputs that count
 abbrev pub bestFor : ℕ → ℕ → List ℕ → Answer
@@ -34,9 +33,9 @@ pub record FindOutcome : Type 0 where
   pub work : List ℕ
 
 -- the own mask of an answer
-abbrev pub ownOf : Answer → ℕ
-ownOf none = 0
-ownOf (split A B) = A
+abbrev pub own_of : Answer → ℕ
+own_of none = 0
+own_of (split A B) = A
 
 -- and its shared mask
 abbrev pub sharedOf : Answer → ℕ
@@ -46,7 +45,7 @@ sharedOf (split A B) = B
 -- done: the masks of the best split
 abbrev pub findDone : Answer → List ℕ → FindOutcome
 findDone a work = record {
-  answer = record { verdict = Fine; own = ownOf a; shared = sharedOf a };
+  answer = record { verdict = Fine; own = own_of a; shared = sharedOf a };
   work = workAfter Fine work;
 }
 

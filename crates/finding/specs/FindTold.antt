@@ -1,10 +1,9 @@
 -- Find the best split into cells of a told edition: two masks.
-use mathlib.Core.List.{List}
-use Prim.Native.Nat.{ℕ}
-use Rattle·sheets.specs.Edition.{editionOf}
-use Rattle·refusals.specs.Lines.{Line, verdict, reply}
-use Rattle·refusals.specs.Refusals.{toldLines}
-use Rattle·finding·specs.specs.FindBest.{FindOutcome, bestFor, findLines, findDone, findNot}
+use Rattle.std.specs.Prelude.{List, ℕ}
+use Rattle.sheets.specs.Edition.{editionOf}
+use Rattle.refusals.specs.Lines.{Line, verdict, reply}
+use Rattle.refusals.specs.Refusals.{toldLines}
+use Rattle.finding.specs.FindBest.{FindOutcome, bestFor, findLines, findDone, findNot}
 
 -- 1, 2 of the edition, and find's own in that edition
 abbrev pub findToldLines : ℕ → ℕ → ℕ → List ℕ → List ℕ → List Line

@@ -1,22 +1,19 @@
 // Finding the best split.
+ghost use Rattle.std.specs.Prelude.{◌≡◌, ◌≤◌, length};
+ghost use Rattle.tables.specs.Table.{mostInputs, tableLength};
+ghost use Rattle.sheets.specs.Edition.{IsEdition, firstEdition};
+ghost use Rattle.tables.specs.Work.{workLength};
+ghost use Rattle.refusals.specs.Lines.{verdict, reply};
+ghost use Rattle.finding.specs.FindBest.{bestFor, findForm, findSays, findDone, findNot, findOutcome};
+
 use refusals::form;
-use refusals::verdicts::Refusal;
-use refusals::verdicts::Verdict;
-use refusals::verdicts::refuse;
-use search::counted::Counted;
-use search::counted::find_counting;
+use refusals::verdicts::{Refusal, Verdict, refuse};
+use search::counted::{Counted, find_counting};
 use sheets::kinds::Edition;
 use tables::WORK;
-ghost use mathlib.Core.Path.{_≡_};
-ghost use Prim.Native.Nat.{_≤_};
-ghost use lib.ListN.{length};
-ghost use Rattle·tables.specs.Table.{mostInputs, tableLength};
-ghost use Rattle·sheets.specs.Edition.{IsEdition, firstEdition};
-ghost use Rattle·tables.specs.Work.{workLength};
-ghost use Rattle·refusals.specs.Lines.{verdict, reply};
-ghost use Rattle·finding·specs.specs.FindBest.{bestFor, findForm, findSays, findDone, findNot, findOutcome};
 
 // The own and the shared mask, if nothing is wrong.
+#[derive(Drop)]
 pub struct FindAnswer {
     pub verdict: Verdict,
     pub own: u16,
@@ -25,7 +22,7 @@ pub struct FindAnswer {
 
 // Lines 1 to 4, and 6.
 pub fn find_form<'a>(e: Edition, n: u64, k: u64, t: &'a [u8], work: &'a [u8]) -> Verdict
-    ensures { λ r. ⌜ r ≡ verdict (findForm e n k (now (t .entry)) (now (work .entry))) ⌝ }
+    ensures { result ≡ verdict (findForm e n k t.now work.now) }
 {
     let gate = form::gate(e, n, k, t);
     let Verdict::Fine = gate else {
@@ -39,14 +36,10 @@ pub fn find_form<'a>(e: Edition, n: u64, k: u64, t: &'a [u8], work: &'a [u8]) ->
 
 // Lines 7 and 8: the best split over the inputs that count, or that at most k count, or that none is possible.
 fn search(n: u32, k: u32, t: &[u8], work: &mut [u8]) -> FindAnswer
-    requires { ⌜
-        (n ≤ mostInputs) × (k ≤ mostInputs) × (length (now t) ≡ tableLength n) × (workLength ≤ length (now work))
-        ⌝ }
-    ensures { λ r. ⌜
-        record { answer = r; work = now (work .exit) }
-        ≡ reply (verdict (findSays n k (now (t .entry))))
-        (findDone (bestFor n k (now (t .entry))) (now (work .entry))) (findNot (now (work .entry)))
-        ⌝ }
+    requires { (n ≤ mostInputs) × (k ≤ mostInputs) × (length t.now ≡ tableLength n) × (workLength ≤ length work.old) }
+    ensures { record { answer = result; work = work.new }
+        ≡ reply (verdict (findSays n k t.now))
+        (findDone (bestFor n k t.now) work.old) (findNot work.old) }
 {
     let found = find_counting(t, n, 1, k, work);
     match found {
@@ -70,10 +63,8 @@ fn search(n: u32, k: u32, t: &[u8], work: &mut [u8]) -> FindAnswer
 
 // Finds the best split into cells of an edition.
 pub fn find_in(e: Edition, n: u64, k: u64, t: &[u8], work: &mut [u8]) -> FindAnswer
-    requires { ⌜ IsEdition e ⌝ }
-    ensures { λ r. ⌜
-        record { answer = r; work = now (work .exit) } ≡ findOutcome e n k (now (t .entry)) (now (work .entry))
-        ⌝ }
+    requires { IsEdition e }
+    ensures { record { answer = result; work = work.new } ≡ findOutcome e n k t.now work.old }
 {
     let form = find_form(e, n, k, t, work);
     let Verdict::Fine = form else {
@@ -88,10 +79,8 @@ pub fn find_in(e: Edition, n: u64, k: u64, t: &[u8], work: &mut [u8]) -> FindAns
 
 // Finds the best split: two masks.
 pub fn find_best(n: u64, k: u64, t: &[u8], work: &mut [u8]) -> FindAnswer
-    ensures { λ r. ⌜
-        record { answer = r; work = now (work .exit) }
-        ≡ findOutcome firstEdition n k (now (t .entry)) (now (work .entry))
-        ⌝ }
+    ensures { record { answer = result; work = work.new }
+        ≡ findOutcome firstEdition n k t.now work.old }
 {
     find_in(Edition::first(), n, k, t, work)
 }

@@ -1,18 +1,16 @@
 // Finding the best split into cells of a told edition.
-use crate::find_best::FindAnswer;
-use crate::find_best::find_in;
+ghost use Rattle.std.specs.Prelude.{◌≡◌};
+ghost use Rattle.finding.specs.FindTold.{findTold};
+
+use crate::find_best::{FindAnswer, find_in};
 use refusals::form;
 use refusals::verdicts::Verdict;
 use sheets::kinds::Edition;
-ghost use mathlib.Core.Path.{_≡_};
-ghost use Rattle·finding·specs.specs.FindTold.{findTold};
 
 // Finds the best split into cells of the edition with the number w: two masks.
 pub fn find_told(w: u64, n: u64, k: u64, t: &[u8], work: &mut [u8]) -> FindAnswer
-    ensures { λ r. ⌜
-        record { answer = r; work = now (work .exit) }
-        ≡ findTold w n k (now (t .entry)) (now (work .entry))
-        ⌝ }
+    ensures { record { answer = result; work = work.new }
+        ≡ findTold w n k t.now work.old }
 {
     let told = form::told(w, n);
     let Verdict::Fine = told else {

@@ -1,22 +1,22 @@
 -- A step of kind 0 as a whole. Assumes nothing.
-use mathlib.Core.Path.{_≡_, refl, sym, ap, ap₂, subst, _∙_}
-use mathlib.Core.Bool.{Bool, true, false, _&&_}
+use mathlib.Core.Path.{◌≡◌, refl, sym, ap, ap₂, subst, ◌∙◌}
+use mathlib.Core.Bool.{Bool, true, false, ◌&&◌}
 use mathlib.Core.List.{List}
-use Prim.Native.Nat.{ℕ, _+_, _*_, _/_, _<_, _≤_}
+use Prim.Native.Nat.{ℕ, ◌+◌, ◌*◌, ◌/◌, ◌<◌, ◌≤◌}
 use native.Mathlib.Omega.{arith}
 use lib.Dec.{ltb}
 use lib.ListN.{length}
 use borrow.Author.Tests.{ltb-true}
-use Rattle·bits.specs.Below.{every}
-use Rattle·bits.proofs.Below.{every-at}
-use Rattle·clauses.specs.declared.variables.Size.{Size}
-use Rattle·clauses.specs.Variables.{variables}
-use Rattle·clauses.specs.Step.{four, literalsAt, literalAt, hintsAt, hintAt, questionIn, clauseAt}
-use Rattle·following·specs.specs.declared.trail.Trail.{Trail}
-use Rattle·following·specs.specs.Following.{Following, denied, used, isConflict, follows, literalsNamed, hintsEarlier}
-use Rattle·following·specs.specs.Following.{derivedInOrder}
-use Rattle·following·specs.specs.Standing.{LiteralsIn, AllThere, Usable, InFront, Trailed, Kept, Stands, Clean, begunIn, Ready}
-use Rattle·following·proofs.proofs.Going.{kept-same, kept-then, conflict-is}
+use Rattle.bits.specs.Below.{every}
+use Rattle.bits.proofs.Below.{every-at}
+use Rattle.clauses.specs.declared.variables.Size.{Size}
+use Rattle.clauses.specs.Variables.{variables}
+use Rattle.clauses.specs.Step.{four, literalsAt, literalAt, hintsAt, hintAt, questionIn, clauseAt}
+use Rattle.following.specs.declared.trail.Trail.{Trail}
+use Rattle.following.specs.Following.{Following, denied, used, isConflict, follows, literalsNamed, hintsEarlier}
+use Rattle.following.specs.Following.{derivedInOrder}
+use Rattle.following.specs.Standing.{LiteralsIn, AllThere, Usable, InFront, Trailed, Kept, Stands, Clean, begunIn, Ready}
+use Rattle.following.proofs.Going.{kept_same, kept_then, conflict-is}
 
 -- the literals of a step that are named
 pub named-literals : (z : Size) (t c : List ℕ) (at : ℕ) → AllThere c at → literalsNamed (questionIn z t c) c at ≡ true
@@ -41,33 +41,33 @@ module _ (z : Size) (t c : List ℕ) (at L H all : ℕ) (ea : all ≡ variables 
   reached = used hinted (denied (literalAt c at) L) H
 
   -- the literals, then the hints
-  pub both-go : {from : ℕ} {work mid after : List ℕ} {d r : Trail}
+  pub both_go : {from : ℕ} {work mid after : List ℕ} {d r : Trail}
       → Stands all from work (denied (literalAt c at) L) mid d
       → ((before : List ℕ) (f : Following) → Stands (variables z) from before f mid d
       → Stands (variables z) from before (used hinted f H) after r)
       → Stands (variables z) from work reached after r
-  both-go {from} {work} {mid} {after} {d} s h =
+  both_go {from} {work} {mid} {after} {d} s h =
       h work (denied (literalAt c at) L) (subst (λ (a : ℕ). Stands a from work (denied (literalAt c at) L) mid d) ea s)
 
   pub in-front : {work after : List ℕ} {r : Trail} → Stands (variables z) (all + length c) work reached after r
-      → InFront (all + length c) (r .set) after
-  in-front s e l = omega (arith, ea, s .trailed .below e l)
+      → InFront (all + length c) r.set after
+  in-front s e l = omega (arith, ea, s.trailed.below e l)
 
-  pub follows-is : {from : ℕ} {work after : List ℕ} {r : Trail} → Stands (variables z) from work reached after r
-      → r .conflict ≡ follows (questionIn z t c) c at
+  pub follows_is : {from : ℕ} {work after : List ℕ} {r : Trail} → Stands (variables z) from work reached after r
+      → r.conflict ≡ follows (questionIn z t c) c at
   unfolding follows
-  follows-is s =
+  follows_is s =
       conflict-is s
       ∙ ap₂ (λ (i j : ℕ). isConflict (used hinted (denied (literalAt c at) i) j)) el hints-are
 
   -- and all is forgotten
   pub all-forgotten : {work after end : List ℕ} {r : Trail} → Stands (variables z) (all + length c) work reached after r
-      → ((v : ℕ) (σ : ℕ → ℕ) → v ≤ all + length c → Trailed v (all + length c) σ (r .set) after
+      → ((v : ℕ) (σ : ℕ → ℕ) → v ≤ all + length c → Trailed v (all + length c) σ r.set after
       → Clean v end × Kept v (all + length c) after end)
       → Clean (variables z) end × Kept (variables z) (variables z + length c) work end
   all-forgotten {work} {after} {end} s h =
-      let w = h (variables z) (s .values) (omega (arith, ea)) (s .trailed) in
-      (w .0, subst (λ (a : ℕ). Kept (variables z) (a + length c) work end) ea (kept-then (s .kept) (w .1)))
+      let w = h (variables z) s.values (omega (arith, ea)) s.trailed in
+      (w.0, subst (λ (a : ℕ). Kept (variables z) (a + length c) work end) ea (kept_then s.kept w.1))
 
   -- ---- in order or not
 
@@ -84,16 +84,16 @@ module _ (z : Size) (t c : List ℕ) (at L H all : ℕ) (ea : all ≡ variables 
     unfolding hintsEarlier
     earlier-is e = e ∙ ap₂ (λ (i a : ℕ). every i (λ k. begunIn a (length c) work (hintAt c at k))) hints-are ea
 
-    pub not-named : {b : Bool} → b ≡ every L (λ k. ltb (literalAt c at k / 2) all) → b ≡ false
+    pub not_named : {b : Bool} → b ≡ every L (λ k. ltb (literalAt c at k / 2) all) → b ≡ false
         → false ≡ derivedInOrder (questionIn z t c) c at begun
-    not-named e h =
+    not_named e h =
         sym (ap (λ (x : Bool). x && (hintsEarlier (questionIn z t c) c at begun && follows (questionIn z t c) c at))
         (sym (named-is e) ∙ h))
 
-    pub not-earlier : {b d : Bool} → b ≡ every L (λ k. ltb (literalAt c at k / 2) all) → b ≡ true
+    pub not_earlier : {b d : Bool} → b ≡ every L (λ k. ltb (literalAt c at k / 2) all) → b ≡ true
         → d ≡ every H (λ k. begunIn all (length c) work (hintAt c at k)) → d ≡ false
         → false ≡ derivedInOrder (questionIn z t c) c at begun
-    not-earlier e h f k =
+    not_earlier e h f k =
         sym (ap₂ (λ (x y : Bool). x && (y && follows (questionIn z t c) c at)) (sym (named-is e) ∙ h)
         (sym (earlier-is f) ∙ k))
 
@@ -112,5 +112,5 @@ module _ (z : Size) (t c : List ℕ) (at L H all : ℕ) (ea : all ≡ variables 
         → (k : ℕ) → k < hintsAt c at → Usable z t c (hintAt c at k)
     unfolding hintsEarlier
     all-usable f h k l =
-        ready .usable (hintAt c at k)
+        ready.usable (hintAt c at k)
         (every-at (hintsAt c at) (λ j. begun (hintAt c at j)) (sym (earlier-is f) ∙ h) k l)

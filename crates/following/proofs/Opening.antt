@@ -1,33 +1,33 @@
 -- What is open in a clause, literal by literal. Assumes nothing.
-use mathlib.Core.Path.{_≡_, refl, sym, ap, ap₂, _∙_}
-use mathlib.Core.Bool.{Bool, true, false, cond, not, Bool·beq}
-use mathlib.Core.List.{List, [], _∷_, _++_, map, map-append}
-use Prim.Native.Nat.{ℕ, zero, suc, _+_, _-_, _*_, _/_, _%_, _^_, _<_, _≤_}
-use lib.Bits.{bitAnd}
+use mathlib.Core.Path.{◌≡◌, refl, sym, ap, ap₂, ◌∙◌}
+use mathlib.Core.Bool.{Bool, true, false, cond, not, beq}
+use mathlib.Core.List.{List, [], ◌∷◌, ◌++◌, map, map-append}
+use Prim.Native.Nat.{ℕ, zero, suc, ◌+◌, ◌-◌, ◌*◌, ◌/◌, ◌%◌, ◌^◌, ◌<◌, ◌≤◌}
+use lib.Bits.{bit_and}
 use native.Mathlib.Numerals.{add-one}
 use native.Mathlib.Omega.{arith}
 use lib.Dec.{eqb}
-use borrow.Author.Tests.{eq-eqb, ne-eqb}
-use Rattle·bits.specs.Numbers.{bit, val}
-use Rattle·bits.specs.Lists.{listOf}
-use Rattle·bits.proofs.Building.{bit-digit}
-use Rattle·clauses.specs.declared.variables.Size.{Size}
-use Rattle·clauses.specs.declared.variables.Variable.the-variants.{Reads, Differ, Apart}
-use Rattle·clauses.specs.declared.variables.Literal.{Literal}
-use Rattle·clauses.specs.declared.variables.Literal.the-variants.{Said, Denied}
-use Rattle·clauses.specs.Variables.{literalOf}
-use Rattle·clauses.specs.Clause.{those, rowsDiffer, causes}
-use Rattle·following·specs.specs.declared.open.Open.{Open}
-use Rattle·following·specs.specs.declared.open.Open.the-variants.{Nothing, One, Several}
-use Rattle·following·specs.specs.Values.{oneMore, seen, openAfter}
+use borrow.Author.Tests.{eq-eqb, ne_eqb}
+use Rattle.bits.specs.Numbers.{bit, val}
+use Rattle.bits.specs.Lists.{list_of}
+use Rattle.bits.proofs.Building.{bit-digit}
+use Rattle.clauses.specs.declared.variables.Size.{Size}
+use Rattle.clauses.specs.declared.variables.Variable.TheVariants.{Reads, Differ, Apart}
+use Rattle.clauses.specs.declared.variables.Literal.{Literal}
+use Rattle.clauses.specs.declared.variables.Literal.TheVariants.{Said, Denied}
+use Rattle.clauses.specs.Variables.{literalOf}
+use Rattle.clauses.specs.Clause.{those, rowsDiffer, causes}
+use Rattle.following.specs.declared.open.Open.{Open}
+use Rattle.following.specs.declared.open.Open.TheVariants.{Nothing, One, Several}
+use Rattle.following.specs.Values.{oneMore, seen, openAfter}
 
 module _ (σ : ℕ → ℕ) where
   -- one literal: it is false, or not
-  pub seen-false : (l : ℕ) (o : Open) → σ (l / 2) ≡ 2 - l % 2 → o ≡ seen σ l o
-  seen-false l o h = sym (ap (λ (t : Bool). cond t o (oneMore l o)) (eq-eqb (σ (l / 2)) (2 - l % 2) h))
+  pub seen_false : (l : ℕ) (o : Open) → σ (l / 2) ≡ 2 - l % 2 → o ≡ seen σ l o
+  seen_false l o h = sym (ap (λ (t : Bool). cond t o (oneMore l o)) (eq-eqb (σ (l / 2)) (2 - l % 2) h))
 
-  pub seen-more : (l : ℕ) (o : Open) → (σ (l / 2) ≡ 2 - l % 2 → ⊥) → oneMore l o ≡ seen σ l o
-  seen-more l o h = sym (ap (λ (t : Bool). cond t o (oneMore l o)) (ne-eqb (σ (l / 2)) (2 - l % 2) h))
+  pub seen_more : (l : ℕ) (o : Open) → (σ (l / 2) ≡ 2 - l % 2 → ⊥) → oneMore l o ≡ seen σ l o
+  seen_more l o h = sym (ap (λ (t : Bool). cond t o (oneMore l o)) (ne_eqb (σ (l / 2)) (2 - l % 2) h))
 
   -- a clause and then another
   pub open-append : (o : Open) (l m : List ℕ) → openAfter σ o (l ++ m) ≡ openAfter σ (openAfter σ o l) m
@@ -35,20 +35,20 @@ module _ (σ : ℕ → ℕ) where
   open-append o [] m = refl
   open-append o (x ∷ l) m = open-append (seen σ x o) l m
 
-  pub open-snoc : (o : Open) (l : List ℕ) (x : ℕ) → openAfter σ o (l ++ (x ∷ [])) ≡ seen σ x (openAfter σ o l)
+  pub open_snoc : (o : Open) (l : List ℕ) (x : ℕ) → openAfter σ o (l ++ (x ∷ [])) ≡ seen σ x (openAfter σ o l)
   unfolding openAfter
-  open-snoc o l x = open-append o l (x ∷ [])
+  open_snoc o l x = open-append o l (x ∷ [])
 
   -- one more of a list of a function's values
   module _ {A : Type 0} (f : A → ℕ) (g : ℕ → A) (o : Open) where
-    pub open-more : (k : ℕ) {r p : Open} → r ≡ seen σ (f (g k)) p → p ≡ openAfter σ o (map f (listOf k g))
-        → r ≡ openAfter σ o (map f (listOf (k + 1) g))
-    unfolding listOf
-    open-more k {r} {p} e h =
+    pub open_more : (k : ℕ) {r p : Open} → r ≡ seen σ (f (g k)) p → p ≡ openAfter σ o (map f (list_of k g))
+        → r ≡ openAfter σ o (map f (list_of (k + 1) g))
+    unfolding list_of
+    open_more k {r} {p} e h =
         e ∙ ap (seen σ (f (g k))) h
-        ∙ sym (ap (λ (m : ℕ). openAfter σ o (map f (listOf m g))) (add-one k)
-        ∙ ap (openAfter σ o) (map-append f (listOf k g) (g k ∷ []))
-        ∙ open-snoc o (map f (listOf k g)) (f (g k)))
+        ∙ sym (ap (λ (m : ℕ). openAfter σ o (map f (list_of m g))) (add-one k)
+        ∙ ap (openAfter σ o) (map-append f (list_of k g) (g k ∷ []))
+        ∙ open_snoc o (map f (list_of k g)) (f (g k)))
 
     -- and of those at which something holds
     pub open-those : (s : ℕ → Bool) (k : ℕ) {t : Bool} {r p : Open} → r ≡ cond t (seen σ (f (g k)) p) p → t ≡ s k
@@ -63,27 +63,27 @@ module _ (σ : ℕ → ℕ) where
             e ∙ ap (seen σ (f (g k))) h
             ∙ sym (ap (λ (b : Bool). openAfter σ o (map f (cond b (those k s g ++ (g k ∷ [])) (those k s g)))) (sym d)
             ∙ ap (openAfter σ o) (map-append f (those k s g) (g k ∷ []))
-            ∙ open-snoc o (map f (those k s g)) (f (g k)))
+            ∙ open_snoc o (map f (those k s g)) (f (g k)))
         go false e d =
             e ∙ h
             ∙ sym (ap (λ (b : Bool). openAfter σ o (map f (cond b (those k s g ++ (g k ∷ [])) (those k s g)))) (sym d))
 
 -- the same of a list of numbers
-pub open-next : (σ : ℕ → ℕ) (g : ℕ → ℕ) (o : Open) (k : ℕ) {r p : Open} → r ≡ seen σ (g k) p
-    → p ≡ openAfter σ o (listOf k g) → r ≡ openAfter σ o (listOf (k + 1) g)
-unfolding listOf
-open-next σ g o k {r} {p} e h =
+pub open_next : (σ : ℕ → ℕ) (g : ℕ → ℕ) (o : Open) (k : ℕ) {r p : Open} → r ≡ seen σ (g k) p
+    → p ≡ openAfter σ o (list_of k g) → r ≡ openAfter σ o (list_of (k + 1) g)
+unfolding list_of
+open_next σ g o k {r} {p} e h =
     e ∙ ap (seen σ (g k)) h
-    ∙ sym (ap (λ (m : ℕ). openAfter σ o (listOf m g)) (add-one k) ∙ open-snoc σ o (listOf k g) (g k))
+    ∙ sym (ap (λ (m : ℕ). openAfter σ o (list_of m g)) (add-one k) ∙ open_snoc σ o (list_of k g) (g k))
 
 -- two rows differ at an input, as the machine asks it
 pub differ-is : (x y p : ℕ) {X Y : ℕ} → x ≡ X → y ≡ Y
-    → not (eqb (bitAnd (x / 2 ^ p) 1) (bitAnd (y / 2 ^ p) 1)) ≡ not (Bool·beq (bit X p) (bit Y p))
+    → not (eqb (bit_and (x / 2 ^ p) 1) (bit_and (y / 2 ^ p) 1)) ≡ not (beq (bit X p) (bit Y p))
 differ-is x y p {X} {Y} e d =
     ap₂ (λ (a b : ℕ). not (eqb a b)) (bit-digit x p) (bit-digit y p) ∙ ap not (go (bit x p) (bit y p))
-    ∙ ap₂ (λ (a b : ℕ). not (Bool·beq (bit a p) (bit b p))) e d
+    ∙ ap₂ (λ (a b : ℕ). not (beq (bit a p) (bit b p))) e d
   where
-    go : (a b : Bool) → eqb (val a) (val b) ≡ Bool·beq a b
+    go : (a b : Bool) → eqb (val a) (val b) ≡ beq a b
     go true true = refl
     go true false = refl
     go false true = refl
@@ -92,8 +92,8 @@ differ-is x y p {X} {Y} e d =
 -- why a cell differs: the cell itself, the inputs, the cells
 pub causes-are : (σ : ℕ → ℕ) (z : Size) (row : ℕ → ℕ) (i a b : ℕ) {p q r : Open}
     → p ≡ seen σ (literalOf z (Denied (Differ i a b))) Nothing
-    → q ≡ openAfter σ p (map (literalOf z) (those (z .inputs) (rowsDiffer row a b) (λ k. Said (Reads i k))))
-    → r ≡ openAfter σ q (map (literalOf z) (listOf i (λ j. Said (Apart i j a b))))
+    → q ≡ openAfter σ p (map (literalOf z) (those z.inputs (rowsDiffer row a b) (λ k. Said (Reads i k))))
+    → r ≡ openAfter σ q (map (literalOf z) (list_of i (λ j. Said (Apart i j a b))))
     → r ≡ openAfter σ Nothing (map (literalOf z) (causes z row i a b))
 unfolding openAfter
 causes-are σ z row i a b {p} {q} {r} e d f =
@@ -102,7 +102,7 @@ causes-are σ z row i a b {p} {q} {r} e d f =
     ∙ open-append σ (seen σ (literalOf z (Denied (Differ i a b))) Nothing) (map (literalOf z) l) (map (literalOf z) m))
   where
     l : List Literal
-    l = those (z .inputs) (rowsDiffer row a b) (λ k. Said (Reads i k))
+    l = those z.inputs (rowsDiffer row a b) (λ k. Said (Reads i k))
 
     m : List Literal
-    m = listOf i (λ j. Said (Apart i j a b))
+    m = list_of i (λ j. Said (Apart i j a b))

@@ -1,24 +1,24 @@
 -- Variables that are set, noted, and forgotten. Assumes nothing.
-use mathlib.Core.Path.{_≡_, refl, sym, ap, ap₂, subst, _∙_}
-use mathlib.Core.Logic.{_⊎_, inl, inr, ⊎-elim}
+use mathlib.Core.Path.{◌≡◌, refl, sym, ap, ap₂, subst, ◌∙◌}
+use mathlib.Core.Logic.{◌⊎◌, inl, inr, ⊎_elim}
 use mathlib.Core.Bool.{Bool, true, false, cond}
 use mathlib.Core.List.{List}
-use Prim.Native.Nat.{ℕ, _+_, _-_, _*_, _/_, _%_, _<_, _≤_}
-use native.Mathlib.Decide.{ℕ-discrete, decLt}
+use Prim.Native.Nat.{ℕ, ◌+◌, ◌-◌, ◌*◌, ◌/◌, ◌%◌, ◌<◌, ◌≤◌}
+use native.Mathlib.Decide.{ℕ_discrete, dec_lt}
 use native.Mathlib.Omega.{arith}
 use lib.Dec.{eqb}
 use lib.ListN.{length, set, length-set}
-use lib.Seq.{getD-set-same, getD-set-other}
-use borrow.Author.Tests.{eq-eqb, ne-eqb}
-use Rattle·bits.specs.Lists.{byteAt}
-use Rattle·clauses.specs.Step.{four}
-use Rattle·following·specs.specs.Values.{made}
-use Rattle·following·specs.specs.Standing.{Wrote, InFront, Among, Trailed, Kept, Clean}
+use lib.Seq.{get_or-set_same, get_or-set_other}
+use borrow.Author.Tests.{eq-eqb, ne_eqb}
+use Rattle.bits.specs.Lists.{byte_at}
+use Rattle.clauses.specs.Step.{four}
+use Rattle.following.specs.Values.{made}
+use Rattle.following.specs.Standing.{Wrote, InFront, Among, Trailed, Kept, Clean}
 
 -- four bytes are those of another list
-pub four-same : (l m : List ℕ) (p : ℕ) → ((j : ℕ) → p ≤ j → j < p + 4 → byteAt l j ≡ byteAt m j) → four l p ≡ four m p
+pub four_same : (l m : List ℕ) (p : ℕ) → ((j : ℕ) → p ≤ j → j < p + 4 → byte_at l j ≡ byte_at m j) → four l p ≡ four m p
 unfolding four
-four-same l m p h =
+four_same l m p h =
     let a = h p (omega arith) (omega arith) in let b = h (p + 1) (omega arith) (omega arith) in
     let d = h (p + 2) (omega arith) (omega arith) in let e = h (p + 3) (omega arith) (omega arith) in
     omega (arith, a, b, d, e)
@@ -33,20 +33,20 @@ wrote l p x h w =
     let l3 = set l2 (p + 2) (x / 65536 % 256) in let l4 = set l3 (p + 3) (x / 16777216) in
     let n1 = length-set l p (x % 256) in let n2 = length-set l1 (p + 1) (x / 256 % 256) in
     let n3 = length-set l2 (p + 2) (x / 65536 % 256) in let n4 = length-set l3 (p + 3) (x / 16777216) in
-    let b3 : byteAt l4 (p + 3) ≡ x / 16777216 = getD-set-same l3 (p + 3) (x / 16777216) 0 (omega arith) in
-    let b2 : byteAt l4 (p + 2) ≡ x / 65536 % 256 = getD-set-other l3 (p + 3) (p + 2) (x / 16777216) 0 (λ e. omega arith)
-    ∙ getD-set-same l2 (p + 2) (x / 65536 % 256) 0 (omega arith) in
-    let b1 : byteAt l4 (p + 1) ≡ x / 256 % 256 = getD-set-other l3 (p + 3) (p + 1) (x / 16777216) 0 (λ e. omega arith)
-    ∙ getD-set-other l2 (p + 2) (p + 1) (x / 65536 % 256) 0 (λ e. omega arith)
-    ∙ getD-set-same l1 (p + 1) (x / 256 % 256) 0 (omega arith) in
-    let b0 : byteAt l4 p ≡ x % 256 = getD-set-other l3 (p + 3) p (x / 16777216) 0 (λ e. omega arith)
-    ∙ getD-set-other l2 (p + 2) p (x / 65536 % 256) 0 (λ e. omega arith)
-    ∙ getD-set-other l1 (p + 1) p (x / 256 % 256) 0 (λ e. omega arith)
-    ∙ getD-set-same l p (x % 256) 0 (omega arith) in
-    let off : (j : ℕ) → (j ≡ p → ⊥) → (j ≡ p + 1 → ⊥) → (j ≡ p + 2 → ⊥) → (j ≡ p + 3 → ⊥) → byteAt l4 j ≡ byteAt l j
-    = λ j a b d e. getD-set-other l3 (p + 3) j (x / 16777216) 0 e
-    ∙ getD-set-other l2 (p + 2) j (x / 65536 % 256) 0 d ∙ getD-set-other l1 (p + 1) j (x / 256 % 256) 0 b
-    ∙ getD-set-other l p j (x % 256) 0 a in
+    let b3 : byte_at l4 (p + 3) ≡ x / 16777216 = get_or-set_same l3 (p + 3) (x / 16777216) 0 (omega arith) in
+    let b2 : byte_at l4 (p + 2) ≡ x / 65536 % 256 = get_or-set_other l3 (p + 3) (p + 2) (x / 16777216) 0 (λ e. omega arith)
+    ∙ get_or-set_same l2 (p + 2) (x / 65536 % 256) 0 (omega arith) in
+    let b1 : byte_at l4 (p + 1) ≡ x / 256 % 256 = get_or-set_other l3 (p + 3) (p + 1) (x / 16777216) 0 (λ e. omega arith)
+    ∙ get_or-set_other l2 (p + 2) (p + 1) (x / 65536 % 256) 0 (λ e. omega arith)
+    ∙ get_or-set_same l1 (p + 1) (x / 256 % 256) 0 (omega arith) in
+    let b0 : byte_at l4 p ≡ x % 256 = get_or-set_other l3 (p + 3) p (x / 16777216) 0 (λ e. omega arith)
+    ∙ get_or-set_other l2 (p + 2) p (x / 65536 % 256) 0 (λ e. omega arith)
+    ∙ get_or-set_other l1 (p + 1) p (x / 256 % 256) 0 (λ e. omega arith)
+    ∙ get_or-set_same l p (x % 256) 0 (omega arith) in
+    let off : (j : ℕ) → (j ≡ p → ⊥) → (j ≡ p + 1 → ⊥) → (j ≡ p + 2 → ⊥) → (j ≡ p + 3 → ⊥) → byte_at l4 j ≡ byte_at l j
+    = λ j a b d e. get_or-set_other l3 (p + 3) j (x / 16777216) 0 e
+    ∙ get_or-set_other l2 (p + 2) j (x / 65536 % 256) 0 d ∙ get_or-set_other l1 (p + 1) j (x / 256 % 256) 0 b
+    ∙ get_or-set_other l p j (x % 256) 0 a in
     record {
       long = n4 ∙ n3 ∙ n2 ∙ n1;
       is = omega (arith, b0, b1, b2, b3);
@@ -61,59 +61,59 @@ module _ (all from n l : ℕ) (σ : ℕ → ℕ) (before mid : List ℕ) (af : a
   abbrev after : List ℕ
   after = set mid (l / 2) (1 + l % 2)
 
-  here : byteAt after (l / 2) ≡ 1 + l % 2
-  here = getD-set-same mid (l / 2) (1 + l % 2) 0 (omega (arith, w .long))
+  here : byte_at after (l / 2) ≡ 1 + l % 2
+  here = get_or-set_same mid (l / 2) (1 + l % 2) 0 (omega (arith, w.long))
 
-  there : (j : ℕ) → (j ≡ l / 2 → ⊥) → byteAt after j ≡ byteAt mid j
-  there j h = getD-set-other mid (l / 2) j (1 + l % 2) 0 h
+  there : (j : ℕ) → (j ≡ l / 2 → ⊥) → byte_at after j ≡ byte_at mid j
+  there j h = get_or-set_other mid (l / 2) j (1 + l % 2) 0 h
 
   noted : four after (from + 4 * n) ≡ l / 2
-  noted = four-same after mid (from + 4 * n) (λ j a b. there j (λ e. omega arith)) ∙ w .is
+  noted = four_same after mid (from + 4 * n) (λ j a b. there j (λ e. omega arith)) ∙ w.is
 
   earlier : (e : ℕ) → e < n → four after (from + 4 * e) ≡ four before (from + 4 * e)
-  earlier e k = four-same after before (from + 4 * e) (λ j a b. there j (λ d. omega arith) ∙ w .under j (omega arith))
+  earlier e k = four_same after before (from + 4 * e) (λ j a b. there j (λ d. omega arith) ∙ w.under j (omega arith))
 
   made-here : made σ l (l / 2) ≡ 1 + l % 2
   made-here = ap (λ (b : Bool). cond b (1 + l % 2) (σ (l / 2))) (eq-eqb (l / 2) (l / 2) refl)
 
   made-there : (v : ℕ) → (v ≡ l / 2 → ⊥) → made σ l v ≡ σ v
-  made-there v h = ap (λ (b : Bool). cond b (1 + l % 2) (σ v)) (ne-eqb v (l / 2) h)
+  made-there v h = ap (λ (b : Bool). cond b (1 + l % 2) (σ v)) (ne_eqb v (l / 2) h)
 
   pub making : Trailed all from (made σ l) (n + 1) after × Kept all from before after
   making = (
     record {
-      values = λ v k. elim (ℕ-discrete v (l / 2)) [
-        | yes e ↦ ap (byteAt after) e ∙ here ∙ sym (ap (made σ l) e ∙ made-here)
-        | no e ↦ there v e ∙ w .under v (omega arith) ∙ t .values v k ∙ sym (made-there v e)
+      values = λ v k. elim (ℕ_discrete v (l / 2)) [
+        | yes e ↦ ap (byte_at after) e ∙ here ∙ sym (ap (made σ l) e ∙ made-here)
+        | no e ↦ there v e ∙ w.under v (omega arith) ∙ t.values v k ∙ sym (made-there v e)
       ];
-      trail = λ v k. elim (ℕ-discrete v (l / 2)) [
+      trail = λ v k. elim (ℕ_discrete v (l / 2)) [
         | yes e ↦ inr (record { at = n; within = omega arith; is = noted ∙ sym e })
-        | no e ↦ ⊎-elim (λ z. inl (made-there v e ∙ z)) (λ z. inr (record {
-          at = z .at;
-          within = omega (arith, z .within);
-          is = earlier (z .at) (z .within) ∙ z .is;
-        })) (t .trail v k)
+        | no e ↦ ⊎_elim (λ z. inl (made-there v e ∙ z)) (λ z. inr (record {
+          at = z.at;
+          within = omega (arith, z.within);
+          is = earlier z.at z.within ∙ z.is;
+        })) (t.trail v k)
       ];
-      below = λ e k. elim (decLt e n) [
-        | yes d ↦ omega (arith, earlier e d, t .below e d)
+      below = λ e k. elim (dec_lt e n) [
+        | yes d ↦ omega (arith, earlier e d, t.below e d)
         | no d ↦ (let z : e ≡ n = omega arith in omega (arith, noted, ap (λ (i : ℕ). four after (from + 4 * i)) z))
       ];
     },
     record {
-      long = length-set mid (l / 2) (1 + l % 2) ∙ w .long;
-      marks = λ j a b. there j (λ e. omega arith) ∙ w .under j (omega arith);
+      long = length-set mid (l / 2) (1 + l % 2) ∙ w.long;
+      marks = λ j a b. there j (λ e. omega arith) ∙ w.under j (omega arith);
     },
   )
 
 -- what was forgotten of the first e that were noted
 pub record Forgotten (from e : ℕ) (before work : List ℕ) : Type 0 where
   pub long : length work ≡ length before
-  pub gone : (k : ℕ) → k < e → byteAt work (four before (from + 4 * k)) ≡ 0
-  pub other : (j : ℕ) → ((k : ℕ) → k < e → j ≡ four before (from + 4 * k) → ⊥) → byteAt work j ≡ byteAt before j
-  pub less : (j : ℕ) → (byteAt work j ≡ byteAt before j) ⊎ (byteAt work j ≡ 0)
+  pub gone : (k : ℕ) → k < e → byte_at work (four before (from + 4 * k)) ≡ 0
+  pub other : (j : ℕ) → ((k : ℕ) → k < e → j ≡ four before (from + 4 * k) → ⊥) → byte_at work j ≡ byte_at before j
+  pub less : (j : ℕ) → (byte_at work j ≡ byte_at before j) ⊎ (byte_at work j ≡ 0)
 
-pub forgot-none : (from : ℕ) (before : List ℕ) → Forgotten from 0 before before
-forgot-none from before = record {
+pub forgot_none : (from : ℕ) (before : List ℕ) → Forgotten from 0 before before
+forgot_none from before = record {
   long = refl;
   gone = λ k h. absurd (omega arith);
   other = λ j h. refl;
@@ -124,30 +124,30 @@ module _ (from n e : ℕ) (before work : List ℕ) (room : from + 4 * n ≤ leng
     (front : InFront from n before) (f : Forgotten from e before work) where
   -- what is noted still stands there
   pub stands : four work (from + 4 * e) ≡ four before (from + 4 * e)
-  stands = four-same work before (from + 4 * e) (λ j a b. f .other j (λ k l d. omega (arith, front k (omega arith))))
+  stands = four_same work before (from + 4 * e) (λ j a b. f.other j (λ k l d. omega (arith, front k (omega arith))))
 
   pub in-room : four work (from + 4 * e) < length work
-  in-room = omega (arith, stands, front e en, f .long)
+  in-room = omega (arith, stands, front e en, f.long)
 
   pub forgot-more : {v : ℕ} → v ≡ four work (from + 4 * e) → Forgotten from (e + 1) before (set work v 0)
   forgot-more {v} p =
       let q : v ≡ four before (from + 4 * e) = p ∙ stands in
       let r : v < length work = omega (arith, p, in-room) in record {
-        long = length-set work v 0 ∙ f .long;
-        gone = λ k h. elim (ℕ-discrete (four before (from + 4 * k)) v) [
-          | yes d ↦ ap (byteAt (set work v 0)) d ∙ getD-set-same work v 0 0 r
-          | no d ↦ getD-set-other work v (four before (from + 4 * k)) 0 0 d
-              ∙ f .gone k (elim (ℕ-discrete k e) [
+        long = length-set work v 0 ∙ f.long;
+        gone = λ k h. elim (ℕ_discrete (four before (from + 4 * k)) v) [
+          | yes d ↦ ap (byte_at (set work v 0)) d ∙ get_or-set_same work v 0 0 r
+          | no d ↦ get_or-set_other work v (four before (from + 4 * k)) 0 0 d
+              ∙ f.gone k (elim (ℕ_discrete k e) [
                 | yes z ↦ absurd (d (ap (λ (i : ℕ). four before (from + 4 * i)) z ∙ sym q))
                 | no z ↦ omega arith
               ])
         ];
-        other = λ j h. getD-set-other work v j 0 0 (λ d. h e (omega arith) (d ∙ q))
-            ∙ f .other j (λ k l. h k (omega arith));
-        less = λ j. elim (ℕ-discrete j v) [
-          | yes d ↦ inr (ap (byteAt (set work v 0)) d ∙ getD-set-same work v 0 0 r)
-          | no d ↦ ⊎-elim (λ z. inl (getD-set-other work v j 0 0 d ∙ z)) (λ z. inr (getD-set-other work v j 0 0 d ∙ z))
-              (f .less j)
+        other = λ j h. get_or-set_other work v j 0 0 (λ d. h e (omega arith) (d ∙ q))
+            ∙ f.other j (λ k l. h k (omega arith));
+        less = λ j. elim (ℕ_discrete j v) [
+          | yes d ↦ inr (ap (byte_at (set work v 0)) d ∙ get_or-set_same work v 0 0 r)
+          | no d ↦ ⊎_elim (λ z. inl (get_or-set_other work v j 0 0 d ∙ z)) (λ z. inr (get_or-set_other work v j 0 0 d ∙ z))
+              (f.less j)
         ];
       }
 
@@ -155,7 +155,7 @@ module _ (from n e : ℕ) (before work : List ℕ) (room : from + 4 * n ≤ leng
 pub forgot-all : (all from n : ℕ) (σ : ℕ → ℕ) (before work : List ℕ) → all ≤ from → Trailed all from σ n before
     → Forgotten from n before work → Clean all work × Kept all from before work
 forgot-all all from n σ before work af t f = (
-  λ v k. ⊎-elim (λ z. ⊎-elim (λ y. y ∙ t .values v k ∙ z) (λ y. y) (f .less v))
-      (λ z. ap (byteAt work) (sym (z .is)) ∙ f .gone (z .at) (z .within)) (t .trail v k),
-  record { long = f .long; marks = λ j a b. f .other j (λ k l d. omega (arith, t .below k l)) },
+  λ v k. ⊎_elim (λ z. ⊎_elim (λ y. y ∙ t.values v k ∙ z) (λ y. y) (f.less v))
+      (λ z. ap (byte_at work) (sym z.is) ∙ f.gone z.at z.within) (t.trail v k),
+  record { long = f.long; marks = λ j a b. f.other j (λ k l d. omega (arith, t.below k l)) },
 )

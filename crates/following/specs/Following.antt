@@ -1,15 +1,12 @@
 -- Whether a step of kind 0 follows: a conflict is reached.
-use mathlib.Core.Bool.{Bool, true, false, cond, _&&_}
-use mathlib.Core.List.{List}
-use Prim.Native.Nat.{ℕ, zero, suc, _/_}
-use lib.Dec.{ltb}
-use Rattle·bits.specs.Below.{every}
-use Rattle·clauses.specs.Variables.{variables}
-use Rattle·clauses.specs.Clause.{Question}
-use Rattle·clauses.specs.Step.{literalsAt, literalAt, hintsAt, hintAt, clauseAt}
-use Rattle·following·specs.specs.declared.open.Open.{Open}
-use Rattle·following·specs.specs.declared.open.Open.the-variants.{Nothing, One, Several}
-use Rattle·following·specs.specs.Values.{notSet, isTrue, isFalse, isOpen, opposite, made, openIn}
+use Rattle.std.specs.Prelude.{Bool, true, false, cond, ◌&&◌, List, ℕ, zero, suc, ◌/◌, ltb}
+use Rattle.bits.specs.Below.{every}
+use Rattle.clauses.specs.Variables.{variables}
+use Rattle.clauses.specs.Clause.{Question}
+use Rattle.clauses.specs.Step.{literalsAt, literalAt, hintsAt, hintAt, clauseAt}
+use Rattle.following.specs.declared.open.Open.{Open}
+use Rattle.following.specs.declared.open.Open.TheVariants.{Nothing, One, Several}
+use Rattle.following.specs.Values.{notSet, isTrue, isFalse, isOpen, opposite, made, open_in}
 
 -- how far it has come: a conflict, or the variables that are set
 pub data Following : Type 0 where
@@ -30,7 +27,7 @@ byOpen σ Several = going σ
 
 abbrev pub hinting : List ℕ → Following → Following
 hinting ls conflict = conflict
-hinting ls (going σ) = byOpen σ (openIn σ ls)
+hinting ls (going σ) = byOpen σ (open_in σ ls)
 
 -- after the first k literals
 unfoldable pub denied : (ℕ → ℕ) → ℕ → Following
@@ -53,7 +50,7 @@ module _ (q : Question) (c : List ℕ) (at : ℕ) where
 
   -- each literal's variable is below V
   unfoldable pub literalsNamed : Bool
-  literalsNamed = every (literalsAt c at) (λ k. ltb (literalAt c at k / 2) (variables (q .size)))
+  literalsNamed = every (literalsAt c at) (λ k. ltb (literalAt c at k / 2) (variables q.size))
 
   -- each hint is the place at which an earlier step begins
   unfoldable pub hintsEarlier : (ℕ → Bool) → Bool

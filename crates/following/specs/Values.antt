@@ -1,10 +1,7 @@
 -- Variables that are set while a step is looked at, and what is then open in a clause.
-use mathlib.Core.Bool.{Bool, cond}
-use mathlib.Core.List.{List, [], _∷_}
-use Prim.Native.Nat.{ℕ, _+_, _-_, _*_, _/_, _%_}
-use lib.Dec.{eqb}
-use Rattle·following·specs.specs.declared.open.Open.{Open}
-use Rattle·following·specs.specs.declared.open.Open.the-variants.{Nothing, One, Several}
+use Rattle.std.specs.Prelude.{Bool, cond, List, [], ◌∷◌, ℕ, ◌+◌, ◌-◌, ◌*◌, ◌/◌, ◌%◌, eqb}
+use Rattle.following.specs.declared.open.Open.{Open}
+use Rattle.following.specs.declared.open.Open.TheVariants.{Nothing, One, Several}
 
 -- a variable is not set, 0, or true, 1, or false, 2; at first none is set
 abbrev pub notSet : ℕ → ℕ
@@ -43,5 +40,5 @@ unfoldable pub openAfter : (ℕ → ℕ) → Open → List ℕ → Open
 openAfter σ o [] = o
 openAfter σ o (l ∷ ls) = openAfter σ (seen σ l o) ls
 
-abbrev pub openIn : (ℕ → ℕ) → List ℕ → Open
-openIn σ ls = openAfter σ Nothing ls
+abbrev pub open_in : (ℕ → ℕ) → List ℕ → Open
+open_in σ ls = openAfter σ Nothing ls

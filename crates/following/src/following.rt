@@ -1,35 +1,25 @@
 // Whether a step of kind 0 is in order.
-use crate::open::Open;
-use crate::open::open_at;
-use crate::trail::Trail;
-use crate::trail::forget;
-use crate::trail::make;
-use clauses::numbers::four_at;
-use clauses::numbers::two_at;
-use clauses::variables::Size;
-use clauses::variables::all_variables;
-ghost use mathlib.Core.Path.{_≡_};
-ghost use Prim.Native.Nat.{ℕ, _+_, _*_, _/_, _<_, _≤_};
-ghost use mathlib.Core.List.{List};
-ghost use lib.Dec.{ltb};
-ghost use lib.ListN.{length};
-ghost use Rattle·bits.specs.Below.{every};
-ghost use Rattle·tables.specs.Table.{tableLength};
-ghost use Rattle·clauses.specs.Variables.{IsSize, variables};
-ghost use Rattle·clauses.specs.Step.{questionIn, literalsAt, literalAt, hintsAt, hintAt, clauseAt};
-ghost use Rattle·clauses.specs.Shapes.{HasRows};
-ghost use Rattle·following·specs.specs.Following.{Following, going, denying, hinting, denied, used};
-ghost use Rattle·following·specs.specs.Following.{follows, derivedInOrder};
-ghost use Rattle·following·specs.specs.Standing.{LiteralsIn, AllThere, Usable, Trailed, Stands, Kept, Clean, begunIn, Ready};
+ghost use Rattle.std.specs.Prelude.{◌≡◌, ℕ, ◌+◌, ◌*◌, ◌/◌, ◌<◌, ◌≤◌, List, ltb, length};
+ghost use Rattle.bits.specs.Below.{every};
+ghost use Rattle.tables.specs.Table.{tableLength};
+ghost use Rattle.clauses.specs.Variables.{IsSize, variables};
+ghost use Rattle.clauses.specs.Step.{questionIn, literalsAt, literalAt, hintsAt, hintAt, clauseAt};
+ghost use Rattle.clauses.specs.Shapes.{HasRows};
+ghost use Rattle.following.specs.Following.{Following, going, denying, hinting, denied, used};
+ghost use Rattle.following.specs.Following.{follows, derivedInOrder};
+ghost use Rattle.following.specs.Standing.{LiteralsIn, AllThere, Usable, Trailed, Stands, Kept, Clean, begunIn, Ready};
+
+use crate::open::{Open, open_at};
+use crate::trail::{Trail, forget, make};
+use clauses::numbers::{four_at, two_at};
+use clauses::variables::{Size, all_variables};
 
 // A literal of the step: it is made false, or there is a conflict.
 fn deny(work: &mut [u8], from: usize, set: usize, l: usize) -> Trail
-    requires { ⌜ (l / 2 < from) × (from + 4 * set + 4 ≤ length (now work)) × (l < 4294967296) ⌝ }
-    ensures { λ r. ⌜
-        (r .set ≤ set + 1)
-        × ((v : ℕ) (σ : ℕ → ℕ) → v ≤ from → l / 2 < v → Trailed v from σ set (now (work .entry))
-        → Stands v from (now (work .entry)) (denying l (going σ)) (now (work .exit)) r)
-        ⌝ }
+    requires { (l / 2 < from) × (from + 4 * set + 4 ≤ length work.old) × (l < 4294967296) }
+    ensures { (result.set ≤ set + 1)
+        × ((v : ℕ) (σ : ℕ → ℕ) → v ≤ from → l / 2 < v → Trailed v from σ set work.old
+        → Stands v from work.old (denying l (going σ)) work.new result) }
 {
     let v = l / 2;
     let value = work[v] as usize;
@@ -54,15 +44,11 @@ fn deny(work: &mut [u8], from: usize, set: usize, l: usize) -> Trail
 
 // All literals of the step, up to a conflict.
 fn deny_all(c: &[u8], at: usize, many: usize, all: usize, work: &mut [u8]) -> Trail
-    requires { ⌜
-        (many ≡ literalsAt (now c) at) × LiteralsIn all (now c) at × Clean all (now work) × (all < 67108864)
-        × (all + length (now c) + length (now c) ≤ length (now work))
-        ⌝ }
-    ensures { λ r. ⌜
-        (r .set ≤ many)
-        × Stands all (all + length (now (c .entry))) (now (work .entry)) (denied (literalAt (now (c .entry)) at) many)
-        (now (work .exit)) r
-        ⌝ }
+    requires { (many ≡ literalsAt c.now at) × LiteralsIn all c.now at × Clean all work.old × (all < 67108864)
+        × (all + length c.now + length c.now ≤ length work.old) }
+    ensures { (result.set ≤ many)
+        × Stands all (all + length c.now) work.old (denied (literalAt c.now at) many)
+        work.new result }
 {
     let from = all + c.len();
     let mut r = Trail {
@@ -90,17 +76,13 @@ fn hint<'a>(
     from: usize,
     set: usize,
 ) -> Trail
-    requires { ⌜
-        IsSize z × HasRows z (now c) × (length (now t) ≡ tableLength (z .inputs)) × Usable z (now t) (now c) at
-        × (variables z ≤ from) × (from + 4 * set + 4 ≤ length (now work))
-        ⌝ }
-    ensures { λ r. ⌜
-        (r .set ≤ set + 1)
-        × ((σ : ℕ → ℕ) → Trailed (variables z) from σ set (now (work .entry))
-        → Stands (variables z) from (now (work .entry))
-        (hinting (clauseAt (questionIn z (now (t .entry)) (now (c .entry))) (now (c .entry)) at) (going σ))
-        (now (work .exit)) r)
-        ⌝ }
+    requires { IsSize z × HasRows z c.now × (length t.now ≡ tableLength z.inputs) × Usable z t.now c.now at
+        × (variables z ≤ from) × (from + 4 * set + 4 ≤ length work.old) }
+    ensures { (result.set ≤ set + 1)
+        × ((σ : ℕ → ℕ) → Trailed (variables z) from σ set work.old
+        → Stands (variables z) from work.old
+        (hinting (clauseAt (questionIn z t.now c.now) c.now at) (going σ))
+        work.new result) }
 {
     match open_at(z, t, c, at, work) {
         Open::Nothing => {
@@ -143,19 +125,15 @@ fn hint_all<'a>(
     from: usize,
     start: Trail,
 ) -> Trail
-    requires { ⌜
-        IsSize z × HasRows z (now c) × (length (now t) ≡ tableLength (z .inputs)) × (variables z ≤ from)
-        × (many ≡ hintsAt (now c) at) × AllThere (now c) at
-        × (from + 4 * start .set + 4 * many ≤ length (now work))
-        × ((k : ℕ) → k < many → Usable z (now t) (now c) (hintAt (now c) at k))
-        ⌝ }
-    ensures { λ r. ⌜
-        (r .set ≤ start .set + many)
-        × ((before : List ℕ) (f : Following) → Stands (variables z) from before f (now (work .entry)) start
+    requires { IsSize z × HasRows z c.now × (length t.now ≡ tableLength z.inputs) × (variables z ≤ from)
+        × (many ≡ hintsAt c.now at) × AllThere c.now at
+        × (from + 4 * start.set + 4 * many ≤ length work.old)
+        × ((k : ℕ) → k < many → Usable z t.now c.now (hintAt c.now at k)) }
+    ensures { (result.set ≤ start.set + many)
+        × ((before : List ℕ) (f : Following) → Stands (variables z) from before f work.old start
         → Stands (variables z) from before
-        (used (λ k. clauseAt (questionIn z (now (t .entry)) (now (c .entry))) (now (c .entry)) (hintAt (now (c .entry)) at k))
-        f many) (now (work .exit)) r)
-        ⌝ }
+        (used (λ k. clauseAt (questionIn z t.now c.now) c.now (hintAt c.now at k))
+        f many) work.new result) }
 {
     let first = at + 7 + 4 * two_at(c, at + 1);
     let mut r = start;
@@ -172,17 +150,13 @@ fn hint_all<'a>(
 
 // Whether it follows; no variable stays set.
 fn does_follow<'a>(z: Size, t: &'a [u8], c: &'a [u8], at: usize, work: &mut [u8]) -> bool
-    requires { ⌜
-        IsSize z × HasRows z (now c) × (length (now t) ≡ tableLength (z .inputs)) × AllThere (now c) at
-        × LiteralsIn (variables z) (now c) at × Clean (variables z) (now work)
-        × (variables z + length (now c) + length (now c) ≤ length (now work))
-        × ((k : ℕ) → k < hintsAt (now c) at → Usable z (now t) (now c) (hintAt (now c) at k))
-        ⌝ }
-    ensures { λ r. ⌜
-        (r ≡ follows (questionIn z (now (t .entry)) (now (c .entry))) (now (c .entry)) at)
-        × Clean (variables z) (now (work .exit))
-        × Kept (variables z) (variables z + length (now (c .entry))) (now (work .entry)) (now (work .exit))
-        ⌝ }
+    requires { IsSize z × HasRows z c.now × (length t.now ≡ tableLength z.inputs) × AllThere c.now at
+        × LiteralsIn (variables z) c.now at × Clean (variables z) work.old
+        × (variables z + length c.now + length c.now ≤ length work.old)
+        × ((k : ℕ) → k < hintsAt c.now at → Usable z t.now c.now (hintAt c.now at k)) }
+    ensures { (result ≡ follows (questionIn z t.now c.now) c.now at)
+        × Clean (variables z) work.new
+        × Kept (variables z) (variables z + length c.now) work.old work.new }
 {
     let all = all_variables(z);
     let literals = two_at(c, at + 1);
@@ -196,8 +170,8 @@ fn does_follow<'a>(z: Size, t: &'a [u8], c: &'a [u8], at: usize, work: &mut [u8]
 
 // Whether each literal's variable is one of them.
 fn are_named(c: &[u8], at: usize, many: usize, all: usize) -> bool
-    requires { ⌜ (many ≡ literalsAt (now c) at) × AllThere (now c) at ⌝ }
-    ensures { λ r. ⌜ r ≡ every many (λ k. ltb (literalAt (now (c .entry)) at k / 2) all) ⌝ }
+    requires { (many ≡ literalsAt c.now at) × AllThere c.now at }
+    ensures { result ≡ every many (λ k. ltb (literalAt c.now at k / 2) all) }
 {
     let mut k: usize = 0;
     while k < many {
@@ -211,8 +185,8 @@ fn are_named(c: &[u8], at: usize, many: usize, all: usize) -> bool
 
 // Whether an earlier step begins at a place: that is marked.
 fn is_marked(all: usize, many: usize, work: &[u8], h: usize) -> bool
-    requires { ⌜ all + many ≤ length (now work) ⌝ }
-    ensures { λ r. ⌜ r ≡ begunIn all many (now (work .entry)) h ⌝ }
+    requires { all + many ≤ length work.now }
+    ensures { result ≡ begunIn all many work.now h }
 {
     if many <= h {
         return false;
@@ -229,13 +203,9 @@ fn are_earlier<'a>(
     all: usize,
     work: &'a [u8],
 ) -> bool
-    requires { ⌜
-        (literals ≡ literalsAt (now c) at) × (many ≡ hintsAt (now c) at) × AllThere (now c) at
-        × (all + length (now c) ≤ length (now work))
-        ⌝ }
-    ensures { λ r. ⌜
-        r ≡ every many (λ k. begunIn all (length (now (c .entry))) (now (work .entry)) (hintAt (now (c .entry)) at k))
-        ⌝ }
+    requires { (literals ≡ literalsAt c.now at) × (many ≡ hintsAt c.now at) × AllThere c.now at
+        × (all + length c.now ≤ length work.now) }
+    ensures { result ≡ every many (λ k. begunIn all (length c.now) work.now (hintAt c.now at k)) }
 {
     let mut k: usize = 0;
     while k < many {
@@ -254,16 +224,12 @@ fn are_earlier<'a>(
 
 // Whether a step of kind 0, all of which is there, is in order. Marks stay, and no variable stays set.
 pub fn derived_in_order<'a>(z: Size, t: &'a [u8], c: &'a [u8], at: usize, work: &mut [u8]) -> bool
-    requires { ⌜
-        IsSize z × HasRows z (now c) × (length (now t) ≡ tableLength (z .inputs)) × AllThere (now c) at
-        × Ready z (now t) (now c) (now work)
-        ⌝ }
-    ensures { λ r. ⌜
-        (r ≡ derivedInOrder (questionIn z (now (t .entry)) (now (c .entry))) (now (c .entry)) at
-        (begunIn (variables z) (length (now (c .entry))) (now (work .entry))))
-        × Clean (variables z) (now (work .exit))
-        × Kept (variables z) (variables z + length (now (c .entry))) (now (work .entry)) (now (work .exit))
-        ⌝ }
+    requires { IsSize z × HasRows z c.now × (length t.now ≡ tableLength z.inputs) × AllThere c.now at
+        × Ready z t.now c.now work.old }
+    ensures { (result ≡ derivedInOrder (questionIn z t.now c.now) c.now at
+        (begunIn (variables z) (length c.now) work.old))
+        × Clean (variables z) work.new
+        × Kept (variables z) (variables z + length c.now) work.old work.new }
 {
     let all = all_variables(z);
     let literals = two_at(c, at + 1);

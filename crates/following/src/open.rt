@@ -1,31 +1,23 @@
 // What is open in a clause, by the values that stand in front of a work area.
+ghost use Rattle.std.specs.Prelude.{◌≡◌, cond, map, ℕ, ◌+◌, ◌*◌, ◌/◌, ◌<◌, ◌≤◌, length};
+ghost use Rattle.bits.specs.Lists.{byte_at, list_of};
+ghost use Rattle.tables.specs.Table.{tableLength};
+ghost use Rattle.clauses.specs.declared.variables.Variable.TheVariants.{Reads, Apart};
+ghost use Rattle.clauses.specs.declared.variables.Literal.TheVariants.{Said};
+ghost use Rattle.clauses.specs.Variables.{IsSize, Named, variableOf, literalOf, variables};
+ghost use Rattle.clauses.specs.Clause.{those, rowsDiffer, causes, readers};
+ghost use Rattle.clauses.specs.Step.{row_at, questionIn, literalsAt, literalAt, clauseAt};
+ghost use Rattle.clauses.specs.Shapes.{literalsIn, AllNamed, HasRows};
+ghost use Rattle.following.specs.Values.{oneMore, seen, openAfter, open_in};
+ghost use Rattle.following.specs.Standing.{LiteralsIn, Usable};
+
 use clauses::fields::given_at;
-use clauses::numbers::four_at;
-use clauses::numbers::two_at;
-use clauses::shapes::Shape;
-use clauses::shapes::row_at;
-use clauses::shapes::shape_of;
-use clauses::variables::Literal;
-use clauses::variables::Size;
-use clauses::variables::Variable;
-use clauses::variables::literal_of;
-ghost use mathlib.Core.Path.{_≡_};
-ghost use mathlib.Core.Bool.{cond};
-ghost use mathlib.Core.List.{map};
-ghost use Prim.Native.Nat.{ℕ, _+_, _*_, _/_, _<_, _≤_};
-ghost use lib.ListN.{length};
-ghost use Rattle·bits.specs.Lists.{byteAt, listOf};
-ghost use Rattle·tables.specs.Table.{tableLength};
-ghost use Rattle·clauses.specs.declared.variables.Variable.the-variants.{Reads, Apart};
-ghost use Rattle·clauses.specs.declared.variables.Literal.the-variants.{Said};
-ghost use Rattle·clauses.specs.Variables.{IsSize, Named, variableOf, literalOf, variables};
-ghost use Rattle·clauses.specs.Clause.{those, rowsDiffer, causes, readers};
-ghost use Rattle·clauses.specs.Step.{rowAt, questionIn, literalsAt, literalAt, clauseAt};
-ghost use Rattle·clauses.specs.Shapes.{literalsIn, AllNamed, HasRows};
-ghost use Rattle·following·specs.specs.Values.{oneMore, seen, openAfter, openIn};
-ghost use Rattle·following·specs.specs.Standing.{LiteralsIn, Usable};
+use clauses::numbers::{four_at, two_at};
+use clauses::shapes::{Shape, row_at, shape_of};
+use clauses::variables::{Literal, Size, Variable, literal_of};
 
 // The literals of a clause that aren't false: none, one, or several.
+#[derive(Drop)]
 pub enum Open {
     Nothing,
     One(usize),
@@ -34,7 +26,7 @@ pub enum Open {
 
 // One literal more that isn't false.
 fn one_more(l: usize, o: Open) -> Open
-    ensures { λ r. ⌜ r ≡ oneMore l o ⌝ }
+    ensures { result ≡ oneMore l o }
 {
     match o {
         Open::Nothing => Open::One(l),
@@ -45,8 +37,8 @@ fn one_more(l: usize, o: Open) -> Open
 
 // One literal more.
 fn see(work: &[u8], l: usize, o: Open) -> Open
-    requires { ⌜ l / 2 < length (now work) ⌝ }
-    ensures { λ r. ⌜ r ≡ seen (byteAt (now (work .entry))) l o ⌝ }
+    requires { l / 2 < length work.now }
+    ensures { result ≡ seen (byte_at work.now) l o }
 {
     let v = l / 2;
     if work[v] as usize == 2 - l % 2 {
@@ -57,16 +49,16 @@ fn see(work: &[u8], l: usize, o: Open) -> Open
 
 // A literal more, by its name.
 fn see_named(z: Size, work: &[u8], l: Literal, o: Open) -> Open
-    requires { ⌜ IsSize z × (variables z ≤ length (now work)) × Named z (variableOf l) ⌝ }
-    ensures { λ r. ⌜ r ≡ seen (byteAt (now (work .entry))) (literalOf z l) o ⌝ }
+    requires { IsSize z × (variables z ≤ length work.now) × Named z (variableOf l) }
+    ensures { result ≡ seen (byte_at work.now) (literalOf z l) o }
 {
     see(work, literal_of(z, l), o)
 }
 
 // A literal more, if so said.
 fn see_if(z: Size, work: &[u8], so: bool, l: Literal, o: Open) -> Open
-    requires { ⌜ IsSize z × (variables z ≤ length (now work)) × Named z (variableOf l) ⌝ }
-    ensures { λ r. ⌜ r ≡ cond so (seen (byteAt (now (work .entry))) (literalOf z l) o) o ⌝ }
+    requires { IsSize z × (variables z ≤ length work.now) × Named z (variableOf l) }
+    ensures { result ≡ cond so (seen (byte_at work.now) (literalOf z l) o) o }
 {
     if so {
         return see_named(z, work, l, o);
@@ -84,14 +76,10 @@ fn open_inputs<'a>(
     b: usize,
     start: Open,
 ) -> Open
-    requires { ⌜
-        IsSize z × HasRows z (now c) × (variables z ≤ length (now work)) × (i < z .cells) × (a < z .rows)
-        × (b < z .rows)
-        ⌝ }
-    ensures { λ r. ⌜
-        r ≡ openAfter (byteAt (now (work .entry))) start
-        (map (literalOf z) (those (z .inputs) (rowsDiffer (rowAt (now (c .entry))) a b) (λ p. Said (Reads i p))))
-        ⌝ }
+    requires { IsSize z × HasRows z c.now × (variables z ≤ length work.now) × (i < z.cells) × (a < z.rows)
+        × (b < z.rows) }
+    ensures { result ≡ openAfter (byte_at work.now) start
+        (map (literalOf z) (those z.inputs (rowsDiffer (row_at c.now) a b) (λ p. Said (Reads i p)))) }
 {
     let x = row_at(z, c, a);
     let y = row_at(z, c, b);
@@ -107,12 +95,8 @@ fn open_inputs<'a>(
 
 // The cells that a cell may read.
 fn open_cells(z: Size, work: &[u8], i: usize, a: usize, b: usize, start: Open) -> Open
-    requires { ⌜
-        IsSize z × (variables z ≤ length (now work)) × (i < z .cells) × (a < z .rows) × (b < z .rows)
-        ⌝ }
-    ensures { λ r. ⌜
-        r ≡ openAfter (byteAt (now (work .entry))) start (map (literalOf z) (listOf i (λ j. Said (Apart i j a b))))
-        ⌝ }
+    requires { IsSize z × (variables z ≤ length work.now) × (i < z.cells) × (a < z.rows) × (b < z.rows) }
+    ensures { result ≡ openAfter (byte_at work.now) start (map (literalOf z) (list_of i (λ j. Said (Apart i j a b)))) }
 {
     let mut o = start;
     let mut j: usize = 0;
@@ -125,13 +109,9 @@ fn open_cells(z: Size, work: &[u8], i: usize, a: usize, b: usize, start: Open) -
 
 // Why a cell differs at two rows.
 fn open_causes<'a>(z: Size, c: &'a [u8], work: &'a [u8], i: usize, a: usize, b: usize) -> Open
-    requires { ⌜
-        IsSize z × HasRows z (now c) × (variables z ≤ length (now work)) × (i < z .cells) × (a < z .rows)
-        × (b < z .rows)
-        ⌝ }
-    ensures { λ r. ⌜
-        r ≡ openIn (byteAt (now (work .entry))) (map (literalOf z) (causes z (rowAt (now (c .entry))) i a b))
-        ⌝ }
+    requires { IsSize z × HasRows z c.now × (variables z ≤ length work.now) × (i < z.cells) × (a < z.rows)
+        × (b < z.rows) }
+    ensures { result ≡ open_in (byte_at work.now) (map (literalOf z) (causes z (row_at c.now) i a b)) }
 {
     let o = see_named(
         z,
@@ -145,8 +125,8 @@ fn open_causes<'a>(z: Size, c: &'a [u8], work: &'a [u8], i: usize, a: usize, b: 
 
 // The cells that may read one.
 fn open_readers(z: Size, work: &[u8], cell: u8) -> Open
-    requires { ⌜ IsSize z × (variables z ≤ length (now work)) ⌝ }
-    ensures { λ r. ⌜ r ≡ openIn (byteAt (now (work .entry))) (map (literalOf z) (readers z cell)) ⌝ }
+    requires { IsSize z × (variables z ≤ length work.now) }
+    ensures { result ≡ open_in (byte_at work.now) (map (literalOf z) (readers z cell)) }
 {
     let i = cell as usize;
     let mut o = Open::Nothing;
@@ -165,11 +145,9 @@ fn open_readers(z: Size, work: &[u8], cell: u8) -> Open
 
 // A clause of kinds 1 to 14.
 fn open_shape<'a>(z: Size, c: &'a [u8], work: &'a [u8], s: Shape) -> Open
-    requires { ⌜ IsSize z × HasRows z (now c) × (variables z ≤ length (now work))
-        × AllNamed z (literalsIn z (rowAt (now c)) s) ⌝ }
-    ensures { λ r. ⌜
-        r ≡ openIn (byteAt (now (work .entry))) (map (literalOf z) (literalsIn z (rowAt (now (c .entry))) s))
-        ⌝ }
+    requires { IsSize z × HasRows z c.now × (variables z ≤ length work.now)
+        × AllNamed z (literalsIn z (row_at c.now) s) }
+    ensures { result ≡ open_in (byte_at work.now) (map (literalOf z) (literalsIn z (row_at c.now) s)) }
 {
     match s {
         Shape::One(a) => {
@@ -195,10 +173,8 @@ fn open_shape<'a>(z: Size, c: &'a [u8], work: &'a [u8], s: Shape) -> Open
 
 // A clause of kind 0.
 fn open_derived<'a>(c: &'a [u8], at: usize, work: &'a [u8]) -> Open
-    requires { ⌜ LiteralsIn (length (now work)) (now c) at ⌝ }
-    ensures { λ r. ⌜
-        r ≡ openIn (byteAt (now (work .entry))) (listOf (literalsAt (now (c .entry)) at) (literalAt (now (c .entry)) at))
-        ⌝ }
+    requires { LiteralsIn (length work.now) c.now at }
+    ensures { result ≡ open_in (byte_at work.now) (list_of (literalsAt c.now at) (literalAt c.now at)) }
 {
     let many = two_at(c, at + 1);
     let mut o = Open::Nothing;
@@ -212,14 +188,10 @@ fn open_derived<'a>(c: &'a [u8], at: usize, work: &'a [u8]) -> Open
 
 // The clause of an earlier step.
 pub fn open_at<'a>(z: Size, t: &'a [u8], c: &'a [u8], at: usize, work: &'a [u8]) -> Open
-    requires { ⌜
-        IsSize z × HasRows z (now c) × (length (now t) ≡ tableLength (z .inputs)) × (variables z ≤ length (now work))
-        × Usable z (now t) (now c) at
-        ⌝ }
-    ensures { λ r. ⌜
-        r ≡ openIn (byteAt (now (work .entry)))
-        (clauseAt (questionIn z (now (t .entry)) (now (c .entry))) (now (c .entry)) at)
-        ⌝ }
+    requires { IsSize z × HasRows z c.now × (length t.now ≡ tableLength z.inputs) × (variables z ≤ length work.now)
+        × Usable z t.now c.now at }
+    ensures { result ≡ open_in (byte_at work.now)
+        (clauseAt (questionIn z t.now c.now) c.now at) }
 {
     if c[at] == 0 {
         return open_derived(c, at, work);

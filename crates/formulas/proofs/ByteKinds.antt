@@ -1,17 +1,17 @@
 -- What the bytes of a text are to the reader: each kind by them, and they by their kind. Assumes nothing.
-use mathlib.Core.Path.{_≡_, refl, sym, ap, ap₂, _∙_, subst}
+use mathlib.Core.Path.{◌≡◌, refl, sym, ap, ap₂, ◌∙◌, subst}
 use mathlib.Core.Bool.{Bool, true, false, cond}
-use Prim.Native.Nat.{ℕ, zero, suc, _+_, _-_, _<_, _≤_}
-use native.Mathlib.Decide.{decLt}
+use Prim.Native.Nat.{ℕ, zero, suc, ◌+◌, ◌-◌, ◌<◌, ◌≤◌}
+use native.Mathlib.Decide.{dec_lt}
 use native.Mathlib.Omega.{arith}
 use lib.Dec.{eqb, ltb}
-use borrow.Author.Tests.{ne-eqb, eqb-true, ltb-true, ltb-false, lt-ltb, le-ltb, le-leb, lt-leb}
-use Rattle·values.specs.Formula.{Allowed}
-use Rattle·formulas·specs.specs.Text.{Number, one-digit, two-digits}
-use Rattle·formulas·specs.specs.Reading.{Kind, bang, opening, digit, input, several, other, plain, numeral, width}
-use Rattle·formulas·specs.specs.Reading.{orPlain, kindAt}
-use Rattle·formulas·proofs.proofs.Numerals.{numeral-most, numeral-number, numeral-ten, numeral-digit, numeral-first}
-use Rattle·formulas·proofs.proofs.Numerals.{numeral-none, Clear, numeral-clear}
+use borrow.Author.Tests.{ne_eqb, eqb-true, ltb-true, ltb-false, lt-ltb, le-ltb, le-leb, lt-leb}
+use Rattle.values.specs.Formula.{Allowed}
+use Rattle.formulas.specs.Text.{Number, one-digit, two_digits}
+use Rattle.formulas.specs.Reading.{Kind, bang, opening, digit, input, several, other, plain, numeral, width}
+use Rattle.formulas.specs.Reading.{orPlain, kind_at}
+use Rattle.formulas.proofs.Numerals.{numeral-most, numeral-number, numeral-ten, numeral-digit, numeral-first}
+use Rattle.formulas.proofs.Numerals.{numeral-none, Clear, numeral-clear}
 
 pub data View (counts : Bool) (n b e : ℕ) : Kind counts → Type 0 where
   v-bang : b ≡ 33 → View counts n b e bang
@@ -76,9 +76,9 @@ kind-plain false t k h = refl
 kind-plain true zero k h = refl
 kind-plain true (suc t) k h = absurd (omega arith)
 
-no-number : (counts : Bool) (t : ℕ) → t ≡ 0 → cond counts t 0 ≡ 0
-no-number true t h = h
-no-number false t h = refl
+no_number : (counts : Bool) (t : ℕ) → t ≡ 0 → cond counts t 0 ≡ 0
+no_number true t h = h
+no_number false t h = refl
 
 -- a number is read only with counts
 allowed-if : (counts : Bool) (u t : ℕ) → t ≡ cond counts u 0 → (t ≡ 0 → ⊥) → Allowed counts × (u ≡ t)
@@ -89,25 +89,25 @@ pub plain-input : {counts : Bool} (n b j : ℕ) → j < n → b ≡ 97 + j → p
 plain-input n b j l e =
     let q : b - 97 ≡ j = omega arith in
     rw (
-      ne-eqb b 33 (λ z. omega arith),
-      ne-eqb b 40 (λ z. omega arith),
-      ne-eqb b 48 (λ z. omega arith),
-      ne-eqb b 49 (λ z. omega arith),
+      ne_eqb b 33 (λ z. omega arith),
+      ne_eqb b 40 (λ z. omega arith),
+      ne_eqb b 48 (λ z. omega arith),
+      ne_eqb b 49 (λ z. omega arith),
       le-ltb b 97 (omega arith),
       lt-ltb b (97 + n) (omega arith),
     ) (ap input q)
 
-pub plain-other : {counts : Bool} (n b : ℕ) → (b ≡ 33 → ⊥) → (b ≡ 40 → ⊥) → (b ≡ 48 → ⊥) → (b ≡ 49 → ⊥)
+pub plain_other : {counts : Bool} (n b : ℕ) → (b ≡ 33 → ⊥) → (b ≡ 40 → ⊥) → (b ≡ 48 → ⊥) → (b ≡ 49 → ⊥)
     → (97 ≤ b → b < 97 + n → ⊥) → plain {counts = counts} n b ≡ other
-plain-other {counts} n b h1 h2 h3 h4 h5 =
-    rw (ne-eqb b 33 h1, ne-eqb b 40 h2, ne-eqb b 48 h3, ne-eqb b 49 h4) (go (ltb b 97) refl)
+plain_other {counts} n b h1 h2 h3 h4 h5 =
+    rw (ne_eqb b 33 h1, ne_eqb b 40 h2, ne_eqb b 48 h3, ne_eqb b 49 h4) (go (ltb b 97) refl)
   where
     go : (t : Bool) → ltb b 97 ≡ t
-        → _≡_ {A = Kind counts} (cond t other (cond (ltb b (97 + n)) (input (b - 97)) other)) other
+        → ◌≡◌ {A = Kind counts} (cond t other (cond (ltb b (97 + n)) (input (b - 97)) other)) other
     go true q = refl
     go false q =
         let l = ltb-false b 97 q in
-        ap (λ (t : Bool). cond t (input (b - 97)) other) (le-ltb b (97 + n) (elim (decLt b (97 + n)) [
+        ap (λ (t : Bool). cond t (input (b - 97)) other) (le-ltb b (97 + n) (elim (dec_lt b (97 + n)) [
           | yes m ↦ absurd (h5 l m)
           | no m ↦ omega arith
         ]))
@@ -118,91 +118,91 @@ several-of false a u t k some q = absurd a
 several-of true a zero t k some q = absurd (omega arith)
 several-of true a (suc u) t k some q = ap₂ several (allowed-one true tt a) q
 
-other-stays : (counts : Bool) (n b e b′ e′ : ℕ) → b′ ≡ b → orPlain counts (numeral b e) (plain n b) ≡ other
-    → orPlain counts (numeral b′ e′) (plain n b′) ≡ other
-other-stays false n b e b′ e′ s h = ap (plain n) s ∙ h
-other-stays true n b e b′ e′ s h = go (numeral b e) refl h
+other-stays : (counts : Bool) (n b e b' e' : ℕ) → b' ≡ b → orPlain counts (numeral b e) (plain n b) ≡ other
+    → orPlain counts (numeral b' e') (plain n b') ≡ other
+other-stays false n b e b' e' s h = ap (plain n) s ∙ h
+other-stays true n b e b' e' s h = go (numeral b e) refl h
   where
-    no-one : plain {counts = true} n b ≡ other → b ≡ 49 → ⊥
-    no-one h q =
+    no_one : plain {counts = true} n b ≡ other → b ≡ 49 → ⊥
+    no_one h q =
         let one : plain {counts = true} n b ≡ digit true = rw q in
-        let z : _≡_ {A = ℕ} 0 1 = cc in omega arith
+        let z : ◌≡◌ {A = ℕ} 0 1 = cc in omega arith
 
-    same : (b ≡ 49 → ⊥) → numeral b′ e′ ≡ numeral b e
-    same h = rw (s, ne-eqb b 49 h)
+    same : (b ≡ 49 → ⊥) → numeral b' e' ≡ numeral b e
+    same h = rw (s, ne_eqb b 49 h)
 
     go : (t : ℕ) → numeral b e ≡ t → orPlain true t (plain n b) ≡ other
-        → orPlain true (numeral b′ e′) (plain n b′) ≡ other
+        → orPlain true (numeral b' e') (plain n b') ≡ other
     go zero q h =
-        kind-plain true (numeral b′ e′) (plain n b′) (same (no-one h) ∙ q) ∙ ap (plain n) s ∙ h
-    go (suc t) q h = let z : _≡_ {A = ℕ} 0 1 = cc in absurd (omega arith)
+        kind-plain true (numeral b' e') (plain n b') (same (no_one h) ∙ q) ∙ ap (plain n) s ∙ h
+    go (suc t) q h = let z : ◌≡◌ {A = ℕ} 0 1 = cc in absurd (omega arith)
 
 module _ (counts : Bool) (c : ℕ → ℕ) (n p : ℕ) where
-  is-several : (a : Allowed counts) (t : ℕ) → 0 < t → numeral (c p) (c (p + 1)) ≡ t → kindAt counts c n p ≡ several a t
+  is-several : (a : Allowed counts) (t : ℕ) → 0 < t → numeral (c p) (c (p + 1)) ≡ t → kind_at counts c n p ≡ several a t
   is-several a t some q = several-of counts a (numeral (c p) (c (p + 1))) t (plain n (c p)) some q
 
-  pub viewed : (t : Kind counts) → kindAt counts c n p ≡ t → View counts n (c p) (c (p + 1)) t
+  pub viewed : (t : Kind counts) → kind_at counts c n p ≡ t → View counts n (c p) (c (p + 1)) t
   viewed t e = subst (λ (u : Kind counts). View counts n (c p) (c (p + 1)) u) e (view counts n (c p) (c (p + 1)))
 
-  pub is-bang : kindAt counts c n p ≡ bang → c p ≡ 33
+  pub is-bang : kind_at counts c n p ≡ bang → c p ≡ 33
   is-bang e = go (viewed bang e)
     where
       go : View counts n (c p) (c (p + 1)) bang → c p ≡ 33
       go (v-bang e) = e
 
-  pub is-open : kindAt counts c n p ≡ opening → c p ≡ 40
-  is-open e = go (viewed opening e)
+  pub is_open : kind_at counts c n p ≡ opening → c p ≡ 40
+  is_open e = go (viewed opening e)
     where
       go : View counts n (c p) (c (p + 1)) opening → c p ≡ 40
       go (v-open e) = e
 
-  pub is-number : (a : Allowed counts) (t : ℕ) → kindAt counts c n p ≡ several a t → Number c t p (p + width t)
-  is-number a t e = go (viewed (several a t) e)
+  pub is_number : (a : Allowed counts) (t : ℕ) → kind_at counts c n p ≡ several a t → Number c t p (p + width t)
+  is_number a t e = go (viewed (several a t) e)
     where
       go : View counts n (c p) (c (p + 1)) (several a t) → Number c t p (p + width t)
       go (v-several a t some q) = numeral-number c p t some q
 
   -- where no number begins the byte decides
-  pub by-byte : cond counts (numeral (c p) (c (p + 1))) 0 ≡ 0 → {t : Kind counts} → plain n (c p) ≡ t
-      → kindAt counts c n p ≡ t
-  by-byte h e = kind-plain counts (numeral (c p) (c (p + 1))) (plain n (c p)) h ∙ e
+  pub by_byte : cond counts (numeral (c p) (c (p + 1))) 0 ≡ 0 → {t : Kind counts} → plain n (c p) ≡ t
+      → kind_at counts c n p ≡ t
+  by_byte h e = kind-plain counts (numeral (c p) (c (p + 1))) (plain n (c p)) h ∙ e
 
-  by-other : (c p ≡ 49 → ⊥) → (50 ≤ c p → c p ≤ 57 → ⊥) → {t : Kind counts} → plain n (c p) ≡ t → kindAt counts c n p ≡ t
-  by-other h g e = by-byte (no-number counts _ (numeral-none (c p) (c (p + 1)) h g)) e
+  by-other : (c p ≡ 49 → ⊥) → (50 ≤ c p → c p ≤ 57 → ⊥) → {t : Kind counts} → plain n (c p) ≡ t → kind_at counts c n p ≡ t
+  by-other h g e = by_byte (no_number counts _ (numeral-none (c p) (c (p + 1)) h g)) e
 
-  pub kind-bang : c p ≡ 33 → kindAt counts c n p ≡ bang
+  pub kind-bang : c p ≡ 33 → kind_at counts c n p ≡ bang
   kind-bang e = by-other (λ z. omega arith) (λ y z. omega arith) (rw e)
 
-  pub kind-open : c p ≡ 40 → kindAt counts c n p ≡ opening
+  pub kind-open : c p ≡ 40 → kind_at counts c n p ≡ opening
   kind-open e = by-other (λ z. omega arith) (λ y z. omega arith) (rw e)
 
-  pub kind-zero : c p ≡ 48 → kindAt counts c n p ≡ digit false
+  pub kind-zero : c p ≡ 48 → kind_at counts c n p ≡ digit false
   kind-zero e = by-other (λ z. omega arith) (λ y z. omega arith) (rw e)
 
-  pub kind-one : c p ≡ 49 → Clear (c (p + 1)) → kindAt counts c n p ≡ digit true
-  kind-one e h = by-byte (no-number counts _ (numeral-clear (c p) (c (p + 1)) e h)) (rw e)
+  pub kind-one : c p ≡ 49 → Clear (c (p + 1)) → kind_at counts c n p ≡ digit true
+  kind-one e h = by_byte (no_number counts _ (numeral-clear (c p) (c (p + 1)) e h)) (rw e)
 
-  pub kind-input : (j : ℕ) → j < n → c p ≡ 97 + j → kindAt counts c n p ≡ input j
+  pub kind-input : (j : ℕ) → j < n → c p ≡ 97 + j → kind_at counts c n p ≡ input j
   kind-input j l e = by-other (λ z. omega arith) (λ y z. omega arith) (plain-input n (c p) j l e)
 
-  pub kind-end : c p ≡ 0 → kindAt counts c n p ≡ other
+  pub kind-end : c p ≡ 0 → kind_at counts c n p ≡ other
   kind-end e = by-other (λ z. omega arith) (λ y z. omega arith) (rw e)
 
   -- where a number begins it decides
-  pub by-number : (t : ℕ) → t ≡ cond counts (numeral (c p) (c (p + 1))) 0 → (t ≡ 0 → ⊥) → (a : Allowed counts)
-      × (kindAt counts c n p ≡ several a t) × (t ≤ 16)
-  by-number t e h =
+  pub by_number : (t : ℕ) → t ≡ cond counts (numeral (c p) (c (p + 1))) 0 → (t ≡ 0 → ⊥) → (a : Allowed counts)
+      × (kind_at counts c n p ≡ several a t) × (t ≤ 16)
+  by_number t e h =
       let w = allowed-if counts (numeral (c p) (c (p + 1))) t e h in
-      (w .0, is-several (w .0) t (omega arith) (w .1), omega (arith, w .1, numeral-most (c p) (c (p + 1))))
+      (w.0, is-several w.0 t (omega arith) w.1, omega (arith, w.1, numeral-most (c p) (c (p + 1))))
 
   -- a byte that begins nothing does so whatever follows
-  pub kind-other : kindAt counts c n p ≡ other → (c′ : ℕ → ℕ) → c′ p ≡ c p → kindAt counts c′ n p ≡ other
-  kind-other e c′ s = other-stays counts n (c p) (c (p + 1)) (c′ p) (c′ (p + 1)) s e
+  pub kind-other : kind_at counts c n p ≡ other → (c' : ℕ → ℕ) → c' p ≡ c p → kind_at counts c' n p ≡ other
+  kind-other e c' s = other-stays counts n (c p) (c (p + 1)) (c' p) (c' (p + 1)) s e
 
-  pub kind-several : (a : Allowed counts) {t o : ℕ} → Number c t p o → c o ≡ 40 → (kindAt counts c n p ≡ several a t)
+  pub kind-several : (a : Allowed counts) {t o : ℕ} → Number c t p o → c o ≡ 40 → (kind_at counts c n p ≡ several a t)
       × (o ≡ p + width t)
   kind-several a (one-digit t l m e) f =
-      elim (decLt t 2) [
+      elim (dec_lt t 2) [
         | yes k ↦
             (let q : t ≡ 1 = omega arith in (
               is-several a t (omega arith) (numeral-first (c p) (c (p + 1)) (omega arith) f ∙ sym q),
@@ -213,7 +213,7 @@ module _ (counts : Bool) (c : ℕ → ℕ) (n p : ℕ) where
           ap (λ (b : Bool). p + cond b 2 1) (sym (lt-leb 10 t (omega arith))),
         )
       ]
-  kind-several a (two-digits t l e g) f = (
+  kind-several a (two_digits t l e g) f = (
     is-several a (10 + t) (omega arith) (numeral-ten (c p) (c (p + 1)) t e g l),
     ap (λ (b : Bool). p + cond b 2 1) (sym (le-leb 10 (10 + t) (omega arith))),
   )

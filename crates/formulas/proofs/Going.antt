@@ -1,19 +1,19 @@
 -- What was read before a refusal can be continued to a formula. Assumes nothing.
-use mathlib.Core.Path.{_≡_, refl, ap, _∙_}
+use mathlib.Core.Path.{◌≡◌, refl, ap, ◌∙◌}
 use mathlib.Core.Bool.{Bool, false, cond}
-use Prim.Native.Nat.{ℕ, zero, suc, _+_, _<_, _≤_}
+use Prim.Native.Nat.{ℕ, zero, suc, ◌+◌, ◌<◌, ◌≤◌}
 use native.Mathlib.Omega.{arith}
 use lib.Dec.{eqb}
-use borrow.Author.Tests.{eq-eqb, ne-eqb}
-use Rattle·values.specs.Formula.{Allowed, FormulaIn, constant, negated, joined, counted}
-use Rattle·formulas·specs.specs.Text.{mark, Number, Down, taken, beyond, Spells, a-zero, a-not, a-nest, a-count}
-use Rattle·formulas·specs.specs.Text.{only, more}
-use Rattle·formulas·specs.specs.Reading.{width, stuck}
-use Rattle·formulas·proofs.proofs.Steps.{Run, r-tired, r-other, r-deep-not, r-deep-open, r-not-bad, r-open-bad}
-use Rattle·formulas·proofs.proofs.Steps.{r-open-left, r-short, r-count-bad, r-count-left, r-first-bad, r-next-bad}
-use Rattle·formulas·proofs.proofs.ByteKinds.{is-bang, is-open, is-number}
-use Rattle·formulas·proofs.proofs.Grammar.{number-same, spells-lt, spells-same, sound}
-use Rattle·formulas·proofs.proofs.Reaching.{from}
+use borrow.Author.Tests.{eq-eqb, ne_eqb}
+use Rattle.values.specs.Formula.{Allowed, FormulaIn, constant, negated, joined, counted}
+use Rattle.formulas.specs.Text.{mark, Number, Down, taken, beyond, Spells, a-zero, a-not, a-nest, a-count}
+use Rattle.formulas.specs.Text.{only, more}
+use Rattle.formulas.specs.Reading.{width, stuck}
+use Rattle.formulas.proofs.Steps.{Run, r-tired, r-other, r-deep-not, r-deep-open, r-not-bad, r-open-bad}
+use Rattle.formulas.proofs.Steps.{r-open-left, r-short, r-count-bad, r-count-left, r-first-bad, r-next-bad}
+use Rattle.formulas.proofs.ByteKinds.{is-bang, is_open, is_number}
+use Rattle.formulas.proofs.Grammar.{number_same, spells-lt, spells-same, sound}
+use Rattle.formulas.proofs.Reaching.{from}
 
 -- the bytes before b can be continued to what is spelled from p
 pub record Goes (counts : Bool) (c : ℕ → ℕ) (n k d p b : ℕ) : Type 0 where
@@ -32,7 +32,7 @@ put-there : (c : ℕ → ℕ) (p v : ℕ) → put c p v p ≡ v
 put-there c p v = ap (λ (t : Bool). cond t v (c p)) (eq-eqb p p refl)
 
 put-else : (c : ℕ → ℕ) (p v i : ℕ) → (i ≡ p → ⊥) → put c p v i ≡ c i
-put-else c p v i h = ap (λ (t : Bool). cond t v (c i)) (ne-eqb i p h)
+put-else c p v i h = ap (λ (t : Bool). cond t v (c i)) (ne_eqb i p h)
 
 module _ (counts : Bool) (c : ℕ → ℕ) (n : ℕ) where
   -- a 0 for a factor
@@ -54,12 +54,12 @@ module _ (counts : Bool) (c : ℕ → ℕ) (n : ℕ) where
   goes-not : (d p b : ℕ) → c p ≡ 33 → p < b → Goes counts c n 0 d (suc p) b → Goes counts c n 0 (suc d) p b
   goes-not d p b e l g =
       record {
-        bytes = g .bytes;
-        tree = negated (g .tree);
-        end = g .end;
-        same = g .same;
-        past = g .past;
-        spells = a-not (g .same p l ∙ e) (g .spells);
+        bytes = g.bytes;
+        tree = negated g.tree;
+        end = g.end;
+        same = g.same;
+        past = g.past;
+        spells = a-not (g.same p l ∙ e) g.spells;
       }
 
   -- a `)` behind what goes on from r
@@ -68,19 +68,19 @@ module _ (counts : Bool) (c : ℕ → ℕ) (n : ℕ) where
       → Spells counts e n b k d F r q → e q ≡ 41 → Spells counts e n b 0 (suc d) (wrap F) p (suc q))
       → Goes counts c n 0 (suc d) p b
   goes-closed k d p r b l g wrap made =
-      let e = put (g .bytes) (g .end) 41 in
+      let e = put g.bytes g.end 41 in
       let before : (i : ℕ) → i < b → e i ≡ c i =
-      (λ i a. put-else (g .bytes) (g .end) 41 i (λ z. omega (arith, g .past)) ∙ g .same i a) in
+      (λ i a. put-else g.bytes g.end 41 i (λ z. omega (arith, g.past)) ∙ g.same i a) in
       record {
         bytes = e;
-        tree = wrap (g .tree);
-        end = suc (g .end);
+        tree = wrap g.tree;
+        end = suc g.end;
         same = before;
-        past = omega (arith, g .past);
-        spells = made e (g .tree) (g .end) (λ i a. before i (omega arith))
-            (spells-same counts (g .bytes) e n (omega arith) (g .spells)
-            (λ i a j. put-else (g .bytes) (g .end) 41 i (λ z. omega arith)))
-            (put-there (g .bytes) (g .end) 41);
+        past = omega (arith, g.past);
+        spells = made e g.tree g.end (λ i a. before i (omega arith))
+            (spells-same counts g.bytes e n (omega arith) g.spells
+            (λ i a j. put-else g.bytes g.end 41 i (λ z. omega arith)))
+            (put-there g.bytes g.end 41);
       }
 
   -- what is spelled goes on as it is
@@ -90,12 +90,12 @@ module _ (counts : Bool) (c : ℕ → ℕ) (n : ℕ) where
 
   goes-open : (d p b : ℕ) → c p ≡ 40 → p < b → Goes counts c n 3 d (suc p) b → Goes counts c n 0 (suc d) p b
   goes-open d p b e l g = goes-closed 3 d p (suc p) b l g (λ F. F)
-      (λ c′ F q s h f. a-nest (s p (omega arith) ∙ e) h f)
+      (λ c' F q s h f. a-nest (s p (omega arith) ∙ e) h f)
 
   goes-count : (d p b t : ℕ) (a : Allowed counts) → Number c t p (p + width t) → c (p + width t) ≡ 40 → p + width t < b
       → Goes counts c n 4 d (suc (p + width t)) b → Goes counts c n 0 (suc d) p b
   goes-count d p b t a m e l g = goes-closed 4 d p (suc (p + width t)) b l g (counted a t)
-      (λ c′ F q s h f. a-count a (number-same m (λ i x y. s i (omega arith))) (s (p + width t) (omega arith) ∙ e) taken h
+      (λ c' F q s h f. a-count a (number_same m (λ i x y. s i (omega arith))) (s (p + width t) (omega arith) ∙ e) taken h
       f)
 
   -- a level for a `(` that is still to come
@@ -104,8 +104,8 @@ module _ (counts : Bool) (c : ℕ → ℕ) (n : ℕ) where
   behind (suc d) o = (d, taken)
 
   -- behind a number: a list of a 0
-  goes-number : (d p t : ℕ) (a : Allowed counts) → Number c t p (p + width t) → Goes counts c n 0 d p (p + width t)
-  goes-number d p t a m =
+  goes_number : (d p t : ℕ) (a : Allowed counts) → Number c t p (p + width t) → Goes counts c n 0 d p (p + width t)
+  goes_number d p t a m =
       let o = p + width t in
       let c₁ = put c o 40 in
       let c₂ = put c₁ (suc o) 48 in
@@ -123,31 +123,31 @@ module _ (counts : Bool) (c : ℕ → ℕ) (n : ℕ) where
         end = suc (suc (suc o));
         same = before;
         past = omega arith;
-        spells = a-count a (number-same m (λ i x y. before i y)) opens (behind d o .1)
-            (a-factor c₃ o 4 (behind d o .0) (suc o) zero-there) (put-there c₂ (suc (suc o)) 41);
+        spells = a-count a (number_same m (λ i x y. before i y)) opens (behind d o).1
+            (a-factor c₃ o 4 (behind d o).0 (suc o) zero-there) (put-there c₂ (suc (suc o)) 41);
       }
 
   goes-only : (k d p b : ℕ) → Goes counts c n k d p b → Goes counts c n (suc k) d p b
   goes-only k d p b g = record {
-    bytes = g .bytes;
-    tree = g .tree;
-    end = g .end;
-    same = g .same;
-    past = g .past;
-    spells = only (g .spells);
+    bytes = g.bytes;
+    tree = g.tree;
+    end = g.end;
+    same = g.same;
+    past = g.past;
+    spells = only g.spells;
   }
 
   goes-more : (k d p q b : ℕ) (F : FormulaIn counts) → Spells counts c n b k d F p q → c q ≡ mark k → q < b
       → Goes counts c n (suc k) d (suc q) b → Goes counts c n (suc k) d p b
   goes-more k d p q b F h e l g =
       record {
-        bytes = g .bytes;
-        tree = joined k F (g .tree);
-        end = g .end;
-        same = g .same;
-        past = g .past;
-        spells = more (spells-same counts c (g .bytes) n (omega arith) h (λ i a j. g .same i (omega arith)))
-            (g .same q l ∙ e) (g .spells);
+        bytes = g.bytes;
+        tree = joined k F g.tree;
+        end = g.end;
+        same = g.same;
+        past = g.past;
+        spells = more (spells-same counts c g.bytes n (omega arith) h (λ i a j. g.same i (omega arith)))
+            (g.same q l ∙ e) g.spells;
       }
 
   pub goes : {m k d p b : ℕ} → Run counts c n m k d p (stuck b) → Goes counts c n k d p b
@@ -158,18 +158,18 @@ module _ (counts : Bool) (c : ℕ → ℕ) (n : ℕ) where
   goes {p = p} {b = b} (r-not-bad {d = d} h i) =
       let l = from counts c n i in goes-not d p b (is-bang counts c n p h) (omega arith) (goes i)
   goes {p = p} {b = b} (r-open-bad {d = d} h i) =
-      let l = from counts c n i in goes-open d p b (is-open counts c n p h) (omega arith) (goes i)
+      let l = from counts c n i in goes-open d p b (is_open counts c n p h) (omega arith) (goes i)
   goes {p = p} {b = b} (r-open-left {d = d} F h i l) =
       let s = sound counts c n b i in
       let z = spells-lt counts c n b s in
-      goes-open d p b (is-open counts c n p h) (omega arith) (goes-as 3 d (suc p) b F s)
-  goes {d = d} {p = p} (r-short a t h l) = goes-number d p t a (is-number counts c n p a t h)
+      goes-open d p b (is_open counts c n p h) (omega arith) (goes-as 3 d (suc p) b F s)
+  goes {d = d} {p = p} (r-short a t h l) = goes_number d p t a (is_number counts c n p a t h)
   goes {p = p} {b = b} (r-count-bad {d = d} a t h e i) =
-      let l = from counts c n i in goes-count d p b t a (is-number counts c n p a t h) e (omega arith) (goes i)
+      let l = from counts c n i in goes-count d p b t a (is_number counts c n p a t h) e (omega arith) (goes i)
   goes {p = p} {b = b} (r-count-left {d = d} a t F h e i l) =
       let s = sound counts c n b i in
       let z = spells-lt counts c n b s in
-      goes-count d p b t a (is-number counts c n p a t h) e (omega arith) (goes-as 4 d (suc (p + width t)) b F s)
+      goes-count d p b t a (is_number counts c n p a t h) e (omega arith) (goes-as 4 d (suc (p + width t)) b F s)
   goes {d = d} {p = p} {b = b} (r-first-bad {k = k} i) = goes-only k d p b (goes i)
   goes {d = d} {p = p} {b = b} (r-next-bad {k = k} {q = q} F i l j) =
       let a = from counts c n j in

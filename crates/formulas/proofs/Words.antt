@@ -1,30 +1,30 @@
 -- The readers' steps, on stretches of 256 values: each way in which a reading goes is a way of the code. Assumes
 -- nothing.
-use mathlib.Core.Path.{_≡_, refl, sym, ap, ap₂, _∙_, subst}
+use mathlib.Core.Path.{◌≡◌, refl, sym, ap, ap₂, ◌∙◌, subst}
 use mathlib.Core.Bool.{Bool, true, false, cond}
 use mathlib.Core.List.{List}
-use Prim.Native.Nat.{ℕ, zero, suc, _+_, _-_, _*_, _^_, _<_, _≤_}
+use Prim.Native.Nat.{ℕ, zero, suc, ◌+◌, ◌-◌, ◌*◌, ◌^◌, ◌<◌, ◌≤◌}
 use native.Mathlib.Numerals.{add-one}
 use native.Mathlib.Omega.{arith}
-use native.Mathlib.Decide.{decLt}
+use native.Mathlib.Decide.{dec_lt}
 use lib.Dec.{eqb}
-use lib.ListN.{length, List·getD-eq-default}
-use borrow.Author.Tests.{eq-eqb, ne-eqb, eqb-true, eqb-false}
-use Rattle·bits.specs.Numbers.{bit, number}
-use Rattle·values.specs.declared.stretches.Stretch.{Stretch}
-use Rattle·formulas·specs.specs.declared.reading.TextRead.{TextRead}
-use Rattle·formulas·specs.specs.declared.reading.TextRead.the-variants.{Read, Stuck}
-use Rattle·values.specs.Formula.{FormulaIn, letter, constant, negated, joined, join, value}
-use Rattle·formulas·specs.specs.Text.{byteAt, mark}
-use Rattle·formulas·specs.specs.Reading.{bang, opening, numeral, kindAt, Reading, upTo, stuck, reader}
-use Rattle·formulas·specs.specs.Words.{foundOf, Yields, turnedOf, closedAt, closedOf}
-use Rattle·values.specs.Stretches.{stretchOf, inEach, inBoth}
-use Rattle·formulas·proofs.proofs.Steps.{Run, run, runs, r-other, r-digit, r-input, r-deep-not, r-deep-open}
-use Rattle·formulas·proofs.proofs.Steps.{r-not-bad, r-not, r-open-bad, r-open-left, r-open, r-first-bad, r-last}
-use Rattle·formulas·proofs.proofs.Steps.{r-next-bad, r-next}
-use Rattle·formulas·proofs.proofs.ByteKinds.{plain-input, plain-other, by-byte, kind-bang, kind-open, kind-end}
-use Rattle·formulas·proofs.proofs.Grammar.{mark-pos, sound, spells-lt, spells-bytes}
-use Rattle·values.proofs.Bitwise.{both-stretch, not-stretch}
+use lib.ListN.{length, get_or-eq_default}
+use borrow.Author.Tests.{eq-eqb, ne_eqb, eqb-true, eqb-false}
+use Rattle.bits.specs.Numbers.{bit, number}
+use Rattle.values.specs.declared.stretches.Stretch.{Stretch}
+use Rattle.formulas.specs.declared.reading.TextRead.{TextRead}
+use Rattle.formulas.specs.declared.reading.TextRead.TheVariants.{Read, Stuck}
+use Rattle.values.specs.Formula.{FormulaIn, letter, constant, negated, joined, join, value}
+use Rattle.formulas.specs.Text.{byte_at, mark}
+use Rattle.formulas.specs.Reading.{bang, opening, numeral, kind_at, Reading, up_to, stuck, reader}
+use Rattle.formulas.specs.Words.{foundOf, Yields, turnedOf, closedAt, closedOf}
+use Rattle.values.specs.Stretches.{stretchOf, inEach, inBoth}
+use Rattle.formulas.proofs.Steps.{Run, run, runs, r-other, r-digit, r-input, r-deep-not, r-deep-open}
+use Rattle.formulas.proofs.Steps.{r-not-bad, r-not, r-open-bad, r-open-left, r-open, r-first-bad, r_last}
+use Rattle.formulas.proofs.Steps.{r-next-bad, r-next}
+use Rattle.formulas.proofs.ByteKinds.{plain-input, plain_other, by_byte, kind-bang, kind-open, kind-end}
+use Rattle.formulas.proofs.Grammar.{mark-pos, sound, spells-lt, spells-bytes}
+use Rattle.values.proofs.Bitwise.{both-stretch, not-stretch}
 
 -- ---- the values of formulas, in stretches
 
@@ -42,21 +42,21 @@ negated-stretch F w = not-stretch (value F) w
 
 -- ---- `)`
 
-pub closes : (s : List ℕ) (v : Stretch) (q : ℕ) → byteAt s q ≡ 41 → Read v (q + 1) ≡ closedAt s v q
-closes s v q e = sym (ap (λ (t : Bool). cond t (Read v (q + 1)) (Stuck q)) (eq-eqb (byteAt s q) 41 e))
+pub closes : (s : List ℕ) (v : Stretch) (q : ℕ) → byte_at s q ≡ 41 → Read v (q + 1) ≡ closedAt s v q
+closes s v q e = sym (ap (λ (t : Bool). cond t (Read v (q + 1)) (Stuck q)) (eq-eqb (byte_at s q) 41 e))
 
-pub closes-not : (s : List ℕ) (v : Stretch) (q : ℕ) → (byteAt s q ≡ 41 → ⊥) → Stuck q ≡ closedAt s v q
-closes-not s v q e = sym (ap (λ (t : Bool). cond t (Read v (q + 1)) (Stuck q)) (ne-eqb (byteAt s q) 41 e))
+pub closes-not : (s : List ℕ) (v : Stretch) (q : ℕ) → (byte_at s q ≡ 41 → ⊥) → Stuck q ≡ closedAt s v q
+closes-not s v q e = sym (ap (λ (t : Bool). cond t (Read v (q + 1)) (Stuck q)) (ne_eqb (byte_at s q) 41 e))
 
 pub closes-end : (s : List ℕ) (v : Stretch) (q : ℕ) → length s ≤ q → Stuck q ≡ closedAt s v q
-closes-end s v q h = closes-not s v q (λ e. omega (arith, e, List·getD-eq-default s 0 h))
+closes-end s v q h = closes-not s v q (λ e. omega (arith, e, get_or-eq_default s 0 h))
 
 -- a byte that is not 0 stands within the text
-pub inside-text : (s : List ℕ) (i b : ℕ) → byteAt s i ≡ b → 0 < b → i < length s
+pub inside-text : (s : List ℕ) (i b : ℕ) → byte_at s i ≡ b → 0 < b → i < length s
 inside-text s i b e l =
-    elim (decLt i (length s)) [
+    elim (dec_lt i (length s)) [
       | yes h ↦ h
-      | no h ↦ (let past : length s ≤ i = omega arith in absurd (omega (arith, e, List·getD-eq-default s 0 past)))
+      | no h ↦ (let past : length s ≤ i = omega arith in absurd (omega (arith, e, get_or-eq_default s 0 past)))
     ]
 
 -- ---- what an answer says of the reading
@@ -64,147 +64,147 @@ inside-text s i b e l =
 module _ (counts : Bool) where
   got-no : (i : ℕ) (g : Reading counts) (q : ℕ) → foundOf i g ≡ Stuck q → g ≡ stuck q
   got-no i (stuck p) q e = cc
-  got-no i (upTo F p) q e = cc
+  got-no i (up_to F p) q e = cc
 
   got-value : (i : ℕ) (g : Reading counts) (v : Stretch) (q : ℕ) → foundOf i g ≡ Read v q → (F : FormulaIn counts)
-      × (g ≡ upTo F q) × (v ≡ stretchOf (value F) i)
-  got-value i (upTo F p) v q e = let a : p ≡ q = cc in let b : v ≡ stretchOf (value F) i = cc in (F, ap (upTo F) a, b)
-  got-value i (stuck p) v q e = absurd (let z : _≡_ {A = ℕ} 0 1 = cc in omega arith)
+      × (g ≡ up_to F q) × (v ≡ stretchOf (value F) i)
+  got-value i (up_to F p) v q e = let a : p ≡ q = cc in let b : v ≡ stretchOf (value F) i = cc in (F, ap (up_to F) a, b)
+  got-value i (stuck p) v q e = absurd (let z : ◌≡◌ {A = ℕ} 0 1 = cc in omega arith)
 
-  pub read-no : {s : List ℕ} {n k d p i : ℕ} {r : TextRead} {q : ℕ} → r ≡ Stuck q → Yields counts s n k d p i r
-      → (m : ℕ) → 4 * (length s - p) + k < m → Run counts (byteAt s) n m k d p (stuck q)
-  read-no {s} {n} {k} {d} {p} {i} {r} {q} e h m l =
-      subst (Run counts (byteAt s) n m k d p)
-      (got-no i (reader counts (byteAt s) n m k d p) q (sym (h .gives m l) ∙ e))
-      (run counts (byteAt s) n m k d p)
+  pub read_no : {s : List ℕ} {n k d p i : ℕ} {r : TextRead} {q : ℕ} → r ≡ Stuck q → Yields counts s n k d p i r
+      → (m : ℕ) → 4 * (length s - p) + k < m → Run counts (byte_at s) n m k d p (stuck q)
+  read_no {s} {n} {k} {d} {p} {i} {r} {q} e h m l =
+      subst (Run counts (byte_at s) n m k d p)
+      (got-no i (reader counts (byte_at s) n m k d p) q (sym (h.gives m l) ∙ e))
+      (run counts (byte_at s) n m k d p)
 
   pub read-value : {s : List ℕ} {n k d p i : ℕ} {r : TextRead} {v : Stretch} {q : ℕ} → r ≡ Read v q
       → Yields counts s n k d p i r → (m : ℕ) → 4 * (length s - p) + k < m
-      → (F : FormulaIn counts) × Run counts (byteAt s) n m k d p (upTo F q) × (v ≡ stretchOf (value F) i)
+      → (F : FormulaIn counts) × Run counts (byte_at s) n m k d p (up_to F q) × (v ≡ stretchOf (value F) i)
   read-value {s} {n} {k} {d} {p} {i} {r} {v} {q} e h m l = go
-      (got-value i (reader counts (byteAt s) n m k d p) v q (sym (h .gives m l) ∙ e))
+      (got-value i (reader counts (byte_at s) n m k d p) v q (sym (h.gives m l) ∙ e))
     where
-      go : (F : FormulaIn counts) × (reader counts (byteAt s) n m k d p ≡ upTo F q) × (v ≡ stretchOf (value F) i)
-          → (F : FormulaIn counts) × Run counts (byteAt s) n m k d p (upTo F q) × (v ≡ stretchOf (value F) i)
-      go x = (x .0, subst (Run counts (byteAt s) n m k d p) (x .1) (run counts (byteAt s) n m k d p), x .2)
+      go : (F : FormulaIn counts) × (reader counts (byte_at s) n m k d p ≡ up_to F q) × (v ≡ stretchOf (value F) i)
+          → (F : FormulaIn counts) × Run counts (byte_at s) n m k d p (up_to F q) × (v ≡ stretchOf (value F) i)
+      go x = (x.0, subst (Run counts (byte_at s) n m k d p) x.1 (run counts (byte_at s) n m k d p), x.2)
 
   -- it goes forward, and stays within the text
   pub ahead : {s : List ℕ} {n k d p i : ℕ} {r : TextRead} {v : Stretch} {q : ℕ} → r ≡ Read v q
       → Yields counts s n k d p i r → p ≤ length s → (p < q) × (q ≤ length s)
   ahead {s} {n} {k} {d} {p} {i} {r} {v} {q} e h l = go (read-value e h (4 * (length s - p) + k + 1) (omega arith))
     where
-      go : {m : ℕ} → (F : FormulaIn counts) × Run counts (byteAt s) n m k d p (upTo F q) × (v ≡ stretchOf (value F) i)
+      go : {m : ℕ} → (F : FormulaIn counts) × Run counts (byte_at s) n m k d p (up_to F q) × (v ≡ stretchOf (value F) i)
           → (p < q) × (q ≤ length s)
       go x =
-          let y = sound counts (byteAt s) n 0 (x .1) in (
-            spells-lt counts (byteAt s) n 0 y,
-            elim (decLt (length s) q) [
+          let y = sound counts (byte_at s) n 0 x.1 in (
+            spells-lt counts (byte_at s) n 0 y,
+            elim (dec_lt (length s) q) [
               | no z ↦ omega arith
-              | yes z ↦ absurd (spells-bytes counts (byteAt s) n 0 y (length s) l z
-                  (List·getD-eq-default s 0 (omega arith)))
+              | yes z ↦ absurd (spells-bytes counts (byte_at s) n 0 y (length s) l z
+                  (get_or-eq_default s 0 (omega arith)))
             ],
           )
 
 -- ---- the steps
 
-one-less : (d : ℕ) → suc d - 1 ≡ d
-one-less d = omega arith
+one_less : (d : ℕ) → suc d - 1 ≡ d
+one_less d = omega arith
 
 module _ (counts : Bool) (s : List ℕ) (n i : ℕ) where
   -- an answer, from the way the reading goes
   pub by-run : (k d p : ℕ) (r : TextRead) → ((m : ℕ) → 4 * (length s - p) + k < suc m → (g : Reading counts)
-      × Run counts (byteAt s) n (suc m) k d p g × (r ≡ foundOf i g)) → Yields counts s n k d p i r
+      × Run counts (byte_at s) n (suc m) k d p g × (r ≡ foundOf i g)) → Yields counts s n k d p i r
   by-run k d p r f = record { gives = go }
     where
-      on : (m : ℕ) → (g : Reading counts) × Run counts (byteAt s) n m k d p g × (r ≡ foundOf i g) → r
-          ≡ foundOf i (reader counts (byteAt s) n m k d p)
-      on m x = x .2 ∙ ap (foundOf i) (sym (runs counts (byteAt s) n (x .1)))
+      on : (m : ℕ) → (g : Reading counts) × Run counts (byte_at s) n m k d p g × (r ≡ foundOf i g) → r
+          ≡ foundOf i (reader counts (byte_at s) n m k d p)
+      on m x = x.2 ∙ ap (foundOf i) (sym (runs counts (byte_at s) n x.1))
 
-      go : (m : ℕ) → 4 * (length s - p) + k < m → r ≡ foundOf i (reader counts (byteAt s) n m k d p)
+      go : (m : ℕ) → 4 * (length s - p) + k < m → r ≡ foundOf i (reader counts (byte_at s) n m k d p)
       go zero l = absurd (omega arith)
       go (suc m) l = on (suc m) (f m l)
 
   pub first-bad : {k d p : ℕ} {r : TextRead} {q : ℕ} → r ≡ Stuck q → Yields counts s n k d p i r
       → Yields counts s n (suc k) d p i (Stuck q)
   first-bad {k} {d} {p} {r} {q} e h = by-run (suc k) d p (Stuck q)
-      (λ m l. (stuck q, r-first-bad (read-no counts e h m (omega arith)), refl))
+      (λ m l. (stuck q, r-first-bad (read_no counts e h m (omega arith)), refl))
 
   pub last : {k d p : ℕ} {r : TextRead} {v : Stretch} {q : ℕ} → r ≡ Read v q → Yields counts s n k d p i r
-      → (byteAt s q ≡ mark k → ⊥) → Yields counts s n (suc k) d p i (Read v q)
+      → (byte_at s q ≡ mark k → ⊥) → Yields counts s n (suc k) d p i (Read v q)
   last {k} {d} {p} {r} {v} {q} e h x =
       by-run (suc k) d p (Read v q) (λ m l. go m (read-value counts e h m (omega arith)))
     where
-      go : (m : ℕ) → (F : FormulaIn counts) × Run counts (byteAt s) n m k d p (upTo F q) × (v ≡ stretchOf (value F) i)
-          → (g : Reading counts) × Run counts (byteAt s) n (suc m) (suc k) d p g × (Read v q ≡ foundOf i g)
-      go m y = (upTo (y .0) q, r-last (y .1) x, ap (λ (w : Stretch). Read w q) (y .2))
+      go : (m : ℕ) → (F : FormulaIn counts) × Run counts (byte_at s) n m k d p (up_to F q) × (v ≡ stretchOf (value F) i)
+          → (g : Reading counts) × Run counts (byte_at s) n (suc m) (suc k) d p g × (Read v q ≡ foundOf i g)
+      go m y = (up_to y.0 q, r_last y.1 x, ap (λ (w : Stretch). Read w q) y.2)
 
-  pub last-end : {k d p : ℕ} {r : TextRead} {v : Stretch} {q : ℕ} → r ≡ Read v q → Yields counts s n k d p i r
+  pub last_end : {k d p : ℕ} {r : TextRead} {v : Stretch} {q : ℕ} → r ≡ Read v q → Yields counts s n k d p i r
       → length s ≤ q → Yields counts s n (suc k) d p i (Read v q)
-  last-end {k} e h l = last e h (λ f. omega (arith, mark-pos k, f, List·getD-eq-default s 0 l))
+  last_end {k} e h l = last e h (λ f. omega (arith, mark-pos k, f, get_or-eq_default s 0 l))
 
-  pub next-bad : {k d p : ℕ} {r r′ : TextRead} {v : Stretch} {q x : ℕ} → r ≡ Read v q → Yields counts s n k d p i r
+  pub next-bad : {k d p : ℕ} {r r' : TextRead} {v : Stretch} {q x : ℕ} → r ≡ Read v q → Yields counts s n k d p i r
       → p ≤ length s
-      → byteAt s q ≡ mark k
-      → r′ ≡ Stuck x → Yields counts s n (suc k) d (q + 1) i r′ → Yields counts s n (suc k) d p i (Stuck x)
-  next-bad {k} {d} {p} {r} {r′} {v} {q} {x} e h b a f j =
+      → byte_at s q ≡ mark k
+      → r' ≡ Stuck x → Yields counts s n (suc k) d (q + 1) i r' → Yields counts s n (suc k) d p i (Stuck x)
+  next-bad {k} {d} {p} {r} {r'} {v} {q} {x} e h b a f j =
       by-run (suc k) d p (Stuck x) (λ m l. (let y = ahead counts e h b
-      in go m (read-value counts e h m (omega arith)) (read-no counts f
-      (subst (λ (z : ℕ). Yields counts s n (suc k) d z i r′) (add-one q) j) m (omega arith))))
+      in go m (read-value counts e h m (omega arith)) (read_no counts f
+      (subst (λ (z : ℕ). Yields counts s n (suc k) d z i r') (add-one q) j) m (omega arith))))
     where
-      go : (m : ℕ) → (F : FormulaIn counts) × Run counts (byteAt s) n m k d p (upTo F q) × (v ≡ stretchOf (value F) i)
-          → Run counts (byteAt s) n m (suc k) d (suc q) (stuck x)
-          → (g : Reading counts) × Run counts (byteAt s) n (suc m) (suc k) d p g × (Stuck x ≡ foundOf i g)
-      go m y z = (stuck x, r-next-bad (y .0) (y .1) a z, refl)
+      go : (m : ℕ) → (F : FormulaIn counts) × Run counts (byte_at s) n m k d p (up_to F q) × (v ≡ stretchOf (value F) i)
+          → Run counts (byte_at s) n m (suc k) d (suc q) (stuck x)
+          → (g : Reading counts) × Run counts (byte_at s) n (suc m) (suc k) d p g × (Stuck x ≡ foundOf i g)
+      go m y z = (stuck x, r-next-bad y.0 y.1 a z, refl)
 
-  pub next : {k d p : ℕ} {r r′ : TextRead} {v w z : Stretch} {q x : ℕ} (op : Stretch → Stretch → Stretch)
+  pub next : {k d p : ℕ} {r r' : TextRead} {v w z : Stretch} {q x : ℕ} (op : Stretch → Stretch → Stretch)
       → ((F G : FormulaIn counts) → op (stretchOf (value F) i) (stretchOf (value G) i)
       ≡ stretchOf (value (joined k F G)) i)
-      → r ≡ Read v q → Yields counts s n k d p i r → p ≤ length s → byteAt s q ≡ mark k
-      → r′ ≡ Read w x → Yields counts s n (suc k) d (q + 1) i r′ → z ≡ op v w
+      → r ≡ Read v q → Yields counts s n k d p i r → p ≤ length s → byte_at s q ≡ mark k
+      → r' ≡ Read w x → Yields counts s n (suc k) d (q + 1) i r' → z ≡ op v w
       → Yields counts s n (suc k) d p i (Read z x)
-  next {k} {d} {p} {r} {r′} {v} {w} {z} {q} {x} op u e h b a f j c =
+  next {k} {d} {p} {r} {r'} {v} {w} {z} {q} {x} op u e h b a f j c =
       by-run (suc k) d p (Read z x)
       (λ m l. (let y = ahead counts e h b in go m (read-value counts e h m (omega arith))
-      (read-value counts f (subst (λ (z : ℕ). Yields counts s n (suc k) d z i r′) (add-one q) j) m (omega arith))))
+      (read-value counts f (subst (λ (z : ℕ). Yields counts s n (suc k) d z i r') (add-one q) j) m (omega arith))))
     where
-      go : (m : ℕ) → (F : FormulaIn counts) × Run counts (byteAt s) n m k d p (upTo F q) × (v ≡ stretchOf (value F) i)
-          → (G : FormulaIn counts) × Run counts (byteAt s) n m (suc k) d (suc q) (upTo G x)
+      go : (m : ℕ) → (F : FormulaIn counts) × Run counts (byte_at s) n m k d p (up_to F q) × (v ≡ stretchOf (value F) i)
+          → (G : FormulaIn counts) × Run counts (byte_at s) n m (suc k) d (suc q) (up_to G x)
           × (w ≡ stretchOf (value G) i)
-          → (g : Reading counts) × Run counts (byteAt s) n (suc m) (suc k) d p g × (Read z x ≡ foundOf i g)
+          → (g : Reading counts) × Run counts (byte_at s) n (suc m) (suc k) d p g × (Read z x ≡ foundOf i g)
       go m y t = (
-        upTo (joined k (y .0) (t .0)) x,
-        r-next (y .1) a (t .1),
-        ap (λ (t : Stretch). Read t x) (c ∙ ap₂ op (y .2) (t .2) ∙ u (y .0) (t .0)),
+        up_to (joined k y.0 t.0) x,
+        r-next y.1 a t.1,
+        ap (λ (t : Stretch). Read t x) (c ∙ ap₂ op y.2 t.2 ∙ u y.0 t.0),
       )
 
   -- ---- a factor of one byte, where no number begins a count
 
-  module _ {d p : ℕ} (alone : cond counts (numeral (byteAt s p) (byteAt s (p + 1))) 0 ≡ 0) where
-    f-kind : {v : Stretch} {F : FormulaIn counts} → ((m : ℕ) → Run counts (byteAt s) n (suc m) 0 d p (upTo F (suc p)))
+  module _ {d p : ℕ} (alone : cond counts (numeral (byte_at s p) (byte_at s (p + 1))) 0 ≡ 0) where
+    f-kind : {v : Stretch} {F : FormulaIn counts} → ((m : ℕ) → Run counts (byte_at s) n (suc m) 0 d p (up_to F (suc p)))
         → v ≡ stretchOf (value F) i → Yields counts s n 0 d p i (Read v (p + 1))
-    f-kind {v} {F} r f = by-run 0 d p (Read v (p + 1)) (λ m l. (upTo F (suc p), r m, ap₂ Read f (add-one p)))
+    f-kind {v} {F} r f = by-run 0 d p (Read v (p + 1)) (λ m l. (up_to F (suc p), r m, ap₂ Read f (add-one p)))
 
-    pub f-zero : {v : Stretch} → byteAt s p ≡ 48 → v ≡ stretchOf (λ x. false) i
+    pub f-zero : {v : Stretch} → byte_at s p ≡ 48 → v ≡ stretchOf (λ x. false) i
         → Yields counts s n 0 d p i (Read v (p + 1))
     unfolding value
-    f-zero e f = f-kind {F = constant false} (λ m. r-digit false (by-byte counts (byteAt s) n p alone (rw e))) f
+    f-zero e f = f-kind {F = constant false} (λ m. r-digit false (by_byte counts (byte_at s) n p alone (rw e))) f
 
-    pub f-one : {v : Stretch} → byteAt s p ≡ 49 → v ≡ stretchOf (λ x. true) i
+    pub f-one : {v : Stretch} → byte_at s p ≡ 49 → v ≡ stretchOf (λ x. true) i
         → Yields counts s n 0 d p i (Read v (p + 1))
     unfolding value
-    f-one e f = f-kind {F = constant true} (λ m. r-digit true (by-byte counts (byteAt s) n p alone (rw e))) f
+    f-one e f = f-kind {F = constant true} (λ m. r-digit true (by_byte counts (byte_at s) n p alone (rw e))) f
 
-    pub f-input : {v : Stretch} (j : ℕ) → j < n → byteAt s p ≡ 97 + j → v ≡ stretchOf (λ x. bit x j) i
+    pub f-input : {v : Stretch} (j : ℕ) → j < n → byte_at s p ≡ 97 + j → v ≡ stretchOf (λ x. bit x j) i
         → Yields counts s n 0 d p i (Read v (p + 1))
     unfolding value
     f-input j l e f = f-kind {F = letter j}
-        (λ m. r-input j (by-byte counts (byteAt s) n p alone (plain-input n (byteAt s p) j l e))) f
+        (λ m. r-input j (by_byte counts (byte_at s) n p alone (plain-input n (byte_at s p) j l e))) f
 
-    pub f-other : (byteAt s p ≡ 33 → ⊥) → (byteAt s p ≡ 40 → ⊥) → (byteAt s p ≡ 48 → ⊥) → (byteAt s p ≡ 49 → ⊥)
-        → (97 ≤ byteAt s p → byteAt s p < 97 + n → ⊥) → Yields counts s n 0 d p i (Stuck p)
+    pub f-other : (byte_at s p ≡ 33 → ⊥) → (byte_at s p ≡ 40 → ⊥) → (byte_at s p ≡ 48 → ⊥) → (byte_at s p ≡ 49 → ⊥)
+        → (97 ≤ byte_at s p → byte_at s p < 97 + n → ⊥) → Yields counts s n 0 d p i (Stuck p)
     f-other h1 h2 h3 h4 h5 = by-run 0 d p (Stuck p) (λ m l. (
       stuck p,
-      r-other (by-byte counts (byteAt s) n p alone (plain-other n (byteAt s p) h1 h2 h3 h4 h5)),
+      r-other (by_byte counts (byte_at s) n p alone (plain_other n (byte_at s p) h1 h2 h3 h4 h5)),
       refl,
     ))
 
@@ -212,79 +212,79 @@ module _ (counts : Bool) (s : List ℕ) (n i : ℕ) where
 
   pub f-end : {d p : ℕ} → length s ≤ p → Yields counts s n 0 d p i (Stuck p)
   f-end {d} {p} h = by-run 0 d p (Stuck p)
-      (λ m l. (stuck p, r-other (kind-end counts (byteAt s) n p (List·getD-eq-default s 0 h)), refl))
+      (λ m l. (stuck p, r-other (kind-end counts (byte_at s) n p (get_or-eq_default s 0 h)), refl))
 
   f-deep : {p : ℕ} (d : ℕ) → d ≡ 0 → Yields counts s n 0 0 p i (Stuck p) → Yields counts s n 0 d p i (Stuck p)
   f-deep {p} d e h = subst (λ (x : ℕ). Yields counts s n 0 x p i (Stuck p)) (sym e) h
 
-  pub f-deep-not : {d p : ℕ} → byteAt s p ≡ 33 → d ≡ 0 → Yields counts s n 0 d p i (Stuck p)
+  pub f-deep-not : {d p : ℕ} → byte_at s p ≡ 33 → d ≡ 0 → Yields counts s n 0 d p i (Stuck p)
   f-deep-not {d} {p} e h = f-deep d h (by-run 0 0 p (Stuck p)
-      (λ m l. (stuck p, r-deep-not (kind-bang counts (byteAt s) n p e), refl)))
+      (λ m l. (stuck p, r-deep-not (kind-bang counts (byte_at s) n p e), refl)))
 
-  pub f-deep-open : {d p : ℕ} → byteAt s p ≡ 40 → d ≡ 0 → Yields counts s n 0 d p i (Stuck p)
+  pub f-deep-open : {d p : ℕ} → byte_at s p ≡ 40 → d ≡ 0 → Yields counts s n 0 d p i (Stuck p)
   f-deep-open {d} {p} e h = f-deep d h (by-run 0 0 p (Stuck p)
-      (λ m l. (stuck p, r-deep-open (kind-open counts (byteAt s) n p e), refl)))
+      (λ m l. (stuck p, r-deep-open (kind-open counts (byte_at s) n p e), refl)))
 
   -- one level down: an answer from what is known of the reading at level k from o on
-  pub inner : {d p o : ℕ} (r′ : TextRead) (k : ℕ) (Q : Reading counts → Type 0) → k < 4 * (o - p) → o ≤ length s
+  pub inner : {d p o : ℕ} (r' : TextRead) (k : ℕ) (Q : Reading counts → Type 0) → k < 4 * (o - p) → o ≤ length s
       → (d ≡ 0 → ⊥)
-      → ((m : ℕ) → 4 * (length s - o) + k < m → Q (reader counts (byteAt s) n m k (d - 1) o))
-      → ((m d : ℕ) (g : Reading counts) → Run counts (byteAt s) n m k d o g → Q g → (g′ : Reading counts)
-      × Run counts (byteAt s) n (suc m) 0 (suc d) p g′ × (r′ ≡ foundOf i g′))
-      → Yields counts s n 0 d p i r′
-  inner {d} {p} {o} r′ k Q few t b h f = go d b h
+      → ((m : ℕ) → 4 * (length s - o) + k < m → Q (reader counts (byte_at s) n m k (d - 1) o))
+      → ((m d : ℕ) (g : Reading counts) → Run counts (byte_at s) n m k d o g → Q g → (g' : Reading counts)
+      × Run counts (byte_at s) n (suc m) 0 (suc d) p g' × (r' ≡ foundOf i g'))
+      → Yields counts s n 0 d p i r'
+  inner {d} {p} {o} r' k Q few t b h f = go d b h
     where
       go : (d : ℕ) → (d ≡ 0 → ⊥)
-          → ((m : ℕ) → 4 * (length s - o) + k < m → Q (reader counts (byteAt s) n m k (d - 1) o))
-          → Yields counts s n 0 d p i r′
+          → ((m : ℕ) → 4 * (length s - o) + k < m → Q (reader counts (byte_at s) n m k (d - 1) o))
+          → Yields counts s n 0 d p i r'
       go zero b h = absurd (b refl)
       go (suc d) b h =
-          by-run 0 (suc d) p r′ (λ m y. f m d (reader counts (byteAt s) n m k d o) (run counts (byteAt s) n m k d o)
-          (subst (λ (x : ℕ). Q (reader counts (byteAt s) n m k x o)) (one-less d) (h m (omega arith))))
+          by-run 0 (suc d) p r' (λ m y. f m d (reader counts (byte_at s) n m k d o) (run counts (byte_at s) n m k d o)
+          (subst (λ (x : ℕ). Q (reader counts (byte_at s) n m k x o)) (one_less d) (h m (omega arith))))
 
-  pub f-turned : {d p : ℕ} {r r′ : TextRead} → byteAt s p ≡ 33 → (d ≡ 0 → ⊥) → p < length s
-      → Yields counts s n 0 (d - 1) (p + 1) i r → r′ ≡ turnedOf r → Yields counts s n 0 d p i r′
-  f-turned {d} {p} {r} {r′} y b l h e =
-      let h′ = subst (λ (z : ℕ). Yields counts s n 0 (d - 1) z i r) (add-one p) h in
-      inner r′ 0 (λ g. r ≡ foundOf i g) (omega arith) l b (h′ .gives) on
+  pub f-turned : {d p : ℕ} {r r' : TextRead} → byte_at s p ≡ 33 → (d ≡ 0 → ⊥) → p < length s
+      → Yields counts s n 0 (d - 1) (p + 1) i r → r' ≡ turnedOf r → Yields counts s n 0 d p i r'
+  f-turned {d} {p} {r} {r'} y b l h e =
+      let h' = subst (λ (z : ℕ). Yields counts s n 0 (d - 1) z i r) (add-one p) h in
+      inner r' 0 (λ g. r ≡ foundOf i g) (omega arith) l b h'.gives on
     where
-      a : kindAt counts (byteAt s) n p ≡ bang
-      a = kind-bang counts (byteAt s) n p y
+      a : kind_at counts (byte_at s) n p ≡ bang
+      a = kind-bang counts (byte_at s) n p y
 
-      on : (m d : ℕ) (g : Reading counts) → Run counts (byteAt s) n m 0 d (suc p) g → r ≡ foundOf i g
-          → (g′ : Reading counts) × Run counts (byteAt s) n (suc m) 0 (suc d) p g′ × (r′ ≡ foundOf i g′)
-      on m d (upTo F q) x y = (
-        upTo (negated F) q,
+      on : (m d : ℕ) (g : Reading counts) → Run counts (byte_at s) n m 0 d (suc p) g → r ≡ foundOf i g
+          → (g' : Reading counts) × Run counts (byte_at s) n (suc m) 0 (suc d) p g' × (r' ≡ foundOf i g')
+      on m d (up_to F q) x y = (
+        up_to (negated F) q,
         r-not a x,
         e ∙ ap turnedOf y ∙ ap (λ (t : Stretch). Read t q) (negated-stretch F i),
       )
       on m d (stuck q) x y = (stuck q, r-not-bad a x, e ∙ ap turnedOf y)
 
-  pub f-closed : {d p : ℕ} {r r′ : TextRead} → byteAt s p ≡ 40 → (d ≡ 0 → ⊥) → p < length s
-      → Yields counts s n 3 (d - 1) (p + 1) i r → r′ ≡ closedOf s r → Yields counts s n 0 d p i r′
-  f-closed {d} {p} {r} {r′} u b l h e =
-      let h′ = subst (λ (z : ℕ). Yields counts s n 3 (d - 1) z i r) (add-one p) h in
-      inner r′ 3 (λ g. r ≡ foundOf i g) (omega arith) l b (h′ .gives) on
+  pub f-closed : {d p : ℕ} {r r' : TextRead} → byte_at s p ≡ 40 → (d ≡ 0 → ⊥) → p < length s
+      → Yields counts s n 3 (d - 1) (p + 1) i r → r' ≡ closedOf s r → Yields counts s n 0 d p i r'
+  f-closed {d} {p} {r} {r'} u b l h e =
+      let h' = subst (λ (z : ℕ). Yields counts s n 3 (d - 1) z i r) (add-one p) h in
+      inner r' 3 (λ g. r ≡ foundOf i g) (omega arith) l b h'.gives on
     where
-      a : kindAt counts (byteAt s) n p ≡ opening
-      a = kind-open counts (byteAt s) n p u
+      a : kind_at counts (byte_at s) n p ≡ opening
+      a = kind-open counts (byte_at s) n p u
 
-      end : (m d : ℕ) (F : FormulaIn counts) (q : ℕ) → Run counts (byteAt s) n m 3 d (suc p) (upTo F q)
-          → r′ ≡ closedAt s (stretchOf (value F) i) q → (t : Bool) → eqb (byteAt s q) 41 ≡ t
-          → (g′ : Reading counts) × Run counts (byteAt s) n (suc m) 0 (suc d) p g′ × (r′ ≡ foundOf i g′)
+      end : (m d : ℕ) (F : FormulaIn counts) (q : ℕ) → Run counts (byte_at s) n m 3 d (suc p) (up_to F q)
+          → r' ≡ closedAt s (stretchOf (value F) i) q → (t : Bool) → eqb (byte_at s q) 41 ≡ t
+          → (g' : Reading counts) × Run counts (byte_at s) n (suc m) 0 (suc d) p g' × (r' ≡ foundOf i g')
       end m d F q x y true z = (
-        upTo F (suc q),
-        r-open a x (eqb-true (byteAt s q) 41 z),
-        y ∙ sym (closes s (stretchOf (value F) i) q (eqb-true (byteAt s q) 41 z))
+        up_to F (suc q),
+        r-open a x (eqb-true (byte_at s q) 41 z),
+        y ∙ sym (closes s (stretchOf (value F) i) q (eqb-true (byte_at s q) 41 z))
             ∙ ap (Read (stretchOf (value F) i)) (add-one q),
       )
       end m d F q x y false z = (
         stuck q,
-        r-open-left F a x (eqb-false (byteAt s q) 41 z),
-        y ∙ sym (closes-not s (stretchOf (value F) i) q (eqb-false (byteAt s q) 41 z)),
+        r-open-left F a x (eqb-false (byte_at s q) 41 z),
+        y ∙ sym (closes-not s (stretchOf (value F) i) q (eqb-false (byte_at s q) 41 z)),
       )
 
-      on : (m d : ℕ) (g : Reading counts) → Run counts (byteAt s) n m 3 d (suc p) g → r ≡ foundOf i g
-          → (g′ : Reading counts) × Run counts (byteAt s) n (suc m) 0 (suc d) p g′ × (r′ ≡ foundOf i g′)
-      on m d (upTo F q) x y = end m d F q x (e ∙ ap (closedOf s) y) (eqb (byteAt s q) 41) refl
+      on : (m d : ℕ) (g : Reading counts) → Run counts (byte_at s) n m 3 d (suc p) g → r ≡ foundOf i g
+          → (g' : Reading counts) × Run counts (byte_at s) n (suc m) 0 (suc d) p g' × (r' ≡ foundOf i g')
+      on m d (up_to F q) x y = end m d F q x (e ∙ ap (closedOf s) y) (eqb (byte_at s q) 41) refl
       on m d (stuck q) x y = (stuck q, r-open-bad a x, e ∙ ap (closedOf s) y)

@@ -1,15 +1,13 @@
 -- Read a formula into a lent table, with counts or without.
-use mathlib.Core.Bool.{Bool, false}
-use mathlib.Core.List.{List, [], _∷_}
-use Prim.Native.Nat.{ℕ}
-use Rattle·tables.specs.Table.{tableOf}
-use Rattle·refusals.specs.declared.verdicts.Refusal.{Refusal}
-use Rattle·refusals.specs.declared.verdicts.Verdict.{Verdict}
-use Rattle·refusals.specs.declared.verdicts.Verdict.the-variants.{Fine, Refused}
-use Rattle·refusals.specs.Lines.{Line, verdict, reply}
-use Rattle·refusals.specs.Refusals.{badInputs, badTable}
-use Rattle·formulas·specs.specs.Reading.{textOf, valueIn}
-use Rattle·formulas·specs.specs.Refusals.{badText}
+use Rattle.std.specs.Prelude.{Bool, false, List, [], ◌∷◌, ℕ}
+use Rattle.tables.specs.Table.{table_of}
+use Rattle.refusals.specs.declared.verdicts.Refusal.{Refusal}
+use Rattle.refusals.specs.declared.verdicts.Verdict.{Verdict}
+use Rattle.refusals.specs.declared.verdicts.Verdict.TheVariants.{Fine, Refused}
+use Rattle.refusals.specs.Lines.{Line, verdict, reply}
+use Rattle.refusals.specs.Refusals.{badInputs, badTable}
+use Rattle.formulas.specs.Reading.{text_of, valueIn}
+use Rattle.formulas.specs.Refusals.{badText}
 
 -- form: 1 and 3, then 16
 abbrev pub readLines : Bool → ℕ → List ℕ → List ℕ → List Line
@@ -22,7 +20,7 @@ pub record ReadOutcome : Type 0 where
 
 -- done: the table of the formula's values written whole, spare bits zero
 abbrev pub readDone : Bool → ℕ → List ℕ → ReadOutcome
-readDone counts n s = record { verdict = Fine; table = tableOf n (valueIn (textOf counts n s)) }
+readDone counts n s = record { verdict = Fine; table = table_of n (valueIn (text_of counts n s)) }
 
 -- refused: the table is as it was lent
 abbrev pub readNot : List ℕ → Refusal → ReadOutcome

@@ -1,8 +1,6 @@
 -- Read a gate into a lent table: a formula with counts.
-use mathlib.Core.Bool.{true}
-use mathlib.Core.List.{List}
-use Prim.Native.Nat.{ℕ}
-use Rattle·formulas·specs.specs.ReadFormula.{ReadOutcome, readIn}
+use Rattle.std.specs.Prelude.{true, List, ℕ}
+use Rattle.formulas.specs.ReadFormula.{ReadOutcome, readIn}
 
 -- what the call is to return and leave, whatever is handed over: lines 1, 3 and 16, and the table of its values
 abbrev pub gateOutcome : ℕ → List ℕ → List ℕ → ReadOutcome

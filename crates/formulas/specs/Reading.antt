@@ -1,11 +1,7 @@
 -- How text is read, as a computation: the readers of factor, part, term, sum and list are one, by the level k.
-use mathlib.Core.Bool.{Bool, true, false, cond, _&&_}
-use mathlib.Core.List.{List}
-use Prim.Native.Nat.{ℕ, zero, suc, _+_, _-_}
-use lib.ListN.{length}
-use lib.Dec.{eqb, ltb, leb}
-use Rattle·values.specs.Formula.{Allowed, FormulaIn, letter, constant, negated, joined, counted, value}
-use Rattle·formulas·specs.specs.Text.{mark, byteAt, mostLevels, mostText, IsFormula, IsPlace}
+use Rattle.std.specs.Prelude.{Bool, true, false, cond, ◌&&◌, List, ℕ, zero, suc, ◌+◌, ◌-◌, length, eqb, ltb, leb}
+use Rattle.values.specs.Formula.{Allowed, FormulaIn, letter, constant, negated, joined, counted, value}
+use Rattle.formulas.specs.Text.{mark, byte_at, mostLevels, mostText, IsFormula, IsPlace}
 
 -- what stands where a factor is to begin
 pub data Kind (counts : Bool) : Type 0 where
@@ -38,17 +34,17 @@ orPlain true zero k = k
 orPlain true (suc t) k = several tt (suc t)
 
 -- by the byte at p, and where counts are allowed the one after it
-abbrev pub kindAt : (counts : Bool) → (ℕ → ℕ) → ℕ → ℕ → Kind counts
-kindAt counts c n p = orPlain counts (numeral (c p) (c (p + 1))) (plain n (c p))
+abbrev pub kind_at : (counts : Bool) → (ℕ → ℕ) → ℕ → ℕ → Kind counts
+kind_at counts c n p = orPlain counts (numeral (c p) (c (p + 1))) (plain n (c p))
 
 -- a formula with the place after it, or the place where the text can't be continued
 pub data Reading (counts : Bool) : Type 0 where
-  upTo : FormulaIn counts → ℕ → Reading counts
+  up_to : FormulaIn counts → ℕ → Reading counts
   stuck : ℕ → Reading counts
 
 -- go on after a formula, and stay where the text can't be continued
 abbrev pub after : {counts : Bool} → Reading counts → (FormulaIn counts → ℕ → Reading counts) → Reading counts
-after (upTo F q) f = f F q
+after (up_to F q) f = f F q
 after (stuck p) f = stuck p
 
 -- one level down; with none left the place p is where it stops
@@ -58,16 +54,16 @@ deeper (suc d) p f = f d
 
 -- `)` closes what was read up to q
 abbrev pub closed : {counts : Bool} → (ℕ → ℕ) → FormulaIn counts → ℕ → Reading counts
-closed c F q = cond (eqb (c q) 41) (upTo F (suc q)) (stuck q)
+closed c F q = cond (eqb (c q) 41) (up_to F (suc q)) (stuck q)
 
 -- a factor, by what it begins with: the factor after `!` and the sum after `(`, and a list from a place on, are given
 -- by the levels that are left for them
 abbrev pub begun : {counts : Bool} → Kind counts → ℕ → ℕ → (ℕ → Reading counts) → (ℕ → Reading counts)
     → (ℕ → ℕ → Reading counts) → (ℕ → ℕ) → Reading counts
-begun bang d p factor sum list c = deeper d p (λ e. after (factor e) (λ F q. upTo (negated F) q))
+begun bang d p factor sum list c = deeper d p (λ e. after (factor e) (λ F q. up_to (negated F) q))
 begun opening d p factor sum list c = deeper d p (λ e. after (sum e) (closed c))
-begun (digit t) d p factor sum list c = upTo (constant t) (suc p)
-begun (input j) d p factor sum list c = upTo (letter j) (suc p)
+begun (digit t) d p factor sum list c = up_to (constant t) (suc p)
+begun (input j) d p factor sum list c = up_to (letter j) (suc p)
 begun (several a t) d p factor sum list c =
     cond (eqb (c (p + width t)) 40)
     (deeper d (p + width t) (λ e. after (list e (suc (p + width t))) (λ F q. closed c (counted a t F) q)))
@@ -76,14 +72,14 @@ begun other d p factor sum list c = stuck p
 
 -- F was read up to q: with the level's mark there the rest is joined to it
 abbrev pub continued : {counts : Bool} → ℕ → Bool → FormulaIn counts → ℕ → (ℕ → Reading counts) → Reading counts
-continued k true F q rest = after (rest (suc q)) (λ G r. upTo (joined k F G) r)
-continued k false F q rest = upTo F q
+continued k true F q rest = after (rest (suc q)) (λ G r. up_to (joined k F G) r)
+continued k false F q rest = up_to F q
 
 -- the reader at level k, from place p, with d levels left; m bounds how deep the calls go
 unfoldable pub reader : (counts : Bool) → (ℕ → ℕ) → ℕ → ℕ → ℕ → ℕ → ℕ → Reading counts
 reader counts c n zero k d p = stuck p
 reader counts c n (suc m) zero d p =
-    begun (kindAt counts c n p) d p (λ e. reader counts c n m 0 e (suc p)) (λ e. reader counts c n m 3 e (suc p))
+    begun (kind_at counts c n p) d p (λ e. reader counts c n m 0 e (suc p)) (λ e. reader counts c n m 3 e (suc p))
     (λ e r. reader counts c n m 4 e r) c
 reader counts c n (suc m) (suc k) d p =
     after (reader counts c n m k d p)
@@ -98,7 +94,7 @@ pub data TextAnswer (counts : Bool) : Type 0 where
 
 -- a text of l bytes is a formula if the reading ends where it does
 abbrev pub ended : {counts : Bool} → ℕ → Reading counts → TextAnswer counts
-ended l (upTo F q) = cond (eqb q l) (formula F) (refused q)
+ended l (up_to F q) = cond (eqb q l) (formula F) (refused q)
 ended l (stuck p) = refused p
 
 -- calls enough for the longest text: four for each byte, and four
@@ -106,10 +102,10 @@ abbrev pub enough : ℕ
 enough = 4100
 
 -- what the text is with n inputs; too long comes first, at its length
-unfoldable pub textOf : (counts : Bool) → ℕ → List ℕ → TextAnswer counts
-textOf counts n s =
+unfoldable pub text_of : (counts : Bool) → ℕ → List ℕ → TextAnswer counts
+text_of counts n s =
     cond (ltb mostText (length s)) (refused (length s))
-    (ended (length s) (reader counts (byteAt s) n enough 3 mostLevels 0))
+    (ended (length s) (reader counts (byte_at s) n enough 3 mostLevels 0))
 
 -- the values of a text; a text that is no formula has none, and counts as 0
 abbrev pub valueIn : {counts : Bool} → TextAnswer counts → ℕ → Bool

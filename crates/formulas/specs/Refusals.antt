@@ -1,22 +1,20 @@
 -- The line on texts of the table of refusals. The code has its number with the others (refusals, src/verdicts.rt).
-use mathlib.Core.Bool.{Bool, true, false}
-use mathlib.Core.List.{List}
-use Prim.Native.Nat.{ℕ}
-use Rattle·refusals.specs.Numbers.{ofText}
-use Rattle·refusals.specs.Lines.{Line, naming}
-use Rattle·formulas·specs.specs.Reading.{TextAnswer, formula, refused, textOf}
+use Rattle.std.specs.Prelude.{Bool, true, false, List, ℕ}
+use Rattle.refusals.specs.Numbers.{ofText}
+use Rattle.refusals.specs.Lines.{Line, naming}
+use Rattle.formulas.specs.Reading.{TextAnswer, formula, refused, text_of}
 
 -- whether a text is refused
-abbrev pub isRefused : {counts : Bool} → TextAnswer counts → Bool
-isRefused (formula F) = false
-isRefused (refused p) = true
+abbrev pub is_refused : {counts : Bool} → TextAnswer counts → Bool
+is_refused (formula F) = false
+is_refused (refused p) = true
 
 -- the place of a refused text, else 0
-abbrev pub placeIn : {counts : Bool} → TextAnswer counts → ℕ
-placeIn (formula F) = 0
-placeIn (refused p) = p
+abbrev pub place_in : {counts : Bool} → TextAnswer counts → ℕ
+place_in (formula F) = 0
+place_in (refused p) = p
 
 -- 16: the text is no formula of n inputs; the first place at which it can't be continued is named, its length if it
 -- ends too soon or is too long
 abbrev pub badText : Bool → ℕ → List ℕ → Line
-badText counts n s = naming ofText (placeIn (textOf counts n s)) (isRefused (textOf counts n s))
+badText counts n s = naming ofText (place_in (text_of counts n s)) (is_refused (text_of counts n s))

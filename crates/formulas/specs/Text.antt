@@ -1,12 +1,7 @@
 -- Which text stands for which formula, and where a text that stands for none can't be continued.
-use mathlib.Core.Path.{_≡_}
-use mathlib.Core.Logic.{_⊎_}
-use mathlib.Core.Bool.{Bool, true, false}
-use mathlib.Core.List.{List, _++_}
-use Prim.Native.Nat.{ℕ, zero, suc, _+_, _<_, _≤_}
-use lib.ListN.{length, take}
-pub use Rattle·bits.specs.Lists.{byteAt}
-use Rattle·values.specs.Formula.{Allowed, FormulaIn, letter, constant, negated, joined, counted}
+use Rattle.std.specs.Prelude.{◌≡◌, ◌⊎◌, Bool, true, false, List, ◌++◌, ℕ, zero, suc, ◌+◌, ◌<◌, ◌≤◌, length, take}
+pub use Rattle.bits.specs.Lists.{byte_at}
+use Rattle.values.specs.Formula.{Allowed, FormulaIn, letter, constant, negated, joined, counted}
 
 -- the byte between two that are joined at a level: `&`, `^`, `|`, `,`
 abbrev pub mark : ℕ → ℕ
@@ -18,7 +13,7 @@ mark (suc (suc (suc k))) = 44
 -- a number from 1 to 16 without leading zeros: the bytes c p, .., c (o - 1) say t
 pub data Number (c : ℕ → ℕ) : ℕ → ℕ → ℕ → Type 0 where
   one-digit : {p : ℕ} (t : ℕ) → 1 ≤ t → t ≤ 9 → c p ≡ 48 + t → Number c t p (p + 1)
-  two-digits : {p : ℕ} (t : ℕ) → t ≤ 6 → c p ≡ 49 → c (p + 1) ≡ 48 + t → Number c (10 + t) p (p + 2)
+  two_digits : {p : ℕ} (t : ℕ) → t ≤ 6 → c p ≡ 49 → c (p + 1) ≡ 48 + t → Number c (10 + t) p (p + 2)
 
 -- the `(` of a count at o takes one of d levels and leaves e; with none left it may stand from b on
 pub data Down (b o : ℕ) : ℕ → ℕ → Type 0 where
@@ -32,7 +27,7 @@ pub data Down (b o : ℕ) : ℕ → ℕ → Type 0 where
 pub data Spells (counts : Bool) (c : ℕ → ℕ) (n b : ℕ) : ℕ → ℕ → FormulaIn counts → ℕ → ℕ → Type 0 where
   a-letter : {d p : ℕ} (j : ℕ) → j < n → c p ≡ 97 + j → Spells counts c n b 0 d (letter j) p (suc p)
   a-zero : {d p : ℕ} → c p ≡ 48 → Spells counts c n b 0 d (constant false) p (suc p)
-  a-one : {d p : ℕ} → c p ≡ 49 → Spells counts c n b 0 d (constant true) p (suc p)
+  a_one : {d p : ℕ} → c p ≡ 49 → Spells counts c n b 0 d (constant true) p (suc p)
   a-not : {d p q : ℕ} {F : FormulaIn counts} → c p ≡ 33 → Spells counts c n b 0 d F (suc p) q
       → Spells counts c n b 0 (suc d) (negated F) p q
   a-nest : {d p q : ℕ} {F : FormulaIn counts} → c p ≡ 40 → Spells counts c n b 3 d F (suc p) q → c q ≡ 41
@@ -54,7 +49,7 @@ mostText = 1024
 -- the whole text s stands for the formula F of n inputs: a sum within the levels, where a count's `(` from b on is not
 -- held against it if it would be a level too many
 abbrev pub Stands : (counts : Bool) → ℕ → ℕ → List ℕ → FormulaIn counts → Type 0
-Stands counts n b s F = Spells counts (byteAt s) n b 3 mostLevels F 0 (length s)
+Stands counts n b s F = Spells counts (byte_at s) n b 3 mostLevels F 0 (length s)
 
 -- the whole text s stands for F, every level counted
 abbrev pub IsFormula : (counts : Bool) → ℕ → List ℕ → FormulaIn counts → Type 0

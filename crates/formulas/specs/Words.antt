@@ -1,34 +1,29 @@
 -- Formulas 256 assignments at a time, and what the readers give.
-use mathlib.Core.Path.{_≡_}
-use mathlib.Core.Bool.{Bool, cond}
-use mathlib.Core.List.{List}
-use Prim.Native.Nat.{ℕ, _+_, _-_, _*_, _^_, _<_}
-use lib.Dec.{eqb, leb}
-use lib.ListN.{length}
-use Rattle·values.specs.declared.stretches.Stretch.{Stretch}
-use Rattle·values.specs.declared.tallies.Tally.{Tally}
-use Rattle·formulas·specs.specs.declared.reading.TextRead.{TextRead}
-use Rattle·formulas·specs.specs.declared.reading.TextRead.the-variants.{Read, Stuck}
-use Rattle·values.specs.Formula.{value, ones}
-use Rattle·formulas·specs.specs.Text.{byteAt}
-use Rattle·formulas·specs.specs.Reading.{Reading, upTo, stuck, numeral, reader}
-use Rattle·values.specs.Stretches.{stretchOf, inEach}
-use Rattle·values.specs.Tallies.{Tallies}
+use Rattle.std.specs.Prelude.{◌≡◌, Bool, cond, List, ℕ, ◌+◌, ◌-◌, ◌*◌, ◌^◌, ◌<◌, eqb, leb, length}
+use Rattle.values.specs.declared.stretches.Stretch.{Stretch}
+use Rattle.values.specs.declared.tallies.Tally.{Tally}
+use Rattle.formulas.specs.declared.reading.TextRead.{TextRead}
+use Rattle.formulas.specs.declared.reading.TextRead.TheVariants.{Read, Stuck}
+use Rattle.values.specs.Formula.{value, ones}
+use Rattle.formulas.specs.Text.{byte_at}
+use Rattle.formulas.specs.Reading.{Reading, up_to, stuck, numeral, reader}
+use Rattle.values.specs.Stretches.{stretchOf, inEach}
+use Rattle.values.specs.Tallies.{Tallies}
 
 -- a reading as the code has it: of the formula, stretch w
 abbrev pub foundOf : {counts : Bool} → ℕ → Reading counts → TextRead
-foundOf w (upTo F q) = Read (stretchOf (value F) w) q
+foundOf w (up_to F q) = Read (stretchOf (value F) w) q
 foundOf w (stuck p) = Stuck p
 
 -- r is the reading of s at level k from p, with d levels left, as the code has it; it is that for any number of calls
 -- that is enough for what is left of s
 pub record Yields (counts : Bool) (s : List ℕ) (n k d p w : ℕ) (r : TextRead) : Type 0 where
-  pub gives : (m : ℕ) → 4 * (length s - p) + k < m → r ≡ foundOf w (reader counts (byteAt s) n m k d p)
+  pub gives : (m : ℕ) → 4 * (length s - p) + k < m → r ≡ foundOf w (reader counts (byte_at s) n m k d p)
 
 -- r is the reading of a factor of one byte at p, whatever levels are left, where no other begins
 pub record Single (counts : Bool) (s : List ℕ) (n p w : ℕ) (r : TextRead) : Type 0 where
-  pub gives : (d : ℕ) → (byteAt s p ≡ 33 → ⊥) → (byteAt s p ≡ 40 → ⊥)
-      → cond counts (numeral (byteAt s p) (byteAt s (p + 1))) 0 ≡ 0 → Yields counts s n 0 d p w r
+  pub gives : (d : ℕ) → (byte_at s p ≡ 33 → ⊥) → (byte_at s p ≡ 40 → ⊥)
+      → cond counts (numeral (byte_at s p) (byte_at s (p + 1))) 0 ≡ 0 → Yields counts s n 0 d p w r
 
 -- `!` before what was read
 abbrev pub turnedOf : TextRead → TextRead
@@ -37,7 +32,7 @@ turnedOf (Stuck p) = Stuck p
 
 -- `)` closes the values v that were read up to q; else the text can't be continued there
 abbrev pub closedAt : List ℕ → Stretch → ℕ → TextRead
-closedAt s v q = cond (eqb (byteAt s q) 41) (Read v (q + 1)) (Stuck q)
+closedAt s v q = cond (eqb (byte_at s q) 41) (Read v (q + 1)) (Stuck q)
 
 abbrev pub closedOf : List ℕ → TextRead → TextRead
 closedOf s (Read v q) = closedAt s v q
@@ -45,11 +40,11 @@ closedOf s (Stuck p) = Stuck p
 
 -- a list that was read, as the code has it: where as many of it are 1 as the numbers N lack to 16, if `)` closes it
 abbrev pub talliedOf : {counts : Bool} → List ℕ → (ℕ → ℕ) → ℕ → Reading counts → TextRead
-talliedOf s N w (upTo F q) = closedAt s (stretchOf (λ x. leb 16 (N x + ones F x)) w) q
+talliedOf s N w (up_to F q) = closedAt s (stretchOf (λ x. leb 16 (N x + ones F x)) w) q
 talliedOf s N w (stuck p) = Stuck p
 
 -- r is the reading of the list from p and of the `)` after it, with d levels left, where a tally of any numbers N has
 -- been begun
 pub record Lists (counts : Bool) (s : List ℕ) (n d p w : ℕ) (t : Tally) (r : TextRead) : Type 0 where
   pub gives : (N : ℕ → ℕ) → Tallies N w t → (m : ℕ) → 4 * (length s - p) + 4 < m
-      → r ≡ talliedOf s N w (reader counts (byteAt s) n m 4 d p)
+      → r ≡ talliedOf s N w (reader counts (byte_at s) n m 4 d p)

@@ -1,21 +1,16 @@
 // What the readers look at byte by byte, and what they make of what another read.
+ghost use Rattle.std.specs.Prelude.{◌≡◌, Bool, cond, ◌+◌, ◌<◌, ◌≤◌, length};
+ghost use Rattle.tables.specs.Table.{mostInputs};
+ghost use Rattle.formulas.specs.Text.{byte_at};
+ghost use Rattle.formulas.specs.Reading.{numeral, width};
+ghost use Rattle.formulas.specs.Words.{Single, turnedOf, closedAt, closedOf};
+
 use crate::reading::TextRead;
-use values::stretches::Stretch;
-use values::stretches::of_input;
-use values::stretches::same;
-use values::stretches::turned;
-ghost use mathlib.Core.Path.{_≡_};
-ghost use mathlib.Core.Bool.{Bool, cond};
-ghost use Prim.Native.Nat.{_+_, _<_, _≤_};
-ghost use lib.ListN.{length};
-ghost use Rattle·tables.specs.Table.{mostInputs};
-ghost use Rattle·formulas·specs.specs.Text.{byteAt};
-ghost use Rattle·formulas·specs.specs.Reading.{numeral, width};
-ghost use Rattle·formulas·specs.specs.Words.{Single, turnedOf, closedAt, closedOf};
+use values::stretches::{Stretch, of_input, same, turned};
 
 // The byte at i, and 0 behind the text.
 pub fn byte_in(t: &[u8], i: usize) -> u8
-    ensures { λ r. ⌜ r ≡ byteAt (now (t .entry)) i ⌝ }
+    ensures { result ≡ byte_at t.now i }
 {
     if i < t.len() {
         return t[i];
@@ -25,7 +20,7 @@ pub fn byte_in(t: &[u8], i: usize) -> u8
 
 // The number with which a count begins whose first two bytes are b and e, and 0 where none does.
 fn numeral_of(b: u8, e: u8) -> u32
-    ensures { λ r. ⌜ r ≡ numeral b e ⌝ }
+    ensures { result ≡ numeral b e }
 {
     if b == b'1' {
         if e == b'(' {
@@ -50,8 +45,8 @@ fn numeral_of(b: u8, e: u8) -> u32
 
 // The number of the count that begins at a place, and 0 where none does or none is read.
 pub fn number_at(t: &[u8], at: usize, counts: bool) -> u32
-    requires { ⌜ at < length (now t) ⌝ }
-    ensures { λ r. ⌜ r ≡ cond counts (numeral (byteAt (now (t .entry)) at) (byteAt (now (t .entry)) (at + 1))) 0 ⌝ }
+    requires { at < length t.now }
+    ensures { result ≡ cond counts (numeral (byte_at t.now at) (byte_at t.now (at + 1))) 0 }
 {
     if counts {
         return numeral_of(byte_in(t, at), byte_in(t, at + 1));
@@ -61,7 +56,7 @@ pub fn number_at(t: &[u8], at: usize, counts: bool) -> u32
 
 // How many bytes a number has.
 pub fn width_of(number: u32) -> usize
-    ensures { λ r. ⌜ r ≡ width number ⌝ }
+    ensures { result ≡ width number }
 {
     if 10 <= number {
         return 2;
@@ -71,8 +66,8 @@ pub fn width_of(number: u32) -> usize
 
 // A factor of one byte, where neither `!` nor `(` stands and no number begins a count: a letter, `0` or `1`.
 pub fn single(t: &[u8], at: usize, n: u32, w: u32) -> TextRead
-    requires { ⌜ (at < length (now t)) × (n ≤ mostInputs) ⌝ }
-    ensures { λ r. ⌜ ((counts : Bool) → Single counts (now (t .entry)) n at w r) ⌝ }
+    requires { (at < length t.now) × (n ≤ mostInputs) }
+    ensures { (counts : Bool) → Single counts t.now n at w result }
 {
     let b = t[at];
     if b == b'0' {
@@ -92,7 +87,7 @@ pub fn single(t: &[u8], at: usize, n: u32, w: u32) -> TextRead
 
 // `)` after the values v that were read up to q.
 pub fn closed(t: &[u8], v: Stretch, q: usize) -> TextRead
-    ensures { λ r. ⌜ r ≡ closedAt (now (t .entry)) v q ⌝ }
+    ensures { result ≡ closedAt t.now v q }
 {
     if t.len() <= q {
         return TextRead::Stuck(q);
@@ -105,7 +100,7 @@ pub fn closed(t: &[u8], v: Stretch, q: usize) -> TextRead
 
 // `)` after what was read.
 pub fn closed_read(t: &[u8], read: TextRead) -> TextRead
-    ensures { λ r. ⌜ r ≡ closedOf (now (t .entry)) read ⌝ }
+    ensures { result ≡ closedOf t.now read }
 {
     match read {
         TextRead::Stuck(p) => {
@@ -119,7 +114,7 @@ pub fn closed_read(t: &[u8], read: TextRead) -> TextRead
 
 // `!` before what was read.
 pub fn turned_read(read: TextRead) -> TextRead
-    ensures { λ r. ⌜ r ≡ turnedOf read ⌝ }
+    ensures { result ≡ turnedOf read }
 {
     match read {
         TextRead::Stuck(p) => {

@@ -1,35 +1,26 @@
 // The readers of sum, term, part and factor, which call each other in a cycle, and of a count's list: each call has a
 // byte less before it, or goes one step down. They work on a stretch of 256 assignments at a time, the one from 256 w
 // on; counts says whether counts are read.
-use crate::pieces::byte_in;
-use crate::pieces::closed;
-use crate::pieces::closed_read;
-use crate::pieces::number_at;
-use crate::pieces::single;
-use crate::pieces::turned_read;
-use crate::pieces::width_of;
-use values::stretches::Stretch;
-use values::stretches::both;
-use values::stretches::either;
-use values::stretches::one_of;
-use values::tallies::Tally;
-use values::tallies::raise;
-use values::tallies::short_by;
-ghost use Prim.Native.Nat.{_≤_};
-ghost use lib.ListN.{length};
-ghost use Rattle·tables.specs.Table.{mostInputs};
-ghost use Rattle·formulas·specs.specs.Words.{Yields, Lists};
+ghost use Rattle.std.specs.Prelude.{◌≤◌, length};
+ghost use Rattle.tables.specs.Table.{mostInputs};
+ghost use Rattle.formulas.specs.Words.{Yields, Lists};
+
+use crate::pieces::{byte_in, closed, closed_read, number_at, single, turned_read, width_of};
+use values::stretches::{Stretch, both, either, one_of};
+use values::tallies::{Tally, raise, short_by};
 
 // What a reader found: a stretch of values and the place after it, or the place at which the text can't be continued.
+#[derive(Drop)]
 pub enum TextRead {
     Read(Stretch, usize),
     Stuck(usize),
 }
 
 // A sum: terms joined by `|`.
+#[cycle(factor_list_part_sum_term)]
 pub fn sum(t: &[u8], at: usize, left: usize, n: u32, w: u32, counts: bool) -> TextRead
-    requires { ⌜ (at ≤ length (now t)) × (n ≤ mostInputs) ⌝ }
-    ensures { λ r. ⌜ Yields counts (now (t .entry)) n 3 left at w r ⌝ }
+    requires { (at ≤ length t.now) × (n ≤ mostInputs) }
+    ensures { Yields counts t.now n 3 left at w result }
 {
     match term(t, at, left, n, w, counts) {
         TextRead::Stuck(p) => {
@@ -54,9 +45,10 @@ pub fn sum(t: &[u8], at: usize, left: usize, n: u32, w: u32, counts: bool) -> Te
 }
 
 // A term: parts joined by `^`.
+#[cycle(factor_list_part_sum_term)]
 fn term(t: &[u8], at: usize, left: usize, n: u32, w: u32, counts: bool) -> TextRead
-    requires { ⌜ (at ≤ length (now t)) × (n ≤ mostInputs) ⌝ }
-    ensures { λ r. ⌜ Yields counts (now (t .entry)) n 2 left at w r ⌝ }
+    requires { (at ≤ length t.now) × (n ≤ mostInputs) }
+    ensures { Yields counts t.now n 2 left at w result }
 {
     match part(t, at, left, n, w, counts) {
         TextRead::Stuck(p) => {
@@ -81,9 +73,10 @@ fn term(t: &[u8], at: usize, left: usize, n: u32, w: u32, counts: bool) -> TextR
 }
 
 // A part: factors joined by `&`.
+#[cycle(factor_list_part_sum_term)]
 fn part(t: &[u8], at: usize, left: usize, n: u32, w: u32, counts: bool) -> TextRead
-    requires { ⌜ (at ≤ length (now t)) × (n ≤ mostInputs) ⌝ }
-    ensures { λ r. ⌜ Yields counts (now (t .entry)) n 1 left at w r ⌝ }
+    requires { (at ≤ length t.now) × (n ≤ mostInputs) }
+    ensures { Yields counts t.now n 1 left at w result }
 {
     match factor(t, at, left, n, w, counts) {
         TextRead::Stuck(p) => {
@@ -108,9 +101,10 @@ fn part(t: &[u8], at: usize, left: usize, n: u32, w: u32, counts: bool) -> TextR
 }
 
 // A list of sums with `,` between them, and the `)` after it: whether as many of them are 1 as the tally lacks to 16.
+#[cycle(factor_list_part_sum_term)]
 fn list(t: &[u8], at: usize, left: usize, n: u32, w: u32, counts: bool, tally: Tally) -> TextRead
-    requires { ⌜ (at ≤ length (now t)) × (n ≤ mostInputs) ⌝ }
-    ensures { λ r. ⌜ Lists counts (now (t .entry)) n left at w tally r ⌝ }
+    requires { (at ≤ length t.now) × (n ≤ mostInputs) }
+    ensures { Lists counts t.now n left at w tally result }
 {
     match sum(t, at, left, n, w, counts) {
         TextRead::Stuck(p) => {
@@ -128,9 +122,10 @@ fn list(t: &[u8], at: usize, left: usize, n: u32, w: u32, counts: bool, tally: T
 }
 
 // A factor: one byte, `!` before a factor, a sum in parentheses, or a count; all but the first are one level down.
+#[cycle(factor_list_part_sum_term)]
 fn factor(t: &[u8], at: usize, left: usize, n: u32, w: u32, counts: bool) -> TextRead
-    requires { ⌜ (at ≤ length (now t)) × (n ≤ mostInputs) ⌝ }
-    ensures { λ r. ⌜ Yields counts (now (t .entry)) n 0 left at w r ⌝ }
+    requires { (at ≤ length t.now) × (n ≤ mostInputs) }
+    ensures { Yields counts t.now n 0 left at w result }
 {
     if t.len() <= at {
         return TextRead::Stuck(at);

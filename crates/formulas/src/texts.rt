@@ -1,34 +1,26 @@
 // Reading a text into a table, with counts or without.
+ghost use Rattle.std.specs.Prelude.{◌≡◌, false, [], ◌∷◌, ◌≤◌, length};
+ghost use Rattle.tables.specs.Table.{mostInputs, tableLength, table_of};
+ghost use Rattle.refusals.specs.Lines.{verdict};
+ghost use Rattle.formulas.specs.Reading.{text_of, valueIn};
+ghost use Rattle.values.specs.Stretches.{stretchOf};
+ghost use Rattle.formulas.specs.Refusals.{badText};
+ghost use Rattle.formulas.specs.ReadFormula.{readLines, readIn};
+
 use crate::read_formula::MOST_TEXT;
-use crate::reading::TextRead;
-use crate::reading::sum;
+use crate::reading::{TextRead, sum};
 use refusals::form;
-use refusals::verdicts::Refusal;
-use refusals::verdicts::Verdict;
-use refusals::verdicts::refuse_at;
+use refusals::verdicts::{Refusal, Verdict, refuse_at};
 use runs::words::first_bits;
-use values::stretches::Stretch;
-use values::stretches::same;
-use values::stretches::word_in;
-ghost use mathlib.Core.Path.{_≡_};
-ghost use mathlib.Core.Bool.{false};
-ghost use mathlib.Core.List.{[], _∷_};
-ghost use Prim.Native.Nat.{_≤_};
-ghost use lib.ListN.{length};
-ghost use Rattle·tables.specs.Table.{mostInputs, tableLength, tableOf};
-ghost use Rattle·refusals.specs.Lines.{verdict};
-ghost use Rattle·formulas·specs.specs.Reading.{textOf, valueIn};
-ghost use Rattle·values.specs.Stretches.{stretchOf};
-ghost use Rattle·formulas·specs.specs.Refusals.{badText};
-ghost use Rattle·formulas·specs.specs.ReadFormula.{readLines, readIn};
+use values::stretches::{Stretch, same, word_in};
 
 // Nesting goes to so many levels.
 const MOST_LEVELS: usize = 32;
 
 // Line 16: the text is read once, at the first stretch.
 fn look_at_text(n: u32, t: &[u8], counts: bool) -> Verdict
-    requires { ⌜ n ≤ mostInputs ⌝ }
-    ensures { λ r. ⌜ r ≡ verdict (badText counts n (now (t .entry)) ∷ []) ⌝ }
+    requires { n ≤ mostInputs }
+    ensures { result ≡ verdict (badText counts n t.now ∷ []) }
 {
     let len = t.len();
     if MOST_TEXT < len {
@@ -49,8 +41,8 @@ fn look_at_text(n: u32, t: &[u8], counts: bool) -> Verdict
 
 // Stretch w of the values of a text that is a formula.
 fn text_stretch(n: u32, t: &[u8], w: u32, counts: bool) -> Stretch
-    requires { ⌜ (n ≤ mostInputs) × (badText counts n (now t) .holds ≡ false) ⌝ }
-    ensures { λ r. ⌜ r ≡ stretchOf (valueIn (textOf counts n (now (t .entry)))) w ⌝ }
+    requires { (n ≤ mostInputs) × ((badText counts n t.now).holds ≡ false) }
+    ensures { result ≡ stretchOf (valueIn (text_of counts n t.now)) w }
 {
     match sum(t, 0, MOST_LEVELS, n, w, counts) {
         TextRead::Stuck(_) => {
@@ -64,10 +56,8 @@ fn text_stretch(n: u32, t: &[u8], w: u32, counts: bool) -> Stretch
 
 // The table of a text that is a formula, into a lent one of its length, which is written whole.
 fn fill(n: u32, t: &[u8], table: &mut [u8], counts: bool)
-    requires { ⌜
-        (n ≤ mostInputs) × (length (now table) ≡ tableLength n) × (badText counts n (now t) .holds ≡ false)
-        ⌝ }
-    ensures { λ r. ⌜ now (table .exit) ≡ tableOf n (valueIn (textOf counts n (now (t .entry)))) ⌝ }
+    requires { (n ≤ mostInputs) × (length table.old ≡ tableLength n) × ((badText counts n t.now).holds ≡ false) }
+    ensures { table.new ≡ table_of n (valueIn (text_of counts n t.now)) }
 {
     let mut v = same(0);
     let mut i: usize = 0;
@@ -83,7 +73,7 @@ fn fill(n: u32, t: &[u8], table: &mut [u8], counts: bool)
 
 // Lines 1, 3 and 16.
 fn read_form<'a>(n: u64, t: &'a [u8], table: &'a [u8], counts: bool) -> Verdict
-    ensures { λ r. ⌜ r ≡ verdict (readLines counts n (now (t .entry)) (now (table .entry))) ⌝ }
+    ensures { result ≡ verdict (readLines counts n t.now table.now) }
 {
     let seen = form::sized(n, table);
     let Verdict::Fine = seen else {
@@ -94,9 +84,7 @@ fn read_form<'a>(n: u64, t: &'a [u8], table: &'a [u8], counts: bool) -> Verdict
 
 // Reads a text into a lent table.
 pub fn read_text(n: u64, t: &[u8], table: &mut [u8], counts: bool) -> Verdict
-    ensures { λ r. ⌜
-        record { verdict = r; table = now (table .exit) } ≡ readIn counts n (now (t .entry)) (now (table .entry))
-        ⌝ }
+    ensures { record { verdict = result; table = table.new } ≡ readIn counts n t.now table.old }
 {
     let form = read_form(n, t, table, counts);
     let Verdict::Fine = form else {

@@ -1,23 +1,20 @@
 // The inspecting program: one byte n, then the table, then the sheet to the end of standard input. It writes the answer
 // number, a space and the place in decimal. What is handed over to be written is defined of the bytes read alone
 // (`written`, programs/specs/InspectProgram).
-use programs::inspect_program::MOST_READ;
-use programs::inspect_program::MOST_WRITTEN;
-use programs::inspect_program::answer_input;
-use streams::read_input;
-use streams::write_output;
-ghost use mathlib.Core.Path.{_≡_};
-ghost use lib.ListN.{length};
-ghost use Rattle·programs.specs.InspectProgram.{mostRead, mostWritten};
+ghost use Rattle.std.specs.Prelude.{◌≡◌, length};
+ghost use Rattle.programs.specs.InspectProgram.{mostRead, mostWritten};
+
+use programs::inspect_program::{MOST_READ, MOST_WRITTEN, answer_input};
+use streams::{read_input, write_output};
 
 fn input_room() -> [u8; MOST_READ]
-    ensures { λ r. ⌜ mostRead ≡ length r ⌝ }
+    ensures { mostRead ≡ length result }
 {
     [0; MOST_READ]
 }
 
 fn output_room() -> [u8; MOST_WRITTEN]
-    ensures { λ r. ⌜ mostWritten ≡ length r ⌝ }
+    ensures { mostWritten ≡ length result }
 {
     [0; MOST_WRITTEN]
 }

@@ -1,16 +1,14 @@
 -- Check a sheet against a table.
-use mathlib.Core.Path.{_≡_}
-use mathlib.Core.List.{List, [], _∷_, _++_}
-use Prim.Native.Nat.{ℕ, _^_, _<_}
-use Rattle·tables.specs.Table.{tableBit}
-use Rattle·sheets.specs.declared.kinds.Edition.{Edition}
-use Rattle·sheets.specs.Desk.{deskOf}
-use Rattle·sheets.specs.Sheet.{records, sheetBit, Good}
-use Rattle·sheets.specs.Reading.{EachRead}
-use Rattle·refusals.specs.declared.verdicts.Verdict.{Verdict}
-use Rattle·refusals.specs.Lines.{Line, verdict}
-use Rattle·refusals.specs.Refusals.{sheetLines, tableDiffers, unreadRecord}
-pub use Rattle·refusals.specs.Refusals.{tableLines}
+use Rattle.std.specs.Prelude.{◌≡◌, List, [], ◌∷◌, ◌++◌, ℕ, ◌^◌, ◌<◌}
+use Rattle.tables.specs.Table.{tableBit}
+use Rattle.sheets.specs.declared.kinds.Edition.{Edition}
+use Rattle.sheets.specs.Desk.{deskOf}
+use Rattle.sheets.specs.Sheet.{records, sheetBit, Good}
+use Rattle.sheets.specs.Reading.{EachRead}
+use Rattle.refusals.specs.declared.verdicts.Verdict.{Verdict}
+use Rattle.refusals.specs.Lines.{Line, verdict}
+use Rattle.refusals.specs.Refusals.{sheetLines, tableDiffers, unreadRecord}
+pub use Rattle.refusals.specs.Refusals.{tableLines}
 
 -- the sheet against it: 9, 10 and 12
 abbrev pub againstLines : Edition → ℕ → ℕ → List ℕ → List ℕ → List Line

@@ -1,12 +1,11 @@
 -- Check a sheet of a told edition against a table.
-use mathlib.Core.List.{List}
-use Prim.Native.Nat.{ℕ}
-use Rattle·sheets.specs.Edition.{editionOf}
-use Rattle·sheets.specs.Desk.{deskOf}
-use Rattle·refusals.specs.declared.verdicts.Verdict.{Verdict}
-use Rattle·refusals.specs.Lines.{Line, verdict}
-use Rattle·refusals.specs.Refusals.{toldLines}
-use Rattle·inspection·specs.specs.CheckSheet.{checkLines}
+use Rattle.std.specs.Prelude.{List, ℕ}
+use Rattle.sheets.specs.Edition.{editionOf}
+use Rattle.sheets.specs.Desk.{deskOf}
+use Rattle.refusals.specs.declared.verdicts.Verdict.{Verdict}
+use Rattle.refusals.specs.Lines.{Line, verdict}
+use Rattle.refusals.specs.Refusals.{toldLines}
+use Rattle.inspection.specs.CheckSheet.{checkLines}
 
 -- 1, 2 of the edition, and check's own in that edition, for the sheet's own desk
 abbrev pub checkToldLines : ℕ → ℕ → List ℕ → List ℕ → List Line

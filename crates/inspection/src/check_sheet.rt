@@ -1,19 +1,18 @@
 // Checking a sheet, whoever made it, against a gate's table.
+ghost use Rattle.std.specs.Prelude.{◌≡◌};
+ghost use Rattle.sheets.specs.Edition.{IsEdition, firstEdition};
+ghost use Rattle.inspection.specs.CheckSheet.{checkOutcome, checkOwn};
+
 use records::desk::desk_of;
 use refusals::form;
-use refusals::verdicts::Refusal;
-use refusals::verdicts::Verdict;
-use refusals::verdicts::refuse_at;
+use refusals::verdicts::{Refusal, Verdict, refuse_at};
 use runs::checking::first_difference;
 use sheets::kinds::Edition;
-ghost use mathlib.Core.Path.{_≡_};
-ghost use Rattle·sheets.specs.Edition.{IsEdition, firstEdition};
-ghost use Rattle·inspection·specs.specs.CheckSheet.{checkOutcome, checkOwn};
 
 // Checks a sheet of an edition, which is to be the desk d's, against a table.
 pub fn check_in<'a>(e: Edition, d: u8, n: u64, t: &'a [u8], s: &'a [u8]) -> Verdict
-    requires { ⌜ IsEdition e ⌝ }
-    ensures { λ r. ⌜ r ≡ checkOutcome e d n (now (t .entry)) (now (s .entry)) ⌝ }
+    requires { IsEdition e }
+    ensures { result ≡ checkOutcome e d n t.now s.now }
 {
     let table = form::table(n, t);
     let Verdict::Fine = table else {
@@ -33,15 +32,15 @@ pub fn check_in<'a>(e: Edition, d: u8, n: u64, t: &'a [u8], s: &'a [u8]) -> Verd
 
 // Checks a sheet of an edition, whatever its desk, against a table.
 pub fn check_own<'a>(e: Edition, n: u64, t: &'a [u8], s: &'a [u8]) -> Verdict
-    requires { ⌜ IsEdition e ⌝ }
-    ensures { λ r. ⌜ r ≡ checkOwn e n (now (t .entry)) (now (s .entry)) ⌝ }
+    requires { IsEdition e }
+    ensures { result ≡ checkOwn e n t.now s.now }
 {
     check_in(e, desk_of(e, s), n, t, s)
 }
 
 // Checks a sheet against a table: accepted, or why not.
 pub fn check_sheet<'a>(n: u64, t: &'a [u8], s: &'a [u8]) -> Verdict
-    ensures { λ r. ⌜ r ≡ checkOwn firstEdition n (now (t .entry)) (now (s .entry)) ⌝ }
+    ensures { result ≡ checkOwn firstEdition n t.now s.now }
 {
     check_own(Edition::first(), n, t, s)
 }

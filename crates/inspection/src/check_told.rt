@@ -1,14 +1,15 @@
 // Checking a sheet of a told edition against a gate's table.
+ghost use Rattle.std.specs.Prelude.{◌≡◌};
+ghost use Rattle.inspection.specs.CheckTold.{checkTold};
+
 use crate::check_sheet::check_own;
 use refusals::form;
 use refusals::verdicts::Verdict;
 use sheets::kinds::Edition;
-ghost use mathlib.Core.Path.{_≡_};
-ghost use Rattle·inspection·specs.specs.CheckTold.{checkTold};
 
 // Checks a sheet of the edition with the number w, whatever its desk, against a table.
 pub fn check_told<'a>(w: u64, n: u64, t: &'a [u8], s: &'a [u8]) -> Verdict
-    ensures { λ r. ⌜ r ≡ checkTold w n (now (t .entry)) (now (s .entry)) ⌝ }
+    ensures { result ≡ checkTold w n t.now s.now }
 {
     let told = form::told(w, n);
     let Verdict::Fine = told else {

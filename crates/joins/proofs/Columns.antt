@@ -1,40 +1,40 @@
 -- Two inputs i and j of what is left of a gate: one can stand for both, the other being fixed at v, exactly where the
 -- two columns at v are all that there are. Assumes nothing.
-use mathlib.Core.Path.{_≡_, refl, sym, ap, ap₂, _∙_}
-use mathlib.Core.Logic.{_⊎_, inl, inr, ⊎-elim}
-use mathlib.Core.Bool.{Bool, true, false, cond, not, _||_}
-use Prim.Native.Nat.{ℕ, _^_, _<_}
+use mathlib.Core.Path.{◌≡◌, refl, sym, ap, ap₂, ◌∙◌}
+use mathlib.Core.Logic.{◌⊎◌, inl, inr, ⊎_elim}
+use mathlib.Core.Bool.{Bool, true, false, cond, not, ◌||◌}
+use Prim.Native.Nat.{ℕ, ◌^◌, ◌<◌}
 use native.Mathlib.Omega.{arith}
 use lib.Dec.{eqb}
-use Rattle·bits.specs.Numbers.{bit, number}
-use Rattle·bits.specs.Sets.{rest, size, gather, spread}
-use Rattle·bits.proofs.Bools.{clash}
-use Rattle·bits.proofs.Numbers.{number-lt, bit-number}
-use Rattle·bits.proofs.Members.{same-bits}
-use Rattle·bits.proofs.Spreading.{gather-lt, gather-ext, gather-bit, gather-spread}
-use Rattle·trees.proofs.Two.{two, own-i, own-j, gather-two}
-use Rattle·splits.specs.Columns.{assign, column}
-use Rattle·splits.proofs.Parts.{assign-lt, bit-assign}
-use Rattle·columns.specs.declared.split.Split.{Split}
-use Rattle·columns.specs.Reading.{Held, columnOf}
-use Rattle·joins·specs.specs.StandsFor.{setTo, StandsFor}
-use Rattle·joins·specs.specs.Left.{withFixed}
-use Rattle·joins·proofs.proofs.Setting.{set-lt, set-here, set-off}
+use Rattle.bits.specs.Numbers.{bit, number}
+use Rattle.bits.specs.Sets.{rest, size, gather, spread}
+use Rattle.bits.proofs.Bools.{clash}
+use Rattle.bits.proofs.Numbers.{number_lt, bit-number}
+use Rattle.bits.proofs.Members.{same_bits}
+use Rattle.bits.proofs.Spreading.{gather-lt, gather_ext, gather-bit, gather-spread}
+use Rattle.trees.proofs.Two.{two, own-i, own-j, gather-two}
+use Rattle.splits.specs.Columns.{assign, column}
+use Rattle.splits.proofs.Parts.{assign-lt, bit-assign}
+use Rattle.columns.specs.declared.split.Split.{Split}
+use Rattle.columns.specs.Reading.{Held, columnOf}
+use Rattle.joins.specs.StandsFor.{set_to, StandsFor}
+use Rattle.joins.specs.Left.{withFixed}
+use Rattle.joins.proofs.Setting.{set-lt, set_here, set-off}
 
 -- ---- the columns of a split with these two as own inputs, the fixed ones being shared
-module _ (s : Split) (h : Held s) (F : ℕ → Bool) (at i j : ℕ) (li : i < s .n) (lt : j < i)
-    (is : (p : ℕ) → p < s .n → bit (s .own) p ≡ (eqb p j || eqb p i)) where
+module _ (s : Split) (h : Held s) (F : ℕ → Bool) (at i j : ℕ) (li : i < s.n) (lt : j < i)
+    (is : (p : ℕ) → p < s.n → bit s.own p ≡ (eqb p j || eqb p i)) where
   abbrev n : ℕ
-  n = s .n
+  n = s.n
 
   abbrev B : ℕ → Bool
-  B = bit (s .shared)
+  B = bit s.shared
 
   abbrev C : ℕ → Bool
-  C = rest (bit (s .own)) (bit (s .shared))
+  C = rest (bit s.own) (bit s.shared)
 
   abbrev left : ℕ → Bool
-  left x = F (withFixed n (s .shared) at x)
+  left x = F (withFixed n s.shared at x)
 
   abbrev pub col : Bool → Bool → ℕ
   col p q = columnOf s F (gather n B at) (two p q)
@@ -43,17 +43,17 @@ module _ (s : Split) (h : Held s) (F : ℕ → Bool) (at i j : ℕ) (li : i < s 
   lj = omega arith
 
   -- what is read at x
-  reads : (x : ℕ) → withFixed n (s .shared) at x ≡ assign n (bit (s .own)) B (gather n (bit (s .own)) x) (gather n B at)
+  reads : (x : ℕ) → withFixed n s.shared at x ≡ assign n (bit s.own) B (gather n (bit s.own) x) (gather n B at)
       (gather n C x)
   unfolding withFixed
   reads x =
-      same-bits n (number n (λ p. cond (B p) (bit at p) (bit x p))) (assign n (bit (s .own)) B a b c)
-      (number-lt n (λ p. cond (B p) (bit at p) (bit x p))) (assign-lt n (bit (s .own)) B a b c) (λ p l.
+      same_bits n (number n (λ p. cond (B p) (bit at p) (bit x p))) (assign n (bit s.own) B a b c)
+      (number_lt n (λ p. cond (B p) (bit at p) (bit x p))) (assign-lt n (bit s.own) B a b c) (λ p l.
       bit-number n (λ p. cond (B p) (bit at p) (bit x p)) p l
-      ∙ go p l (bit (s .own) p) (B p) refl refl ∙ sym (bit-assign n (bit (s .own)) B a b c p l))
+      ∙ go p l (bit s.own p) (B p) refl refl ∙ sym (bit-assign n (bit s.own) B a b c p l))
     where
       a : ℕ
-      a = gather n (bit (s .own)) x
+      a = gather n (bit s.own) x
 
       b : ℕ
       b = gather n B at
@@ -61,11 +61,11 @@ module _ (s : Split) (h : Held s) (F : ℕ → Bool) (at i j : ℕ) (li : i < s 
       c : ℕ
       c = gather n C x
 
-      go : (p : ℕ) → p < n → (u w : Bool) → bit (s .own) p ≡ u → B p ≡ w → cond w (bit at p) (bit x p)
-          ≡ cond u (bit (gather n (bit (s .own)) x) (size p (bit (s .own))))
+      go : (p : ℕ) → p < n → (u w : Bool) → bit s.own p ≡ u → B p ≡ w → cond w (bit at p) (bit x p)
+          ≡ cond u (bit (gather n (bit s.own) x) (size p (bit s.own)))
           (cond w (bit (gather n B at) (size p B)) (bit (gather n C x) (size p C)))
-      go p l true true e f = absurd (clash e (h .apart p l f))
-      go p l true false e f = sym (gather-bit n (bit (s .own)) x p l e)
+      go p l true true e f = absurd (clash e (h.apart p l f))
+      go p l true false e f = sym (gather-bit n (bit s.own) x p l e)
       go p l false true e f = sym (gather-bit n B at p l f)
       go p l false false e f = sym (gather-bit n C x p l (ap₂ (λ (u w : Bool). not (u || w)) e f))
 
@@ -73,20 +73,20 @@ module _ (s : Split) (h : Held s) (F : ℕ → Bool) (at i j : ℕ) (li : i < s 
   gate-is : (x : ℕ) → left x ≡ bit (col (bit x j) (bit x i)) (gather n C x)
   unfolding column
   gate-is x =
-      ap F (reads x ∙ ap (λ (m : ℕ). assign n (bit (s .own)) B m (gather n B at) (gather n C x))
-      (gather-two n i j (s .own) li lj is lt x))
-      ∙ sym (bit-number (2 ^ size n C) (λ c. F (assign n (bit (s .own)) B (two (bit x j) (bit x i)) (gather n B at) c))
+      ap F (reads x ∙ ap (λ (m : ℕ). assign n (bit s.own) B m (gather n B at) (gather n C x))
+      (gather-two n i j s.own li lj is lt x))
+      ∙ sym (bit-number (2 ^ size n C) (λ c. F (assign n (bit s.own) B (two (bit x j) (bit x i)) (gather n B at) c))
       (gather n C x) (gather-lt n C x))
 
   -- the two set to p and q, the others as in x
   abbrev point : Bool → Bool → ℕ → ℕ
-  point p q x = setTo n i q (setTo n j p x)
+  point p q x = set_to n i q (set_to n j p x)
 
   free-same : (p q : Bool) (x : ℕ) → gather n C (point p q x) ≡ gather n C x
-  free-same p q x = gather-ext n C (point p q x) x (λ m l e.
-      set-off n i q (setTo n j p x) m l (λ z. off (bit (s .own) m) (B m) e (ap (bit (s .own)) z
-      ∙ own-i n i j (s .own) li lj is))
-      ∙ set-off n j p x m l (λ z. off (bit (s .own) m) (B m) e (ap (bit (s .own)) z ∙ own-j n i j (s .own) li lj is)))
+  free-same p q x = gather_ext n C (point p q x) x (λ m l e.
+      set-off n i q (set_to n j p x) m l (λ z. off (bit s.own m) (B m) e (ap (bit s.own) z
+      ∙ own-i n i j s.own li lj is))
+      ∙ set-off n j p x m l (λ z. off (bit s.own m) (B m) e (ap (bit s.own) z ∙ own-j n i j s.own li lj is)))
     where
       off : (u w : Bool) → not (u || w) ≡ true → u ≡ true → ⊥
       off true w e f = clash e refl
@@ -95,17 +95,17 @@ module _ (s : Split) (h : Held s) (F : ℕ → Bool) (at i j : ℕ) (li : i < s 
   gate-at : (p q : Bool) (x : ℕ) → left (point p q x) ≡ bit (col p q) (gather n C x)
   gate-at p q x =
       gate-is (point p q x)
-      ∙ ap₂ bit (ap₂ col (set-off n i q (setTo n j p x) j lj (λ e. omega arith) ∙ set-here n j p x lj)
-      (set-here n i q (setTo n j p x) li)) (free-same p q x)
+      ∙ ap₂ bit (ap₂ col (set-off n i q (set_to n j p x) j lj (λ e. omega arith) ∙ set_here n j p x lj)
+      (set_here n i q (set_to n j p x) li)) (free-same p q x)
 
   -- columns are the same where what is left is
-  same-columns : (p q p′ q′ : Bool) → ((x : ℕ) → left (point p q x) ≡ left (point p′ q′ x)) → col p q ≡ col p′ q′
+  same-columns : (p q p' q' : Bool) → ((x : ℕ) → left (point p q x) ≡ left (point p' q' x)) → col p q ≡ col p' q'
   unfolding column
-  same-columns p q p′ q′ f =
-      same-bits (2 ^ size n C) (col p q) (col p′ q′) (number-lt (2 ^ size n C) _) (number-lt (2 ^ size n C) _) (λ c l.
+  same-columns p q p' q' f =
+      same_bits (2 ^ size n C) (col p q) (col p' q') (number_lt (2 ^ size n C) _) (number_lt (2 ^ size n C) _) (λ c l.
       let e = gather-spread n C c l in
-      ap (bit (col p q)) (sym e) ∙ sym (gate-at p q (spread n C c)) ∙ f (spread n C c) ∙ gate-at p′ q′ (spread n C c)
-      ∙ ap (bit (col p′ q′)) e)
+      ap (bit (col p q)) (sym e) ∙ sym (gate-at p q (spread n C c)) ∙ f (spread n C c) ∙ gate-at p' q' (spread n C c)
+      ∙ ap (bit (col p' q')) e)
 
   -- every column is one of the two at v
   abbrev pub Covers : Bool → Type 0
@@ -113,14 +113,14 @@ module _ (s : Split) (h : Held s) (F : ℕ → Bool) (at i j : ℕ) (li : i < s 
 
   pub stands-when : (v : Bool) → Covers v → StandsFor n left i j v
   stands-when v cover = record {
-    D = λ p q. among v q p cover .0;
+    D = λ p q. (among v q p cover).0;
     gives = λ x l. gate-is x
-        ∙ ap (λ (m : ℕ). bit m (gather n C x)) (among v (bit x i) (bit x j) cover .1)
-        ∙ sym (gate-at (among v (bit x i) (bit x j) cover .0) v x);
+        ∙ ap (λ (m : ℕ). bit m (gather n C x)) (among v (bit x i) (bit x j) cover).1
+        ∙ sym (gate-at (among v (bit x i) (bit x j) cover).0 v x);
   }
     where
       other : (v p : Bool) → Covers v → (d : Bool) × (col p (not v) ≡ col d v)
-      other v p c = ⊎-elim {C = (d : Bool) × (col p (not v) ≡ col d v)} (λ e. (false, e)) (λ e. (true, e)) (c p)
+      other v p c = ⊎_elim {C = (d : Bool) × (col p (not v) ≡ col d v)} (λ e. (false, e)) (λ e. (true, e)) (c p)
 
       among : (v q p : Bool) → Covers v → (d : Bool) × (col p q ≡ col d v)
       among true true p c = (p, refl)
@@ -129,18 +129,18 @@ module _ (s : Split) (h : Held s) (F : ℕ → Bool) (at i j : ℕ) (li : i < s 
       among false false p c = (p, refl)
 
   pub stands-covers : (v : Bool) → StandsFor n left i j v → Covers v
-  stands-covers v J p = go (J .D p (not v)) refl
+  stands-covers v J p = go (J.D p (not v)) refl
     where
-      same : col p (not v) ≡ col (J .D p (not v)) v
-      same = same-columns p (not v) (J .D p (not v)) v (λ x.
+      same : col p (not v) ≡ col (J.D p (not v)) v
+      same = same-columns p (not v) (J.D p (not v)) v (λ x.
           let y = point p (not v) x in
-          J .gives y (set-lt n i (not v) (setTo n j p x))
-          ∙ gate-at (J .D (bit y j) (bit y i)) v y
-          ∙ ap₂ bit (ap (λ (d : Bool). col d v) (ap₂ (J .D)
-          (set-off n i (not v) (setTo n j p x) j lj (λ e. omega arith) ∙ set-here n j p x lj)
-          (set-here n i (not v) (setTo n j p x) li))) (free-same p (not v) x)
-          ∙ sym (gate-at (J .D p (not v)) v x))
+          J.gives y (set-lt n i (not v) (set_to n j p x))
+          ∙ gate-at (J.D (bit y j) (bit y i)) v y
+          ∙ ap₂ bit (ap (λ (d : Bool). col d v) (ap₂ J.D
+          (set-off n i (not v) (set_to n j p x) j lj (λ e. omega arith) ∙ set_here n j p x lj)
+          (set_here n i (not v) (set_to n j p x) li))) (free-same p (not v) x)
+          ∙ sym (gate-at (J.D p (not v)) v x))
 
-      go : (d : Bool) → J .D p (not v) ≡ d → (col p (not v) ≡ col false v) ⊎ (col p (not v) ≡ col true v)
+      go : (d : Bool) → J.D p (not v) ≡ d → (col p (not v) ≡ col false v) ⊎ (col p (not v) ≡ col true v)
       go true e = inr (same ∙ ap (λ (d : Bool). col d v) e)
       go false e = inl (same ∙ ap (λ (d : Bool). col d v) e)

@@ -1,28 +1,28 @@
 -- What is left of a gate as one input more is fixed: it is what was left with that input at its value. Assumes nothing.
-use mathlib.Core.Path.{_≡_, refl, sym, ap, ap₂, _∙_, fun-ext}
-use mathlib.Core.Bool.{Bool, true, false, cond, not, _&&_, _||_, and-true, and-false, or-false}
-use Prim.Native.Nat.{ℕ, zero, suc, _+_, _-_, _*_, _%_, _^_, _<_}
+use mathlib.Core.Path.{◌≡◌, refl, sym, ap, ap₂, ◌∙◌, fun_ext}
+use mathlib.Core.Bool.{Bool, true, false, cond, not, ◌&&◌, ◌||◌, and-true, and-false, or-false}
+use Prim.Native.Nat.{ℕ, zero, suc, ◌+◌, ◌-◌, ◌*◌, ◌%◌, ◌^◌, ◌<◌}
 use native.Mathlib.Omega.{arith}
 use lib.Dec.{eqb}
 use borrow.Author.Tests.{eqb-true}
-use Rattle·bits.specs.Numbers.{bit, val, number}
-use Rattle·bits.specs.Sets.{gather}
-use Rattle·bits.proofs.Bools.{clash, false-of}
-use Rattle·bits.proofs.Numbers.{number-lt, number-bit, number-ext, bit-number}
-use Rattle·bits.proofs.Sums.{number-join}
-use Rattle·bits.proofs.Machine.{shl-one}
-use Rattle·bits.proofs.Single.{single, plus-bit, plus-lt}
-use Rattle·bits.proofs.Members.{same-bits, inside-spread}
-use Rattle·bits.proofs.Spreading.{spread-lt}
-use Rattle·tables.proofs.Pieces.{spread-part}
-use Rattle·columns.specs.Reading.{Within}
-use Rattle·joins·specs.specs.StandsFor.{setTo, fixedAt}
-use Rattle·joins·specs.specs.Left.{withFixed, gateLeft, Fixing}
-use Rattle·joins·proofs.proofs.Setting.{set-bit}
+use Rattle.bits.specs.Numbers.{bit, val, number}
+use Rattle.bits.specs.Sets.{gather}
+use Rattle.bits.proofs.Bools.{clash, false_of}
+use Rattle.bits.proofs.Numbers.{number_lt, number_bit, number-ext, bit-number}
+use Rattle.bits.proofs.Sums.{number-join}
+use Rattle.bits.proofs.Machine.{shl_one}
+use Rattle.bits.proofs.Single.{single, plus-bit, plus-lt}
+use Rattle.bits.proofs.Members.{same_bits, inside-spread}
+use Rattle.bits.proofs.Spreading.{spread-lt}
+use Rattle.tables.proofs.Pieces.{spread-part}
+use Rattle.columns.specs.Reading.{Within}
+use Rattle.joins.specs.StandsFor.{set_to, fixed_at}
+use Rattle.joins.specs.Left.{withFixed, gateLeft, Fixing}
+use Rattle.joins.proofs.Setting.{set-bit}
 
 pub fixed-lt : (n f a x : ℕ) → withFixed n f a x < 2 ^ n
 unfolding withFixed
-fixed-lt n f a x = number-lt n (λ p. cond (bit f p) (bit a p) (bit x p))
+fixed-lt n f a x = number_lt n (λ p. cond (bit f p) (bit a p) (bit x p))
 
 pub fixed-bit : (n f a x p : ℕ) → p < n → bit (withFixed n f a x) p ≡ cond (bit f p) (bit a p) (bit x p)
 unfolding withFixed
@@ -34,7 +34,7 @@ module _ (n m i : ℕ) (h : m < 2 ^ n) (l : i < n) (e : bit m i ≡ true) where
   less-sum =
       omega (
         arith,
-        number-bit n m h,
+        number_bit n m h,
         single n i l,
         number-join n (λ p. bit m p && not (eqb p i)) (λ p. eqb p i) (λ p b. meet (bit m p) (eqb p i)),
         number-ext n (λ p. (bit m p && not (eqb p i)) || eqb p i) (bit m)
@@ -59,73 +59,73 @@ module _ (n m i : ℕ) (h : m < 2 ^ n) (l : i < n) (e : bit m i ≡ true) where
 -- `v << i` for a value v
 pub value-shl : (v i : ℕ) → v < 2 → i < 32 → v * 2 ^ i % 2 ^ 32 ≡ val (bit v 0) * 2 ^ i
 value-shl zero i h l = omega arith
-value-shl (suc zero) i h l = shl-one 32 i l ∙ omega arith
+value-shl (suc zero) i h l = shl_one 32 i l ∙ omega arith
 value-shl (suc (suc v)) i h l = absurd (omega arith)
 
 -- ---- input i, which is not fixed yet, at v
 module _ (n : ℕ) (F : ℕ → Bool) (f a : ℕ) (below : f < 2 ^ n) (within : Within n f a) (i : ℕ) (l : i < n)
     (unfixed : bit f i ≡ false) (v : Bool) where
-  abbrev f′ : ℕ
-  f′ = f + 2 ^ i
+  abbrev f' : ℕ
+  f' = f + 2 ^ i
 
-  abbrev a′ : ℕ
-  a′ = a + val v * 2 ^ i
+  abbrev a' : ℕ
+  a' = a + val v * 2 ^ i
 
   values-lt : a < 2 ^ n
   values-lt = omega (arith, within, spread-lt n (bit f) (gather n (bit f) a))
 
   -- what is not fixed has no value
-  no-value : (p : ℕ) → bit f p ≡ false → bit a p ≡ false
-  no-value p e = false-of (bit a p) (λ t.
+  no_value : (p : ℕ) → bit f p ≡ false → bit a p ≡ false
+  no_value p e = false_of (bit a p) (λ t.
       clash (spread-part n f (gather n (bit f) a) p (ap (λ (y : ℕ). bit y p) (sym within) ∙ t)) e)
 
-  mask-bit : (p : ℕ) → p < n → bit f′ p ≡ (bit f p || eqb p i)
+  mask-bit : (p : ℕ) → p < n → bit f' p ≡ (bit f p || eqb p i)
   mask-bit = plus-bit n f i below l unfixed
 
-  value-bit : (p : ℕ) → p < n → bit a′ p ≡ (bit a p || (eqb p i && v))
+  value-bit : (p : ℕ) → p < n → bit a' p ≡ (bit a p || (eqb p i && v))
   value-bit p b = go v
     where
       go : (v : Bool) → bit (a + val v * 2 ^ i) p ≡ (bit a p || (eqb p i && v))
       go true = let e : a + 1 * 2 ^ i ≡ a + 2 ^ i = omega arith in
-          ap (λ (y : ℕ). bit y p) e ∙ plus-bit n a i values-lt l (no-value i unfixed) p b
+          ap (λ (y : ℕ). bit y p) e ∙ plus-bit n a i values-lt l (no_value i unfixed) p b
           ∙ ap (λ (t : Bool). bit a p || t) (sym (and-true (eqb p i)))
       go false = let e : a + 0 * 2 ^ i ≡ a = omega arith in
           ap (λ (y : ℕ). bit y p) e
           ∙ sym (ap (λ (t : Bool). bit a p || t) (and-false (eqb p i)) ∙ or-false (bit a p))
 
-  pub value-lt : a′ < 2 ^ n
+  pub value-lt : a' < 2 ^ n
   value-lt = go v
     where
       go : (v : Bool) → a + val v * 2 ^ i < 2 ^ n
-      go true = omega (arith, plus-lt n a i values-lt l (no-value i unfixed))
+      go true = omega (arith, plus-lt n a i values-lt l (no_value i unfixed))
       go false = omega (arith, values-lt)
 
-  pub fixing-more : (s : ℕ) → Fixing n (record { fixed = f′; at = a′; decided = s })
+  pub fixing-more : (s : ℕ) → Fixing n (record { fixed = f'; at = a'; decided = s })
   fixing-more s = record {
     below = plus-lt n f i below l unfixed;
-    within = sym (inside-spread n (bit f′) a′ value-lt (λ p b e. mask-bit p b ∙ go p (bit f p) (eqb p i) refl refl
+    within = sym (inside-spread n (bit f') a' value-lt (λ p b e. mask-bit p b ∙ go p (bit f p) (eqb p i) refl refl
         (sym (value-bit p b) ∙ e)));
   }
     where
       go : (p : ℕ) (s t : Bool) → bit f p ≡ s → eqb p i ≡ t → (bit a p || (t && v)) ≡ true → (s || t) ≡ true
       go p true t e g h = refl
       go p false true e g h = refl
-      go p false false e g h = absurd (clash h (ap (λ (t : Bool). t || false) (no-value p e)))
+      go p false false e g h = absurd (clash h (ap (λ (t : Bool). t || false) (no_value p e)))
 
   -- what is left is what was, with i at v
-  pub left-more : (s r : ℕ) → gateLeft n F (record { fixed = f′; at = a′; decided = s })
-      ≡ fixedAt n (gateLeft n F (record { fixed = f; at = a; decided = r })) i v
-  left-more s r = fun-ext (λ x. ap F (
-      same-bits n (withFixed n f′ a′ x) (withFixed n f a (setTo n i v x)) (fixed-lt n f′ a′ x)
-      (fixed-lt n f a (setTo n i v x)) (λ p b.
-      fixed-bit n f′ a′ x p b
+  pub left-more : (s r : ℕ) → gateLeft n F (record { fixed = f'; at = a'; decided = s })
+      ≡ fixed_at n (gateLeft n F (record { fixed = f; at = a; decided = r })) i v
+  left-more s r = fun_ext (λ x. ap F (
+      same_bits n (withFixed n f' a' x) (withFixed n f a (set_to n i v x)) (fixed-lt n f' a' x)
+      (fixed-lt n f a (set_to n i v x)) (λ p b.
+      fixed-bit n f' a' x p b
       ∙ ap₂ (λ (s t : Bool). cond s t (bit x p)) (mask-bit p b) (value-bit p b)
       ∙ go p (bit f p) (eqb p i) refl refl (bit x p)
-      ∙ sym (fixed-bit n f a (setTo n i v x) p b ∙ ap (cond (bit f p) (bit a p)) (set-bit n i v x p b)))))
+      ∙ sym (fixed-bit n f a (set_to n i v x) p b ∙ ap (cond (bit f p) (bit a p)) (set-bit n i v x p b)))))
     where
       go : (p : ℕ) (s t : Bool) → bit f p ≡ s → eqb p i ≡ t → (b : Bool)
           → cond (s || t) (bit a p || (t && v)) b ≡ cond s (bit a p) (cond t v b)
       go p true true e g b = absurd (clash (ap (bit f) (sym (eqb-true p i g)) ∙ e) unfixed)
       go p true false e g b = or-false (bit a p)
-      go p false true e g b = ap (λ (t : Bool). t || v) (no-value p e)
+      go p false true e g b = ap (λ (t : Bool). t || v) (no_value p e)
       go p false false e g b = refl

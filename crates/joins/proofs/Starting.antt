@@ -1,35 +1,35 @@
 -- The start of deciding: what does not count is fixed, and what is left is the gate. Assumes nothing.
-use mathlib.Core.Path.{_≡_, refl, sym, ap, _∙_}
+use mathlib.Core.Path.{◌≡◌, refl, sym, ap, ◌∙◌}
 use mathlib.Core.Bool.{Bool, true, false, cond, not}
-use Prim.Native.Nat.{ℕ, _+_, _^_, _<_}
+use Prim.Native.Nat.{ℕ, ◌+◌, ◌^◌, ◌<◌}
 use native.Mathlib.Omega.{arith}
-use lib.Pow.{pow-pos}
-use Rattle·bits.specs.Numbers.{bit, number}
-use Rattle·bits.specs.Sets.{spread}
-use Rattle·bits.proofs.Bools.{clash}
-use Rattle·bits.proofs.Numbers.{number-lt, bit-number, bit-zero}
-use Rattle·bits.proofs.Sums.{off-sum}
-use Rattle·bits.proofs.Spreading.{spread-zero, gather-zero}
-use Rattle·tables.specs.Counting.{counts, support}
-use Rattle·tables.proofs.Depending.{support-sees, support-counting}
-use Rattle·trees.specs.Tree.{Tree, IsTree}
-use Rattle·trees.proofs.Graft.{Computes}
-use Rattle·trees.proofs.Prune.{computes-tree, tree-computes}
-use Rattle·joins·specs.specs.declared.pairs.Left.{Left}
-use Rattle·joins·specs.specs.Left.{withFixed, gateLeft, Unfixed, Reduced, DecidedFrom}
-use Rattle·joins·proofs.proofs.Leaving.{fixed-lt, fixed-bit}
+use lib.Pow.{pow_pos}
+use Rattle.bits.specs.Numbers.{bit, number}
+use Rattle.bits.specs.Sets.{spread}
+use Rattle.bits.proofs.Bools.{clash}
+use Rattle.bits.proofs.Numbers.{number_lt, bit-number, bit-zero}
+use Rattle.bits.proofs.Sums.{off-sum}
+use Rattle.bits.proofs.Spreading.{spread-zero, gather-zero}
+use Rattle.tables.specs.Counting.{counts, support}
+use Rattle.tables.proofs.Depending.{support-sees, support-counting}
+use Rattle.trees.specs.Tree.{Tree, IsTree}
+use Rattle.trees.proofs.Graft.{Computes}
+use Rattle.trees.proofs.Prune.{computes-tree, tree-computes}
+use Rattle.joins.specs.declared.pairs.Left.{Left}
+use Rattle.joins.specs.Left.{withFixed, gateLeft, Unfixed, Reduced, DecidedFrom}
+use Rattle.joins.proofs.Leaving.{fixed-lt, fixed-bit}
 
 -- some tree that reads each input at most once computes the gate: what inductions carry, and what it is
 pub to-tree : (n : ℕ) (F : ℕ → Bool) → (t : Tree) × Computes n F t → IsTree n F
-to-tree n F w = computes-tree n F (w .0) (w .1)
+to-tree n F w = computes-tree n F w.0 w.1
 
-pub of-tree : (n : ℕ) (F : ℕ → Bool) → IsTree n F → (t : Tree) × Computes n F t
-of-tree n F w = (w .0, tree-computes n F (w .0) (w .1))
+pub of_tree : (n : ℕ) (F : ℕ → Bool) → IsTree n F → (t : Tree) × Computes n F t
+of_tree n F w = (w.0, tree-computes n F w.0 w.1)
 
 -- the inputs that count are a mask of n places
 pub support-lt : (n : ℕ) (F : ℕ → Bool) → support n F < 2 ^ n
 unfolding support
-support-lt n F = number-lt n (counts n F)
+support-lt n F = number_lt n (counts n F)
 
 -- ---- the start: what does not count is fixed at 0, and nothing is decided
 module _ (n : ℕ) (F : ℕ → Bool) (idle : ℕ) (sum : idle + support n F + 1 ≡ 2 ^ n) where
@@ -49,13 +49,13 @@ module _ (n : ℕ) (F : ℕ → Bool) (idle : ℕ) (sum : idle + support n F + 1
 
   tree-ext : (G K : ℕ → Bool) → ((x : ℕ) → x < 2 ^ n → G x ≡ K x) → IsTree n G → IsTree n K
   tree-ext G K e w =
-      let u = of-tree n G w in
+      let u = of_tree n G w in
       to-tree n K (
-        u .0,
+        u.0,
         record {
-          most = u .1 .most;
-          within = u .1 .within;
-          computes = λ x h. u .1 .computes x h ∙ e x h;
+          most = u.1.most;
+          within = u.1.within;
+          computes = λ x h. u.1.computes x h ∙ e x h;
         },
       )
 
@@ -65,29 +65,29 @@ module _ (n : ℕ) (F : ℕ → Bool) (idle : ℕ) (sum : idle + support n F + 1
       below = omega (arith, sum);
       within = sym (ap (spread n (bit idle)) (gather-zero n (bit idle)) ∙ spread-zero n (bit idle));
     };
-    below = pow-pos n;
+    below = pow_pos n;
     tree = (tree-ext F (gateLeft n F start) (λ x h. sym (same x h)), tree-ext (gateLeft n F start) F same);
-    counts = λ j w. let c = support-counting n F j (w .0) (counting j w) in record {
-      x = c .x;
-      y = c .y;
-      belowX = c .belowX;
-      belowY = c .belowY;
-      alike = c .alike;
-      differ = λ e. c .differ (sym (same (c .x) (c .belowX)) ∙ e ∙ same (c .y) (c .belowY));
+    counts = λ j w. let c = support-counting n F j w.0 (counting j w) in record {
+      x = c.x;
+      y = c.y;
+      belowX = c.belowX;
+      belowY = c.belowY;
+      alike = c.alike;
+      differ = λ e. c.differ (sym (same c.x c.belowX) ∙ e ∙ same c.y c.belowY);
     };
     unfixed = λ j e. absurd (clash e (bit-zero j));
     apart = λ i j e. absurd (clash e (bit-zero i));
   }
     where
       counting : (j : ℕ) → Unfixed n start j → bit (support n F) j ≡ true
-      counting j w = go (bit (support n F) j) (sym (idle-bit j (w .0)) ∙ w .1)
+      counting j w = go (bit (support n F) j) (sym (idle-bit j w.0) ∙ w.1)
         where
           go : (t : Bool) → not t ≡ false → t ≡ true
           go true e = refl
           go false e = sym e
 
-  pub from-start : DecidedFrom n start n
-  from-start = record {
-    all = λ i l w. absurd (omega (arith, w .0));
+  pub from_start : DecidedFrom n start n
+  from_start = record {
+    all = λ i l w. absurd (omega (arith, w.0));
     above = λ i e. absurd (clash e (bit-zero i));
   }

@@ -1,24 +1,24 @@
 -- What four columns tell of two inputs: at which value of the higher one its two columns are all that there are.
 -- Assumes nothing.
-use mathlib.Core.Path.{_≡_, refl, sym, ap, ap₂, _∙_, subst}
-use mathlib.Core.Logic.{_⊎_, inl, inr, ⊎-elim}
-use mathlib.Core.Bool.{Bool, true, false, cond, _||_}
-use Prim.Native.Nat.{ℕ, _+_, _^_, _<_}
+use mathlib.Core.Path.{◌≡◌, refl, sym, ap, ap₂, ◌∙◌, subst}
+use mathlib.Core.Logic.{◌⊎◌, inl, inr, ⊎_elim}
+use mathlib.Core.Bool.{Bool, true, false, cond, ◌||◌}
+use Prim.Native.Nat.{ℕ, ◌+◌, ◌^◌, ◌<◌}
 use native.Mathlib.Nat.{add-zero}
 use native.Mathlib.Omega.{arith}
 use lib.Dec.{eqb}
 use borrow.Author.Tests.{eq-eqb, eqb-true, eqb-false}
-use Rattle·bits.specs.Numbers.{bit}
-use Rattle·bits.specs.Sets.{size, gather, spread}
-use Rattle·bits.proofs.Bools.{clash, or-left, or-right}
-use Rattle·bits.proofs.Spreading.{gather-spread, spread-zero}
-use Rattle·trees.proofs.Two.{own-size}
-use Rattle·columns.specs.declared.split.Split.{Split}
-use Rattle·columns.specs.Reading.{Held, Within, alike, columnOf}
-use Rattle·columns.proofs.Reading.{within-spread, alike-column}
-use Rattle·joins·specs.specs.StandsFor.{StandsFor}
-use Rattle·joins·specs.specs.Left.{withFixed, valueBy, Valued}
-use Rattle·joins·proofs.proofs.Columns.{col, stands-when, stands-covers}
+use Rattle.bits.specs.Numbers.{bit}
+use Rattle.bits.specs.Sets.{size, gather, spread}
+use Rattle.bits.proofs.Bools.{clash, or_left, or_right}
+use Rattle.bits.proofs.Spreading.{gather-spread, spread-zero}
+use Rattle.trees.proofs.Two.{own-size}
+use Rattle.columns.specs.declared.split.Split.{Split}
+use Rattle.columns.specs.Reading.{Held, Within, alike, columnOf}
+use Rattle.columns.proofs.Reading.{within-spread, alike-column}
+use Rattle.joins.specs.StandsFor.{StandsFor}
+use Rattle.joins.specs.Left.{withFixed, valueBy, Valued}
+use Rattle.joins.proofs.Columns.{col, stands-when, stands-covers}
 
 either : (x y z : ℕ) → (eqb x y || eqb x z) ≡ true → (x ≡ y) ⊎ (x ≡ z)
 either x y z e = go (eqb x y) refl e
@@ -28,19 +28,19 @@ either x y z e = go (eqb x y) refl e
     go false f e = inr (eqb-true x z e)
 
 neither : (x y z : ℕ) → (eqb x y || eqb x z) ≡ false → (x ≡ y) ⊎ (x ≡ z) → ⊥
-neither x y z e = ⊎-elim (λ f. clash (or-left (eqb x y) (eqb x z) (eq-eqb x y f)) e)
-    (λ f. clash (or-right (eqb x y) (eqb x z) (eq-eqb x z f)) e)
+neither x y z e = ⊎_elim (λ f. clash (or_left (eqb x y) (eqb x z) (eq-eqb x y f)) e)
+    (λ f. clash (or_right (eqb x y) (eqb x z) (eq-eqb x z f)) e)
 
 -- a test that is one of numbers tells what these tell
-pub value-as : (same : ℕ → ℕ → Bool) (pt c : ℕ → ℕ)
+pub value_as : (same : ℕ → ℕ → Bool) (pt c : ℕ → ℕ)
     → ((k l : ℕ) → k < 4 → l < 4 → same (pt k) (pt l) ≡ eqb (c k) (c l))
     → valueBy same (pt 0) (pt 1) (pt 2) (pt 3) ≡ valueBy eqb (c 0) (c 1) (c 2) (c 3)
-value-as same pt c is =
+value_as same pt c is =
     ap₂ (λ (s t : Bool). cond s (cond t 1 2) (cond (or 3 0 1) (cond (or 2 0 1) 0 2) 2)) (is 0 1 l0 l1)
-    (ap₂ _||_ (is 0 2 l0 l2) (is 0 3 l0 l3))
+    (ap₂ ◌||◌ (is 0 2 l0 l2) (is 0 3 l0 l3))
     ∙ ap₂ (λ (s t : Bool).
     cond (eqb (c 0) (c 1)) (cond (eqb (c 0) (c 2) || eqb (c 0) (c 3)) 1 2) (cond s (cond t 0 2) 2))
-    (ap₂ _||_ (is 3 0 l3 l0) (is 3 1 l3 l1)) (ap₂ _||_ (is 2 0 l2 l0) (is 2 1 l2 l1))
+    (ap₂ ◌||◌ (is 3 0 l3 l0) (is 3 1 l3 l1)) (ap₂ ◌||◌ (is 2 0 l2 l0) (is 2 1 l2 l1))
   where
     or : ℕ → ℕ → ℕ → Bool
     or k l m = same (pt k) (pt l) || same (pt k) (pt m)
@@ -71,16 +71,16 @@ module _ (same : ℕ → ℕ → Bool) (a b c d : ℕ) {r : Bool} (is : r ≡ sa
   value-fourth e f g = sym (ap₂ (λ (x y : Bool). told x (same a c || same a d) y (same c a || same c b)) (sym is ∙ e)
       (sym f ∙ g))
 
-  pub value-low : (t : Bool) {q p : Bool} → r ≡ false → q ≡ (same d a || same d b) → q ≡ true
+  pub value_low : (t : Bool) {q p : Bool} → r ≡ false → q ≡ (same d a || same d b) → q ≡ true
       → p ≡ (same c a || same c b) → p ≡ t → cond t 0 2 ≡ valueBy same a b c d
-  value-low t e f g h k =
+  value_low t e f g h k =
       sym (ap₂ (λ (x y : Bool). told x (same a c || same a d) y (same c a || same c b)) (sym is ∙ e) (sym f ∙ g)
       ∙ ap (λ (x : Bool). cond x 0 2) (sym h ∙ k))
 
-module _ (s : Split) (h : Held s) (F : ℕ → Bool) (at i j : ℕ) (li : i < s .n) (lt : j < i)
-    (is : (p : ℕ) → p < s .n → bit (s .own) p ≡ (eqb p j || eqb p i)) where
+module _ (s : Split) (h : Held s) (F : ℕ → Bool) (at i j : ℕ) (li : i < s.n) (lt : j < i)
+    (is : (p : ℕ) → p < s.n → bit s.own p ≡ (eqb p j || eqb p i)) where
   abbrev left : ℕ → Bool
-  left x = F (withFixed (s .n) (s .shared) at x)
+  left x = F (withFixed s.n s.shared at x)
 
   abbrev a : ℕ
   a = col s h F at i j li lt is false false
@@ -95,17 +95,17 @@ module _ (s : Split) (h : Held s) (F : ℕ → Bool) (at i j : ℕ) (li : i < s 
   d = col s h F at i j li lt is true true
 
   abbrev Told : ℕ → Type 0
-  Told = Valued (s .n) left i j
+  Told = Valued s.n left i j
 
   abbrev J : Bool → Type 0
-  J = StandsFor (s .n) left i j
+  J = StandsFor s.n left i j
 
   -- of four columns, two are all
-  at-low : J false → ((c ≡ a) ⊎ (c ≡ b)) × ((d ≡ a) ⊎ (d ≡ b))
-  at-low w = let f = stands-covers s h F at i j li lt is false w in (f false, f true)
+  at_low : J false → ((c ≡ a) ⊎ (c ≡ b)) × ((d ≡ a) ⊎ (d ≡ b))
+  at_low w = let f = stands-covers s h F at i j li lt is false w in (f false, f true)
 
-  at-high : J true → ((a ≡ c) ⊎ (a ≡ d)) × ((b ≡ c) ⊎ (b ≡ d))
-  at-high w = let f = stands-covers s h F at i j li lt is true w in (f false, f true)
+  at_high : J true → ((a ≡ c) ⊎ (a ≡ d)) × ((b ≡ c) ⊎ (b ≡ d))
+  at_high w = let f = stands-covers s h F at i j li lt is true w in (f false, f true)
 
   low : (c ≡ a) ⊎ (c ≡ b) → (d ≡ a) ⊎ (d ≡ b) → Told 0
   low p q = record {
@@ -127,10 +127,10 @@ module _ (s : Split) (h : Held s) (F : ℕ → Bool) (at i j : ℕ) (li : i < s 
     where
       each : (u : Bool) → (col s h F at i j li lt is u false ≡ c) ⊎ (col s h F at i j li lt is u false ≡ d)
       each false = p
-      each true = ⊎-elim {C = (b ≡ c) ⊎ (b ≡ d)} (λ f. inl (sym e ∙ f)) (λ f. inr (sym e ∙ f)) p
+      each true = ⊎_elim {C = (b ≡ c) ⊎ (b ≡ d)} (λ f. inl (sym e ∙ f)) (λ f. inr (sym e ∙ f)) p
 
-  no-value : (J false → ⊥) → (J true → ⊥) → Told 2
-  no-value f g = record { most = omega arith; joins = λ l. absurd (omega arith); none = λ _ u. go u }
+  no_value : (J false → ⊥) → (J true → ⊥) → Told 2
+  no_value f g = record { most = omega arith; joins = λ l. absurd (omega arith); none = λ _ u. go u }
     where
       go : (u : Bool) → J u → ⊥
       go true = g
@@ -141,56 +141,56 @@ module _ (s : Split) (h : Held s) (F : ℕ → Bool) (at i j : ℕ) (li : i < s 
     where
       -- where a and b differ, c and d can be all only if they are a and b
       both : (a ≡ b → ⊥) → J true → ((c ≡ a) ⊎ (c ≡ b)) × ((d ≡ a) ⊎ (d ≡ b))
-      both ne w = let q = at-high w in
-          ⊎-elim {C = ((c ≡ a) ⊎ (c ≡ b)) × ((d ≡ a) ⊎ (d ≡ b))}
-          (λ e. (inl (sym e), ⊎-elim {C = (d ≡ a) ⊎ (d ≡ b)} (λ f. absurd (ne (e ∙ sym f))) (λ f. inr (sym f)) (q .1)))
-          (λ e. (⊎-elim {C = (c ≡ a) ⊎ (c ≡ b)} (λ f. inr (sym f)) (λ f. absurd (ne (e ∙ sym f))) (q .1), inl (sym e)))
-          (q .0)
+      both ne w = let q = at_high w in
+          ⊎_elim {C = ((c ≡ a) ⊎ (c ≡ b)) × ((d ≡ a) ⊎ (d ≡ b))}
+          (λ e. (inl (sym e), ⊎_elim {C = (d ≡ a) ⊎ (d ≡ b)} (λ f. absurd (ne (e ∙ sym f))) (λ f. inr (sym f)) q.1))
+          (λ e. (⊎_elim {C = (c ≡ a) ⊎ (c ≡ b)} (λ f. inr (sym f)) (λ f. absurd (ne (e ∙ sym f))) q.1, inl (sym e)))
+          q.0
 
       go : (t u v w : Bool) → eqb a b ≡ t → (eqb a c || eqb a d) ≡ u → (eqb d a || eqb d b) ≡ v
           → (eqb c a || eqb c b) ≡ w → Told (cond t (cond u 1 2) (cond v (cond w 0 2) 2))
       go true true v w p q r z = high (either a c d q) (eqb-true a b p)
       go true false v w p q r z =
           let e = eqb-true a b p in
-          no-value (λ y. neither a c d q (⊎-elim {C = (a ≡ c) ⊎ (a ≡ d)} (λ f. inl (sym f)) (λ f. inl (e ∙ sym f))
-          (at-low y .0))) (λ y. neither a c d q (at-high y .0))
+          no_value (λ y. neither a c d q (⊎_elim {C = (a ≡ c) ⊎ (a ≡ d)} (λ f. inl (sym f)) (λ f. inl (e ∙ sym f))
+          (at_low y).0)) (λ y. neither a c d q (at_high y).0)
       go false u true true p q r z = low (either c a b z) (either d a b r)
       go false u true false p q r z =
-          no-value (λ y. neither c a b z (at-low y .0)) (λ y. neither c a b z (both (eqb-false a b p) y .0))
+          no_value (λ y. neither c a b z (at_low y).0) (λ y. neither c a b z (both (eqb-false a b p) y).0)
       go false u false w p q r z =
-          no-value (λ y. neither d a b r (at-low y .1)) (λ y. neither d a b r (both (eqb-false a b p) y .1))
+          no_value (λ y. neither d a b r (at_low y).1) (λ y. neither d a b r (both (eqb-false a b p) y).1)
 
   -- as the code asks: from the points that the two inputs make beside what is fixed
-  module _ (within : Within (s .n) (s .shared) at) where
+  module _ (within : Within s.n s.shared at) where
     abbrev n : ℕ
-    n = s .n
+    n = s.n
 
-    four : 2 ^ size n (bit (s .own)) ≡ 4
-    four = ap (λ (m : ℕ). 2 ^ m) (own-size n i j (s .own) li (omega arith) is (λ e. omega arith))
+    four : 2 ^ size n (bit s.own) ≡ 4
+    four = ap (λ (m : ℕ). 2 ^ m) (own-size n i j s.own li (omega arith) is (λ e. omega arith))
 
     -- point k, and its column
     point : ℕ → ℕ
-    point k = at + spread n (bit (s .own)) k
+    point k = at + spread n (bit s.own) k
 
-    points : (k l : ℕ) → k < 4 → l < 4 → alike n F (s .free) (point k) (point l)
-        ≡ eqb (columnOf s F (gather n (bit (s .shared)) at) k) (columnOf s F (gather n (bit (s .shared)) at) l)
+    points : (k l : ℕ) → k < 4 → l < 4 → alike n F s.free (point k) (point l)
+        ≡ eqb (columnOf s F (gather n (bit s.shared) at) k) (columnOf s F (gather n (bit s.shared) at) l)
     unfolding point
     points k l p q =
-        let p′ : k < 2 ^ size n (bit (s .own)) = omega (arith, four) in
-        let q′ : l < 2 ^ size n (bit (s .own)) = omega (arith, four) in
-        alike-column s h F at within (spread n (bit (s .own)) k) (spread n (bit (s .own)) l)
-        (within-spread n (s .own) k p′) (within-spread n (s .own) l q′)
-        ∙ ap₂ (λ (x y : ℕ). eqb (columnOf s F (gather n (bit (s .shared)) at) x)
-        (columnOf s F (gather n (bit (s .shared)) at) y))
-        (gather-spread n (bit (s .own)) k p′) (gather-spread n (bit (s .own)) l q′)
+        let p' : k < 2 ^ size n (bit s.own) = omega (arith, four) in
+        let q' : l < 2 ^ size n (bit s.own) = omega (arith, four) in
+        alike-column s h F at within (spread n (bit s.own) k) (spread n (bit s.own) l)
+        (within-spread n s.own k p') (within-spread n s.own l q')
+        ∙ ap₂ (λ (x y : ℕ). eqb (columnOf s F (gather n (bit s.shared) at) x)
+        (columnOf s F (gather n (bit s.shared) at) y))
+        (gather-spread n (bit s.own) k p') (gather-spread n (bit s.own) l q')
 
-    pub valued : (v x y z : ℕ) → x ≡ spread n (bit (s .own)) 1 → y ≡ spread n (bit (s .own)) 2
-        → z ≡ spread n (bit (s .own)) 3 → v ≡ valueBy (alike n F (s .free)) at (at + x) (at + y) (at + z) → Told v
+    pub valued : (v x y z : ℕ) → x ≡ spread n (bit s.own) 1 → y ≡ spread n (bit s.own) 2
+        → z ≡ spread n (bit s.own) 3 → v ≡ valueBy (alike n F s.free) at (at + x) (at + y) (at + z) → Told v
     unfolding point
     valued v x y z ex ey ez e = subst Told (sym (
-        e ∙ ap₂ (λ (p q : ℕ). valueBy (alike n F (s .free)) p (at + q) (at + y) (at + z)) zero-point ex
-        ∙ ap₂ (λ (p q : ℕ). valueBy (alike n F (s .free)) (point 0) (point 1) (at + p) (at + q)) ey ez
-        ∙ value-as (alike n F (s .free)) point (columnOf s F (gather n (bit (s .shared)) at)) points)) told-value
+        e ∙ ap₂ (λ (p q : ℕ). valueBy (alike n F s.free) p (at + q) (at + y) (at + z)) zero-point ex
+        ∙ ap₂ (λ (p q : ℕ). valueBy (alike n F s.free) (point 0) (point 1) (at + p) (at + q)) ey ez
+        ∙ value_as (alike n F s.free) point (columnOf s F (gather n (bit s.shared) at)) points)) told-value
       where
         zero-point : at ≡ point 0
-        zero-point = sym (ap (λ (m : ℕ). at + m) (spread-zero n (bit (s .own))) ∙ add-zero at)
+        zero-point = sym (ap (λ (m : ℕ). at + m) (spread-zero n (bit s.own)) ∙ add-zero at)

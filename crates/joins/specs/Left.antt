@@ -1,15 +1,12 @@
 -- What is left of a gate while the code fixes one input after the other.
-use mathlib.Core.Path.{_≡_}
-use mathlib.Core.Logic.{_↔_}
-use mathlib.Core.Bool.{Bool, true, false, cond, _||_}
-use Prim.Native.Nat.{ℕ, _+_, _-_, _*_, _^_, _<_, _≤_}
-use Rattle·bits.specs.Numbers.{bit, val, number}
-use Rattle·tables.specs.Depends.{DependsOn}
-use Rattle·columns.specs.Reading.{Within}
-use Rattle·trees.specs.Tree.{IsTree}
-use Rattle·joins·specs.specs.declared.pairs.Left.{Left}
-use Rattle·joins·specs.specs.declared.deciding.Partner.{Partner}
-use Rattle·joins·specs.specs.StandsFor.{StandsFor}
+use Rattle.std.specs.Prelude.{◌≡◌, ◌↔◌, Bool, true, false, cond, ◌||◌, ℕ, ◌+◌, ◌-◌, ◌*◌, ◌^◌, ◌<◌, ◌≤◌}
+use Rattle.bits.specs.Numbers.{bit, val, number}
+use Rattle.tables.specs.Depends.{DependsOn}
+use Rattle.columns.specs.Reading.{Within}
+use Rattle.trees.specs.Tree.{IsTree}
+use Rattle.joins.specs.declared.pairs.Left.{Left}
+use Rattle.joins.specs.declared.deciding.Partner.{Partner}
+use Rattle.joins.specs.StandsFor.{StandsFor}
 
 -- the assignment x with the fixed inputs as `at` has them
 unfoldable pub withFixed : ℕ → ℕ → ℕ → ℕ → ℕ
@@ -17,28 +14,28 @@ withFixed n fixed at x = number n (λ p. cond (bit fixed p) (bit at p) (bit x p)
 
 -- what is left of the gate F
 abbrev pub gateLeft : ℕ → (ℕ → Bool) → Left → ℕ → Bool
-gateLeft n F g x = F (withFixed n (g .fixed) (g .at) x)
+gateLeft n F g x = F (withFixed n g.fixed g.at x)
 
 -- an input that is not fixed
 abbrev pub Unfixed : ℕ → Left → ℕ → Type 0
-Unfixed n g j = (j < n) × (bit (g .fixed) j ≡ false)
+Unfixed n g j = (j < n) × (bit g.fixed j ≡ false)
 
 -- the masks and the values of what is fixed
 pub record Fixing (n : ℕ) (g : Left) : Type 0 where
-  pub below : g .fixed < 2 ^ n
-  pub within : Within n (g .fixed) (g .at)
+  pub below : g.fixed < 2 ^ n
+  pub within : Within n g.fixed g.at
 
 -- the decided input i is fixed at v
 abbrev pub oneFixed : Left → ℕ → Bool → Left
 oneFixed g i v = record {
-  fixed = g .fixed + 2 ^ i;
-  at = g .at + val v * 2 ^ i;
-  decided = g .decided - 2 ^ i;
+  fixed = g.fixed + 2 ^ i;
+  at = g.at + val v * 2 ^ i;
+  decided = g.decided - 2 ^ i;
 }
 
 -- input j is decided too
 abbrev pub oneDecided : Left → ℕ → Left
-oneDecided g j = record { fixed = g .fixed; at = g .at; decided = g .decided + 2 ^ j }
+oneDecided g j = record { fixed = g.fixed; at = g.at; decided = g.decided + 2 ^ j }
 
 -- how four columns are told apart, by a test of two of them: those where input i is 0, j being 0 (a) and 1 (b), and
 -- those where it is 1 (c and d). 0 and 1: at that value of i there are all of them; 2: at neither
@@ -54,23 +51,23 @@ pub record Valued (n : ℕ) (G : ℕ → Bool) (i j v : ℕ) : Type 0 where
 
 -- the same for some decided i
 pub record Partnered (n : ℕ) (G : ℕ → Bool) (decided j : ℕ) (p : Partner) : Type 0 where
-  pub most : p .value ≤ 2
-  pub member : p .value < 2 → bit decided (p .input) ≡ true
-  pub joins : p .value < 2 → StandsFor n G (p .input) j (bit (p .value) 0)
-  pub none : p .value ≡ 2 → (i : ℕ) → bit decided i ≡ true → (u : Bool) → StandsFor n G i j u → ⊥
+  pub most : p.value ≤ 2
+  pub member : p.value < 2 → bit decided p.input ≡ true
+  pub joins : p.value < 2 → StandsFor n G p.input j (bit p.value 0)
+  pub none : p.value ≡ 2 → (i : ℕ) → bit decided i ≡ true → (u : Bool) → StandsFor n G i j u → ⊥
 
 -- what is left is a tree exactly if F is; each input that is not fixed counts; and of the decided ones, which are not
 -- fixed, none can stand for another
 pub record Reduced (n : ℕ) (F : ℕ → Bool) (g : Left) : Type 0 where
   pub fixing : Fixing n g
-  pub below : g .decided < 2 ^ n
+  pub below : g.decided < 2 ^ n
   pub tree : IsTree n F ↔ IsTree n (gateLeft n F g)
   pub counts : (j : ℕ) → Unfixed n g j → DependsOn n (gateLeft n F g) j
-  pub unfixed : (j : ℕ) → bit (g .decided) j ≡ true → Unfixed n g j
-  pub apart : (i j : ℕ) → bit (g .decided) i ≡ true → bit (g .decided) j ≡ true → j < i → (v : Bool)
+  pub unfixed : (j : ℕ) → bit g.decided j ≡ true → Unfixed n g j
+  pub apart : (i j : ℕ) → bit g.decided i ≡ true → bit g.decided j ≡ true → j < i → (v : Bool)
       → StandsFor n (gateLeft n F g) i j v → ⊥
 
 -- the decided inputs are those from j on that are not fixed
 pub record DecidedFrom (n : ℕ) (g : Left) (j : ℕ) : Type 0 where
-  pub all : (i : ℕ) → j ≤ i → Unfixed n g i → bit (g .decided) i ≡ true
-  pub above : (i : ℕ) → bit (g .decided) i ≡ true → j ≤ i
+  pub all : (i : ℕ) → j ≤ i → Unfixed n g i → bit g.decided i ≡ true
+  pub above : (i : ℕ) → bit g.decided i ≡ true → j ≤ i

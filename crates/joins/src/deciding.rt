@@ -1,20 +1,17 @@
 // Whether a gate is a tree, by joining its inputs from the highest down.
-ghost use mathlib.Core.Path.{_≡_};
-ghost use mathlib.Core.Logic.{_↔_};
-ghost use mathlib.Core.Bool.{true, false};
-ghost use Prim.Native.Nat.{_+_, _*_, _^_, _<_, _≤_};
-ghost use lib.ListN.{length};
-ghost use Rattle·bits.specs.Numbers.{bit};
-ghost use Rattle·tables.specs.Table.{mostInputs, tableBit};
-ghost use Rattle·tables.specs.Counting.{support};
-ghost use Rattle·trees.specs.Tree.{IsTree};
-ghost use Rattle·joins·specs.specs.Left.{gateLeft, Unfixed, Fixing, oneFixed, oneDecided, Partnered, Reduced};
-ghost use Rattle·joins·specs.specs.Left.{DecidedFrom};
-use crate::pairs::Left;
-use crate::pairs::joint;
+ghost use Rattle.std.specs.Prelude.{◌≡◌, ◌↔◌, true, false, ◌+◌, ◌*◌, ◌^◌, ◌<◌, ◌≤◌, length};
+ghost use Rattle.bits.specs.Numbers.{bit};
+ghost use Rattle.tables.specs.Table.{mostInputs, tableBit};
+ghost use Rattle.tables.specs.Counting.{support};
+ghost use Rattle.trees.specs.Tree.{IsTree};
+ghost use Rattle.joins.specs.Left.{gateLeft, Unfixed, Fixing, oneFixed, oneDecided, Partnered, Reduced};
+ghost use Rattle.joins.specs.Left.{DecidedFrom};
+
+use crate::pairs::{Left, joint};
 use bits::sets::members;
 
 // An input and the value at which it can be fixed; 2 for none.
+#[derive(Drop)]
 pub struct Partner {
     pub input: u32,
     pub value: u32,
@@ -22,11 +19,9 @@ pub struct Partner {
 
 // A decided input for which j, a lower one, can stand too: the highest one.
 fn partner_of(t: &[u8], n: u32, g: Left, j: u32) -> Partner
-    requires { ⌜
-        (n ≤ mostInputs) × Reduced n (tableBit (now t)) g × DecidedFrom n g (j + 1) × Unfixed n g j
-        × (2 ^ n ≤ 8 * length (now t))
-        ⌝ }
-    ensures { λ p. ⌜ Partnered n (gateLeft n (tableBit (now (t .entry))) g) (g .decided) j p ⌝ }
+    requires { (n ≤ mostInputs) × Reduced n (tableBit t.now) g × DecidedFrom n g (j + 1) × Unfixed n g j
+        × (2 ^ n ≤ 8 * length t.now) }
+    ensures { Partnered n (gateLeft n (tableBit t.now) g) g.decided j result }
 {
     let mut i = n;
     while i > 0 {
@@ -43,9 +38,9 @@ fn partner_of(t: &[u8], n: u32, g: Left, j: u32) -> Partner
 
 // Input i, one of the decided, is fixed at v.
 fn fix(n: u32, g: Left, i: u32, v: u32) -> Left
-    requires { ⌜ (n ≤ mostInputs) × Fixing n g × Unfixed n g i × (g .decided < 2 ^ n) ⌝ }
-    requires { ⌜ (bit (g .decided) i ≡ true) × (v < 2) ⌝ }
-    ensures { λ r. ⌜ r ≡ oneFixed g i (bit v 0) ⌝ }
+    requires n_le_most_inputs { (n ≤ mostInputs) × Fixing n g × Unfixed n g i × (g.decided < 2 ^ n) }
+    requires i_value { (bit g.decided i ≡ true) × (v < 2) }
+    ensures { result ≡ oneFixed g i (bit v 0) }
 {
     let one: u16 = 1 << i;
     Left {
@@ -57,8 +52,8 @@ fn fix(n: u32, g: Left, i: u32, v: u32) -> Left
 
 // Input j is decided too.
 fn with_decided(n: u32, g: Left, j: u32) -> Left
-    requires { ⌜ (n ≤ mostInputs) × (g .decided < 2 ^ n) × (j < n) × (bit (g .decided) j ≡ false) ⌝ }
-    ensures { λ r. ⌜ r ≡ oneDecided g j ⌝ }
+    requires { (n ≤ mostInputs) × (g.decided < 2 ^ n) × (j < n) × (bit g.decided j ≡ false) }
+    ensures { result ≡ oneDecided g j }
 {
     Left {
         fixed: g.fixed,
@@ -69,11 +64,9 @@ fn with_decided(n: u32, g: Left, j: u32) -> Left
 
 // Input j comes to the decided ones: as long as it can stand for one of them too, that one is fixed.
 fn decide(t: &[u8], n: u32, start: Left, j: u32) -> Left
-    requires { ⌜
-        (n ≤ mostInputs) × Reduced n (tableBit (now t)) start × DecidedFrom n start (j + 1) × Unfixed n start j
-        × (2 ^ n ≤ 8 * length (now t))
-        ⌝ }
-    ensures { λ g. ⌜ Reduced n (tableBit (now (t .entry))) g × DecidedFrom n g j ⌝ }
+    requires { (n ≤ mostInputs) × Reduced n (tableBit t.now) start × DecidedFrom n start (j + 1) × Unfixed n start j
+        × (2 ^ n ≤ 8 * length t.now) }
+    ensures { Reduced n (tableBit t.now) result × DecidedFrom n result j }
 {
     let mut g = start;
     let mut p = partner_of(t, n, g, j);
@@ -87,10 +80,8 @@ fn decide(t: &[u8], n: u32, start: Left, j: u32) -> Left
 // Whether the gate is a tree of two-input nodes; `counting` has the inputs that count. If so, one of them can stand for
 // all; where two are left of which none can stand for the other, no node joins two inputs.
 pub fn is_tree(t: &[u8], n: u32, counting: u16) -> bool
-    requires { ⌜
-        (n ≤ mostInputs) × (2 ^ n ≤ 8 * length (now t)) × (counting ≡ support n (tableBit (now t)))
-        ⌝ }
-    ensures { λ r. ⌜ (r ≡ true) ↔ IsTree n (tableBit (now (t .entry))) ⌝ }
+    requires { (n ≤ mostInputs) × (2 ^ n ≤ 8 * length t.now) × (counting ≡ support n (tableBit t.now)) }
+    ensures { (result ≡ true) ↔ IsTree n (tableBit t.now) }
 {
     let all: u32 = (1 << n) - 1;
     let idle = all - counting as u32;

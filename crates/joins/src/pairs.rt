@@ -1,17 +1,16 @@
 // Two inputs of what is left of a gate, of which one may stand for both.
-ghost use mathlib.Core.Path.{_≡_};
-ghost use mathlib.Core.Bool.{_||_};
-ghost use Prim.Native.Nat.{_*_, _^_, _<_, _≤_};
-ghost use lib.ListN.{length};
-ghost use Rattle·tables.specs.Table.{mostInputs, tableBit};
-ghost use Rattle·columns.specs.Reading.{Held, Without, alike};
-ghost use Rattle·joins·specs.specs.Left.{gateLeft, Unfixed, Fixing, valueBy, Valued};
+ghost use Rattle.std.specs.Prelude.{◌≡◌, ◌||◌, ◌*◌, ◌^◌, ◌<◌, ◌≤◌, length};
+ghost use Rattle.tables.specs.Table.{mostInputs, tableBit};
+ghost use Rattle.columns.specs.Reading.{Held, Without, alike};
+ghost use Rattle.joins.specs.Left.{gateLeft, Unfixed, Fixing, valueBy, Valued};
+
 use bits::sets::next;
 use columns::columns::same_column;
 use columns::split::Split;
 
 // The inputs of a gate that are fixed, and the values at which they are; of the others, those of which none can stand
 // for another.
+#[derive(Drop)]
 pub struct Left {
     pub fixed: u16,
     pub at: u32,
@@ -20,14 +19,10 @@ pub struct Left {
 
 // Whether the column read from x on is the one from y on, or the one from z on.
 fn among(t: &[u8], s: Split, x: u32, y: u32, z: u32) -> bool
-    requires { ⌜
-        Held s × Without (s .n) (s .free) x × Without (s .n) (s .free) y × Without (s .n) (s .free) z
-        × (2 ^ s .n ≤ 8 * length (now t))
-        ⌝ }
-    ensures { λ r. ⌜
-        r ≡ (alike (s .n) (tableBit (now (t .entry))) (s .free) x y
-        || alike (s .n) (tableBit (now (t .entry))) (s .free) x z)
-        ⌝ }
+    requires { Held s × Without s.n s.free x × Without s.n s.free y × Without s.n s.free z
+        × (2 ^ s.n ≤ 8 * length t.now) }
+    ensures { result ≡ (alike s.n (tableBit t.now) s.free x y
+        || alike s.n (tableBit t.now) s.free x z) }
 {
     if same_column(t, s, x, y) {
         return true;
@@ -37,11 +32,9 @@ fn among(t: &[u8], s: Split, x: u32, y: u32, z: u32) -> bool
 
 // The value of the input at which its two columns, a and b or c and d, are all four; 2 where neither are.
 fn value_by(t: &[u8], s: Split, a: u32, b: u32, c: u32, d: u32) -> u32
-    requires { ⌜
-        Held s × Without (s .n) (s .free) a × Without (s .n) (s .free) b × Without (s .n) (s .free) c
-        × Without (s .n) (s .free) d × (2 ^ s .n ≤ 8 * length (now t))
-        ⌝ }
-    ensures { λ r. ⌜ r ≡ valueBy (alike (s .n) (tableBit (now (t .entry))) (s .free)) a b c d ⌝ }
+    requires { Held s × Without s.n s.free a × Without s.n s.free b × Without s.n s.free c
+        × Without s.n s.free d × (2 ^ s.n ≤ 8 * length t.now) }
+    ensures { result ≡ valueBy (alike s.n (tableBit t.now) s.free) a b c d }
 {
     if same_column(t, s, a, b) {
         if among(t, s, a, c, d) {
@@ -60,10 +53,8 @@ fn value_by(t: &[u8], s: Split, a: u32, b: u32, c: u32, d: u32) -> u32
 
 // The value at which input i can be fixed so that j, a lower one, stands for both; 2 where there is none.
 pub fn joint(t: &[u8], n: u32, g: Left, i: u32, j: u32) -> u32
-    requires { ⌜
-        (n ≤ mostInputs) × Fixing n g × (j < i) × Unfixed n g i × Unfixed n g j × (2 ^ n ≤ 8 * length (now t))
-        ⌝ }
-    ensures { λ v. ⌜ Valued n (gateLeft n (tableBit (now (t .entry))) g) i j v ⌝ }
+    requires { (n ≤ mostInputs) × Fixing n g × (j < i) × Unfixed n g i × Unfixed n g j × (2 ^ n ≤ 8 * length t.now) }
+    ensures { Valued n (gateLeft n (tableBit t.now) g) i j result }
 {
     let own: u16 = (1 << j) + (1 << i);
     let s = Split::of(n, own, g.fixed);

@@ -1,56 +1,56 @@
 -- What is kept in mind stays true: an empty store, one more entry, and what an entry says of a pair of masks. Assumes
 -- nothing.
-use mathlib.Core.Path.{_≡_, refl, sym, ap, _∙_, subst}
-use mathlib.Core.Bool.{Bool, true, false, not, _&&_, _||_}
+use mathlib.Core.Path.{◌≡◌, refl, sym, ap, ◌∙◌, subst}
+use mathlib.Core.Bool.{Bool, true, false, not, ◌&&◌, ◌||◌}
 use mathlib.Core.List.{List}
-use Prim.Native.Nat.{ℕ, _+_, _-_, _*_, _/_, _%_, _^_, _<_}
-use native.Mathlib.Decide.{ℕ-discrete, decLt}
+use Prim.Native.Nat.{ℕ, ◌+◌, ◌-◌, ◌*◌, ◌/◌, ◌%◌, ◌^◌, ◌<◌}
+use native.Mathlib.Decide.{ℕ_discrete, dec_lt}
 use native.Mathlib.Omega.{arith}
 use lib.Dec.{eqb}
-use lib.Bits.{bitAnd, bitOr}
-use lib.ListN.{getD, set, replicate, length-set, length-replicate, getD-replicate}
-use lib.Seq.{getD-set-same, getD-set-other}
+use lib.Bits.{bit_and, bit_or}
+use lib.ListN.{get_or, set, replicate, length-set, length-replicate, get_or-replicate}
+use lib.Seq.{get_or-set_same, get_or-set_other}
 use borrow.Author.Tests.{eqb-true, not-false}
-use Rattle·bits.specs.Numbers.{bit}
-use Rattle·bits.specs.Sets.{Apart}
-use Rattle·bits.proofs.Bools.{clash, and-left}
-use Rattle·bits.proofs.Numbers.{bit-zero, bit-high}
-use Rattle·bits.proofs.Sums.{bit-not}
-use Rattle·bits.proofs.Machine.{bit-and, bit-or}
-use Rattle·splits.specs.Columns.{fewColumns}
-use Rattle·best.specs.Moves.{both}
-use Rattle·witness.specs.Witness.{Inside, single, RulesOut}
-use Rattle·known·specs.specs.Notes.{Learned, Meets, Skips, Needs, BadPairs, Adds}
-use Rattle·witness.proofs.Members.{power-bit, rules-more}
+use Rattle.bits.specs.Numbers.{bit}
+use Rattle.bits.specs.Sets.{Apart}
+use Rattle.bits.proofs.Bools.{clash, and_left}
+use Rattle.bits.proofs.Numbers.{bit-zero, bit_high}
+use Rattle.bits.proofs.Sums.{bit_not}
+use Rattle.bits.proofs.Machine.{bit-and, bit-or}
+use Rattle.splits.specs.Columns.{fewColumns}
+use Rattle.best.specs.Moves.{both}
+use Rattle.witness.specs.Witness.{Inside, single, RulesOut}
+use Rattle.known.specs.Notes.{Learned, Meets, Skips, Needs, BadPairs, Adds}
+use Rattle.witness.proofs.Members.{power-bit, rules-more}
 
 -- ---- masks
-pub and-off : (p q j : ℕ) → bitAnd p q ≡ 0 → bit p j ≡ true → bit q j ≡ false
+pub and-off : (p q j : ℕ) → bit_and p q ≡ 0 → bit p j ≡ true → bit q j ≡ false
 and-off p q j e h = sym (ap (λ (t : Bool). t && bit q j) h) ∙ sym (bit-and p q j) ∙ ap (λ (m : ℕ). bit m j) e
     ∙ bit-zero j
 
-pub and-meets : (p q own both : ℕ) → p < 4294967296 → own < 4294967296 → bitAnd p (4294967295 - own) ≡ 0 → bitAnd q both
+pub and-meets : (p q own both : ℕ) → p < 4294967296 → own < 4294967296 → bit_and p (4294967295 - own) ≡ 0 → bit_and q both
     ≡ 0 → Meets p q own both
-and-meets p q own both fitsP fitsOwn e f = record { inside = inside; outside = λ j. and-off q both j f }
+and-meets p q own both fits_p fitsOwn e f = record { inside = inside; outside = λ j. and-off q both j f }
   where
     inside : Inside (bit p) (bit own)
-    inside j h = elim (decLt j 32) [
-      | yes l ↦ not-false (bit own j) (sym (bit-not 32 own j fitsOwn l) ∙ and-off p (4294967295 - own) j e h)
-      | no l ↦ absurd (clash h (bit-high p 32 j fitsP (omega arith)))
+    inside j h = elim (dec_lt j 32) [
+      | yes l ↦ not-false (bit own j) (sym (bit_not 32 own j fitsOwn l) ∙ and-off p (4294967295 - own) j e h)
+      | no l ↦ absurd (clash h (bit_high p 32 j fits_p (omega arith)))
     ]
 
 module _ {n : ℕ} {F : ℕ → Bool} {m : ℕ} where
   -- a witness that meets a pair of masks rules it out
-  pub meets-fails : (p q own shared : ℕ) → RulesOut n F m (bit p) (bit q) → Meets p q own (bitOr own shared)
+  pub meets-fails : (p q own shared : ℕ) → RulesOut n F m (bit p) (bit q) → Meets p q own (bit_or own shared)
       → Apart n (bit own) (bit shared)
       → fewColumns n F (bit own) (bit shared) m ≡ false
   meets-fails p q own shared w x apart =
-      w .fails (bit own) (bit shared) apart (x .inside) (λ j e. ap not (sym (bit-or own shared j) ∙ x .outside j e))
+      w.fails (bit own) (bit shared) apart x.inside (λ j e. ap not (sym (bit-or own shared j) ∙ x.outside j e))
 
-  pub skips-fails : (l : List ℕ) (own shared : ℕ) → Learned n F m l → Skips l own (bitOr own shared)
+  pub skips-fails : (l : List ℕ) (own shared : ℕ) → Learned n F m l → Skips l own (bit_or own shared)
       → Apart n (bit own) (bit shared)
       → fewColumns n F (bit own) (bit shared) m ≡ false
-  skips-fails l own shared w s apart = meets-fails (getD l (s .at) 0) (getD l (64 + s .at) 0) own shared
-      (w .each (s .at) (s .below)) (s .meets) apart
+  skips-fails l own shared w s apart = meets-fails (get_or l s.at 0) (get_or l (64 + s.at) 0) own shared
+      (w.each s.at s.below) s.meets apart
 
   -- ---- the pairs learned
   pub rules-nothing : RulesOut n F m (bit 1) (bit 1)
@@ -67,13 +67,13 @@ module _ {n : ℕ} {F : ℕ → Bool} {m : ℕ} where
   learned-blank = record {
     long = length-replicate {A = ℕ} 130 1;
     each = λ i l.
-        rules-at (getD-replicate 130 i 1 0 (omega arith)) (getD-replicate 130 (64 + i) 1 0 (omega arith)) rules-nothing;
+        rules-at (get_or-replicate 130 i 1 0 (omega arith)) (get_or-replicate 130 (64 + i) 1 0 (omega arith)) rules-nothing;
   }
 
   -- a pair that rules out takes the place of one that did
   pub learned-put : (l : List ℕ) (at p q : ℕ) → at < 64 → Learned n F m l → RulesOut n F m (bit p) (bit q)
       → Learned n F m (set (set l at p) (64 + at) q)
-  learned-put l at p q h w r = record { long = length-set l₁ (64 + at) q ∙ length-set l at p ∙ w .long; each = each }
+  learned-put l at p q h w r = record { long = length-set l₁ (64 + at) q ∙ length-set l at p ∙ w.long; each = each }
     where
       l₁ : List ℕ
       l₁ = set l at p
@@ -81,40 +81,40 @@ module _ {n : ℕ} {F : ℕ → Bool} {m : ℕ} where
       l₂ : List ℕ
       l₂ = set l₁ (64 + at) q
 
-      each : (i : ℕ) → i < 64 → RulesOut n F m (bit (getD l₂ i 0)) (bit (getD l₂ (64 + i) 0))
+      each : (i : ℕ) → i < 64 → RulesOut n F m (bit (get_or l₂ i 0)) (bit (get_or l₂ (64 + i) 0))
       each i g =
-          let own : getD l₂ i 0 ≡ getD l₁ i 0 = getD-set-other l₁ (64 + at) i q 0 (λ d. omega (arith, d)) in
-          elim (ℕ-discrete i at) [
+          let own : get_or l₂ i 0 ≡ get_or l₁ i 0 = get_or-set_other l₁ (64 + at) i q 0 (λ d. omega (arith, d)) in
+          elim (ℕ_discrete i at) [
             | yes e ↦ rules-at
-                (own ∙ ap (λ (m : ℕ). getD l₁ m 0) e ∙ getD-set-same l at p 0 (omega (arith, w .long)))
-                (ap (λ (m : ℕ). getD l₂ (64 + m) 0) e ∙ getD-set-same l₁ (64 + at) q 0
-                (omega (arith, w .long, length-set l at p))) r
-            | no e ↦ rules-at (own ∙ getD-set-other l at i p 0 e)
-                (getD-set-other l₁ (64 + at) (64 + i) q 0 (λ d. e (omega (arith, d)))
-                ∙ getD-set-other l at (64 + i) p 0 (λ d. omega (arith, d))) (w .each i g)
+                (own ∙ ap (λ (m : ℕ). get_or l₁ m 0) e ∙ get_or-set_same l at p 0 (omega (arith, w.long)))
+                (ap (λ (m : ℕ). get_or l₂ (64 + m) 0) e ∙ get_or-set_same l₁ (64 + at) q 0
+                (omega (arith, w.long, length-set l at p))) r
+            | no e ↦ rules-at (own ∙ get_or-set_other l at i p 0 e)
+                (get_or-set_other l₁ (64 + at) (64 + i) q 0 (λ d. e (omega (arith, d)))
+                ∙ get_or-set_other l at (64 + i) p 0 (λ d. omega (arith, d))) (w.each i g)
           ]
 
   -- what stands behind the pairs is free
   pub learned-count : (l : List ℕ) (kept : ℕ) → Learned n F m l → Learned n F m (set l 128 kept)
   learned-count l kept w = record {
-    long = length-set l 128 kept ∙ w .long;
+    long = length-set l 128 kept ∙ w.long;
     each = λ i g.
-        rules-at (getD-set-other l 128 i kept 0 (λ d. omega (arith, d)))
-        (getD-set-other l 128 (64 + i) kept 0 (λ d. omega (arith, d))) (w .each i g);
+        rules-at (get_or-set_other l 128 i kept 0 (λ d. omega (arith, d)))
+        (get_or-set_other l 128 (64 + i) kept 0 (λ d. omega (arith, d))) (w.each i g);
   }
 
   -- two pairs change places
   pub learned-swap : (l : List ℕ) (i k : ℕ) → i < 64 → k < 64 → Learned n F m l
-      → Learned n F m (set (set (set (set l i (getD l k 0)) (64 + i) (getD l (64 + k) 0)) k (getD l i 0)) (64 + k)
-      (getD l (64 + i) 0))
-  learned-swap l i k h g w = learned-put _ k (getD l i 0) (getD l (64 + i) 0) g
-      (learned-put l i (getD l k 0) (getD l (64 + k) 0) h w (w .each k g)) (w .each i h)
+      → Learned n F m (set (set (set (set l i (get_or l k 0)) (64 + i) (get_or l (64 + k) 0)) k (get_or l i 0)) (64 + k)
+      (get_or l (64 + i) 0))
+  learned-swap l i k h g w = learned-put _ k (get_or l i 0) (get_or l (64 + i) 0) g
+      (learned-put l i (get_or l k 0) (get_or l (64 + k) 0) h w (w.each k g)) (w.each i h)
 
   -- ---- the inputs that cannot be free
   pub needs-none : (P : ℕ → Bool) → Needs n F m P 0
   needs-none P c e = absurd (clash e (bit-zero c))
 
-  pub needs-or : (P : ℕ → Bool) (u v : ℕ) → Needs n F m P u → Needs n F m P v → Needs n F m P (bitOr u v)
+  pub needs-or : (P : ℕ → Bool) (u v : ℕ) → Needs n F m P u → Needs n F m P v → Needs n F m P (bit_or u v)
   needs-or P u v x y c e = go (bit u c) refl (sym (bit-or u v c) ∙ e)
     where
       go : (t : Bool) → bit u c ≡ t → (t || bit v c) ≡ true → RulesOut n F m P (single c)
@@ -128,38 +128,38 @@ module _ {n : ℕ} {F : ℕ → Bool} {m : ℕ} where
   pub pairs-blank : BadPairs n F m (replicate 256 0)
   pairs-blank = record {
     long = length-replicate {A = ℕ} 256 0;
-    each = λ at l. subst (λ (u : ℕ). Needs n F m (both (at / 16) (at % 16)) u) (sym (getD-replicate 256 at 0 0 l))
+    each = λ at l. subst (λ (u : ℕ). Needs n F m (both (at / 16) (at % 16)) u) (sym (get_or-replicate 256 at 0 0 l))
         (needs-none (both (at / 16) (at % 16)));
   }
 
   pub pairs-more : (l : List ℕ) (at u : ℕ) → BadPairs n F m l → at < 256 → Needs n F m (both (at / 16) (at % 16)) u
       → BadPairs n F m (set l at u)
   pairs-more l at u w h x = record {
-    long = length-set l at u ∙ w .long;
-    each = λ i g. elim (ℕ-discrete i at) [
-      | yes e ↦ subst (λ (i : ℕ). Needs n F m (both (i / 16) (i % 16)) (getD (set l at u) i 0)) (sym e)
+    long = length-set l at u ∙ w.long;
+    each = λ i g. elim (ℕ_discrete i at) [
+      | yes e ↦ subst (λ (i : ℕ). Needs n F m (both (i / 16) (i % 16)) (get_or (set l at u) i 0)) (sym e)
           (subst (λ (v : ℕ). Needs n F m (both (at / 16) (at % 16)) v)
-          (sym (getD-set-same l at u 0 (omega (arith, w .long)))) x)
-      | no e ↦ subst (λ (v : ℕ). Needs n F m (both (i / 16) (i % 16)) v) (sym (getD-set-other l at i u 0 e))
-          (w .each i g)
+          (sym (get_or-set_same l at u 0 (omega (arith, w.long)))) x)
+      | no e ↦ subst (λ (v : ℕ). Needs n F m (both (i / 16) (i % 16)) v) (sym (get_or-set_other l at i u 0 e))
+          (w.each i g)
     ];
   }
 
 -- ---- the needed inputs, as an own mask grows
 module _ (l : List ℕ) (acc j : ℕ) where
-  pub adds-none : (need : ℕ) → Adds l acc j need need
-  adds-none need = record { needs = λ n m F P w in-acc has x. x }
+  pub adds_none : (need : ℕ) → Adds l acc j need need
+  adds_none need = record { needs = λ n m F P w in-acc has x. x }
 
   pub adds-both : {need more most : ℕ} → Adds l acc j need more → Adds l acc j more most → Adds l acc j need most
   adds-both x y = record {
-    needs = λ n m F P w in-acc has z. y .needs n m F P w in-acc has
-        (x .needs n m F P w in-acc has z);
+    needs = λ n m F P w in-acc has z. y.needs n m F P w in-acc has
+        (x.needs n m F P w in-acc has z);
   }
 
   pub adds-pair : (i need : ℕ) → i < 16 → j < 16 → bit acc i ≡ true
-      → Adds l acc j need (bitOr need (getD l (i * 16 + j) 0))
+      → Adds l acc j need (bit_or need (get_or l (i * 16 + j) 0))
   adds-pair i need p q e = record {
-    needs = λ n m F P w in-acc has x. needs-or P need (getD l (i * 16 + j) 0) x
+    needs = λ n m F P w in-acc has x. needs-or P need (get_or l (i * 16 + j) 0) x
         (at n m F P w in-acc has);
   }
     where
@@ -170,8 +170,8 @@ module _ (l : List ℕ) (acc j : ℕ) where
       low = omega arith
 
       at : (n m : ℕ) (F P : ℕ → Bool) → BadPairs n F m l → Inside (bit acc) P → P j ≡ true
-          → Needs n F m P (getD l (i * 16 + j) 0)
-      at n m F P w in-acc has c f = rules-more (w .each (i * 16 + j) (omega arith) c f) inside (λ x h. h)
+          → Needs n F m P (get_or l (i * 16 + j) 0)
+      at n m F P w in-acc has c f = rules-more (w.each (i * 16 + j) (omega arith) c f) inside (λ x h. h)
         where
           inside : Inside (both ((i * 16 + j) / 16) ((i * 16 + j) % 16)) P
           inside x h = go (eqb x ((i * 16 + j) / 16)) refl h
@@ -182,5 +182,5 @@ module _ (l : List ℕ) (acc j : ℕ) where
 
 -- a part of the needed inputs
 pub needs-part : {n : ℕ} {F : ℕ → Bool} {m : ℕ} (P : ℕ → Bool) (need other : ℕ) → Needs n F m P need
-    → Needs n F m P (bitAnd need other)
-needs-part P need other x c e = x c (and-left (bit need c) (bit other c) (sym (bit-and need other c) ∙ e))
+    → Needs n F m P (bit_and need other)
+needs-part P need other x c e = x c (and_left (bit need c) (bit other c) (sym (bit-and need other c) ∙ e))

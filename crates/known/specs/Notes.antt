@@ -1,22 +1,18 @@
 -- What the search keeps in mind.
-use mathlib.Core.Path.{_≡_}
-use mathlib.Core.Bool.{Bool, true, false}
-use mathlib.Core.List.{List}
-use Prim.Native.Nat.{ℕ, _+_, _/_, _%_, _<_}
-use lib.ListN.{length, getD}
-use Rattle·bits.specs.Numbers.{bit}
-use Rattle·bits.specs.Sets.{size}
-use Rattle·best.specs.Moves.{both}
-use Rattle·witness.specs.Witness.{Inside, single, RulesOut}
+use Rattle.std.specs.Prelude.{◌≡◌, Bool, true, false, List, ℕ, ◌+◌, ◌/◌, ◌%◌, ◌<◌, length, get_or}
+use Rattle.bits.specs.Numbers.{bit}
+use Rattle.bits.specs.Sets.{size}
+use Rattle.best.specs.Moves.{both}
+use Rattle.witness.specs.Witness.{Inside, single, RulesOut}
 
 -- 64 pairs of masks, place i own and place 64 + i free, each of which rules out
 pub record Learned (n : ℕ) (F : ℕ → Bool) (m : ℕ) (l : List ℕ) : Type 0 where
   pub long : length l ≡ 130
-  pub each : (i : ℕ) → i < 64 → RulesOut n F m (bit (getD l i 0)) (bit (getD l (64 + i) 0))
+  pub each : (i : ℕ) → i < 64 → RulesOut n F m (bit (get_or l i 0)) (bit (get_or l (64 + i) 0))
 
 -- what was true of the pairs of masks stays true, of every table and every number of columns
 abbrev pub StaysLearned : List ℕ → List ℕ → Type 0
-StaysLearned l l′ = (n m : ℕ) (F : ℕ → Bool) → Learned n F m l → Learned n F m l′
+StaysLearned l l' = (n m : ℕ) (F : ℕ → Bool) → Learned n F m l → Learned n F m l'
 
 -- the mask P is inside `own`, and Q has no position of `both`
 pub record Meets (P Q own both : ℕ) : Type 0 where
@@ -27,7 +23,7 @@ pub record Meets (P Q own both : ℕ) : Type 0 where
 pub record Skips (l : List ℕ) (own both : ℕ) : Type 0 where
   pub at : ℕ
   pub below : at < 64
-  pub meets : Meets (getD l at 0) (getD l (64 + at) 0) own both
+  pub meets : Meets (get_or l at 0) (get_or l (64 + at) 0) own both
 
 -- with P among the own inputs, no input of the mask can be free
 abbrev pub Needs : ℕ → (ℕ → Bool) → ℕ → (ℕ → Bool) → ℕ → Type 0
@@ -36,7 +32,7 @@ Needs n F m P mask = (c : ℕ) → bit mask c ≡ true → RulesOut n F m P (sin
 -- place 16 i + j: the inputs that cannot be free where i and j are own
 pub record BadPairs (n : ℕ) (F : ℕ → Bool) (m : ℕ) (l : List ℕ) : Type 0 where
   pub long : length l ≡ 256
-  pub each : (at : ℕ) → at < 256 → Needs n F m (both (at / 16) (at % 16)) (getD l at 0)
+  pub each : (at : ℕ) → at < 256 → Needs n F m (both (at / 16) (at % 16)) (get_or l at 0)
 
 -- no position of the mask is own
 abbrev pub Outside : ℕ → ℕ → Type 0
@@ -57,4 +53,4 @@ pub record Dead (mask i j k : ℕ) : Type 0 where
 
 -- so at every place below `end` that stands for two inputs
 abbrev pub AllDead : List ℕ → ℕ → ℕ → ℕ → Type 0
-AllDead l n k end = (m : ℕ) → m < end → m % 16 < m / 16 → m / 16 < n → Dead (getD l m 0) (m / 16) (m % 16) k
+AllDead l n k end = (m : ℕ) → m < end → m % 16 < m / 16 → m / 16 < n → Dead (get_or l m 0) (m / 16) (m % 16) k

@@ -1,13 +1,11 @@
 // The inputs that cannot be free, gathered as an own mask grows.
-ghost use mathlib.Core.Path.{_≡_};
-ghost use Prim.Native.Nat.{_<_};
-ghost use lib.ListN.{length};
-ghost use Rattle·known·specs.specs.Notes.{Adds};
+ghost use Rattle.std.specs.Prelude.{◌≡◌, ◌<◌, length};
+ghost use Rattle.known.specs.Notes.{Adds};
 
 // The mask, with those that cannot be free where i and j are own, if i is in acc.
 fn with_pair(pairs: &[u16], acc: u16, i: u32, j: u32, need: u16) -> u16
-    requires { ⌜ (length (now pairs) ≡ 256) × (i < 16) × (j < 16) ⌝ }
-    ensures { λ r. ⌜ Adds (now (pairs .entry)) acc j need r ⌝ }
+    requires { (length pairs.now ≡ 256) × (i < 16) × (j < 16) }
+    ensures { Adds pairs.now acc j need result }
 {
     if (acc >> i) & 1 == 1 {
         return need | pairs[(i * 16 + j) as usize];
@@ -17,8 +15,8 @@ fn with_pair(pairs: &[u16], acc: u16, i: u32, j: u32, need: u16) -> u16
 
 // The mask, with those that cannot be free where j is own beside acc.
 pub fn needed(pairs: &[u16], acc: u16, j: u32, need: u16) -> u16
-    requires { ⌜ (length (now pairs) ≡ 256) × (j < 16) ⌝ }
-    ensures { λ r. ⌜ Adds (now (pairs .entry)) acc j need r ⌝ }
+    requires { (length pairs.now ≡ 256) × (j < 16) }
+    ensures { Adds pairs.now acc j need result }
 {
     let mut more = need;
     let mut x = acc;

@@ -1,17 +1,16 @@
 // For each two inputs those that cannot be free where the two are own.
-ghost use mathlib.Core.Bool.{Bool};
-ghost use Prim.Native.Nat.{ℕ, _<_};
-ghost use Rattle·tables.specs.Table.{tableBit};
-ghost use Rattle·best.specs.Moves.{both};
-ghost use Rattle·known·specs.specs.Notes.{Needs, BadPairs};
-ghost use Rattle·witness.specs.Points.{Wide, Off};
+ghost use Rattle.std.specs.Prelude.{Bool, ℕ, ◌<◌};
+ghost use Rattle.tables.specs.Table.{tableBit};
+ghost use Rattle.best.specs.Moves.{both};
+ghost use Rattle.known.specs.Notes.{Needs, BadPairs};
+ghost use Rattle.witness.specs.Points.{Wide, Off};
+
 use bits::sets::members;
-use witness::triple::bad;
-use witness::triple::off;
+use witness::triple::{bad, off};
 
 // Room for 16 times 16 masks, nothing known yet.
 pub fn unknown() -> [u16; 256]
-    ensures { λ r. ⌜ ((n m : ℕ) (F : ℕ → Bool) → BadPairs n F m r) ⌝ }
+    ensures { (n m : ℕ) (F : ℕ → Bool) → BadPairs n F m result }
 {
     [0; 256]
 }
@@ -20,7 +19,7 @@ pub fn unknown() -> [u16; 256]
 // triple, which most show early, and the test of their columns takes no longer than one look to the end. The largest
 // table has 1,024 words, so that is as far as a look can go.
 fn reach_for(most: u32) -> u32
-    ensures { λ r. ⊤ₛ }
+    ensures { Unit {0} }
 {
     if most == 0 {
         return 4;
@@ -30,9 +29,9 @@ fn reach_for(most: u32) -> u32
 
 // The mask, and c besides where it cannot be free.
 fn with_bad(t: &[u8], n: u32, places: u64, i: u32, j: u32, c: u32, reach: u32, mask: u16) -> u16
-    requires { ⌜ Wide n (now t) × (i < n) × (j < n) × (c < n) × Off i places × Off j places ⌝ }
-    requires { ⌜ Needs n (tableBit (now t)) 2 (both i j) mask ⌝ }
-    ensures { λ r. ⌜ Needs n (tableBit (now (t .entry))) 2 (both i j) r ⌝ }
+    requires wide { Wide n t.now × (i < n) × (j < n) × (c < n) × Off i places × Off j places }
+    requires needs { Needs n (tableBit t.now) 2 (both i j) mask }
+    ensures { Needs n (tableBit t.now) 2 (both i j) result }
 {
     if c == i {
         return mask;
@@ -48,8 +47,8 @@ fn with_bad(t: &[u8], n: u32, places: u64, i: u32, j: u32, c: u32, reach: u32, m
 
 // The inputs that cannot be free where i and j are own; no more of them than one above `most`.
 fn bad_inputs(t: &[u8], n: u32, most: u32, i: u32, j: u32) -> u16
-    requires { ⌜ Wide n (now t) × (i < n) × (j < n) ⌝ }
-    ensures { λ r. ⌜ Needs n (tableBit (now (t .entry))) 2 (both i j) r ⌝ }
+    requires { Wide n t.now × (i < n) × (j < n) }
+    ensures { Needs n (tableBit t.now) 2 (both i j) result }
 {
     let places = off(i) & off(j);
     let reach = reach_for(most);
@@ -67,8 +66,8 @@ fn bad_inputs(t: &[u8], n: u32, most: u32, i: u32, j: u32) -> u16
 
 // The same, for each two inputs once: the larger first.
 fn entry(t: &[u8], n: u32, most: u32, i: u32, j: u32) -> u16
-    requires { ⌜ Wide n (now t) ⌝ }
-    ensures { λ r. ⌜ Needs n (tableBit (now (t .entry))) 2 (both i j) r ⌝ }
+    requires { Wide n t.now }
+    ensures { Needs n (tableBit t.now) 2 (both i j) result }
 {
     if i <= j {
         return 0;
@@ -81,8 +80,8 @@ fn entry(t: &[u8], n: u32, most: u32, i: u32, j: u32) -> u16
 
 // Fills the table of pairs.
 pub fn fill(t: &[u8], n: u32, most: u32, table: &mut [u16])
-    requires { ⌜ Wide n (now t) × BadPairs n (tableBit (now t)) 2 (now table) ⌝ }
-    ensures { λ r. ⌜ BadPairs n (tableBit (now (t .entry))) 2 (now (table .exit)) ⌝ }
+    requires { Wide n t.now × BadPairs n (tableBit t.now) 2 table.old }
+    ensures { BadPairs n (tableBit t.now) 2 table.new }
 {
     let mut at: usize = 0;
     while at < 256 {

@@ -1,15 +1,14 @@
 // A load that is cut, as by a pulled plug: for trying what a desk then answers.
+ghost use Rattle.std.specs.Prelude.{◌≡◌};
+ghost use Rattle.cards.specs.LoadCut.{cutOutcome};
+
 use crate::loading::load_part;
 use cards::sizes::STORES;
 use refusals::verdicts::Verdict;
-ghost use mathlib.Core.Path.{_≡_};
-ghost use Rattle·cards.specs.LoadCut.{cutOutcome};
 
 // Loads a sheet of n inputs onto desk d of a card, but makes only the first `stores` stores.
 pub fn load_cut(card: &mut [u8], d: u64, n: u64, s: &[u8], stores: u64) -> Verdict
-    ensures { λ r. ⌜
-        record { verdict = r; card = now (card .exit) } ≡ cutOutcome stores (now (card .entry)) d n (now (s .entry))
-        ⌝ }
+    ensures { record { verdict = result; card = card.new } ≡ cutOutcome stores card.old d n s.now }
 {
     if STORES as u64 <= stores {
         return load_part(card, d, n, s, 0, STORES);

@@ -1,15 +1,14 @@
 // Loading a sheet onto a desk.
+ghost use Rattle.std.specs.Prelude.{◌≡◌};
+ghost use Rattle.cards.specs.LoadDesk.{loadOutcome};
+
 use crate::loading::load_part;
 use cards::sizes::STORES;
 use refusals::verdicts::Verdict;
-ghost use mathlib.Core.Path.{_≡_};
-ghost use Rattle·cards.specs.LoadDesk.{loadOutcome};
 
 // Loads a sheet of n inputs onto desk d of a card.
 pub fn load_desk(card: &mut [u8], d: u64, n: u64, s: &[u8]) -> Verdict
-    ensures { λ r. ⌜
-        record { verdict = r; card = now (card .exit) } ≡ loadOutcome (now (card .entry)) d n (now (s .entry))
-        ⌝ }
+    ensures { record { verdict = result; card = card.new } ≡ loadOutcome card.old d n s.now }
 {
     load_part(card, d, n, s, 0, STORES)
 }

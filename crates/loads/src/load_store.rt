@@ -1,15 +1,14 @@
 // One store of a load: for making the stores of several loads in any order.
+ghost use Rattle.std.specs.Prelude.{◌≡◌};
+ghost use Rattle.cards.specs.LoadStore.{storeOutcome};
+
 use crate::loading::load_part;
 use cards::sizes::STORES;
 use refusals::verdicts::Verdict;
-ghost use mathlib.Core.Path.{_≡_};
-ghost use Rattle·cards.specs.LoadStore.{storeOutcome};
 
 // Makes store `which` of a load of a sheet of n inputs onto desk d of a card, and no other.
 pub fn load_store(card: &mut [u8], d: u64, n: u64, s: &[u8], which: u64) -> Verdict
-    ensures { λ r. ⌜
-        record { verdict = r; card = now (card .exit) } ≡ storeOutcome which (now (card .entry)) d n (now (s .entry))
-        ⌝ }
+    ensures { record { verdict = result; card = card.new } ≡ storeOutcome which card.old d n s.now }
 {
     if STORES as u64 <= which {
         return load_part(card, d, n, s, STORES, STORES);

@@ -1,25 +1,20 @@
 // Loading a sheet onto a desk: the lines, and any part of the load's stores.
+ghost use Rattle.std.specs.Prelude.{◌≡◌, ◌-◌, ◌≤◌, take, drop};
+ghost use Rattle.refusals.specs.Lines.{verdict};
+ghost use Rattle.cards.specs.Stores.{storeCount, loadStores};
+ghost use Rattle.cards.specs.Refusals.{anotherDesk};
+ghost use Rattle.cards.specs.LoadDesk.{loadLines, partOutcome};
+
 use cards::form::filed;
-use cards::sizes::CARD;
-use cards::sizes::DESKS;
+use cards::sizes::{CARD, DESKS};
 use cards::stores::make_stores;
 use refusals::form::outside;
-use refusals::verdicts::Refusal;
-use refusals::verdicts::Verdict;
-use refusals::verdicts::refuse;
-use sheets::kinds::Edition;
-use sheets::kinds::Sheet;
-ghost use mathlib.Core.Path.{_≡_};
-ghost use Prim.Native.Nat.{_-_, _≤_};
-ghost use lib.ListN.{take, drop};
-ghost use Rattle·refusals.specs.Lines.{verdict};
-ghost use Rattle·cards.specs.Stores.{storeCount, loadStores};
-ghost use Rattle·cards.specs.Refusals.{anotherDesk};
-ghost use Rattle·cards.specs.LoadDesk.{loadLines, partOutcome};
+use refusals::verdicts::{Refusal, Verdict, refuse};
+use sheets::kinds::{Edition, Sheet};
 
 // Whether a sheet of a record or more is for another desk.
 fn another_desk(d: u64, s: &[u8]) -> bool
-    ensures { λ r. ⌜ r ≡ anotherDesk d (now (s .entry)) ⌝ }
+    ensures { result ≡ anotherDesk d s.now }
 {
     if s.len() < Sheet::RECORD {
         return false;
@@ -29,7 +24,7 @@ fn another_desk(d: u64, s: &[u8]) -> bool
 
 // Lines 20, 19, 1, 9, 10 and 15.
 fn load_form<'a>(card: &'a [u8], d: u64, n: u64, s: &'a [u8]) -> Verdict
-    ensures { λ r. ⌜ r ≡ verdict (loadLines (now (card .entry)) d n (now (s .entry))) ⌝ }
+    ensures { result ≡ verdict (loadLines card.now d n s.now) }
 {
     if card.len() != CARD {
         return refuse(Refusal::CARD);
@@ -45,12 +40,10 @@ fn load_form<'a>(card: &'a [u8], d: u64, n: u64, s: &'a [u8]) -> Verdict
 
 // Loads a sheet of n inputs onto desk d, but makes only the stores from `first` up to `end`.
 pub fn load_part(card: &mut [u8], d: u64, n: u64, s: &[u8], first: usize, end: usize) -> Verdict
-    requires { ⌜ (first ≤ end) × (end ≤ storeCount) ⌝ }
-    ensures { λ r. ⌜
-        record { verdict = r; card = now (card .exit) }
-        ≡ partOutcome (take (end - first) (drop first (loadStores d n (now (s .entry))))) (now (card .entry)) d n
-        (now (s .entry))
-        ⌝ }
+    requires { (first ≤ end) × (end ≤ storeCount) }
+    ensures { record { verdict = result; card = card.new }
+        ≡ partOutcome (take (end - first) (drop first (loadStores d n s.now))) card.old d n
+        s.now }
 {
     let form = load_form(card, d, n, s);
     let Verdict::Fine = form else {

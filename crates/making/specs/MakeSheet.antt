@@ -1,36 +1,31 @@
 -- Make a sheet for a desk: how many cells, and their records in a lent sheet.
-use mathlib.Core.Path.{_≡_}
-use mathlib.Core.Bool.{true, cond}
-use mathlib.Core.List.{List, [], _∷_, _++_}
-use Prim.Native.Nat.{ℕ, _^_, _≤_}
-use lib.Dec.{leb}
-use lib.ListN.{length}
-use Rattle·bits.specs.Numbers.{number}
-use Rattle·tables.specs.Table.{tableBit}
-use Rattle·sheets.specs.declared.kinds.Edition.{Edition}
-use Rattle·sheets.specs.Edition.{mostRecords}
-use Rattle·sheets.specs.Network.{Cell}
-use Rattle·sheets.specs.Writing.{AtMost, sheetBytes}
-use Rattle·sheets.specs.Held.{cellsOf}
-use Rattle·chains.specs.Chain.{Made, stuck, made}
-use Rattle·chains.specs.Aside.{sheetAside}
-use Rattle·steps.specs.declared.chaining.ChainEnd.{ChainEnd}
-use Rattle·refusals.specs.declared.verdicts.Refusal.{Refusal}
-use Rattle·refusals.specs.declared.verdicts.Verdict.the-variants.{Fine, Refused}
-use Rattle·refusals.specs.Lines.{Line, refusal, verdict, reply}
-use Rattle·refusals.specs.Refusals.{gateLines, badDesk, shortSheet}
-use Rattle·making·specs.specs.Refusals.{chainStuck}
-use Rattle·refusals.specs.Lent.{into, workAfter}
-use Rattle·making·specs.specs.declared.make_sheet.MakeAnswer.{MakeAnswer}
+use Rattle.std.specs.Prelude.{◌≡◌, true, cond, List, [], ◌∷◌, ◌++◌, ℕ, ◌^◌, ◌≤◌, leb, length}
+use Rattle.bits.specs.Numbers.{number}
+use Rattle.tables.specs.Table.{tableBit}
+use Rattle.sheets.specs.declared.kinds.Edition.{Edition}
+use Rattle.sheets.specs.Edition.{mostRecords}
+use Rattle.sheets.specs.Network.{Cell}
+use Rattle.sheets.specs.Writing.{AtMost, sheetBytes}
+use Rattle.sheets.specs.Held.{cells_of}
+use Rattle.chains.specs.Chain.{Made, stuck, made}
+use Rattle.chains.specs.Aside.{sheetAside}
+use Rattle.steps.specs.declared.chaining.ChainEnd.{ChainEnd}
+use Rattle.refusals.specs.declared.verdicts.Refusal.{Refusal}
+use Rattle.refusals.specs.declared.verdicts.Verdict.TheVariants.{Fine, Refused}
+use Rattle.refusals.specs.Lines.{Line, refusal, verdict, reply}
+use Rattle.refusals.specs.Refusals.{gateLines, badDesk, shortSheet}
+use Rattle.making.specs.Refusals.{chainStuck}
+use Rattle.refusals.specs.Lent.{into, workAfter}
+use Rattle.making.specs.declared.make_sheet.MakeAnswer.{MakeAnswer}
 
 -- the chain of a gate's table, as a number, with what does not count set aside
 abbrev pub sheetFor : ℕ → ℕ → List ℕ → Made
 sheetFor n K t = sheetAside n K (number (2 ^ n) (tableBit t))
 
 -- the cells of a chain
-abbrev pub cellsIn : Made → List Cell
-cellsIn stuck = []
-cellsIn (made cs) = cs
+abbrev pub cells_in : Made → List Cell
+cells_in stuck = []
+cells_in (made cs) = cs
 
 -- form and room: 1 to 4, 5 of the desk, and 6 of the sheet and the work area
 abbrev pub makeForm : Edition → ℕ → ℕ → ℕ → List ℕ → List ℕ → List ℕ → List Line
@@ -70,11 +65,11 @@ chainWritten e d (made cs) sheet work =
 
 -- where a sheet has room for a chain's cells as the code holds them, an edition's records have room for each
 abbrev pub Writable : Edition → ChainEnd → Type 0
-Writable e r = r .finished ≡ true → r .count ≤ mostRecords
-    → (r .sheet .count ≤ mostRecords) × AtMost (e .most) (cellsOf (r .sheet))
+Writable e r = r.finished ≡ true → r.count ≤ mostRecords
+    → (r.sheet.count ≤ mostRecords) × AtMost e.most (cells_of r.sheet)
 
 -- what make is to return and leave for the desk d, whatever is handed over
 unfoldable pub makeOutcome : Edition → ℕ → ℕ → ℕ → List ℕ → List ℕ → List ℕ → MakeOutcome
 makeOutcome e d n K t sheet work =
-    reply (verdict (makeLines e d n K t sheet work)) (makeDone e d (cellsIn (sheetFor n K t)) sheet work)
+    reply (verdict (makeLines e d n K t sheet work)) (makeDone e d (cells_in (sheetFor n K t)) sheet work)
     (makeNot sheet work)

@@ -1,8 +1,8 @@
 -- The line of make that speaks of the chain.
-use mathlib.Core.Bool.{Bool, true, false}
-use Rattle·chains.specs.Chain.{Made, stuck, made}
-use Rattle·refusals.specs.Numbers.{ofSplit}
-use Rattle·refusals.specs.Lines.{Line, line}
+use Rattle.std.specs.Prelude.{Bool, true, false}
+use Rattle.chains.specs.Chain.{Made, stuck, made}
+use Rattle.refusals.specs.Numbers.{ofSplit}
+use Rattle.refusals.specs.Lines.{Line, line}
 
 -- whether the chain is stuck
 abbrev pub isStuck : Made → Bool

@@ -1,25 +1,20 @@
 // Making a sheet of best splits.
+ghost use Rattle.std.specs.Prelude.{◌≡◌, List, ℕ, ◌*◌, ◌≤◌, length, replicate};
+ghost use Rattle.sheets.specs.Edition.{IsEdition, mostRecords, firstEdition};
+ghost use Rattle.chains.specs.Chain.{Made};
+ghost use Rattle.steps.specs.Chaining.{Tells};
+ghost use Rattle.refusals.specs.Lines.{verdict};
+ghost use Rattle.making.specs.MakeSheet.{makeForm, Writable, chainWritten, makeOutcome};
+
 use refusals::form;
-use refusals::verdicts::Refusal;
-use refusals::verdicts::Verdict;
-use refusals::verdicts::refuse;
-use sheets::kinds::Edition;
-use sheets::kinds::Sheet;
+use refusals::verdicts::{Refusal, Verdict, refuse};
+use sheets::kinds::{Edition, Sheet};
 use sheets::writing::put_all;
-use steps::chaining::ChainEnd;
-use steps::chaining::chain_upto;
+use steps::chaining::{ChainEnd, chain_upto};
 use tables::WORK;
-ghost use mathlib.Core.Path.{_≡_};
-ghost use mathlib.Core.List.{List};
-ghost use Prim.Native.Nat.{ℕ, _*_, _≤_};
-ghost use lib.ListN.{length, replicate};
-ghost use Rattle·sheets.specs.Edition.{IsEdition, mostRecords, firstEdition};
-ghost use Rattle·chains.specs.Chain.{Made};
-ghost use Rattle·steps.specs.Chaining.{Tells};
-ghost use Rattle·refusals.specs.Lines.{verdict};
-ghost use Rattle·making·specs.specs.MakeSheet.{makeForm, Writable, chainWritten, makeOutcome};
 
 // How many cells, if nothing is wrong.
+#[derive(Drop)]
 pub struct MakeAnswer {
     pub verdict: Verdict,
     pub count: usize,
@@ -35,8 +30,8 @@ fn make_form<'a>(
     sheet: &'a [u8],
     work: &'a [u8],
 ) -> Verdict
-    requires { ⌜ IsEdition e ⌝ }
-    ensures { λ r. ⌜ r ≡ verdict (makeForm e d n k (now (t .entry)) (now (sheet .entry)) (now (work .entry))) ⌝ }
+    requires { IsEdition e }
+    ensures { result ≡ verdict (makeForm e d n k t.now sheet.now work.now) }
 {
     let gate = form::gate(e, n, k, t);
     let Verdict::Fine = gate else {
@@ -56,12 +51,10 @@ fn make_form<'a>(
 
 // What comes of a chain's end: its records into lent bytes that are enough, or that it is stuck, or longer than a sheet.
 pub fn write_end(e: Edition, d: u8, end: ChainEnd, sheet: &mut [u8]) -> MakeAnswer
-    requires { ⌜ IsEdition e × (e .size * mostRecords ≤ length (now sheet)) × Writable e end ⌝ }
-    ensures { λ r. ⌜
-        ((x : Made) (work : List ℕ) → Tells end x
-        → record { answer = r; sheet = now (sheet .exit); work = replicate (length work) 0 }
-        ≡ chainWritten e d x (now (sheet .entry)) work)
-        ⌝ }
+    requires { IsEdition e × (e.size * mostRecords ≤ length sheet.old) × Writable e end }
+    ensures { (x : Made) (work : List ℕ) → Tells end x
+        → record { answer = result; sheet = sheet.new; work = replicate (length work) 0 }
+        ≡ chainWritten e d x sheet.old work }
 {
     if !end.finished {
         return MakeAnswer {
@@ -94,11 +87,9 @@ pub fn make_in(
     sheet: &mut [u8],
     work: &mut [u8],
 ) -> MakeAnswer
-    requires { ⌜ IsEdition e ⌝ }
-    ensures { λ r. ⌜
-        record { answer = r; sheet = now (sheet .exit); work = now (work .exit) } ≡ makeOutcome e d n k
-        (now (t .entry)) (now (sheet .entry)) (now (work .entry))
-        ⌝ }
+    requires { IsEdition e }
+    ensures { record { answer = result; sheet = sheet.new; work = work.new } ≡ makeOutcome e d n k
+        t.now sheet.old work.old }
 {
     let form = make_form(e, d, n, k, t, sheet, work);
     let Verdict::Fine = form else {
@@ -120,20 +111,16 @@ pub fn make_for_desk(
     sheet: &mut [u8],
     work: &mut [u8],
 ) -> MakeAnswer
-    ensures { λ r. ⌜
-        record { answer = r; sheet = now (sheet .exit); work = now (work .exit) }
-        ≡ makeOutcome firstEdition desk n k (now (t .entry)) (now (sheet .entry)) (now (work .entry))
-        ⌝ }
+    ensures { record { answer = result; sheet = sheet.new; work = work.new }
+        ≡ makeOutcome firstEdition desk n k t.now sheet.old work.old }
 {
     make_in(Edition::first(), desk, n, k, t, sheet, work)
 }
 
 // Makes the sheet of a table for bench use: how many cells.
 pub fn make_sheet(n: u64, k: u64, t: &[u8], sheet: &mut [u8], work: &mut [u8]) -> MakeAnswer
-    ensures { λ r. ⌜
-        record { answer = r; sheet = now (sheet .exit); work = now (work .exit) }
-        ≡ makeOutcome firstEdition 0 n k (now (t .entry)) (now (sheet .entry)) (now (work .entry))
-        ⌝ }
+    ensures { record { answer = result; sheet = sheet.new; work = work.new }
+        ≡ makeOutcome firstEdition 0 n k t.now sheet.old work.old }
 {
     make_for_desk(n, k, 0, t, sheet, work)
 }

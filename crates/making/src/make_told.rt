@@ -1,11 +1,11 @@
 // Making a sheet of best splits in a told edition.
-use crate::make_sheet::MakeAnswer;
-use crate::make_sheet::make_in;
+ghost use Rattle.std.specs.Prelude.{◌≡◌};
+ghost use Rattle.making.specs.MakeTold.{makeTold};
+
+use crate::make_sheet::{MakeAnswer, make_in};
 use refusals::form;
 use refusals::verdicts::Verdict;
 use sheets::kinds::Edition;
-ghost use mathlib.Core.Path.{_≡_};
-ghost use Rattle·making·specs.specs.MakeTold.{makeTold};
 
 // Makes the sheet of a table in records of the edition with the number w, for a desk, 0 being the bench's own: how many
 // cells.
@@ -18,10 +18,8 @@ pub fn make_told(
     sheet: &mut [u8],
     work: &mut [u8],
 ) -> MakeAnswer
-    ensures { λ r. ⌜
-        record { answer = r; sheet = now (sheet .exit); work = now (work .exit) }
-        ≡ makeTold w desk n k (now (t .entry)) (now (sheet .entry)) (now (work .entry))
-        ⌝ }
+    ensures { record { answer = result; sheet = sheet.new; work = work.new }
+        ≡ makeTold w desk n k t.now sheet.old work.old }
 {
     let told = form::told(w, n);
     let Verdict::Fine = told else {

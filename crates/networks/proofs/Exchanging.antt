@@ -1,35 +1,35 @@
 -- Where F is unchanged by swapping the inputs p and q, or by swapping and flipping both, a network that carries F makes
 -- another in which the two have changed places: a cell reads p where it read q. Assumes nothing.
-use mathlib.Core.Path.{_≡_, refl, sym, ap, ap₂, _∙_}
-use mathlib.Core.Logic.{_↔_}
-use mathlib.Core.Bool.{Bool, true, false, cond, _&&_, _||_, Bool·beq}
+use mathlib.Core.Path.{◌≡◌, refl, sym, ap, ap₂, ◌∙◌}
+use mathlib.Core.Logic.{◌↔◌}
+use mathlib.Core.Bool.{Bool, true, false, cond, ◌&&◌, ◌||◌, beq}
 use mathlib.Core.List.{List, map}
-use Prim.Native.Nat.{ℕ, _+_, _^_, _<_, _≤_}
-use native.Mathlib.Decide.{decLt}
+use Prim.Native.Nat.{ℕ, ◌+◌, ◌^◌, ◌<◌, ◌≤◌}
+use native.Mathlib.Decide.{dec_lt}
 use native.Mathlib.Omega.{arith}
 use lib.Dec.{eqb}
 use lib.ListN.{length, length-map}
-use borrow.Author.Tests.{eq-eqb, ne-eqb, eqb-true, eqb-false}
-use Rattle·bits.specs.Numbers.{bit, flipped}
-use Rattle·bits.proofs.Bools.{or-left, or-right, beq-same, same-beq}
-use Rattle·bits.proofs.Below.{every-at, every-all}
-use Rattle·bits.proofs.Numbers.{bit-number, bit-high, number-lt}
-use Rattle·sheets.specs.Network.{Cell, Gives}
-use Rattle·networks·specs.specs.Signals.{doesRead, ReadLater}
-use Rattle·networks·specs.specs.Swapping.{swapped, Swappable, unchanged, swappable}
-use Rattle·networks·proofs.proofs.Turning.{Moves, Seen, turned, turned-run, turned-wired, turned-reads}
+use borrow.Author.Tests.{eq-eqb, ne_eqb, eqb-true, eqb-false}
+use Rattle.bits.specs.Numbers.{bit, flipped}
+use Rattle.bits.proofs.Bools.{or_left, or_right, beq_same, same-beq}
+use Rattle.bits.proofs.Below.{every-at, every-all}
+use Rattle.bits.proofs.Numbers.{bit-number, bit_high, number_lt}
+use Rattle.sheets.specs.Network.{Cell, Gives}
+use Rattle.networks.specs.Signals.{doesRead, ReadLater}
+use Rattle.networks.specs.Swapping.{swapped, Swappable, unchanged, swappable}
+use Rattle.networks.proofs.Turning.{Moves, Seen, turned, turned-run, turned-wired, turned-reads}
 
 -- ---- the test says what the words say
 module _ (n : ℕ) (F : ℕ → Bool) (p q : ℕ) where
   pub swappable-is : (swappable n F p q ≡ true) ↔ Swappable n F p q
   unfolding unchanged
-  swappable-is = (λ e. there (unchanged n F false p q) refl e, λ s. back (s .flip) (s .same))
+  swappable-is = (λ e. there (unchanged n F false p q) refl e, λ s. back s.flip s.same)
     where
       of : (f : Bool) → unchanged n F f p q ≡ true → Swappable n F p q
       of f e = record {
         flip = f;
-        same = λ x h. beq-same (F (swapped n f p q x)) (F x) (every-at (2 ^ n)
-            (λ x. Bool·beq (F (swapped n f p q x)) (F x)) e x h);
+        same = λ x h. beq_same (F (swapped n f p q x)) (F x) (every-at (2 ^ n)
+            (λ x. beq (F (swapped n f p q x)) (F x)) e x h);
       }
 
       there : (t : Bool) → unchanged n F false p q ≡ t → (t || unchanged n F true p q) ≡ true → Swappable n F p q
@@ -37,11 +37,11 @@ module _ (n : ℕ) (F : ℕ → Bool) (p q : ℕ) where
       there false q e = of true e
 
       choose : (f : Bool) → unchanged n F f p q ≡ true → swappable n F p q ≡ true
-      choose false e = or-left (unchanged n F false p q) (unchanged n F true p q) e
-      choose true e = or-right (unchanged n F false p q) (unchanged n F true p q) e
+      choose false e = or_left (unchanged n F false p q) (unchanged n F true p q) e
+      choose true e = or_right (unchanged n F false p q) (unchanged n F true p q) e
 
       back : (f : Bool) → ((x : ℕ) → x < 2 ^ n → F (swapped n f p q x) ≡ F x) → swappable n F p q ≡ true
-      back f same = choose f (every-all (2 ^ n) (λ x. Bool·beq (F (swapped n f p q x)) (F x))
+      back f same = choose f (every-all (2 ^ n) (λ x. beq (F (swapped n f p q x)) (F x))
           (λ x h. same-beq (F (swapped n f p q x)) (F x) (same x h)))
 
 -- ---- p and q change places
@@ -65,7 +65,7 @@ module _ (p q : ℕ) where
       go false e = ap (λ (t : Bool). cond t p q) (eq-eqb q q refl)
 
   pub exchanged-other : (s : ℕ) → (s ≡ p → ⊥) → (s ≡ q → ⊥) → σ s ≡ s
-  exchanged-other s a b = ap₂ (λ (t u : Bool). cond t q (cond u p s)) (ne-eqb s p a) (ne-eqb s q b)
+  exchanged-other s a b = ap₂ (λ (t u : Bool). cond t q (cond u p s)) (ne_eqb s p a) (ne_eqb s q b)
 
   twice : (s : ℕ) → σ (σ s) ≡ s
   twice s = go (eqb s p) (eqb s q) refl refl
@@ -85,21 +85,21 @@ module _ (n p q : ℕ) (a : p < n) (b : q < n) (f : Bool) where
   moves = record {
     back = twice p q;
     stays = λ s h. exchanged-other p q s (λ e. omega arith) (λ e. omega arith);
-    plain = λ s h. ap₂ (λ (t u : Bool). (t || u) && f) (ne-eqb s p (λ e. omega arith)) (ne-eqb s q (λ e. omega arith));
+    plain = λ s h. ap₂ (λ (t u : Bool). (t || u) && f) (ne_eqb s p (λ e. omega arith)) (ne_eqb s q (λ e. omega arith));
   }
 
   swapped-lt : (x : ℕ) → swapped n f p q x < 2 ^ n
   unfolding swapped
-  swapped-lt x = number-lt n _
+  swapped-lt x = number_lt n _
 
   swapped-seen : (x : ℕ) → x < 2 ^ n → Seen (exchanged p q) φ (bit (swapped n f p q x)) (bit x)
   unfolding swapped
-  swapped-seen x h s = elim (decLt s n) [
+  swapped-seen x h s = elim (dec_lt s n) [
     | yes l ↦ bit-number n _ s l ∙ go (eqb s p) (eqb s q)
     | no l ↦ let m : n ≤ s = omega arith in
-        bit-high (swapped n f p q x) n s (swapped-lt x) m
-        ∙ sym (ap₂ (λ (t : Bool) (k : ℕ). flipped t (bit x k)) (moves .plain s m) (moves .stays s m)
-        ∙ bit-high x n s h m)
+        bit_high (swapped n f p q x) n s (swapped-lt x) m
+        ∙ sym (ap₂ (λ (t : Bool) (k : ℕ). flipped t (bit x k)) (moves.plain s m) (moves.stays s m)
+        ∙ bit_high x n s h m)
   ]
     where
       go : (t u : Bool) → cond t (flipped f (bit x q)) (cond u (flipped f (bit x p)) (bit x s))
@@ -118,20 +118,20 @@ module _ (n p q : ℕ) (a : p < n) (b : q < n) (f : Bool) where
   pub changed-gives : (K : ℕ) (F : ℕ → Bool) (cs : List Cell) → ((x : ℕ) → x < 2 ^ n → F (swapped n f p q x) ≡ F x)
       → Gives n K F cs → Gives n K F (changed cs)
   changed-gives K F cs same N = record {
-    some = omega (arith, changed-length cs, N .some);
-    wired = turned-wired n (exchanged p q) φ moves K n cs (omega arith) (N .wired);
+    some = omega (arith, changed-length cs, N.some);
+    wired = turned-wired n (exchanged p q) φ moves K n cs (omega arith) N.wired;
     gives = λ x h.
         turned-run n (exchanged p q) φ moves cs false n (bit (swapped n f p q x)) (bit x) (omega arith)
         (swapped-seen x h)
-        ∙ N .gives (swapped n f p q x) (swapped-lt x) ∙ same x h;
+        ∙ N.gives (swapped n f p q x) (swapped-lt x) ∙ same x h;
   }
 
   pub changed-read : (cs : List Cell) (i : ℕ) → ReadLater n cs i → ReadLater n (changed cs) i
   changed-read cs i r = record {
-    reader = r .reader;
-    later = r .later;
-    within = omega (arith, r .within, changed-length cs);
+    reader = r.reader;
+    later = r.later;
+    within = omega (arith, r.within, changed-length cs);
     reads =
-        ap (doesRead (changed cs) (r .reader)) (sym (moves .stays (n + i) (omega arith)))
-        ∙ turned-reads n (exchanged p q) φ moves cs (r .reader) (n + i) ∙ r .reads;
+        ap (doesRead (changed cs) r.reader) (sym (moves.stays (n + i) (omega arith)))
+        ∙ turned-reads n (exchanged p q) φ moves cs r.reader (n + i) ∙ r.reads;
   }

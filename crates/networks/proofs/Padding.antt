@@ -1,16 +1,16 @@
 -- A network of fewer cells makes one of more that carries the same: a cell behind the last one that reads it and gives
 -- it on. Assumes nothing.
-use mathlib.Core.Path.{_≡_, refl, sym, ap, _∙_, subst}
+use mathlib.Core.Path.{◌≡◌, refl, sym, ap, ◌∙◌, subst}
 use mathlib.Core.Bool.{Bool, true, false}
-use mathlib.Core.List.{List, [], _∷_, _++_}
-use Prim.Native.Nat.{ℕ, zero, suc, _+_, _-_, _*_, _^_, _<_, _≤_}
+use mathlib.Core.List.{List, [], ◌∷◌, ◌++◌}
+use Prim.Native.Nat.{ℕ, zero, suc, ◌+◌, ◌-◌, ◌*◌, ◌^◌, ◌<◌, ◌≤◌}
 use native.Mathlib.Nat.{add-zero, not-suc-le-zero}
 use native.Mathlib.Omega.{arith}
-use lib.ListN.{length, getD, length-append}
-use Rattle·bits.specs.Numbers.{bit, val, number}
-use Rattle·sheets.specs.Network.{Cell, output, run, Wired, Gives, Carries}
-use Rattle·networks·specs.specs.Signals.{values}
-use Rattle·networks·proofs.proofs.Values.{run-last, run-append}
+use lib.ListN.{length, get_or, length-append}
+use Rattle.bits.specs.Numbers.{bit, val, number}
+use Rattle.sheets.specs.Network.{Cell, output, run, Wired, Gives, Carries}
+use Rattle.networks.specs.Signals.{values}
+use Rattle.networks.proofs.Values.{run-last, run-append}
 
 -- a cell that gives signal s on
 unfoldable pub passing : ℕ → Cell
@@ -31,7 +31,7 @@ padded n cs = cs ++ (passing (n + length cs - 1) ∷ [])
 append-wired : (K i : ℕ) (cs ds : List Cell) → Wired K i cs → Wired K (i + length cs) ds → Wired K i (cs ++ ds)
 append-wired K i [] ds w u = subst (λ (j : ℕ). Wired K j ds) (add-zero i) u
 append-wired K i (c ∷ cs) ds w u =
-    (w .0, w .1, append-wired K (suc i) cs ds (w .2) (subst (λ (j : ℕ). Wired K j ds) (omega arith) u))
+    (w.0, w.1, append-wired K (suc i) cs ds w.2 (subst (λ (j : ℕ). Wired K j ds) (omega arith) u))
 
 pub padded-length : (n : ℕ) (cs : List Cell) → length (padded n cs) ≡ suc (length cs)
 unfolding padded
@@ -39,13 +39,13 @@ padded-length n cs = omega (arith, length-append cs (passing (n + length cs - 1)
 
 pub padded-gives : (n K : ℕ) (F : ℕ → Bool) (cs : List Cell) → 1 ≤ K → Gives n K F cs → Gives n K F (padded n cs)
 unfolding padded passing run
-padded-gives n K F [] one N = absurd (not-suc-le-zero (N .some))
+padded-gives n K F [] one N = absurd (not-suc-le-zero N.some)
 padded-gives n K F (c ∷ cs) one N = record {
   some = omega arith;
-  wired = append-wired K n (c ∷ cs) (passing last ∷ []) (N .wired) (one, below, tt);
+  wired = append-wired K n (c ∷ cs) (passing last ∷ []) N.wired (one, below, tt);
   gives = λ x h.
       run-append false n (c ∷ cs) (passing last ∷ []) (bit x) ∙ passing-gives last (values n (c ∷ cs) (bit x))
-      ∙ ap (values n (c ∷ cs) (bit x)) last-is ∙ sym (run-last false n c cs (bit x)) ∙ N .gives x h;
+      ∙ ap (values n (c ∷ cs) (bit x)) last-is ∙ sym (run-last false n c cs (bit x)) ∙ N.gives x h;
 }
   where
     last : ℕ
@@ -54,7 +54,7 @@ padded-gives n K F (c ∷ cs) one N = record {
     last-is : last ≡ n + length cs
     last-is = omega arith
 
-    below : (j : ℕ) → j < 1 → getD (last ∷ []) j 0 < n + suc (length cs)
+    below : (j : ℕ) → j < 1 → get_or (last ∷ []) j 0 < n + suc (length cs)
     below zero h = omega arith
     below (suc j) h = absurd (omega arith)
 
@@ -65,7 +65,7 @@ carries-more n K F (suc d) m one C = from (carries-more n K F d m one C)
   where
     from : Carries n K (d + m) F → Carries n K (suc d + m) F
     from D = record {
-      cells = padded n (D .cells);
-      count = omega (arith, padded-length n (D .cells), D .count);
-      network = padded-gives n K F (D .cells) one (D .network);
+      cells = padded n D.cells;
+      count = omega (arith, padded-length n D.cells, D.count);
+      network = padded-gives n K F D.cells one D.network;
     }

@@ -1,27 +1,27 @@
 -- Columns can be sorted. Where p < q can change places and the column of p is the smaller one, let them: the sum of
 -- every input's number times its column falls. So after some turns no such pair is left, and every cell but the last is
 -- read as before. Assumes nothing.
-use mathlib.Core.Path.{_≡_, sym, ap, _∙_, subst}
-use mathlib.Core.Logic.{_⊎_, inl, inr, ⊎-elim}
-use mathlib.Core.Bool.{Bool, true, _&&_, _||_}
+use mathlib.Core.Path.{◌≡◌, sym, ap, ◌∙◌, subst}
+use mathlib.Core.Logic.{◌⊎◌, inl, inr, ⊎_elim}
+use mathlib.Core.Bool.{Bool, true, ◌&&◌, ◌||◌}
 use mathlib.Core.List.{List}
-use Prim.Native.Nat.{ℕ, zero, suc, _+_, _-_, _*_, _<_, _≤_}
-use native.Mathlib.Decide.{decLt}
+use Prim.Native.Nat.{ℕ, zero, suc, ◌+◌, ◌-◌, ◌*◌, ◌<◌, ◌≤◌}
+use native.Mathlib.Decide.{dec_lt}
 use native.Mathlib.Omega.{arith}
 use lib.Dec.{ltb, eqb}
 use borrow.Author.Tests.{ltb-true, ltb-false}
-use Rattle·bits.specs.Below.{least}
-use Rattle·bits.proofs.Bools.{and-left, and-right}
-use Rattle·bits.proofs.Least.{is-least}
-use Rattle·sheets.specs.Network.{Cell, Carries}
-use Rattle·networks·specs.specs.Swapping.{Swappable, swappable}
-use Rattle·networks·specs.specs.Sorted.{Used, First, Sorted}
-use Rattle·networks·proofs.proofs.Sums.{sum, sum-two}
-use Rattle·networks·proofs.proofs.Padding.{carries-more}
-use Rattle·networks·proofs.proofs.Using.{all-used}
-use Rattle·networks·proofs.proofs.Exchanging.{swappable-is, exchanged-left, exchanged-right, exchanged-other, moves}
-use Rattle·networks·proofs.proofs.Exchanging.{exchanged, changed, changed-length, changed-gives, changed-read}
-use Rattle·networks·proofs.proofs.Columns.{column, column-first, column-turned}
+use Rattle.bits.specs.Below.{least}
+use Rattle.bits.proofs.Bools.{and_left, and_right}
+use Rattle.bits.proofs.Least.{is-least}
+use Rattle.sheets.specs.Network.{Cell, Carries}
+use Rattle.networks.specs.Swapping.{Swappable, swappable}
+use Rattle.networks.specs.Sorted.{Used, First, Sorted}
+use Rattle.networks.proofs.Sums.{sum, sum-two}
+use Rattle.networks.proofs.Padding.{carries-more}
+use Rattle.networks.proofs.Using.{all-used}
+use Rattle.networks.proofs.Exchanging.{swappable-is, exchanged-left, exchanged-right, exchanged-other, moves}
+use Rattle.networks.proofs.Exchanging.{exchanged, changed, changed-length, changed-gives, changed-read}
+use Rattle.networks.proofs.Columns.{column, column-first, column-turned}
 
 -- ---- the sum falls
 
@@ -68,18 +68,18 @@ module _ (n p q : ℕ) (a : p < q) (b : q < n) (f : Bool) (cs : List Cell) where
 module _ (n K m : ℕ) (F : ℕ → Bool) where
   record Lighter (U : Used n K m F) : Type 0 where
     next : Used n K m F
-    falls : weight n (next .cells) < weight n (U .cells)
+    falls : weight n next.cells < weight n U.cells
 
-  swap : (U : Used n K m F) (p q : ℕ) → p < q → q < n → Swappable n F p q → column p (U .cells) < column q (U .cells)
+  swap : (U : Used n K m F) (p q : ℕ) → p < q → q < n → Swappable n F p q → column p U.cells < column q U.cells
       → Lighter U
   swap U p q a b s h = record {
     next = let l : p < n = omega arith in record {
-      cells = changed n p q l b (s .flip) (U .cells);
-      count = changed-length n p q l b (s .flip) (U .cells) ∙ U .count;
-      network = changed-gives n p q l b (s .flip) K F (U .cells) (s .same) (U .network);
-      read = λ i g. changed-read n p q l b (s .flip) (U .cells) i (U .read i g);
+      cells = changed n p q l b s.flip U.cells;
+      count = changed-length n p q l b s.flip U.cells ∙ U.count;
+      network = changed-gives n p q l b s.flip K F U.cells s.same U.network;
+      read = λ i g. changed-read n p q l b s.flip U.cells i (U.read i g);
     };
-    falls = lighter n p q a b (s .flip) (U .cells) h;
+    falls = lighter n p q a b s.flip U.cells h;
   }
 
   -- p and q can change places, and should
@@ -92,37 +92,37 @@ module _ (n K m : ℕ) (F : ℕ → Bool) where
 
   turn : (U : Used n K m F) → Sorted n K m F ⊎ Lighter U
   unfolding wrong wrongs
-  turn U = elim (decLt (least n (wrongs (U .cells))) n) [
-    | yes h ↦ inr (some (least n (wrongs (U .cells))) h (is-least n (wrongs (U .cells)) .here h))
+  turn U = elim (dec_lt (least n (wrongs U.cells)) n) [
+    | yes h ↦ inr (some (least n (wrongs U.cells)) h ((is-least n (wrongs U.cells)).here h))
     | no h ↦ inl (record { used = U; sorted = none h })
   ]
     where
       cs : List Cell
-      cs = U .cells
+      cs = U.cells
 
-      some : (q : ℕ) → q < n → wrongs (U .cells) q ≡ true → Lighter U
+      some : (q : ℕ) → q < n → wrongs U.cells q ≡ true → Lighter U
       some q b e =
           let p = least q (wrong cs q) in
           let a = ltb-true p q e in
-          let w = is-least q (wrong cs q) .here a in
-          swap U p q a b (swappable-is n F p q .0 (and-left (swappable n F p q) (ltb (column p cs) (column q cs)) w))
-          (ltb-true (column p cs) (column q cs) (and-right (swappable n F p q) (ltb (column p cs) (column q cs)) w))
+          let w = (is-least q (wrong cs q)).here a in
+          swap U p q a b ((swappable-is n F p q).0 (and_left (swappable n F p q) (ltb (column p cs) (column q cs)) w))
+          (ltb-true (column p cs) (column q cs) (and_right (swappable n F p q) (ltb (column p cs) (column q cs)) w))
 
-      none : (least n (wrongs (U .cells)) < n → ⊥) → (p q : ℕ) → p < q → q < n → Swappable n F p q
-          → First (U .cells) p q
+      none : (least n (wrongs U.cells) < n → ⊥) → (p q : ℕ) → p < q → q < n → Swappable n F p q
+          → First U.cells p q
       none all p q a b s =
-          let x = ltb-false (least q (wrong cs q)) q (is-least n (wrongs cs) .before q (omega arith)) in
-          let y = is-least q (wrong cs q) .before p (omega arith) in
+          let x = ltb-false (least q (wrong cs q)) q ((is-least n (wrongs cs)).before q (omega arith)) in
+          let y = (is-least q (wrong cs q)).before p (omega arith) in
           column-first p q cs (ltb-false (column p cs) (column q cs)
-          (sym (ap (λ (t : Bool). t && ltb (column p cs) (column q cs)) (swappable-is n F p q .1 s)) ∙ y))
+          (sym (ap (λ (t : Bool). t && ltb (column p cs) (column q cs)) ((swappable-is n F p q).1 s)) ∙ y))
 
-  sorting : (w : ℕ) (U : Used n K m F) → weight n (U .cells) ≤ w → Sorted n K m F
-  sorting zero U h = ⊎-elim (λ s. s) (λ l. absurd (omega (arith, l .falls))) (turn U)
-  sorting (suc w) U h = ⊎-elim (λ s. s) (λ l. sorting w (l .next) (omega (arith, l .falls))) (turn U)
+  sorting : (w : ℕ) (U : Used n K m F) → weight n U.cells ≤ w → Sorted n K m F
+  sorting zero U h = ⊎_elim (λ s. s) (λ l. absurd (omega (arith, l.falls))) (turn U)
+  sorting (suc w) U h = ⊎_elim (λ s. s) (λ l. sorting w l.next (omega (arith, l.falls))) (turn U)
 
 -- a network of m cells or fewer makes one of m cells that is in order
 pub all-sorted : (n K k m : ℕ) (F : ℕ → Bool) → 1 ≤ K → Carries n K k F → k ≤ m → Sorted n K m F
 all-sorted n K k m F one C h =
     let e : m - k + k ≡ m = omega arith in
     let U = all-used n K F m one (subst (λ (m : ℕ). Carries n K m F) e (carries-more n K F (m - k) k one C)) in
-    sorting n K m F (weight n (U .cells)) U (omega arith)
+    sorting n K m F (weight n U.cells) U (omega arith)

@@ -1,27 +1,27 @@
 -- Every cell but the last can be taken to be read by a later one: a cell that isn't is left out, and another, which
 -- gives the last one on, stands at the end. Assumes nothing.
-use mathlib.Core.Path.{_≡_, refl, sym, ap, _∙_}
-use mathlib.Core.Bool.{Bool, true, false, _||_}
-use mathlib.Core.List.{List, [], _∷_}
-use Prim.Native.Nat.{ℕ, zero, suc, _+_, _-_, _<_, _≤_}
+use mathlib.Core.Path.{◌≡◌, refl, sym, ap, ◌∙◌}
+use mathlib.Core.Bool.{Bool, true, false, ◌||◌}
+use mathlib.Core.List.{List, [], ◌∷◌}
+use Prim.Native.Nat.{ℕ, zero, suc, ◌+◌, ◌-◌, ◌<◌, ◌≤◌}
 use native.Mathlib.Nat.{not-suc-le-zero}
-use native.Mathlib.Decide.{decLt}
+use native.Mathlib.Decide.{dec_lt}
 use native.Mathlib.Omega.{arith}
 use lib.Dec.{eqb}
-use lib.ListN.{length, drop, length-drop, List·getD-append}
-use lib.Seq.{getD-drop, getD-append-seam}
+use lib.ListN.{length, drop, length-drop, get_or-append}
+use lib.Seq.{get_or-drop, get_or-append_seam}
 use borrow.Author.Tests.{eq-eqb, eqb-false}
-use Rattle·bits.specs.Numbers.{val}
-use Rattle·bits.specs.Lists.{member}
-use Rattle·bits.specs.Below.{least}
-use Rattle·bits.proofs.Bools.{or-left}
-use Rattle·bits.proofs.Least.{is-least}
-use Rattle·sheets.specs.Network.{Cell, Carries}
-use Rattle·sheets.specs.Reading.{times, reads, unreadCell, without}
-use Rattle·sheets.proofs.Without.{without-length, without-gives}
-use Rattle·networks·specs.specs.Signals.{doesRead, ReadLater}
-use Rattle·networks·specs.specs.Sorted.{Used}
-use Rattle·networks·proofs.proofs.Padding.{passing, padded, padded-length, padded-gives}
+use Rattle.bits.specs.Numbers.{val}
+use Rattle.bits.specs.Lists.{member}
+use Rattle.bits.specs.Below.{least}
+use Rattle.bits.proofs.Bools.{or_left}
+use Rattle.bits.proofs.Least.{is-least}
+use Rattle.sheets.specs.Network.{Cell, Carries}
+use Rattle.sheets.specs.Reading.{times, reads, unreadCell, without}
+use Rattle.sheets.proofs.Without.{without-length, without-gives}
+use Rattle.networks.specs.Signals.{doesRead, ReadLater}
+use Rattle.networks.specs.Sorted.{Used}
+use Rattle.networks.proofs.Padding.{passing, padded, padded-length, padded-gives}
 
 -- ---- a signal that is read, as the place of a cell that reads it
 
@@ -40,13 +40,13 @@ record Reader (x : ℕ) (cs : List Cell) : Type 0 where
 
 reader : (x : ℕ) (cs : List Cell) → 1 ≤ reads x cs → Reader x cs
 reader x [] h = absurd (not-suc-le-zero h)
-reader x (c ∷ cs) h = elim (decLt 0 (times x (c .signals))) [
-  | yes g ↦ record { place = 0; within = omega arith; reads-it = times-member x (c .signals) g }
+reader x (c ∷ cs) h = elim (dec_lt 0 (times x c.signals)) [
+  | yes g ↦ record { place = 0; within = omega arith; reads-it = times-member x c.signals g }
   | no g ↦ later (reader x cs (omega arith))
 ]
   where
     later : Reader x cs → Reader x (c ∷ cs)
-    later r = record { place = suc (r .place); within = omega (arith, r .within); reads-it = r .reads-it }
+    later r = record { place = suc r.place; within = omega (arith, r.within); reads-it = r.reads-it }
 
 read-later : (n : ℕ) (cs : List Cell) (i : ℕ) → unreadCell n cs i ≡ false → ReadLater n cs i
 read-later n cs i q = from (reader (n + i) (drop (suc i) cs) (some (reads (n + i) (drop (suc i) cs)) q))
@@ -56,12 +56,12 @@ read-later n cs i q = from (reader (n + i) (drop (suc i) cs) (some (reads (n + i
 
     from : Reader (n + i) (drop (suc i) cs) → ReadLater n cs i
     from r = record {
-      reader = suc i + r .place;
+      reader = suc i + r.place;
       later = omega arith;
-      within = omega (arith, r .within, length-drop (suc i) cs);
+      within = omega (arith, r.within, length-drop (suc i) cs);
       reads =
-          ap (λ (c : Cell). member (n + i) (c .signals))
-          (sym (getD-drop (suc i) cs (r .place) (record { signals = []; table = 0 }))) ∙ r .reads-it;
+          ap (λ (c : Cell). member (n + i) c.signals)
+          (sym (get_or-drop (suc i) cs r.place (record { signals = []; table = 0 }))) ∙ r.reads-it;
     }
 
 -- ---- the padded network's cells are read
@@ -70,55 +70,55 @@ padded-read : (n K m : ℕ) (F : ℕ → Bool) → 1 ≤ K → Used n K m F → 
 unfolding padded passing
 padded-read n K m F one U = record {
   cells = padded n cs;
-  count = padded-length n cs ∙ ap suc (U .count);
-  network = padded-gives n K F cs one (U .network);
-  read = λ i h. elim (decLt (i + 1) m) [ yes g ↦ old i (U .read i g) | no g ↦ new i (omega arith) ];
+  count = padded-length n cs ∙ ap suc U.count;
+  network = padded-gives n K F cs one U.network;
+  read = λ i h. elim (dec_lt (i + 1) m) [ yes g ↦ old i (U.read i g) | no g ↦ new i (omega arith) ];
 }
   where
     cs : List Cell
-    cs = U .cells
+    cs = U.cells
 
     last : Cell
-    last = passing (n + length (U .cells) - 1)
+    last = passing (n + length U.cells - 1)
 
     old : (i : ℕ) → ReadLater n cs i → ReadLater n (padded n cs) i
     old i r = record {
-      reader = r .reader;
-      later = r .later;
-      within = omega (arith, r .within, padded-length n cs);
+      reader = r.reader;
+      later = r.later;
+      within = omega (arith, r.within, padded-length n cs);
       reads =
-          ap (λ (c : Cell). member (n + i) (c .signals))
-          (List·getD-append cs (last ∷ []) (record { signals = []; table = 0 }) (r .reader) (r .within)) ∙ r .reads;
+          ap (λ (c : Cell). member (n + i) c.signals)
+          (get_or-append cs (last ∷ []) (record { signals = []; table = 0 }) r.reader r.within) ∙ r.reads;
     }
 
     new : (i : ℕ) → i + 1 ≡ m → ReadLater n (padded n cs) i
     new i e = record {
       reader = m;
       later = omega arith;
-      within = omega (arith, U .count, padded-length n cs);
+      within = omega (arith, U.count, padded-length n cs);
       reads =
-          ap (λ (k : ℕ). doesRead (padded n cs) k (n + i)) (sym (U .count))
-          ∙ ap (λ (c : Cell). member (n + i) (c .signals))
-          (getD-append-seam cs last [] (record { signals = []; table = 0 }))
-          ∙ or-left (eqb (n + i) (n + length cs - 1)) false
-          (eq-eqb (n + i) (n + length cs - 1) (omega (arith, U .count)));
+          ap (λ (k : ℕ). doesRead (padded n cs) k (n + i)) (sym U.count)
+          ∙ ap (λ (c : Cell). member (n + i) c.signals)
+          (get_or-append_seam cs last [] (record { signals = []; table = 0 }))
+          ∙ or_left (eqb (n + i) (n + length cs - 1)) false
+          (eq-eqb (n + i) (n + length cs - 1) (omega (arith, U.count)));
     }
 
 -- ---- so every network of m cells makes one of which all cells are read
 pub all-used : (n K : ℕ) (F : ℕ → Bool) (m : ℕ) → 1 ≤ K → Carries n K m F → Used n K m F
-all-used n K F zero one C = absurd (omega (arith, C .count, C .network .some))
-all-used n K F (suc m) one C = elim (decLt i m) [
+all-used n K F zero one C = absurd (omega (arith, C.count, C.network.some))
+all-used n K F (suc m) one C = elim (dec_lt i m) [
   | yes h ↦ padded-read n K m F one (all-used n K F m one (fewer h))
   | no h ↦ record {
     cells = cs;
-    count = C .count;
-    network = C .network;
-    read = λ j l. read-later n cs j (is-least m (unreadCell n cs) .before j (omega arith));
+    count = C.count;
+    network = C.network;
+    read = λ j l. read-later n cs j ((is-least m (unreadCell n cs)).before j (omega arith));
   }
 ]
   where
     cs : List Cell
-    cs = C .cells
+    cs = C.cells
 
     i : ℕ
     i = least m (unreadCell n cs)
@@ -126,6 +126,6 @@ all-used n K F (suc m) one C = elim (decLt i m) [
     fewer : i < m → Carries n K m F
     fewer h = record {
       cells = without n i cs;
-      count = omega (arith, without-length n i cs (omega (arith, C .count)), C .count);
-      network = without-gives n K i F cs (C .network) (omega (arith, C .count)) (is-least m (unreadCell n cs) .here h);
+      count = omega (arith, without-length n i cs (omega (arith, C.count)), C.count);
+      network = without-gives n K i F cs C.network (omega (arith, C.count)) ((is-least m (unreadCell n cs)).here h);
     }

@@ -1,34 +1,34 @@
 -- The values of a network's signals: inputs stay as they are, each cell gives what it reads off the others, and the
 -- last one's is the answer. Assumes nothing.
-use mathlib.Core.Path.{_≡_, refl, sym, ap, _∙_}
-use mathlib.Core.Bool.{Bool, true, false, cond, _||_}
-use mathlib.Core.List.{List, [], _∷_, _++_}
-use Prim.Native.Nat.{ℕ, zero, suc, _+_, _-_, _^_, _<_, _≤_}
+use mathlib.Core.Path.{◌≡◌, refl, sym, ap, ◌∙◌}
+use mathlib.Core.Bool.{Bool, true, false, cond, ◌||◌}
+use mathlib.Core.List.{List, [], ◌∷◌, ◌++◌}
+use Prim.Native.Nat.{ℕ, zero, suc, ◌+◌, ◌-◌, ◌^◌, ◌<◌, ◌≤◌}
 use native.Mathlib.Nat.{add-zero, not-suc-le-zero}
 use native.Mathlib.Omega.{arith}
 use lib.Dec.{eqb}
-use lib.ListN.{length, getD}
-use borrow.Author.Tests.{eq-eqb, ne-eqb, eqb-true}
-use Rattle·bits.specs.Numbers.{bit}
-use Rattle·bits.specs.Lists.{member}
-use Rattle·bits.specs.Sets.{size}
-use Rattle·bits.proofs.Bools.{clash, or-left, or-right}
-use Rattle·bits.proofs.Numbers.{number-ext}
-use Rattle·bits.proofs.Counting.{size-none, size-one, size-or}
-use Rattle·sheets.specs.Network.{Cell, output, run, Wired, Gives}
-use Rattle·networks·specs.specs.Signals.{cellAt, doesRead, values}
+use lib.ListN.{length, get_or}
+use borrow.Author.Tests.{eq-eqb, ne_eqb, eqb-true}
+use Rattle.bits.specs.Numbers.{bit}
+use Rattle.bits.specs.Lists.{member}
+use Rattle.bits.specs.Sets.{size}
+use Rattle.bits.proofs.Bools.{clash, or_left, or_right}
+use Rattle.bits.proofs.Numbers.{number-ext}
+use Rattle.bits.proofs.Counting.{size_none, size-one, size-or}
+use Rattle.sheets.specs.Network.{Cell, output, run, Wired, Gives}
+use Rattle.networks.specs.Signals.{cell_at, doesRead, values}
 
 -- ---- what a cell reads
 
-pub member-at : (l : List ℕ) (j : ℕ) → j < length l → member (getD l j 0) l ≡ true
+pub member-at : (l : List ℕ) (j : ℕ) → j < length l → member (get_or l j 0) l ≡ true
 member-at [] j h = absurd (not-suc-le-zero h)
-member-at (x ∷ l) zero h = or-left (eqb x x) (member x l) (eq-eqb x x refl)
-member-at (x ∷ l) (suc j) h = or-right (eqb (getD l j 0) x) (member (getD l j 0) l) (member-at l j (omega arith))
+member-at (x ∷ l) zero h = or_left (eqb x x) (member x l) (eq-eqb x x refl)
+member-at (x ∷ l) (suc j) h = or_right (eqb (get_or l j 0) x) (member (get_or l j 0) l) (member-at l j (omega arith))
 
-pub member-below : (i : ℕ) (l : List ℕ) → ((j : ℕ) → j < length l → getD l j 0 < i) → (s : ℕ) → member s l ≡ true
+pub member_below : (i : ℕ) (l : List ℕ) → ((j : ℕ) → j < length l → get_or l j 0 < i) → (s : ℕ) → member s l ≡ true
     → s < i
-member-below i [] low s m = absurd (clash m refl)
-member-below i (x ∷ l) low s m = go (eqb s x) refl m (member-below i l (λ j h. low (suc j) (omega arith)) s)
+member_below i [] low s m = absurd (clash m refl)
+member_below i (x ∷ l) low s m = go (eqb s x) refl m (member_below i l (λ j h. low (suc j) (omega arith)) s)
   where
     go : (t : Bool) → eqb s x ≡ t → (t || member s l) ≡ true → (member s l ≡ true → s < i) → s < i
     go true e m ih = omega (arith, eqb-true s x e, low 0 (omega arith))
@@ -36,29 +36,29 @@ member-below i (x ∷ l) low s m = go (eqb s x) refl m (member-below i l (λ j h
 
 -- a list has no more members than places
 pub size-member : (n : ℕ) (l : List ℕ) → size n (λ s. member s l) ≤ length l
-size-member n [] = omega (arith, size-none n)
+size-member n [] = omega (arith, size_none n)
 size-member n (x ∷ l) = omega (arith, size-or n (λ s. eqb s x) (λ s. member s l), size-one n x, size-member n l)
 
 -- a cell sees the signals that it reads, and no other
-pub output-ext : (c : Cell) (v w : ℕ → Bool) → ((s : ℕ) → member s (c .signals) ≡ true → v s ≡ w s) → output c v
+pub output-ext : (c : Cell) (v w : ℕ → Bool) → ((s : ℕ) → member s c.signals ≡ true → v s ≡ w s) → output c v
     ≡ output c w
 unfolding output
 output-ext c v w h =
-    ap (bit (c .table))
-    (number-ext (length (c .signals)) (λ j. v (getD (c .signals) j 0)) (λ j. w (getD (c .signals) j 0))
-    (λ j l. h (getD (c .signals) j 0) (member-at (c .signals) j l)))
+    ap (bit c.table)
+    (number-ext (length c.signals) (λ j. v (get_or c.signals j 0)) (λ j. w (get_or c.signals j 0))
+    (λ j l. h (get_or c.signals j 0) (member-at c.signals j l)))
 
 -- of a network's cells each reads at most K signals, and only lower ones
-pub reads-most : (K i : ℕ) (cs : List Cell) → Wired K i cs → (j : ℕ) → j < length cs → length (cellAt cs j .signals) ≤ K
+pub reads-most : (K i : ℕ) (cs : List Cell) → Wired K i cs → (j : ℕ) → j < length cs → length (cell_at cs j).signals ≤ K
 reads-most K i [] w j h = absurd (not-suc-le-zero h)
-reads-most K i (c ∷ cs) w zero h = w .0
-reads-most K i (c ∷ cs) w (suc j) h = reads-most K (suc i) cs (w .2) j (omega arith)
+reads-most K i (c ∷ cs) w zero h = w.0
+reads-most K i (c ∷ cs) w (suc j) h = reads-most K (suc i) cs w.2 j (omega arith)
 
 pub reads-below : (K i : ℕ) (cs : List Cell) → Wired K i cs → (j : ℕ) → j < length cs → (s : ℕ) → doesRead cs j s ≡ true
     → s < i + j
 reads-below K i [] w j h s m = absurd (not-suc-le-zero h)
-reads-below K i (c ∷ cs) w zero h s m = omega (arith, member-below i (c .signals) (w .1) s m)
-reads-below K i (c ∷ cs) w (suc j) h s m = omega (arith, reads-below K (suc i) cs (w .2) j (omega arith) s m)
+reads-below K i (c ∷ cs) w zero h s m = omega (arith, member_below i c.signals w.1 s m)
+reads-below K i (c ∷ cs) w (suc j) h s m = omega (arith, reads-below K (suc i) cs w.2 j (omega arith) s m)
 
 -- ---- the values
 
@@ -67,7 +67,7 @@ pub newly : (v : ℕ → Bool) (i : ℕ) (o : Bool) → cond (eqb i i) o (v i) �
 newly v i o = ap (λ (t : Bool). cond t o (v i)) (eq-eqb i i refl)
 
 older : (v : ℕ → Bool) (i s : ℕ) (o : Bool) → s < i → cond (eqb s i) o (v s) ≡ v s
-older v i s o h = ap (λ (t : Bool). cond t o (v s)) (ne-eqb s i (omega arith))
+older v i s o h = ap (λ (t : Bool). cond t o (v s)) (ne_eqb s i (omega arith))
 
 pub values-below : (i : ℕ) (cs : List Cell) (v : ℕ → Bool) (s : ℕ) → s < i → values i cs v s ≡ v s
 unfolding values
@@ -76,18 +76,18 @@ values-below i (c ∷ cs) v s h =
     values-below (suc i) cs (λ s. cond (eqb s i) (output c v) (v s)) s (omega arith) ∙ older v i s (output c v) h
 
 pub values-cell : (K i : ℕ) (cs : List Cell) (v : ℕ → Bool) → Wired K i cs → (j : ℕ) → j < length cs
-    → values i cs v (i + j) ≡ output (cellAt cs j) (values i cs v)
+    → values i cs v (i + j) ≡ output (cell_at cs j) (values i cs v)
 unfolding values
 values-cell K i [] v w j h = absurd (not-suc-le-zero h)
 values-cell K i (c ∷ cs) v w zero h =
     let u : ℕ → Bool = λ s. cond (eqb s i) (output c v) (v s) in
     ap (values (suc i) cs u) (add-zero i) ∙ values-below (suc i) cs u i (omega arith) ∙ newly v i (output c v)
     ∙ output-ext c v (values (suc i) cs u)
-    (λ s m. sym (values-below i (c ∷ cs) v s (member-below i (c .signals) (w .1) s m)))
+    (λ s m. sym (values-below i (c ∷ cs) v s (member_below i c.signals w.1 s m)))
 values-cell K i (c ∷ cs) v w (suc j) h =
     let u : ℕ → Bool = λ s. cond (eqb s i) (output c v) (v s) in
     let e : i + suc j ≡ suc i + j = omega arith in
-    ap (values (suc i) cs u) e ∙ values-cell K (suc i) cs u (w .2) j (omega arith)
+    ap (values (suc i) cs u) e ∙ values-cell K (suc i) cs u w.2 j (omega arith)
 
 -- the last cell's value is the answer
 pub run-last : (o : Bool) (i : ℕ) (c : Cell) (cs : List Cell) (v : ℕ → Bool) → run o i (c ∷ cs) v
@@ -101,10 +101,10 @@ run-last o i c (d ∷ cs) v =
 
 pub gives-last : (n K : ℕ) (F : ℕ → Bool) (cs : List Cell) → Gives n K F cs → (x : ℕ) → x < 2 ^ n
     → values n cs (bit x) (n + (length cs - 1)) ≡ F x
-gives-last n K F [] N x h = absurd (not-suc-le-zero (N .some))
+gives-last n K F [] N x h = absurd (not-suc-le-zero N.some)
 gives-last n K F (c ∷ cs) N x h =
     let e : suc (length cs) - 1 ≡ length cs = omega arith in
-    ap (λ (j : ℕ). values n (c ∷ cs) (bit x) (n + j)) e ∙ sym (run-last false n c cs (bit x)) ∙ N .gives x h
+    ap (λ (j : ℕ). values n (c ∷ cs) (bit x) (n + j)) e ∙ sym (run-last false n c cs (bit x)) ∙ N.gives x h
 
 -- some cells, then others
 pub run-append : (o : Bool) (i : ℕ) (cs ds : List Cell) (v : ℕ → Bool) → run o i (cs ++ ds) v

@@ -1,20 +1,15 @@
 -- A network's cells one by one: which signals each of them reads, and the values of all signals.
-use mathlib.Core.Path.{_≡_}
-use mathlib.Core.Bool.{Bool, true, cond}
-use mathlib.Core.List.{List, [], _∷_}
-use Prim.Native.Nat.{ℕ, suc, _+_, _<_}
-use lib.ListN.{length, getD}
-use lib.Dec.{eqb}
-use Rattle·bits.specs.Lists.{member}
-use Rattle·sheets.specs.Network.{Cell, output}
+use Rattle.std.specs.Prelude.{◌≡◌, Bool, true, cond, List, [], ◌∷◌, ℕ, suc, ◌+◌, ◌<◌, length, get_or, eqb}
+use Rattle.bits.specs.Lists.{member}
+use Rattle.sheets.specs.Network.{Cell, output}
 
 -- cell i, and past the last one a cell that reads nothing
-abbrev pub cellAt : List Cell → ℕ → Cell
-cellAt cs i = getD cs i (record { signals = []; table = 0 })
+abbrev pub cell_at : List Cell → ℕ → Cell
+cell_at cs i = get_or cs i (record { signals = []; table = 0 })
 
 -- cell i reads signal s
 abbrev pub doesRead : List Cell → ℕ → ℕ → Bool
-doesRead cs i s = member s (cellAt cs i .signals)
+doesRead cs i s = member s (cell_at cs i).signals
 
 -- cell i of a network of n inputs is read: a later cell reads its signal
 pub record ReadLater (n : ℕ) (cs : List Cell) (i : ℕ) : Type 0 where

@@ -1,13 +1,9 @@
 -- Networks of m cells in order: every cell but the last is read, and of inputs that can change places the lower one is
 -- read first.
-use mathlib.Core.Path.{_≡_}
-use mathlib.Core.Bool.{Bool, true}
-use mathlib.Core.List.{List}
-use Prim.Native.Nat.{ℕ, _+_, _<_}
-use lib.ListN.{length}
-use Rattle·sheets.specs.Network.{Cell, Gives}
-use Rattle·networks·specs.specs.Signals.{doesRead, ReadLater}
-use Rattle·networks·specs.specs.Swapping.{Swappable}
+use Rattle.std.specs.Prelude.{◌≡◌, Bool, true, List, ℕ, ◌+◌, ◌<◌, length}
+use Rattle.sheets.specs.Network.{Cell, Gives}
+use Rattle.networks.specs.Signals.{doesRead, ReadLater}
+use Rattle.networks.specs.Swapping.{Swappable}
 
 -- m cells that carry F, each of which but the last is read by a later one
 pub record Used (n K m : ℕ) (F : ℕ → Bool) : Type 0 where
@@ -24,4 +20,4 @@ First cs p q = (i : ℕ) → i < length cs → ((j : ℕ) → j < i → doesRead
 -- such cells in which this holds of every two inputs that can change places
 pub record Sorted (n K m : ℕ) (F : ℕ → Bool) : Type 0 where
   pub used : Used n K m F
-  pub sorted : (p q : ℕ) → p < q → q < n → Swappable n F p q → First (used .cells) p q
+  pub sorted : (p q : ℕ) → p < q → q < n → Swappable n F p q → First used.cells p q

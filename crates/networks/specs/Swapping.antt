@@ -1,10 +1,8 @@
 -- Inputs that can change places.
-use mathlib.Core.Path.{_≡_}
-use mathlib.Core.Bool.{Bool, true, false, cond, _||_, Bool·beq}
-use Prim.Native.Nat.{ℕ, _^_, _<_}
-use lib.Dec.{eqb}
-use Rattle·bits.specs.Numbers.{bit, number, flipped}
-use Rattle·bits.specs.Below.{every}
+use Rattle.std.specs.Prelude.{◌≡◌, Bool, true, false, cond, ◌||◌, ℕ, ◌^◌, ◌<◌, eqb}
+use Rattle.std.specs.Bool.{beq}
+use Rattle.bits.specs.Numbers.{bit, number, flipped}
+use Rattle.bits.specs.Below.{every}
 
 -- the assignment x with the bits at p and q swapped and, if so said, both flipped
 unfoldable pub swapped : ℕ → Bool → ℕ → ℕ → ℕ → ℕ
@@ -18,7 +16,7 @@ pub record Swappable (n : ℕ) (F : ℕ → Bool) (p q : ℕ) : Type 0 where
 
 -- the same as a test
 unfoldable pub unchanged : ℕ → (ℕ → Bool) → Bool → ℕ → ℕ → Bool
-unchanged n F f p q = every (2 ^ n) (λ x. Bool·beq (F (swapped n f p q x)) (F x))
+unchanged n F f p q = every (2 ^ n) (λ x. beq (F (swapped n f p q x)) (F x))
 
 abbrev pub swappable : ℕ → (ℕ → Bool) → ℕ → ℕ → Bool
 swappable n F p q = unchanged n F false p q || unchanged n F true p q

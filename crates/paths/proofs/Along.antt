@@ -1,26 +1,26 @@
 -- The output's time is the best along all paths, for any kind of time whose order `pick` and `after` respect. The times
 -- of the signals, once all cells are passed, satisfy each cell's equation; along a path they get no better, and from
 -- each signal a path leads back to an input. Assumes nothing.
-use mathlib.Core.Path.{_≡_, refl, sym, ap, subst, _∙_}
-use mathlib.Core.Logic.{_⊎_, inl, inr}
+use mathlib.Core.Path.{◌≡◌, refl, sym, ap, subst, ◌∙◌}
+use mathlib.Core.Logic.{◌⊎◌, inl, inr}
 use mathlib.Core.Bool.{Bool, true, false, cond}
-use mathlib.Core.List.{List, [], _∷_}
-use Prim.Native.Nat.{ℕ, zero, suc, _+_, _-_, _<_, _≤_}
+use mathlib.Core.List.{List, [], ◌∷◌}
+use Prim.Native.Nat.{ℕ, zero, suc, ◌+◌, ◌-◌, ◌<◌, ◌≤◌}
 use native.Mathlib.Nat.{not-suc-le-zero}
-use native.Mathlib.Decide.{decLt}
+use native.Mathlib.Decide.{dec_lt}
 use native.Mathlib.Omega.{arith}
 use lib.Dec.{eqb}
-use lib.ListN.{length, getD}
-use borrow.Author.Tests.{eq-eqb, ne-eqb}
-use Rattle·sheets.specs.Network.{Cell}
-use Rattle·times.specs.Signals.{keptTime, cellTime, outputTime}
-use Rattle·times.proofs.Passing.{kept-ext}
-use Rattle·paths·specs.specs.Paths.{readBy, Leads, begins, goes, along, BestPath}
+use lib.ListN.{length, get_or}
+use borrow.Author.Tests.{eq-eqb, ne_eqb}
+use Rattle.sheets.specs.Network.{Cell}
+use Rattle.times.specs.Signals.{keptTime, cellTime, outputTime}
+use Rattle.times.proofs.Passing.{kept-ext}
+use Rattle.paths.specs.Paths.{read_by, Leads, begins, goes, along, BestPath}
 
 -- every cell reads some signals, each given before it
 abbrev pub Fed : ℕ → List Cell → Type 0
-Fed n cs = (i : ℕ) → i < length cs → (1 ≤ length (readBy cs i))
-    × ((p : ℕ) → p < length (readBy cs i) → getD (readBy cs i) p 0 < n + i)
+Fed n cs = (i : ℕ) → i < length cs → (1 ≤ length (read_by cs i))
+    × ((p : ℕ) → p < length (read_by cs i) → get_or (read_by cs i) p 0 < n + i)
 
 module _ {A : Type 0} (pick : A → A → A) (after : A → A) where
   -- the times of all signals once the cells are passed
@@ -33,7 +33,7 @@ module _ {A : Type 0} (pick : A → A → A) (after : A → A) where
   earlier i [] v t h = refl
   earlier i (c ∷ cs) v t h =
       earlier (suc i) cs (λ t. cond (eqb t i) (cellTime pick after c v) (v t)) t (omega arith)
-      ∙ ap (λ (b : Bool). cond b (cellTime pick after c v) (v t)) (ne-eqb t i (λ q. omega arith))
+      ∙ ap (λ (b : Bool). cond b (cellTime pick after c v) (v t)) (ne_eqb t i (λ q. omega arith))
 
   last : (t i : ℕ) (cs : List Cell) (o : A) (v : ℕ → A) → i ≡ suc t → o ≡ v t → outputTime pick after o i cs v
       ≡ allTimes i cs v (t + length cs)
@@ -57,17 +57,17 @@ module _ {A : Type 0} (pick : A → A → A) (after : A → A) where
 
   -- a cell's time by the signals that it reads
   by-reads : List ℕ → (ℕ → A) → A
-  by-reads l v = after (keptTime pick (λ p. v (getD l p 0)) (length l - 1))
+  by-reads l v = after (keptTime pick (λ p. v (get_or l p 0)) (length l - 1))
 
-  reads-ext : (l : List ℕ) (v w : ℕ → A) → 1 ≤ length l → ((p : ℕ) → p < length l → v (getD l p 0) ≡ w (getD l p 0))
+  reads-ext : (l : List ℕ) (v w : ℕ → A) → 1 ≤ length l → ((p : ℕ) → p < length l → v (get_or l p 0) ≡ w (get_or l p 0))
       → by-reads l v ≡ by-reads l w
   unfolding by-reads
-  reads-ext l v w s h = ap after (kept-ext pick (length l - 1) (λ p. v (getD l p 0)) (λ p. w (getD l p 0))
+  reads-ext l v w s h = ap after (kept-ext pick (length l - 1) (λ p. v (get_or l p 0)) (λ p. w (get_or l p 0))
       (λ p k. h p (omega arith)))
 
   -- each cell's equation
   equation : (n : ℕ) (cs : List Cell) (v : ℕ → A) → Fed n cs → (i : ℕ) → i < length cs → allTimes n cs v (n + i)
-      ≡ by-reads (readBy cs i) (allTimes n cs v)
+      ≡ by-reads (read_by cs i) (allTimes n cs v)
   unfolding allTimes cellTime by-reads
   equation n [] v f i h = absurd (not-suc-le-zero h)
   equation n (c ∷ cs) v f zero h =
@@ -75,29 +75,29 @@ module _ {A : Type 0} (pick : A → A → A) (after : A → A) where
       let z : n + 0 ≡ n = omega arith in
       ap (allTimes n (c ∷ cs) v) z ∙ earlier (suc n) cs w n (omega arith)
       ∙ ap (λ (b : Bool). cond b (cellTime pick after c v) (v n)) (eq-eqb n n refl)
-      ∙ reads-ext (c .signals) v (allTimes n (c ∷ cs) v) (f 0 h .0)
-      (λ p k. sym (earlier n (c ∷ cs) v (getD (c .signals) p 0) (omega (arith, f 0 h .1 p k))))
+      ∙ reads-ext c.signals v (allTimes n (c ∷ cs) v) (f 0 h).0
+      (λ p k. sym (earlier n (c ∷ cs) v (get_or c.signals p 0) (omega (arith, (f 0 h).1 p k))))
   equation n (c ∷ cs) v f (suc i) h =
       let w : ℕ → A = λ t. cond (eqb t n) (cellTime pick after c v) (v t) in
       let z : n + suc i ≡ suc n + i = omega arith in
       ap (allTimes n (c ∷ cs) v) z
       ∙ equation (suc n) cs w (λ k l. (
-        f (suc k) (omega arith) .0,
+        (f (suc k) (omega arith)).0,
         λ p q. omega
-            (arith, f (suc k) (omega arith) .1 p q),
+            (arith, (f (suc k) (omega arith)).1 p q),
       )) i (omega arith)
 
   -- ---- an order that both respect, on times that satisfy P
 
-  module _ (_⊑_ : A → A → Type 0) (P : A → Type 0)
-      (same : (x : A) → P x → _⊑_ x x)
-      (through : (x y z : A) → P x → P y → P z → _⊑_ x y → _⊑_ y z → _⊑_ x z)
+  module _ (◌⊑◌ : A → A → Type 0) (P : A → Type 0)
+      (same : (x : A) → P x → ◌⊑◌ x x)
+      (through : (x y z : A) → P x → P y → P z → ◌⊑◌ x y → ◌⊑◌ y z → ◌⊑◌ x z)
       (either : (x y : A) → (pick x y ≡ x) ⊎ (pick x y ≡ y))
-      (left : (x y : A) → P x → P y → _⊑_ (pick x y) x)
-      (right : (x y : A) → P x → P y → _⊑_ (pick x y) y)
+      (left : (x y : A) → P x → P y → ◌⊑◌ (pick x y) x)
+      (right : (x y : A) → P x → P y → ◌⊑◌ (pick x y) y)
       (good : (x : A) → P x → P (after x))
-      (mono : (x y : A) → P x → P y → _⊑_ x y → _⊑_ (after x) (after y)) where
-    infixl 20 _⊑_
+      (mono : (x y : A) → P x → P y → ◌⊑◌ x y → ◌⊑◌ (after x) (after y)) where
+    infixl 20 ◌⊑◌
     -- the time that is kept is one of them
     record Chosen (v : ℕ → A) (k : ℕ) : Type 0 where
       pub at : ℕ
@@ -108,18 +108,18 @@ module _ {A : Type 0} (pick : A → A → A) (after : A → A) where
     unfolding keptTime
     chosen v zero = record { at = 0; within = omega arith; is = refl }
     chosen v (suc k) = elim (either (keptTime pick v k) (v (suc k))) [
-      | inl q ↦ let c = chosen v k in record { at = c .at; within = omega (arith, c .within); is = q ∙ c .is }
+      | inl q ↦ let c = chosen v k in record { at = c.at; within = omega (arith, c.within); is = q ∙ c.is }
       | inr q ↦ record { at = suc k; within = omega arith; is = q }
     ]
 
     kept-good : (v : ℕ → A) (k : ℕ) → ((t : ℕ) → P (v t)) → P (keptTime pick v k)
-    kept-good v k h = let c = chosen v k in subst P (sym (c .is)) (h (c .at))
+    kept-good v k h = let c = chosen v k in subst P (sym c.is) (h c.at)
 
     -- and at least as good as each of them
     kept-best : (v : ℕ → A) (k p : ℕ) → p ≤ k → ((t : ℕ) → P (v t)) → keptTime pick v k ⊑ v p
     unfolding keptTime
     kept-best v zero p h g = let z : p ≡ 0 = omega arith in subst (λ (q : ℕ). v 0 ⊑ v q) (sym z) (same (v 0) (g 0))
-    kept-best v (suc k) p h g = elim (decLt p (suc k)) [
+    kept-best v (suc k) p h g = elim (dec_lt p (suc k)) [
       | yes l ↦ through (pick (keptTime pick v k) (v (suc k))) (keptTime pick v k) (v p) (kept-good v (suc k) g)
           (kept-good v k g) (g p)
           (left (keptTime pick v k) (v (suc k)) (kept-good v k g) (g (suc k))) (kept-best v k p (omega arith) g)
@@ -135,8 +135,8 @@ module _ {A : Type 0} (pick : A → A → A) (after : A → A) where
         (λ u. one (eqb u i) u) t
       where
         one : (b : Bool) (u : ℕ) → P (cond b (cellTime pick after c v) (v u))
-        one true u = good _ (kept-good (λ p. v (getD (c .signals) p 0)) (length (c .signals) - 1)
-            (λ p. g (getD (c .signals) p 0)))
+        one true u = good _ (kept-good (λ p. v (get_or c.signals p 0)) (length c.signals - 1)
+            (λ p. g (get_or c.signals p 0)))
         one false u = g u
 
     along-good : (k : ℕ) (x : A) → P x → P (along after k x)
@@ -153,15 +153,15 @@ module _ {A : Type 0} (pick : A → A → A) (after : A → A) where
       along-path j t k (begins h) = subst (λ (x : A). x ⊑ v j) (sym (earlier n cs v j h)) (same (v j) (g j))
       along-path j t k (goes s m i p l h q e) =
           let f = fed i h in
-          let u : ℕ → A = λ r. W (getD (readBy cs i) r 0) in
-          let b : (r : ℕ) → P (u r) = λ r. all-good n cs v g (getD (readBy cs i) r 0) in
-          let a : W (getD (readBy cs i) p 0) ⊑ along after m (v j) = subst (λ (r : ℕ). W r ⊑ along after m (v j))
+          let u : ℕ → A = λ r. W (get_or (read_by cs i) r 0) in
+          let b : (r : ℕ) → P (u r) = λ r. all-good n cs v g (get_or (read_by cs i) r 0) in
+          let a : W (get_or (read_by cs i) p 0) ⊑ along after m (v j) = subst (λ (r : ℕ). W r ⊑ along after m (v j))
           (sym e) (along-path j s m l) in
-          let x = keptTime pick u (length (readBy cs i) - 1) in
+          let x = keptTime pick u (length (read_by cs i) - 1) in
           subst (λ (y : A). y ⊑ after (along after m (v j))) (sym (equation n cs v fed i h))
-          (mono x (along after m (v j)) (kept-good u (length (readBy cs i) - 1) b) (along-good m (v j) (g j))
-          (through x (u p) (along after m (v j)) (kept-good u (length (readBy cs i) - 1) b) (b p)
-          (along-good m (v j) (g j)) (kept-best u (length (readBy cs i) - 1) p (omega (arith, f .0)) b) a))
+          (mono x (along after m (v j)) (kept-good u (length (read_by cs i) - 1) b) (along-good m (v j) (g j))
+          (through x (u p) (along after m (v j)) (kept-good u (length (read_by cs i) - 1) b) (b p)
+          (along-good m (v j) (g j)) (kept-best u (length (read_by cs i) - 1) p (omega (arith, f.0)) b) a))
 
       -- a path back to an input
       record Back (t : ℕ) : Type 0 where
@@ -173,7 +173,7 @@ module _ {A : Type 0} (pick : A → A → A) (after : A → A) where
       back : (b t : ℕ) → t < b → t < n + length cs → Back t
       unfolding along W by-reads
       back zero t h l = absurd (not-suc-le-zero h)
-      back (suc b) t h l = elim (decLt t n) [
+      back (suc b) t h l = elim (dec_lt t n) [
         | yes q ↦ record { input = t; cells = 0; path = begins q; reached = earlier n cs v t q }
         | no q ↦ step (t - n) (omega arith) (omega arith) (back b)
       ]
@@ -181,26 +181,26 @@ module _ {A : Type 0} (pick : A → A → A) (after : A → A) where
           step : (i : ℕ) → t ≡ n + i → i < length cs → ((s : ℕ) → s < b → s < n + length cs → Back s) → Back t
           step i e k ih =
               let f = fed i k in
-              let c = chosen (λ r. W (getD (readBy cs i) r 0)) (length (readBy cs i) - 1) in
-              let s = getD (readBy cs i) (c .at) 0 in
-              let low : s < n + i = f .1 (c .at) (omega (arith, c .within, f .0)) in
+              let c = chosen (λ r. W (get_or (read_by cs i) r 0)) (length (read_by cs i) - 1) in
+              let s = get_or (read_by cs i) c.at 0 in
+              let low : s < n + i = f.1 c.at (omega (arith, c.within, f.0)) in
               let w = ih s (omega arith) (omega arith) in
               subst Back (sym e) (record {
-                input = w .input;
-                cells = suc (w .cells);
-                path = goes s (w .cells) i (c .at) (w .path) k (omega (arith, c .within, f .0)) refl;
-                reached = equation n cs v fed i k ∙ ap after (c .is ∙ w .reached);
+                input = w.input;
+                cells = suc w.cells;
+                path = goes s w.cells i c.at w.path k (omega (arith, c.within, f.0)) refl;
+                reached = equation n cs v fed i k ∙ ap after (c.is ∙ w.reached);
               })
 
-      pub best-path : (o : A) → 1 ≤ length cs → BestPath _⊑_ after n cs v (outputTime pick after o n cs v)
+      pub best-path : (o : A) → 1 ≤ length cs → BestPath ◌⊑◌ after n cs v (outputTime pick after o n cs v)
       unfolding W
       best-path o some =
           let e = output-last n cs o v some in
           let w = back (n + length cs) (n + (length cs - 1)) (omega arith) (omega arith) in record {
             bound = λ j k l. subst (λ (x : A). x ⊑ along after k (v j)) (sym e)
                 (along-path j (n + (length cs - 1)) k l);
-            input = w .input;
-            cells = w .cells;
-            path = w .path;
-            reached = e ∙ w .reached;
+            input = w.input;
+            cells = w.cells;
+            path = w.path;
+            reached = e ∙ w.reached;
           }

@@ -1,23 +1,23 @@
 -- The output's time is the best along all paths, the latest or the earliest, for any kind of time with an order that a
 -- delay keeps. Assumes nothing.
-use mathlib.Core.Path.{_≡_, refl}
-use mathlib.Core.Logic.{_⊎_, inl, inr}
+use mathlib.Core.Path.{◌≡◌, refl}
+use mathlib.Core.Logic.{◌⊎◌, inl, inr}
 use mathlib.Core.Bool.{Bool, true, false, cond}
 use mathlib.Core.List.{List}
-use Prim.Native.Nat.{ℕ, _≤_}
+use Prim.Native.Nat.{ℕ, ◌≤◌}
 use lib.ListN.{length}
-use Rattle·sheets.specs.Network.{Cell}
-use Rattle·times.specs.Signals.{keepBy, outputTime}
-use Rattle·paths·specs.specs.Paths.{BestPath, beyondBy}
-use Rattle·paths·proofs.proofs.Along.{Fed, best-path}
+use Rattle.sheets.specs.Network.{Cell}
+use Rattle.times.specs.Signals.{keepBy, outputTime}
+use Rattle.paths.specs.Paths.{BestPath, beyondBy}
+use Rattle.paths.proofs.Along.{Fed, best-path}
 
 -- the order on the times that satisfy P, and a test of it
-module _ {A : Type 0} (less : A → A → Bool) (_≼_ : A → A → Type 0) (P : A → Type 0)
-    (same : (x : A) → P x → _≼_ x x)
-    (through : (x y z : A) → P x → P y → P z → _≼_ x y → _≼_ y z → _≼_ x z)
-    (below : (x y : A) → less x y ≡ true → _≼_ x y)
-    (above : (x y : A) → P x → P y → less x y ≡ false → _≼_ y x) where
-  infixl 20 _≼_
+module _ {A : Type 0} (less : A → A → Bool) (◌≼◌ : A → A → Type 0) (P : A → Type 0)
+    (same : (x : A) → P x → ◌≼◌ x x)
+    (through : (x y z : A) → P x → P y → P z → ◌≼◌ x y → ◌≼◌ y z → ◌≼◌ x z)
+    (below : (x y : A) → less x y ≡ true → ◌≼◌ x y)
+    (above : (x y : A) → P x → P y → less x y ≡ false → ◌≼◌ y x) where
+  infixl 20 ◌≼◌
   -- of two times one is kept
   either : (late : Bool) (x y : A) → (keepBy less late x y ≡ x) ⊎ (keepBy less late x y ≡ y)
   either late x y = go late
@@ -31,8 +31,8 @@ module _ {A : Type 0} (less : A → A → Bool) (_≼_ : A → A → Type 0) (P 
       go false = one (less y x)
 
   -- and it is beyond both
-  both : (late : Bool) (x y : A) → P x → P y → beyondBy _≼_ late (keepBy less late x y) x
-      × beyondBy _≼_ late (keepBy less late x y) y
+  both : (late : Bool) (x y : A) → P x → P y → beyondBy ◌≼◌ late (keepBy less late x y) x
+      × beyondBy ◌≼◌ late (keepBy less late x y) y
   both true x y p q = go (less x y) refl
     where
       go : (b : Bool) → less x y ≡ b → (x ≼ cond b y x) × (y ≼ cond b y x)
@@ -48,13 +48,13 @@ module _ {A : Type 0} (less : A → A → Bool) (_≼_ : A → A → Type 0) (P 
   module _ (after : A → A) (good : (x : A) → P x → P (after x))
       (mono : (x y : A) → P x → P y → x ≼ y → after x ≼ after y)
       (n : ℕ) (cs : List Cell) (v : ℕ → A) (fed : Fed n cs) (g : (t : ℕ) → P (v t)) (o : A) (some : 1 ≤ length cs) where
-    pub ordered-path : (late : Bool) → BestPath (beyondBy _≼_ late) after n cs v
+    pub ordered-path : (late : Bool) → BestPath (beyondBy ◌≼◌ late) after n cs v
         (outputTime (keepBy less late) after o n cs v)
     ordered-path true =
-        best-path (keepBy less true) after (beyondBy _≼_ true) P same (λ x y z p q r h k. through z y x r q p k h)
-        (either true) (λ x y p q. both true x y p q .0) (λ x y p q. both true x y p q .1) good
+        best-path (keepBy less true) after (beyondBy ◌≼◌ true) P same (λ x y z p q r h k. through z y x r q p k h)
+        (either true) (λ x y p q. (both true x y p q).0) (λ x y p q. (both true x y p q).1) good
         (λ x y p q. mono y x q p) n cs v fed g o some
     ordered-path false =
-        best-path (keepBy less false) after (beyondBy _≼_ false) P same through
-        (either false) (λ x y p q. both false x y p q .0) (λ x y p q. both false x y p q .1) good
+        best-path (keepBy less false) after (beyondBy ◌≼◌ false) P same through
+        (either false) (λ x y p q. (both false x y p q).0) (λ x y p q. (both false x y p q).1) good
         mono n cs v fed g o some

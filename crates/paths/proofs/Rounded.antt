@@ -1,34 +1,34 @@
 -- As f64, rounded at each sum, the output's times are the least and the greatest along all paths too: rounding keeps
 -- the order. Assumes nothing.
-use mathlib.Core.Path.{_≡_, refl, sym, ap, ap₂, subst, _∙_}
-use mathlib.Core.Bool.{Bool, true, false, cond, _||_, _&&_}
+use mathlib.Core.Path.{◌≡◌, refl, sym, ap, ap₂, subst, ◌∙◌}
+use mathlib.Core.Bool.{Bool, true, false, cond, ◌||◌, ◌&&◌}
 use mathlib.Core.List.{List}
-use Prim.Native.Nat.{ℕ, zero, suc, _+_, _*_, _^_, _≤_}
-use native.Mathlib.Nat.{le-refl, add-mul, mul-assoc, mul-comm, mul-left-comm, mul-pos, mul-le-mul-right}
+use Prim.Native.Nat.{ℕ, zero, suc, ◌+◌, ◌*◌, ◌^◌, ◌≤◌}
+use native.Mathlib.Nat.{le_refl, add-mul, mul_assoc, mul_comm, mul_left_comm, mul-pos, mul-le-mul_right}
 use native.Mathlib.Omega.{arith}
 use lib.Dec.{T, ltb}
 use lib.IntN.{ℤ, pos}
 use lib.Ieee.{Float, inf, fin, binary64, up, down, lt, eq, le, add, sum, round, units, odd, prec, emax, low}
-use lib.Ieee.Fits.{down-pos, round-is}
-use lib.Ieee.Order.{kept as digits, drop, le-of-values, round-mono}
+use lib.Ieee.Fits.{down_pos, round_is}
+use lib.Ieee.Order.{kept as digits, drop, le_of_values, round_mono}
 use lib.Ieee.Positive.{through}
 use borrow.Author.Tests.{ltb-true, ltb-false}
-use Rattle·bits.specs.Below.{every}
-use Rattle·bits.proofs.Below.{every-at}
-use Rattle·bits.proofs.Bools.{and-left, and-right, clash}
-use Rattle·sheets.specs.declared.kinds.Edition.{Edition}
-use Rattle·sheets.specs.Edition.{IsEdition}
-use Rattle·sheets.specs.Sheet.{records, sheetCells}
-use Rattle·times.specs.declared.input_time.InputTime.{InputTime}
-use Rattle·times.specs.declared.input_time.InputTime.the-variants.{NotRead, Arrival, Between}
-use Rattle·times.specs.InputTimes.{zeroTime, plainZero, inRange, soundTime, timeOf, timeAt, inputTimes}
-use Rattle·times.specs.Signals.{keeping, delayed, settled}
-use Rattle·times.proofs.Counting.{at-most}
-use Rattle·times.proofs.Telling.{ranged}
-use Rattle·settling.proofs.Kept.{Leaves, all-sound}
-use Rattle·paths·specs.specs.Paths.{BestPath, BeyondTime}
-use Rattle·paths·proofs.proofs.Ordered.{ordered-path}
-use Rattle·paths·proofs.proofs.Whole.{good-fed, some-cells}
+use Rattle.bits.specs.Below.{every}
+use Rattle.bits.proofs.Below.{every-at}
+use Rattle.bits.proofs.Bools.{and_left, and_right, clash}
+use Rattle.sheets.specs.declared.kinds.Edition.{Edition}
+use Rattle.sheets.specs.Edition.{IsEdition}
+use Rattle.sheets.specs.Sheet.{records, sheetCells}
+use Rattle.times.specs.declared.input_time.InputTime.{InputTime}
+use Rattle.times.specs.declared.input_time.InputTime.TheVariants.{NotRead, Arrival, Between}
+use Rattle.times.specs.InputTimes.{zeroTime, plainZero, in_range, soundTime, timeOf, timeAt, inputTimes}
+use Rattle.times.specs.Signals.{keeping, delayed, settled}
+use Rattle.times.proofs.Counting.{at_most}
+use Rattle.times.proofs.Telling.{ranged}
+use Rattle.settling.proofs.Kept.{Leaves, all_sound}
+use Rattle.paths.specs.Paths.{BestPath, BeyondTime}
+use Rattle.paths.proofs.Ordered.{ordered-path}
+use Rattle.paths.proofs.Whole.{good-fed, some-cells}
 
 -- ---- numbers from 0 up, infinity among them, in order
 
@@ -37,35 +37,35 @@ data NonNeg : Float → Type 0 where
   finite : (m : ℕ) (e : ℤ) → NonNeg (fin false m e)
 
 of-cross : (m n : ℕ) (e d : ℤ) → m * up e * down d ≤ n * up d * down e → T (le (fin false m e) (fin false n d))
-of-cross m n e d h = le-of-values (fin false m e) (fin false n d) (m * up e) (down e) (n * up d) (down d) (down-pos e)
-    (down-pos d) (refl, refl) (refl, refl) h
+of-cross m n e d h = le_of_values (fin false m e) (fin false n d) (m * up e) (down e) (n * up d) (down d) (down_pos e)
+    (down_pos d) (refl, refl) (refl, refl) h
 
 cross-of : (m n : ℕ) (e d : ℤ) → T (le (fin false m e) (fin false n d)) → m * up e * down d ≤ n * up d * down e
 unfolding le lt eq
-cross-of m n e d h = at-most (m * up e * down d) (n * up d * down e) h
+cross-of m n e d h = at_most (m * up e * down d) (n * up d * down e) h
 
-below-inf : (x : Float) → NonNeg x → T (le x (inf false))
+below_inf : (x : Float) → NonNeg x → T (le x (inf false))
 unfolding le lt eq
-below-inf x infinite = tt
-below-inf x (finite m e) = tt
+below_inf x infinite = tt
+below_inf x (finite m e) = tt
 
 same : (x : Float) → NonNeg x → T (le x x)
-same x infinite = below-inf (inf false) infinite
-same x (finite m e) = of-cross m m e e (le-refl (m * up e * down e))
+same x infinite = below_inf (inf false) infinite
+same x (finite m e) = of-cross m m e e (le_refl (m * up e * down e))
 
 not-above : (n : ℕ) (d : ℤ) → T (le (inf false) (fin false n d)) → ⊥
 unfolding le lt eq
 not-above n d h = h
 
 trans : (x y z : Float) → NonNeg x → NonNeg y → NonNeg z → T (le x y) → T (le y z) → T (le x z)
-trans x y z p q infinite h k = below-inf x p
+trans x y z p q infinite h k = below_inf x p
 trans x y z p q (finite l f) h k = second q h k
   where
     first : (n : ℕ) (d : ℤ) {x : Float} → NonNeg x → T (le x (fin false n d)) → T (le (fin false n d) (fin false l f))
         → T (le x (fin false l f))
     first n d infinite h k = absurd (not-above n d h)
     first n d (finite m e) h k =
-        of-cross m l e f (through (m * up e) (n * up d) (l * up f) (down e) (down d) (down f) (down-pos d)
+        of-cross m l e f (through (m * up e) (n * up d) (l * up f) (down e) (down d) (down f) (down_pos d)
         (cross-of m n e d h) (cross-of n l d f k))
 
     second : {y : Float} → NonNeg y → T (le x y) → T (le y (fin false l f)) → T (le x (fin false l f))
@@ -74,7 +74,7 @@ trans x y z p q (finite l f) h k = second q h k
 
 total : (x y : Float) → NonNeg x → NonNeg y → lt y x ≡ false → T (le x y)
 unfolding lt
-total x y p infinite h = below-inf x p
+total x y p infinite h = below_inf x p
 total x y p (finite n d) h = first p h
   where
     first : {x : Float} → NonNeg x → lt (fin false n d) x ≡ false → T (le x (fin false n d))
@@ -103,7 +103,7 @@ units-good q k = go (ltb (q * 2 ^ k) (2 ^ (low binary64 + suc (emax binary64))))
 round-good : (a b : ℕ) → NonNeg (round binary64 false a b)
 round-good a b =
     let n = a * 2 ^ low binary64 in
-    subst NonNeg (sym (round-is binary64 false a b))
+    subst NonNeg (sym (round_is binary64 false a b))
     (units-good (digits (prec binary64) n b) (drop (prec binary64) n b))
 
 inf-add : (d : Float) → NonNeg d → add binary64 (inf false) d ≡ inf false
@@ -126,26 +126,26 @@ cross-sum A B N p q r h =
     ∙ ap (λ (k : ℕ). k + N * p * (q * r)) (swap A r q) in
     let b : (B * r + N * q) * (p * r) ≡ B * p * (r * r) + N * p * (q * r) = add-mul (B * r) (N * q) (p * r)
     ∙ ap₂ (λ (k l : ℕ). k + l) (swap B r p) (turn N q p r) in
-    omega (arith, a, b, mul-le-mul-right (r * r) h)
+    omega (arith, a, b, mul-le-mul_right (r * r) h)
   where
     swap : (a r q : ℕ) → a * r * (q * r) ≡ a * q * (r * r)
-    swap a r q = simp (mul-assoc, mul-comm, mul-left-comm)
+    swap a r q = simp (mul_assoc, mul_comm, mul_left_comm)
 
     turn : (n q p r : ℕ) → n * q * (p * r) ≡ n * p * (q * r)
-    turn n q p r = simp (mul-assoc, mul-comm, mul-left-comm)
+    turn n q p r = simp (mul_assoc, mul_comm, mul_left_comm)
 
 mono : (d x y : Float) → NonNeg d → NonNeg x → NonNeg y → T (le x y) → T (le (add binary64 x d) (add binary64 y d))
 mono d x y r p infinite h = subst (λ (z : Float). T (le (add binary64 x d) z)) (sym (inf-add d r))
-    (below-inf (add binary64 x d) (add-good d x r p))
+    (below_inf (add binary64 x d) (add-good d x r p))
 mono d x y r p (finite n g) h = first p h
   where
     last : (m : ℕ) (e : ℤ) {d : Float} → NonNeg d → T (le (fin false m e) (fin false n g))
         → T (le (add binary64 (fin false m e) d) (add binary64 (fin false n g) d))
-    last m e infinite h = unfold add in below-inf (inf false) infinite
+    last m e infinite h = unfold add in below_inf (inf false) infinite
     last m e (finite k f) h =
-        unfold add sum in round-mono binary64 (m * up e * down f + k * up f * down e) (down e * down f)
+        unfold add sum in round_mono binary64 (m * up e * down f + k * up f * down e) (down e * down f)
         (n * up g * down f + k * up f * down g) (down g * down f)
-        (mul-pos (down-pos e) (down-pos f)) (mul-pos (down-pos g) (down-pos f))
+        (mul-pos (down_pos e) (down_pos f)) (mul-pos (down_pos g) (down_pos f))
         (cross-sum (m * up e) (n * up g) (k * up f) (down e) (down g) (down f) (cross-of m n e g h))
 
     first : {x : Float} → NonNeg x → T (le x (fin false n g))
@@ -155,15 +155,15 @@ mono d x y r p (finite n g) h = first p h
 
 -- ---- the inputs
 
-plain-good : (x : Float) → inRange x ≡ true → NonNeg (plainZero x)
-plain-good x r = subst NonNeg (sym (ranged x r .is)) (finite _ _)
+plain-good : (x : Float) → in_range x ≡ true → NonNeg (plainZero x)
+plain-good x r = subst NonNeg (sym (ranged x r).is) (finite _ _)
 
 time-good : (late : Bool) (t : InputTime) → soundTime t ≡ true → NonNeg (timeOf late t)
 time-good late NotRead s = finite 0 (pos 0)
 time-good late (Arrival x) s = plain-good x s
 time-good true (Between x y) s = plain-good y
-    (and-left (inRange y) (le x y) (and-right (inRange x) (inRange y && le x y) s))
-time-good false (Between x y) s = plain-good x (and-left (inRange x) (inRange y && le x y) s)
+    (and_left (in_range y) (le x y) (and_right (in_range x) (in_range y && le x y) s))
+time-good false (Between x y) s = plain-good x (and_left (in_range x) (in_range y && le x y) s)
 
 inputs-good : (late : Bool) (n : ℕ) (ts : List InputTime) → every n (λ j. soundTime (timeAt ts j)) ≡ true → (j : ℕ)
     → NonNeg (inputTimes late n ts j)
@@ -180,9 +180,9 @@ pub rounded-path : (late : Bool) (e : Edition) → IsEdition e
     (settled late e n s delay ts)
 unfolding settled keeping
 rounded-path late e ok d n s delay ts l =
-    let p = plain-good delay (l .within) in
+    let p = plain-good delay l.within in
     ordered-path lt (λ x y. T (le x y)) NonNeg same trans less (λ x y p q. total y x q p)
     (delayed (plainZero delay)) (λ x a. add-good (plainZero delay) x p a) (λ x y. mono (plainZero delay) x y p)
-    n (sheetCells e s (records e s)) (inputTimes late n ts) (good-fed e ok d n s (records e s) (l .good))
-    (inputs-good late n ts (all-sound e n s (records e s) ts (l .times))) zeroTime
-    (some-cells e d n s (records e s) (l .good)) late
+    n (sheetCells e s (records e s)) (inputTimes late n ts) (good-fed e ok d n s (records e s) l.good)
+    (inputs-good late n ts (all_sound e n s (records e s) ts l.times)) zeroTime
+    (some-cells e d n s (records e s) l.good) late

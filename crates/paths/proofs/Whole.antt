@@ -1,63 +1,63 @@
 -- Over whole numbers of sixteenths the output's times are the least and the greatest along all paths, and a good
 -- sheet's cells are fed. Assumes nothing.
-use mathlib.Core.Path.{_≡_, sym, ap, subst, _∙_}
+use mathlib.Core.Path.{◌≡◌, sym, ap, subst, ◌∙◌}
 use mathlib.Core.Bool.{Bool}
 use mathlib.Core.List.{List}
-use Prim.Native.Nat.{ℕ, zero, suc, _+_, _*_, _<_, _≤_}
+use Prim.Native.Nat.{ℕ, zero, suc, ◌+◌, ◌*◌, ◌<◌, ◌≤◌}
 use native.Mathlib.Nat.{not-suc-le-zero, suc-mul}
 use native.Mathlib.Omega.{arith}
 use lib.Dec.{ltb}
 use lib.Ieee.{Float}
-use lib.ListN.{length, getD}
+use lib.ListN.{length, get_or}
 use borrow.Author.Tests.{ltb-true, ltb-false}
-use Rattle·bits.proofs.Lists.{length-list, list-at}
-use Rattle·sheets.specs.declared.kinds.Edition.{Edition}
-use Rattle·sheets.specs.Edition.{IsEdition}
-use Rattle·sheets.specs.Record.{Keeps, cellOf}
-use Rattle·sheets.specs.Sheet.{recordAt, records, cellsFrom, sheetCells, Good}
-use Rattle·sheets.proofs.Looks.{record-keeps}
-use Rattle·sheets.proofs.Wiring.{cells-length}
-use Rattle·times.specs.declared.input_time.InputTime.{InputTime}
-use Rattle·times.specs.InputTimes.{inputTimes}
-use Rattle·times.specs.Sixteenths.{sixteenthsOf}
-use Rattle·times.specs.Whole.{settledWhole}
-use Rattle·paths·specs.specs.Paths.{readBy, along, BestPath, Beyond}
-use Rattle·paths·proofs.proofs.Along.{Fed}
-use Rattle·paths·proofs.proofs.Ordered.{ordered-path}
+use Rattle.bits.proofs.Lists.{length-list, list_at}
+use Rattle.sheets.specs.declared.kinds.Edition.{Edition}
+use Rattle.sheets.specs.Edition.{IsEdition}
+use Rattle.sheets.specs.Record.{Keeps, cell_of}
+use Rattle.sheets.specs.Sheet.{recordAt, records, cellsFrom, sheetCells, Good}
+use Rattle.sheets.proofs.Looks.{record-keeps}
+use Rattle.sheets.proofs.Wiring.{cells-length}
+use Rattle.times.specs.declared.input_time.InputTime.{InputTime}
+use Rattle.times.specs.InputTimes.{inputTimes}
+use Rattle.times.specs.Sixteenths.{sixteenthsOf}
+use Rattle.times.specs.Whole.{settledWhole}
+use Rattle.paths.specs.Paths.{read_by, along, BestPath, Beyond}
+use Rattle.paths.proofs.Along.{Fed}
+use Rattle.paths.proofs.Ordered.{ordered-path}
 
 -- ---- a good sheet's cells
 
-cell-reads : (e : Edition) (s : List ℕ) (m i k : ℕ) → k < m → readBy (cellsFrom e s i m) k
-    ≡ cellOf e (recordAt e s (i + k)) .signals
+cell-reads : (e : Edition) (s : List ℕ) (m i k : ℕ) → k < m → read_by (cellsFrom e s i m) k
+    ≡ (cell_of e (recordAt e s (i + k))).signals
 unfolding cellsFrom
 cell-reads e s zero i k h = absurd (not-suc-le-zero h)
 cell-reads e s (suc m) i zero h = let z : i ≡ i + 0 = omega arith
-    in ap (λ (j : ℕ). cellOf e (recordAt e s j) .signals) z
+    in ap (λ (j : ℕ). (cell_of e (recordAt e s j)).signals) z
 cell-reads e s (suc m) i (suc k) h =
     let z : suc i + k ≡ i + suc k = omega arith in cell-reads e s m (suc i) k (omega arith)
-    ∙ ap (λ (j : ℕ). cellOf e (recordAt e s j) .signals) z
+    ∙ ap (λ (j : ℕ). (cell_of e (recordAt e s j)).signals) z
 
-fed-by : (e : Edition) (d top : ℕ) (b : ℕ → ℕ) (l : List ℕ) → Keeps e d top b → l ≡ cellOf e b .signals → (1 ≤ length l)
-    × ((p : ℕ) → p < length l → getD l p 0 < top)
-unfolding cellOf
-fed-by e d top b l k q =
+fed_by : (e : Edition) (d top : ℕ) (b : ℕ → ℕ) (l : List ℕ) → Keeps e d top b → l ≡ (cell_of e b).signals → (1 ≤ length l)
+    × ((p : ℕ) → p < length l → get_or l p 0 < top)
+unfolding cell_of
+fed_by e d top b l k q =
     let z : length l ≡ b 0 = ap length q ∙ length-list (b 0) (λ j. b (j + 1)) in (
-      subst (λ (m : ℕ). 1 ≤ m) (sym z) (k .some),
+      subst (λ (m : ℕ). 1 ≤ m) (sym z) k.some,
       λ p h.
           let g : p < b 0 = subst (λ (m : ℕ). p < m) z h in
-          subst (λ (x : ℕ). x < top) (sym (ap (λ (m : List ℕ). getD m p 0) q ∙ list-at (b 0) (λ j. b (j + 1)) p 0 g))
-          (k .known p g),
+          subst (λ (x : ℕ). x < top) (sym (ap (λ (m : List ℕ). get_or m p 0) q ∙ list_at (b 0) (λ j. b (j + 1)) p 0 g))
+          (k.known p g),
     )
 
 pub good-fed : (e : Edition) → IsEdition e → (d n : ℕ) (s : List ℕ) (m : ℕ) → Good e d n s m → Fed n (sheetCells e s m)
 good-fed e ok d n s m g i h =
     let l : i < m = subst (λ (k : ℕ). i < k) (cells-length e s 0 m) h in
     let z : 0 + i ≡ i = omega arith in
-    fed-by e d (n + i) (recordAt e s i) (readBy (sheetCells e s m) i) (record-keeps e ok d n s m (g .rules) i l)
-    (cell-reads e s m 0 i l ∙ ap (λ (j : ℕ). cellOf e (recordAt e s j) .signals) z)
+    fed_by e d (n + i) (recordAt e s i) (read_by (sheetCells e s m) i) (record-keeps e ok d n s m g.rules i l)
+    (cell-reads e s m 0 i l ∙ ap (λ (j : ℕ). (cell_of e (recordAt e s j)).signals) z)
 
 pub some-cells : (e : Edition) (d n : ℕ) (s : List ℕ) (m : ℕ) → Good e d n s m → 1 ≤ length (sheetCells e s m)
-some-cells e d n s m g = subst (λ (k : ℕ). 1 ≤ k) (sym (cells-length e s 0 m)) (g .some)
+some-cells e d n s m g = subst (λ (k : ℕ). 1 ≤ k) (sym (cells-length e s 0 m)) g.some
 
 -- ---- whole numbers
 
@@ -68,7 +68,7 @@ pub whole-path : (late : Bool) (e : Edition) → IsEdition e
     (λ j. sixteenthsOf (inputTimes late n ts j)) (settledWhole late e n s delay ts)
 unfolding settledWhole
 whole-path late e ok d n s delay ts g =
-    ordered-path ltb _≤_ (λ i. Unit {0}) (λ i p. omega arith) (λ i j k p q r a b. omega arith)
+    ordered-path ltb ◌≤◌ (λ i. Unit {0}) (λ i p. omega arith) (λ i j k p q r a b. omega arith)
     (λ i j h. omega (arith, ltb-true i j h)) (λ i j p q h. ltb-false i j h)
     (λ i. i + sixteenthsOf delay) (λ i p. tt) (λ i j p q h. omega arith)
     n (sheetCells e s (records e s)) (λ j. sixteenthsOf (inputTimes late n ts j))

@@ -1,22 +1,17 @@
 -- Paths through a network, from an input to the output, and the time along one.
-use mathlib.Core.Path.{_≡_}
-use mathlib.Core.Bool.{Bool, true, false}
-use mathlib.Core.List.{List, []}
-use Prim.Native.Nat.{ℕ, zero, suc, _+_, _-_, _<_, _≤_}
-use lib.Dec.{T}
-use lib.Ieee.{Float, le}
-use lib.ListN.{length, getD}
-use Rattle·sheets.specs.Network.{Cell}
+use Rattle.std.specs.Prelude.{◌≡◌, Bool, true, false, List, [], ℕ, zero, suc, ◌+◌, ◌-◌, ◌<◌, ◌≤◌, T, Float, length, get_or}
+use Rattle.std.specs.Float.Ieee.{le}
+use Rattle.sheets.specs.Network.{Cell}
 
 -- the signals that cell i reads
-abbrev pub readBy : List Cell → ℕ → List ℕ
-readBy cs i = getD cs i (record { signals = []; table = 0 }) .signals
+abbrev pub read_by : List Cell → ℕ → List ℕ
+read_by cs i = (get_or cs i (record { signals = []; table = 0 })).signals
 
 -- from input j over k cells to signal t: it begins at an input, and goes on from a signal to a cell that reads it;
 -- cell i gives signal n + i
 pub data Leads (n : ℕ) (cs : List Cell) (j : ℕ) : ℕ → ℕ → Type 0 where
   begins : j < n → Leads n cs j j 0
-  goes : (t k i p : ℕ) → Leads n cs j t k → i < length cs → p < length (readBy cs i) → getD (readBy cs i) p 0 ≡ t
+  goes : (t k i p : ℕ) → Leads n cs j t k → i < length cs → p < length (read_by cs i) → get_or (read_by cs i) p 0 ≡ t
       → Leads n cs j (n + i) (suc k)
 
 -- a path from input j over k cells to the output, which the last cell gives
@@ -30,12 +25,12 @@ along after (suc k) x = after (along after k x)
 
 -- by an order: x is at least y (late), or at most
 abbrev pub beyondBy : {A : Type 0} → (A → A → Type 0) → Bool → A → A → Type 0
-beyondBy atMost true x y = atMost y x
-beyondBy atMost false x y = atMost x y
+beyondBy at_most true x y = at_most y x
+beyondBy at_most false x y = at_most x y
 
 -- of whole numbers
 abbrev pub Beyond : Bool → ℕ → ℕ → Type 0
-Beyond = beyondBy _≤_
+Beyond = beyondBy ◌≤◌
 
 -- of f64
 abbrev pub BeyondTime : Bool → Float → Float → Type 0

@@ -1,8 +1,8 @@
 -- A sheet checked, for C.
-use Rattle·refusals.specs.declared.verdicts.Verdict.{Verdict}
-use Rattle·refusals.specs.Lines.{numberOf, placeOf}
-use Rattle·pelzurivan·specs.specs.declared.check_sheet.CheckedC.{CheckedC}
+use Rattle.refusals.specs.declared.verdicts.Verdict.{Verdict}
+use Rattle.refusals.specs.Lines.{number_of, placeOf}
+use Rattle.pelzurivan.specs.declared.check_sheet.CheckedC.{CheckedC}
 
 -- the number, and what it names
 abbrev pub checkedC : Verdict → CheckedC
-checkedC v = record { number = numberOf v; place = placeOf v }
+checkedC v = record { number = number_of v; place = placeOf v }

@@ -1,15 +1,11 @@
 -- The inputs' times, as C hands them over.
-use mathlib.Core.Bool.{cond}
-use mathlib.Core.List.{List}
-use Prim.Native.Nat.{ℕ}
-use lib.Dec.{eqb}
-use lib.Ieee.{Float, nan}
-use lib.ListN.{getD}
-use Rattle·bits.specs.Lists.{listOf}
-use Rattle·tables.specs.Table.{mostInputs}
-use Rattle·times.specs.declared.input_time.InputTime.{InputTime}
-use Rattle·times.specs.declared.input_time.InputTime.the-variants.{NotRead, Arrival, Between}
-use Rattle·pelzurivan·specs.specs.declared.input_times.TimesC.{TimesC}
+use Rattle.std.specs.Prelude.{cond, List, ℕ, eqb, Float, get_or}
+use Rattle.std.specs.Float.{nan}
+use Rattle.bits.specs.Lists.{list_of}
+use Rattle.tables.specs.Table.{mostInputs}
+use Rattle.times.specs.declared.input_time.InputTime.{InputTime}
+use Rattle.times.specs.declared.input_time.InputTime.TheVariants.{NotRead, Arrival, Between}
+use Rattle.pelzurivan.specs.declared.input_times.TimesC.{TimesC}
 
 -- kind 1 is one arrival, 2 an earliest and a latest, any other is not read
 abbrev pub timeOfKind : ℕ → Float → Float → InputTime
@@ -17,4 +13,4 @@ timeOfKind kind first second = cond (eqb kind 1) (Arrival first) (cond (eqb kind
 
 -- what is said of each of the 16 inputs
 unfoldable pub timesFromC : TimesC → List InputTime
-timesFromC c = listOf mostInputs (λ j. timeOfKind (getD (c .kind) j 0) (getD (c .first) j nan) (getD (c .second) j nan))
+timesFromC c = list_of mostInputs (λ j. timeOfKind (get_or c.kind j 0) (get_or c.first j nan) (get_or c.second j nan))

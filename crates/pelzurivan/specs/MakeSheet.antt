@@ -1,8 +1,8 @@
 -- A sheet made, for C.
-use Rattle·refusals.specs.Lines.{numberOf}
-use Rattle·making.specs.MakeSheet.{MakeOutcome}
-use Rattle·pelzurivan·specs.specs.declared.make_sheet.MadeC.{MadeC}
+use Rattle.refusals.specs.Lines.{number_of}
+use Rattle.making.specs.MakeSheet.{MakeOutcome}
+use Rattle.pelzurivan.specs.declared.make_sheet.MadeC.{MadeC}
 
 -- the number, and how many cells
 abbrev pub madeC : MakeOutcome → MadeC
-madeC o = record { number = numberOf (o .answer .verdict); count = o .answer .count }
+madeC o = record { number = number_of o.answer.verdict; count = o.answer.count }

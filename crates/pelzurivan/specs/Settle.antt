@@ -1,13 +1,13 @@
 -- When the output settles, for C.
-use Rattle·refusals.specs.Lines.{numberOf, placeOf}
-use Rattle·settling.specs.declared.settle.SettleAnswer.{SettleAnswer}
-use Rattle·pelzurivan·specs.specs.declared.settle.SettledC.{SettledC}
+use Rattle.refusals.specs.Lines.{number_of, placeOf}
+use Rattle.settling.specs.declared.settle.SettleAnswer.{SettleAnswer}
+use Rattle.pelzurivan.specs.declared.settle.SettledC.{SettledC}
 
 -- the number, the first bad record, and both times
 abbrev pub settledC : SettleAnswer → SettledC
 settledC a = record {
-  number = numberOf (a .verdict);
-  index = placeOf (a .verdict);
-  earliest = a .earliest;
-  latest = a .latest;
+  number = number_of a.verdict;
+  index = placeOf a.verdict;
+  earliest = a.earliest;
+  latest = a.latest;
 }

@@ -1,17 +1,15 @@
 -- The shorter of two sheets, for C.
-use mathlib.Core.List.{List}
-use Prim.Native.Nat.{ℕ}
-use lib.ListN.{length}
-use Rattle·refusals.specs.Lines.{numberOf, placeOf}
-use Rattle·comparing.specs.declared.shorter.Kept.{Kept}
-use Rattle·comparing.specs.Shorter.{partOf}
-use Rattle·pelzurivan·specs.specs.declared.shorter.ShorterC.{ShorterC}
+use Rattle.std.specs.Prelude.{List, ℕ, length}
+use Rattle.refusals.specs.Lines.{number_of, placeOf}
+use Rattle.comparing.specs.declared.shorter.Kept.{Kept}
+use Rattle.comparing.specs.Shorter.{part_of}
+use Rattle.pelzurivan.specs.declared.shorter.ShorterC.{ShorterC}
 
 -- which of x and y, how many bytes it has, the number of the call beside, and what that names
 abbrev pub shorterC : Kept → List ℕ → List ℕ → ShorterC
 shorterC k x y = record {
-  which = k .which;
-  length = length (partOf (k .which) x y);
-  number = numberOf (k .verdict);
-  place = placeOf (k .verdict);
+  which = k.which;
+  length = length (part_of k.which x y);
+  number = number_of k.verdict;
+  place = placeOf k.verdict;
 }

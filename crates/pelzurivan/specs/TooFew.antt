@@ -1,8 +1,8 @@
 -- Whether m cells were shown to be too few, for C.
-use Rattle·refusals.specs.Lines.{numberOf, placeOf}
-use Rattle·refuting.specs.TooFew.{FewOutcome}
-use Rattle·pelzurivan·specs.specs.declared.too_few.ShownC.{ShownC}
+use Rattle.refusals.specs.Lines.{number_of, placeOf}
+use Rattle.refuting.specs.TooFew.{FewOutcome}
+use Rattle.pelzurivan.specs.declared.too_few.ShownC.{ShownC}
 
 -- the number, and the byte at which the certificate fails
 abbrev pub shownC : FewOutcome → ShownC
-shownC o = record { number = numberOf (o .verdict); place = placeOf (o .verdict) }
+shownC o = record { number = number_of o.verdict; place = placeOf o.verdict }

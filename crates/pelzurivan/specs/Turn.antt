@@ -1,16 +1,16 @@
 -- A three-input table turned into another, for C.
-use Rattle·bits.specs.Numbers.{val}
-use Rattle·refusals.specs.Lines.{numberOf}
-use Rattle·turning.specs.declared.turn.TurnAnswer.{TurnAnswer}
-use Rattle·pelzurivan·specs.specs.declared.turn.TurnedC.{TurnedC}
+use Rattle.bits.specs.Numbers.{val}
+use Rattle.refusals.specs.Lines.{number_of}
+use Rattle.turning.specs.declared.turn.TurnAnswer.{TurnAnswer}
+use Rattle.pelzurivan.specs.declared.turn.TurnedC.{TurnedC}
 
 -- the number, and the way
 abbrev pub turnedC : TurnAnswer → TurnedC
 turnedC a = record {
-  number = numberOf (a .verdict);
-  flip = val (a .way .flip);
-  mask = a .way .mask;
-  p0 = a .way .p0;
-  p1 = a .way .p1;
-  p2 = a .way .p2;
+  number = number_of a.verdict;
+  flip = val a.way.flip;
+  mask = a.way.mask;
+  p0 = a.way.p0;
+  p1 = a.way.p1;
+  p2 = a.way.p2;
 }

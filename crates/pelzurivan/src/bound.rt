@@ -1,19 +1,21 @@
 // A lower bound on the cells of a table, for C.
+ghost use Rattle.std.specs.Prelude.{◌≡◌};
+ghost use Rattle.bounds.specs.BoundCells.{boundOutcome};
+ghost use Rattle.pelzurivan.specs.Bound.{boundedC};
+
 use bounds::bound_cells::bound_cells;
 use refusals::verdicts::number_of;
-ghost use mathlib.Core.Path.{_≡_};
-ghost use Rattle·bounds.specs.BoundCells.{boundOutcome};
-ghost use Rattle·pelzurivan·specs.specs.Bound.{boundedC};
 
 // The number, and the bound.
 #[repr(C)]
+#[derive(Drop)]
 pub struct BoundedC {
     pub number: u64,
     pub least: u64,
 }
 
 // A number of cells of the edition with the number `edition`: no network of fewer carries the table.
-#[no_mangle]
+#[unsafe(no_mangle)]
 pub extern "C" fn pelzurivan_bound(
     edition: u64,
     n: u64,
@@ -21,10 +23,8 @@ pub extern "C" fn pelzurivan_bound(
     t: &[u8],
     work: &mut [u8],
 ) -> BoundedC
-    ensures { λ r. ⌜
-        (r ≡ boundedC (boundOutcome edition n k (now (t .entry)) (now (work .entry))))
-        × (now (work .exit) ≡ boundOutcome edition n k (now (t .entry)) (now (work .entry)) .work)
-        ⌝ }
+    ensures { (result ≡ boundedC (boundOutcome edition n k t.now work.old))
+        × (work.new ≡ (boundOutcome edition n k t.now work.old).work) }
 {
     let answer = bound_cells(edition, n, k, t, work);
     let verdict = answer.verdict;

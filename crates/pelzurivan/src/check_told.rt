@@ -1,21 +1,21 @@
 // Checking a sheet of a told edition against a table, for C.
+ghost use Rattle.std.specs.Prelude.{◌≡◌};
+ghost use Rattle.inspection.specs.CheckTold.{checkTold};
+ghost use Rattle.pelzurivan.specs.CheckSheet.{checkedC};
+
 use crate::check_sheet::CheckedC;
 use inspection::check_told::check_told;
-use refusals::verdicts::number_of;
-use refusals::verdicts::place_of;
-ghost use mathlib.Core.Path.{_≡_};
-ghost use Rattle·inspection.specs.CheckTold.{checkTold};
-ghost use Rattle·pelzurivan·specs.specs.CheckSheet.{checkedC};
+use refusals::verdicts::{number_of, place_of};
 
 // Checks anyone's sheet of the edition with the number `edition` against a gate's table.
-#[no_mangle]
+#[unsafe(no_mangle)]
 pub extern "C" fn pelzurivan_check_told<'a>(
     edition: u64,
     n: u64,
     t: &'a [u8],
     s: &'a [u8],
 ) -> CheckedC
-    ensures { λ r. ⌜ r ≡ checkedC (checkTold edition n (now (t .entry)) (now (s .entry))) ⌝ }
+    ensures { result ≡ checkedC (checkTold edition n t.now s.now) }
 {
     let verdict = check_told(edition, n, t, s);
     CheckedC {

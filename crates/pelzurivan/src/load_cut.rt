@@ -1,14 +1,14 @@
 // A load that is cut, for C.
+ghost use Rattle.std.specs.Prelude.{◌≡◌};
+ghost use Rattle.cards.specs.LoadCut.{cutOutcome};
+ghost use Rattle.pelzurivan.specs.LoadDesk.{loadedC};
+
 use crate::load_desk::LoadedC;
 use loads::load_cut::load_cut;
-use refusals::verdicts::number_of;
-use refusals::verdicts::place_of;
-ghost use mathlib.Core.Path.{_≡_};
-ghost use Rattle·cards.specs.LoadCut.{cutOutcome};
-ghost use Rattle·pelzurivan·specs.specs.LoadDesk.{loadedC};
+use refusals::verdicts::{number_of, place_of};
 
 // Loads a sheet of n inputs onto desk d of a card, but makes only the first `stores` stores.
-#[no_mangle]
+#[unsafe(no_mangle)]
 pub extern "C" fn pelzurivan_load_cut(
     card: &mut [u8],
     d: u64,
@@ -16,10 +16,8 @@ pub extern "C" fn pelzurivan_load_cut(
     s: &[u8],
     stores: u64,
 ) -> LoadedC
-    ensures { λ r. ⌜
-        (r ≡ loadedC (cutOutcome stores (now (card .entry)) d n (now (s .entry))))
-        × (now (card .exit) ≡ cutOutcome stores (now (card .entry)) d n (now (s .entry)) .card)
-        ⌝ }
+    ensures { (result ≡ loadedC (cutOutcome stores card.old d n s.now))
+        × (card.new ≡ (cutOutcome stores card.old d n s.now).card) }
 {
     let verdict = load_cut(card, d, n, s, stores);
     LoadedC {

@@ -1,14 +1,15 @@
 // Making a sheet for any gate, for C.
+ghost use Rattle.std.specs.Prelude.{◌≡◌};
+ghost use Rattle.sheets.specs.Edition.{firstEdition};
+ghost use Rattle.any_gate.specs.MakeAny.{anyOutcome};
+ghost use Rattle.pelzurivan.specs.MakeSheet.{madeC};
+
 use crate::make_sheet::MadeC;
 use any_gate::make_any::make_any;
 use refusals::verdicts::number_of;
-ghost use mathlib.Core.Path.{_≡_};
-ghost use Rattle·sheets.specs.Edition.{firstEdition};
-ghost use Rattle·any_gate.specs.MakeAny.{anyOutcome};
-ghost use Rattle·pelzurivan·specs.specs.MakeSheet.{madeC};
 
 // Makes a sheet for any gate for a desk, 0 being bench use, into lent bytes: how many cells.
-#[no_mangle]
+#[unsafe(no_mangle)]
 pub extern "C" fn pelzurivan_make_any(
     n: u64,
     k: u64,
@@ -17,13 +18,11 @@ pub extern "C" fn pelzurivan_make_any(
     sheet: &mut [u8],
     work: &mut [u8],
 ) -> MadeC
-    ensures { λ r. ⌜
-        (r ≡ madeC (anyOutcome firstEdition desk n k (now (t .entry)) (now (sheet .entry)) (now (work .entry))))
-        × (now (sheet .exit)
-        ≡ anyOutcome firstEdition desk n k (now (t .entry)) (now (sheet .entry)) (now (work .entry)) .sheet)
-        × (now (work .exit)
-        ≡ anyOutcome firstEdition desk n k (now (t .entry)) (now (sheet .entry)) (now (work .entry)) .work)
-        ⌝ }
+    ensures { (result ≡ madeC (anyOutcome firstEdition desk n k t.now sheet.old work.old))
+        × (sheet.new
+        ≡ (anyOutcome firstEdition desk n k t.now sheet.old work.old).sheet)
+        × (work.new
+        ≡ (anyOutcome firstEdition desk n k t.now sheet.old work.old).work) }
 {
     let answer = make_any(n, k, desk, t, sheet, work);
     let verdict = answer.verdict;

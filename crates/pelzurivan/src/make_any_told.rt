@@ -1,14 +1,15 @@
 // Making a sheet for any gate in a told edition, for C.
+ghost use Rattle.std.specs.Prelude.{◌≡◌};
+ghost use Rattle.any_gate.specs.MakeAnyTold.{anyTold};
+ghost use Rattle.pelzurivan.specs.MakeSheet.{madeC};
+
 use crate::make_sheet::MadeC;
 use any_gate::make_any_told::make_any_told;
 use refusals::verdicts::number_of;
-ghost use mathlib.Core.Path.{_≡_};
-ghost use Rattle·any_gate.specs.MakeAnyTold.{anyTold};
-ghost use Rattle·pelzurivan·specs.specs.MakeSheet.{madeC};
 
 // Makes a sheet for any gate in records of the edition with that number, for a desk, 0 being bench use, into lent bytes:
 // how many cells.
-#[no_mangle]
+#[unsafe(no_mangle)]
 pub extern "C" fn pelzurivan_make_any_told(
     edition: u64,
     n: u64,
@@ -18,13 +19,11 @@ pub extern "C" fn pelzurivan_make_any_told(
     sheet: &mut [u8],
     work: &mut [u8],
 ) -> MadeC
-    ensures { λ r. ⌜
-        (r ≡ madeC (anyTold edition desk n k (now (t .entry)) (now (sheet .entry)) (now (work .entry))))
-        × (now (sheet .exit)
-        ≡ anyTold edition desk n k (now (t .entry)) (now (sheet .entry)) (now (work .entry)) .sheet)
-        × (now (work .exit)
-        ≡ anyTold edition desk n k (now (t .entry)) (now (sheet .entry)) (now (work .entry)) .work)
-        ⌝ }
+    ensures { (result ≡ madeC (anyTold edition desk n k t.now sheet.old work.old))
+        × (sheet.new
+        ≡ (anyTold edition desk n k t.now sheet.old work.old).sheet)
+        × (work.new
+        ≡ (anyTold edition desk n k t.now sheet.old work.old).work) }
 {
     let answer = make_any_told(edition, n, k, desk, t, sheet, work);
     let verdict = answer.verdict;

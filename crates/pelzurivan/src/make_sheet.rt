@@ -1,20 +1,22 @@
 // Making a sheet, for C.
+ghost use Rattle.std.specs.Prelude.{◌≡◌};
+ghost use Rattle.sheets.specs.Edition.{firstEdition};
+ghost use Rattle.making.specs.MakeSheet.{makeOutcome};
+ghost use Rattle.pelzurivan.specs.MakeSheet.{madeC};
+
 use making::make_sheet::make_for_desk;
 use refusals::verdicts::number_of;
-ghost use mathlib.Core.Path.{_≡_};
-ghost use Rattle·sheets.specs.Edition.{firstEdition};
-ghost use Rattle·making.specs.MakeSheet.{makeOutcome};
-ghost use Rattle·pelzurivan·specs.specs.MakeSheet.{madeC};
 
 // The number, how many cells.
 #[repr(C)]
+#[derive(Drop)]
 pub struct MadeC {
     pub number: u64,
     pub count: u64,
 }
 
 // Makes a sheet for a desk, 0 being bench use, into lent bytes: how many cells.
-#[no_mangle]
+#[unsafe(no_mangle)]
 pub extern "C" fn pelzurivan_make_for_desk(
     n: u64,
     k: u64,
@@ -23,13 +25,11 @@ pub extern "C" fn pelzurivan_make_for_desk(
     sheet: &mut [u8],
     work: &mut [u8],
 ) -> MadeC
-    ensures { λ r. ⌜
-        (r ≡ madeC (makeOutcome firstEdition desk n k (now (t .entry)) (now (sheet .entry)) (now (work .entry))))
-        × (now (sheet .exit)
-        ≡ makeOutcome firstEdition desk n k (now (t .entry)) (now (sheet .entry)) (now (work .entry)) .sheet)
-        × (now (work .exit)
-        ≡ makeOutcome firstEdition desk n k (now (t .entry)) (now (sheet .entry)) (now (work .entry)) .work)
-        ⌝ }
+    ensures { (result ≡ madeC (makeOutcome firstEdition desk n k t.now sheet.old work.old))
+        × (sheet.new
+        ≡ (makeOutcome firstEdition desk n k t.now sheet.old work.old).sheet)
+        × (work.new
+        ≡ (makeOutcome firstEdition desk n k t.now sheet.old work.old).work) }
 {
     let answer = make_for_desk(n, k, desk, t, sheet, work);
     let verdict = answer.verdict;
@@ -40,7 +40,7 @@ pub extern "C" fn pelzurivan_make_for_desk(
 }
 
 // Makes a sheet for bench use.
-#[no_mangle]
+#[unsafe(no_mangle)]
 pub extern "C" fn pelzurivan_make(
     n: u64,
     k: u64,
@@ -48,13 +48,11 @@ pub extern "C" fn pelzurivan_make(
     sheet: &mut [u8],
     work: &mut [u8],
 ) -> MadeC
-    ensures { λ r. ⌜
-        (r ≡ madeC (makeOutcome firstEdition 0 n k (now (t .entry)) (now (sheet .entry)) (now (work .entry))))
-        × (now (sheet .exit)
-        ≡ makeOutcome firstEdition 0 n k (now (t .entry)) (now (sheet .entry)) (now (work .entry)) .sheet)
-        × (now (work .exit)
-        ≡ makeOutcome firstEdition 0 n k (now (t .entry)) (now (sheet .entry)) (now (work .entry)) .work)
-        ⌝ }
+    ensures { (result ≡ madeC (makeOutcome firstEdition 0 n k t.now sheet.old work.old))
+        × (sheet.new
+        ≡ (makeOutcome firstEdition 0 n k t.now sheet.old work.old).sheet)
+        × (work.new
+        ≡ (makeOutcome firstEdition 0 n k t.now sheet.old work.old).work) }
 {
     pelzurivan_make_for_desk(n, k, 0, t, sheet, work)
 }

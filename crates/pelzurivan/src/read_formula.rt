@@ -1,25 +1,24 @@
 // Reading a formula, for C.
+ghost use Rattle.std.specs.Prelude.{◌≡◌};
+ghost use Rattle.formulas.specs.ReadFormula.{readOutcome};
+ghost use Rattle.pelzurivan.specs.ReadFormula.{formulaReadC};
+
 use formulas::read_formula::read_formula;
-use refusals::verdicts::number_of;
-use refusals::verdicts::place_of;
-ghost use mathlib.Core.Path.{_≡_};
-ghost use Rattle·formulas.specs.ReadFormula.{readOutcome};
-ghost use Rattle·pelzurivan·specs.specs.ReadFormula.{formulaReadC};
+use refusals::verdicts::{number_of, place_of};
 
 // The number, and the place at which the text can't be continued (16).
 #[repr(C)]
+#[derive(Drop)]
 pub struct FormulaReadC {
     pub number: u64,
     pub place: u64,
 }
 
 // Reads a formula of n inputs into a lent table.
-#[no_mangle]
+#[unsafe(no_mangle)]
 pub extern "C" fn pelzurivan_read_formula(n: u64, t: &[u8], table: &mut [u8]) -> FormulaReadC
-    ensures { λ r. ⌜
-        (r ≡ formulaReadC (readOutcome n (now (t .entry)) (now (table .entry))))
-        × (now (table .exit) ≡ readOutcome n (now (t .entry)) (now (table .entry)) .table)
-        ⌝ }
+    ensures { (result ≡ formulaReadC (readOutcome n t.now table.old))
+        × (table.new ≡ (readOutcome n t.now table.old).table) }
 {
     let verdict = read_formula(n, t, table);
     FormulaReadC {

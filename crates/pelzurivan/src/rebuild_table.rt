@@ -1,26 +1,25 @@
 // Rebuilding a table, for C.
+ghost use Rattle.std.specs.Prelude.{◌≡◌};
+ghost use Rattle.sheets.specs.Edition.{firstEdition};
+ghost use Rattle.rebuilding.specs.RebuildTable.{rebuildOwn};
+ghost use Rattle.pelzurivan.specs.RebuildTable.{rebuiltC};
+
 use rebuilding::rebuild_table::rebuild_table;
-use refusals::verdicts::number_of;
-use refusals::verdicts::place_of;
-ghost use mathlib.Core.Path.{_≡_};
-ghost use Rattle·sheets.specs.Edition.{firstEdition};
-ghost use Rattle·rebuilding.specs.RebuildTable.{rebuildOwn};
-ghost use Rattle·pelzurivan·specs.specs.RebuildTable.{rebuiltC};
+use refusals::verdicts::{number_of, place_of};
 
 // The number, the index of a bad record (10) or of an unread one (15).
 #[repr(C)]
+#[derive(Drop)]
 pub struct RebuiltC {
     pub number: u64,
     pub index: u64,
 }
 
 // Rebuilds a table from a sheet into lent bytes.
-#[no_mangle]
+#[unsafe(no_mangle)]
 pub extern "C" fn pelzurivan_rebuild(n: u64, s: &[u8], table: &mut [u8]) -> RebuiltC
-    ensures { λ r. ⌜
-        (r ≡ rebuiltC (rebuildOwn firstEdition n (now (s .entry)) (now (table .entry))))
-        × (now (table .exit) ≡ rebuildOwn firstEdition n (now (s .entry)) (now (table .entry)) .table)
-        ⌝ }
+    ensures { (result ≡ rebuiltC (rebuildOwn firstEdition n s.now table.old))
+        × (table.new ≡ (rebuildOwn firstEdition n s.now table.old).table) }
 {
     let verdict = rebuild_table(n, s, table);
     RebuiltC {

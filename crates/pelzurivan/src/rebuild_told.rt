@@ -1,24 +1,22 @@
 // Rebuilding a table from a sheet of a told edition, for C.
+ghost use Rattle.std.specs.Prelude.{◌≡◌};
+ghost use Rattle.rebuilding.specs.RebuildTold.{rebuildTold};
+ghost use Rattle.pelzurivan.specs.RebuildTable.{rebuiltC};
+
 use crate::rebuild_table::RebuiltC;
 use rebuilding::rebuild_told::rebuild_told;
-use refusals::verdicts::number_of;
-use refusals::verdicts::place_of;
-ghost use mathlib.Core.Path.{_≡_};
-ghost use Rattle·rebuilding.specs.RebuildTold.{rebuildTold};
-ghost use Rattle·pelzurivan·specs.specs.RebuildTable.{rebuiltC};
+use refusals::verdicts::{number_of, place_of};
 
 // Rebuilds a table from a sheet of the edition with the number `edition` into lent bytes.
-#[no_mangle]
+#[unsafe(no_mangle)]
 pub extern "C" fn pelzurivan_rebuild_told(
     edition: u64,
     n: u64,
     s: &[u8],
     table: &mut [u8],
 ) -> RebuiltC
-    ensures { λ r. ⌜
-        (r ≡ rebuiltC (rebuildTold edition n (now (s .entry)) (now (table .entry))))
-        × (now (table .exit) ≡ rebuildTold edition n (now (s .entry)) (now (table .entry)) .table)
-        ⌝ }
+    ensures { (result ≡ rebuiltC (rebuildTold edition n s.now table.old))
+        × (table.new ≡ (rebuildTold edition n s.now table.old).table) }
 {
     let verdict = rebuild_told(edition, n, s, table);
     RebuiltC {

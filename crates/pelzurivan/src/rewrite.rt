@@ -1,14 +1,15 @@
 // Writing a first-edition sheet in the second edition, for C.
-use refusals::verdicts::number_of;
-use refusals::verdicts::place_of;
+ghost use Rattle.std.specs.Prelude.{◌≡◌};
+ghost use Rattle.sheets.specs.Edition.{firstEdition, secondEdition};
+ghost use Rattle.rewriting.specs.Rewrite.{rewriteOwn};
+ghost use Rattle.pelzurivan.specs.Rewrite.{rewrittenC};
+
+use refusals::verdicts::{number_of, place_of};
 use rewriting::rewrite::rewrite;
-ghost use mathlib.Core.Path.{_≡_};
-ghost use Rattle·sheets.specs.Edition.{firstEdition, secondEdition};
-ghost use Rattle·rewriting.specs.Rewrite.{rewriteOwn};
-ghost use Rattle·pelzurivan·specs.specs.Rewrite.{rewrittenC};
 
 // The number, the index of a bad record (10) or of an unread one (15), how many records.
 #[repr(C)]
+#[derive(Drop)]
 pub struct RewrittenC {
     pub number: u64,
     pub index: u64,
@@ -16,12 +17,10 @@ pub struct RewrittenC {
 }
 
 // Writes a first-edition sheet in the second edition into lent bytes: how many records.
-#[no_mangle]
+#[unsafe(no_mangle)]
 pub extern "C" fn pelzurivan_rewrite(n: u64, s: &[u8], room: &mut [u8]) -> RewrittenC
-    ensures { λ r. ⌜
-        (r ≡ rewrittenC (rewriteOwn firstEdition secondEdition n (now (s .entry)) (now (room .entry))))
-        × (now (room .exit) ≡ rewriteOwn firstEdition secondEdition n (now (s .entry)) (now (room .entry)) .room)
-        ⌝ }
+    ensures { (result ≡ rewrittenC (rewriteOwn firstEdition secondEdition n s.now room.old))
+        × (room.new ≡ (rewriteOwn firstEdition secondEdition n s.now room.old).room) }
 {
     let answer = rewrite(n, s, room);
     let verdict = answer.verdict;

@@ -1,16 +1,16 @@
 // Running a desk, for C.
+ghost use Rattle.std.specs.Prelude.{◌≡◌};
+ghost use Rattle.cards.specs.RunDesk.{runDeskOutcome};
+ghost use Rattle.pelzurivan.specs.RunSheet.{ranC};
+
 use crate::run_sheet::RanC;
 use desks::run_desk::run_desk;
-use refusals::verdicts::number_of;
-use refusals::verdicts::place_of;
-ghost use mathlib.Core.Path.{_≡_};
-ghost use Rattle·cards.specs.RunDesk.{runDeskOutcome};
-ghost use Rattle·pelzurivan·specs.specs.RunSheet.{ranC};
+use refusals::verdicts::{number_of, place_of};
 
 // Runs desk d of a card at the assignment x: one bit.
-#[no_mangle]
+#[unsafe(no_mangle)]
 pub extern "C" fn pelzurivan_run_desk(card: &[u8], d: u64, x: u64) -> RanC
-    ensures { λ r. ⌜ r ≡ ranC (runDeskOutcome (now (card .entry)) d x) ⌝ }
+    ensures { result ≡ ranC (runDeskOutcome card.now d x) }
 {
     let answer = run_desk(card, d, x);
     let verdict = answer.verdict;

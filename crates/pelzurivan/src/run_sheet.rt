@@ -1,14 +1,15 @@
 // Running a sheet, for C.
-use refusals::verdicts::number_of;
-use refusals::verdicts::place_of;
+ghost use Rattle.std.specs.Prelude.{◌≡◌};
+ghost use Rattle.sheets.specs.Edition.{firstEdition};
+ghost use Rattle.running.specs.RunSheet.{runOwn};
+ghost use Rattle.pelzurivan.specs.RunSheet.{ranC};
+
+use refusals::verdicts::{number_of, place_of};
 use running::run_sheet::run_sheet;
-ghost use mathlib.Core.Path.{_≡_};
-ghost use Rattle·sheets.specs.Edition.{firstEdition};
-ghost use Rattle·running.specs.RunSheet.{runOwn};
-ghost use Rattle·pelzurivan·specs.specs.RunSheet.{ranC};
 
 // The number, the bit, the index of a bad record (10) or of an unread one (15).
 #[repr(C)]
+#[derive(Drop)]
 pub struct RanC {
     pub number: u64,
     pub bit: u64,
@@ -16,9 +17,9 @@ pub struct RanC {
 }
 
 // Runs a sheet at the assignment x: one bit.
-#[no_mangle]
+#[unsafe(no_mangle)]
 pub extern "C" fn pelzurivan_run(n: u64, s: &[u8], x: u64) -> RanC
-    ensures { λ r. ⌜ r ≡ ranC (runOwn firstEdition n (now (s .entry)) x) ⌝ }
+    ensures { result ≡ ranC (runOwn firstEdition n s.now x) }
 {
     let answer = run_sheet(n, s, x);
     let verdict = answer.verdict;

@@ -1,16 +1,16 @@
 // Running a sheet of a told edition, for C.
+ghost use Rattle.std.specs.Prelude.{◌≡◌};
+ghost use Rattle.running.specs.RunTold.{runTold};
+ghost use Rattle.pelzurivan.specs.RunSheet.{ranC};
+
 use crate::run_sheet::RanC;
-use refusals::verdicts::number_of;
-use refusals::verdicts::place_of;
+use refusals::verdicts::{number_of, place_of};
 use running::run_told::run_told;
-ghost use mathlib.Core.Path.{_≡_};
-ghost use Rattle·running.specs.RunTold.{runTold};
-ghost use Rattle·pelzurivan·specs.specs.RunSheet.{ranC};
 
 // Runs a sheet of the edition with the number `edition` at the assignment x: one bit.
-#[no_mangle]
+#[unsafe(no_mangle)]
 pub extern "C" fn pelzurivan_run_told(edition: u64, n: u64, s: &[u8], x: u64) -> RanC
-    ensures { λ r. ⌜ r ≡ ranC (runTold edition n (now (s .entry)) x) ⌝ }
+    ensures { result ≡ ranC (runTold edition n s.now x) }
 {
     let answer = run_told(edition, n, s, x);
     let verdict = answer.verdict;

@@ -1,17 +1,17 @@
 // When the output settles, for C.
-use crate::input_times::TimesC;
-use crate::input_times::input_times;
-use refusals::verdicts::number_of;
-use refusals::verdicts::place_of;
+ghost use Rattle.std.specs.Prelude.{◌≡◌};
+ghost use Rattle.sheets.specs.Edition.{firstEdition};
+ghost use Rattle.settling.specs.Settle.{settleOwn};
+ghost use Rattle.pelzurivan.specs.InputTimes.{timesFromC};
+ghost use Rattle.pelzurivan.specs.Settle.{settledC};
+
+use crate::input_times::{TimesC, input_times};
+use refusals::verdicts::{number_of, place_of};
 use settling::settle::settle;
-ghost use mathlib.Core.Path.{_≡_};
-ghost use Rattle·sheets.specs.Edition.{firstEdition};
-ghost use Rattle·settling.specs.Settle.{settleOwn};
-ghost use Rattle·pelzurivan·specs.specs.InputTimes.{timesFromC};
-ghost use Rattle·pelzurivan·specs.specs.Settle.{settledC};
 
 // The number, the first bad record, the output's earliest and latest time.
 #[repr(C)]
+#[derive(Drop)]
 pub struct SettledC {
     pub number: u64,
     pub index: u64,
@@ -20,9 +20,9 @@ pub struct SettledC {
 }
 
 // When the output settles, where each cell takes the same delay.
-#[no_mangle]
+#[unsafe(no_mangle)]
 pub extern "C" fn pelzurivan_settle(n: u64, s: &[u8], delay: f64, c: TimesC) -> SettledC
-    ensures { λ r. ⌜ r ≡ settledC (settleOwn firstEdition n (now (s .entry)) delay (timesFromC c)) ⌝ }
+    ensures { result ≡ settledC (settleOwn firstEdition n s.now delay (timesFromC c)) }
 {
     let answer = settle(n, s, delay, input_times(c));
     let verdict = answer.verdict;

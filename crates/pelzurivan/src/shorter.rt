@@ -1,15 +1,15 @@
 // The shorter of two sheets, for C.
-use comparing::shorter::keep_shorter;
-use comparing::shorter::part_of;
-use refusals::verdicts::number_of;
-use refusals::verdicts::place_of;
-ghost use mathlib.Core.Path.{_≡_};
-ghost use Rattle·sheets.specs.Edition.{firstEdition};
-ghost use Rattle·comparing.specs.Shorter.{keptOutcome};
-ghost use Rattle·pelzurivan·specs.specs.Shorter.{shorterC};
+ghost use Rattle.std.specs.Prelude.{◌≡◌};
+ghost use Rattle.sheets.specs.Edition.{firstEdition};
+ghost use Rattle.comparing.specs.Shorter.{keptOutcome};
+ghost use Rattle.pelzurivan.specs.Shorter.{shorterC};
+
+use comparing::shorter::{keep_shorter, part_of};
+use refusals::verdicts::{number_of, place_of};
 
 // Which of the two (0 none), its length in bytes, the number of the call beside, and what it names.
 #[repr(C)]
+#[derive(Drop)]
 pub struct ShorterC {
     pub which: u64,
     pub length: u64,
@@ -18,17 +18,15 @@ pub struct ShorterC {
 }
 
 // Keeps the shorter of two sheets for one table: C has the sheet already, and is told which it is.
-#[no_mangle]
+#[unsafe(no_mangle)]
 pub extern "C" fn pelzurivan_shorter<'a>(
     n: u64,
     t: &'a [u8],
     first: &'a [u8],
     second: &'a [u8],
 ) -> ShorterC
-    ensures { λ r. ⌜
-        r ≡ shorterC (keptOutcome firstEdition n (now (t .entry)) (now (first .entry)) (now (second .entry)))
-        (now (first .entry)) (now (second .entry))
-        ⌝ }
+    ensures { result ≡ shorterC (keptOutcome firstEdition n t.now first.now second.now)
+        first.now second.now }
 {
     let kept = keep_shorter(n, t, first, second);
     let verdict = kept.verdict;

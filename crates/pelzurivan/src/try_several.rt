@@ -1,15 +1,16 @@
 // Trying a named split with several first cells, for C.
+ghost use Rattle.std.specs.Prelude.{◌≡◌};
+ghost use Rattle.sheets.specs.Edition.{firstEdition};
+ghost use Rattle.splitting.specs.TrySplit.{tryOutcome};
+ghost use Rattle.pelzurivan.specs.TrySeveral.{triedSeveralC};
+
 use crate::word::word;
-use refusals::verdicts::number_of;
-use refusals::verdicts::place_of;
+use refusals::verdicts::{number_of, place_of};
 use several::try_several::try_several;
-ghost use mathlib.Core.Path.{_≡_};
-ghost use Rattle·sheets.specs.Edition.{firstEdition};
-ghost use Rattle·splitting.specs.TrySplit.{tryOutcome};
-ghost use Rattle·pelzurivan·specs.specs.TrySeveral.{triedSeveralC};
 
 // The number, the first cells' tables, and after 8 where the split breaks and how many different columns there are.
 #[repr(C)]
+#[derive(Drop)]
 pub struct TriedSeveralC {
     pub number: u64,
     pub first: u64,
@@ -20,7 +21,7 @@ pub struct TriedSeveralC {
 }
 
 // Tries a named split with r first cells: their tables, and H into the lent room.
-#[no_mangle]
+#[unsafe(no_mangle)]
 pub extern "C" fn pelzurivan_try_several(
     n: u64,
     k: u64,
@@ -30,10 +31,8 @@ pub extern "C" fn pelzurivan_try_several(
     t: &[u8],
     room: &mut [u8],
 ) -> TriedSeveralC
-    ensures { λ a. ⌜
-        (a ≡ triedSeveralC (tryOutcome firstEdition n k r own shared (now (t .entry)) (now (room .entry))))
-        × (now (room .exit) ≡ tryOutcome firstEdition n k r own shared (now (t .entry)) (now (room .entry)) .room)
-        ⌝ }
+    ensures { (result ≡ triedSeveralC (tryOutcome firstEdition n k r own shared t.now room.old))
+        × (room.new ≡ (tryOutcome firstEdition n k r own shared t.now room.old).room) }
 {
     let answer = try_several(n, k, r, own, shared, t, room);
     let verdict = answer.verdict;

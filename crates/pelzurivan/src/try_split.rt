@@ -1,15 +1,16 @@
 // Trying a named split, for C.
+ghost use Rattle.std.specs.Prelude.{◌≡◌};
+ghost use Rattle.sheets.specs.Edition.{firstEdition};
+ghost use Rattle.splitting.specs.TrySplit.{tryOutcome};
+ghost use Rattle.pelzurivan.specs.TrySplit.{triedC};
+
 use crate::word::word;
-use refusals::verdicts::number_of;
-use refusals::verdicts::place_of;
+use refusals::verdicts::{number_of, place_of};
 use splitting::try_split::try_split;
-ghost use mathlib.Core.Path.{_≡_};
-ghost use Rattle·sheets.specs.Edition.{firstEdition};
-ghost use Rattle·splitting.specs.TrySplit.{tryOutcome};
-ghost use Rattle·pelzurivan·specs.specs.TrySplit.{triedC};
 
 // The number, D, and after 8 where the split breaks and how many different columns there are.
 #[repr(C)]
+#[derive(Drop)]
 pub struct TriedC {
     pub number: u64,
     pub d: u64,
@@ -18,7 +19,7 @@ pub struct TriedC {
 }
 
 // Tries a named split: D, and H into the lent room.
-#[no_mangle]
+#[unsafe(no_mangle)]
 pub extern "C" fn pelzurivan_try(
     n: u64,
     k: u64,
@@ -27,10 +28,8 @@ pub extern "C" fn pelzurivan_try(
     t: &[u8],
     room: &mut [u8],
 ) -> TriedC
-    ensures { λ r. ⌜
-        (r ≡ triedC (tryOutcome firstEdition n k 1 own shared (now (t .entry)) (now (room .entry))))
-        × (now (room .exit) ≡ tryOutcome firstEdition n k 1 own shared (now (t .entry)) (now (room .entry)) .room)
-        ⌝ }
+    ensures { (result ≡ triedC (tryOutcome firstEdition n k 1 own shared t.now room.old))
+        × (room.new ≡ (tryOutcome firstEdition n k 1 own shared t.now room.old).room) }
 {
     let answer = try_split(n, k, own, shared, t, room);
     let verdict = answer.verdict;

@@ -1,15 +1,16 @@
 // Trying a named split in a told edition, for C.
+ghost use Rattle.std.specs.Prelude.{◌≡◌};
+ghost use Rattle.splitting.specs.TryTold.{tryTold};
+ghost use Rattle.pelzurivan.specs.TryTold.{triedToldC};
+
 use crate::word::word;
-use refusals::verdicts::number_of;
-use refusals::verdicts::place_of;
+use refusals::verdicts::{number_of, place_of};
 use splitting::try_told::try_told;
-ghost use mathlib.Core.Path.{_≡_};
-ghost use Rattle·splitting.specs.TryTold.{tryTold};
-ghost use Rattle·pelzurivan·specs.specs.TryTold.{triedToldC};
 
 // The number; D's 32 bytes as four words, the first being its lowest 64 bits; and after 8 where the split breaks and
 // how many different columns there are.
 #[repr(C)]
+#[derive(Drop)]
 pub struct TriedToldC {
     pub number: u64,
     pub d0: u64,
@@ -21,7 +22,7 @@ pub struct TriedToldC {
 }
 
 // Tries a named split into cells of the edition with that number: D, and H into the lent room.
-#[no_mangle]
+#[unsafe(no_mangle)]
 pub extern "C" fn pelzurivan_try_told(
     edition: u64,
     n: u64,
@@ -31,10 +32,8 @@ pub extern "C" fn pelzurivan_try_told(
     t: &[u8],
     room: &mut [u8],
 ) -> TriedToldC
-    ensures { λ r. ⌜
-        (r ≡ triedToldC (tryTold edition n k own shared (now (t .entry)) (now (room .entry))))
-        × (now (room .exit) ≡ tryTold edition n k own shared (now (t .entry)) (now (room .entry)) .room)
-        ⌝ }
+    ensures { (result ≡ triedToldC (tryTold edition n k own shared t.now room.old))
+        × (room.new ≡ (tryTold edition n k own shared t.now room.old).room) }
 {
     let answer = try_told(edition, n, k, own, shared, t, room);
     let verdict = answer.verdict;

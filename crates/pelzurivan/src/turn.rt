@@ -1,12 +1,14 @@
 // Turning one three-input table into another, for C.
+ghost use Rattle.std.specs.Prelude.{◌≡◌};
+ghost use Rattle.turning.specs.Turn.{turnOutcome};
+ghost use Rattle.pelzurivan.specs.Turn.{turnedC};
+
 use refusals::verdicts::number_of;
 use turning::turn::turn;
-ghost use mathlib.Core.Path.{_≡_};
-ghost use Rattle·turning.specs.Turn.{turnOutcome};
-ghost use Rattle·pelzurivan·specs.specs.Turn.{turnedC};
 
 // The number, whether the output is flipped, the mask of input flips, the order of the inputs.
 #[repr(C)]
+#[derive(Drop)]
 pub struct TurnedC {
     pub number: u64,
     pub flip: u64,
@@ -17,9 +19,9 @@ pub struct TurnedC {
 }
 
 // The first way that turns the one table into the other.
-#[no_mangle]
+#[unsafe(no_mangle)]
 pub extern "C" fn pelzurivan_turn(first: u8, second: u8) -> TurnedC
-    ensures { λ r. ⌜ r ≡ turnedC (turnOutcome first second) ⌝ }
+    ensures { result ≡ turnedC (turnOutcome first second) }
 {
     let answer = turn(first, second);
     let verdict = answer.verdict;

@@ -1,14 +1,15 @@
 // Writing a sheet as a formula, for C.
+ghost use Rattle.std.specs.Prelude.{◌≡◌};
+ghost use Rattle.sheets.specs.Edition.{firstEdition};
+ghost use Rattle.printing.specs.WriteFormula.{writeOwn};
+ghost use Rattle.pelzurivan.specs.WriteFormula.{formulaWrittenC};
+
 use printing::write_formula::write_formula;
-use refusals::verdicts::number_of;
-use refusals::verdicts::place_of;
-ghost use mathlib.Core.Path.{_≡_};
-ghost use Rattle·sheets.specs.Edition.{firstEdition};
-ghost use Rattle·printing.specs.WriteFormula.{writeOwn};
-ghost use Rattle·pelzurivan·specs.specs.WriteFormula.{formulaWrittenC};
+use refusals::verdicts::{number_of, place_of};
 
 // The number, the index of a bad record (10), and the text's length.
 #[repr(C)]
+#[derive(Drop)]
 pub struct FormulaWrittenC {
     pub number: u64,
     pub place: u64,
@@ -16,12 +17,10 @@ pub struct FormulaWrittenC {
 }
 
 // Writes a sheet of n inputs as a formula into a lent room.
-#[no_mangle]
+#[unsafe(no_mangle)]
 pub extern "C" fn pelzurivan_write_formula(n: u64, s: &[u8], room: &mut [u8]) -> FormulaWrittenC
-    ensures { λ r. ⌜
-        (r ≡ formulaWrittenC (writeOwn firstEdition n (now (s .entry)) (now (room .entry))))
-        × (now (room .exit) ≡ writeOwn firstEdition n (now (s .entry)) (now (room .entry)) .room)
-        ⌝ }
+    ensures { (result ≡ formulaWrittenC (writeOwn firstEdition n s.now room.old))
+        × (room.new ≡ (writeOwn firstEdition n s.now room.old).room) }
 {
     let answer = write_formula(n, s, room);
     let verdict = answer.verdict;

@@ -1,43 +1,43 @@
 -- A record's cell of one or two signals, by its bytes; the cells of a sheet in turn. Assumes nothing.
-use mathlib.Core.Path.{_≡_, refl, sym, ap, ap₂, _∙_, subst}
-use mathlib.Core.Bool.{Bool, true, false, cond, _&&_, _||_}
-use mathlib.Core.List.{List, [], _∷_}
-use Prim.Native.Nat.{ℕ, zero, suc, _+_, _-_, _/_, _%_, _^_, _<_, _≤_}
+use mathlib.Core.Path.{◌≡◌, refl, sym, ap, ap₂, ◌∙◌, subst}
+use mathlib.Core.Bool.{Bool, true, false, cond, ◌&&◌, ◌||◌}
+use mathlib.Core.List.{List, [], ◌∷◌}
+use Prim.Native.Nat.{ℕ, zero, suc, ◌+◌, ◌-◌, ◌/◌, ◌%◌, ◌^◌, ◌<◌, ◌≤◌}
 use native.Mathlib.Omega.{arith}
 use lib.Dec.{eqb, ltb}
-use lib.ListN.{length, getD}
-use lib.Pow.{pow-pos}
-use borrow.Author.Tests.{ne-eqb}
-use Rattle·bits.specs.Numbers.{bit, val, number}
-use Rattle·bits.specs.Lists.{listOf}
-use Rattle·bits.proofs.Numbers.{number-ext, number-mod, number-lt}
-use Rattle·bits.proofs.Lists.{length-list}
-use Rattle·sheets.specs.declared.kinds.Edition.{Edition}
-use Rattle·sheets.specs.Edition.{IsEdition}
-use Rattle·sheets.specs.Network.{Cell}
-use Rattle·sheets.specs.Record.{cellBit, cellOf}
-use Rattle·sheets.specs.Sheet.{recordAt, cellsFrom, sheetCells}
-use Rattle·sheets.specs.Reading.{times}
-use Rattle·printing·specs.specs.Forms.{markOf}
-use Rattle·printing·specs.specs.Printable.{Plain, AllPlain, plainCell, allPlain}
+use lib.ListN.{length, get_or}
+use lib.Pow.{pow_pos}
+use borrow.Author.Tests.{ne_eqb}
+use Rattle.bits.specs.Numbers.{bit, val, number}
+use Rattle.bits.specs.Lists.{list_of}
+use Rattle.bits.proofs.Numbers.{number-ext, number-mod, number_lt}
+use Rattle.bits.proofs.Lists.{length-list}
+use Rattle.sheets.specs.declared.kinds.Edition.{Edition}
+use Rattle.sheets.specs.Edition.{IsEdition}
+use Rattle.sheets.specs.Network.{Cell}
+use Rattle.sheets.specs.Record.{cellBit, cell_of}
+use Rattle.sheets.specs.Sheet.{recordAt, cellsFrom, sheetCells}
+use Rattle.sheets.specs.Reading.{times}
+use Rattle.printing.specs.Forms.{mark_of}
+use Rattle.printing.specs.Printable.{Plain, AllPlain, plainCell, allPlain}
 
 module _ (e : Edition) (b : ℕ → ℕ) where
-  pub signals-length : length (cellOf e b .signals) ≡ b 0
-  unfolding cellOf
+  pub signals-length : length (cell_of e b).signals ≡ b 0
+  unfolding cell_of
   signals-length = length-list (b 0) (λ j. b (j + 1))
 
-  pub table-lt : cellOf e b .table < 2 ^ (2 ^ length (cellOf e b .signals))
-  unfolding cellOf
+  pub table-lt : (cell_of e b).table < 2 ^ (2 ^ length (cell_of e b).signals)
+  unfolding cell_of
   table-lt = subst (λ (k : ℕ). number (2 ^ b 0) (cellBit e b) < 2 ^ (2 ^ k)) (sym signals-length)
-      (number-lt (2 ^ b 0) (cellBit e b))
+      (number_lt (2 ^ b 0) (cellBit e b))
 
   -- a table of one or two signals lies in its first byte
-  table-in : (k : ℕ) → b 0 ≡ k → k ≤ 2 → cellOf e b .table ≡ b (e .start) % 2 ^ (2 ^ k)
-  unfolding cellOf
+  table-in : (k : ℕ) → b 0 ≡ k → k ≤ 2 → (cell_of e b).table ≡ b e.start % 2 ^ (2 ^ k)
+  unfolding cell_of
   table-in k q h =
       ap (λ (j : ℕ). number (2 ^ j) (cellBit e b)) q
-      ∙ number-ext (2 ^ k) (cellBit e b) (bit (b (e .start))) (λ x l. first x (small k h x l))
-      ∙ number-mod (2 ^ k) (b (e .start))
+      ∙ number-ext (2 ^ k) (cellBit e b) (bit (b e.start)) (λ x l. first x (small k h x l))
+      ∙ number-mod (2 ^ k) (b e.start)
     where
       small : (k : ℕ) → k ≤ 2 → (x : ℕ) → x < 2 ^ k → x < 8
       small zero h x l = omega arith
@@ -45,60 +45,60 @@ module _ (e : Edition) (b : ℕ → ℕ) where
       small (suc (suc zero)) h x l = omega arith
       small (suc (suc (suc k))) h x l = absurd (omega arith)
 
-      first : (x : ℕ) → x < 8 → cellBit e b x ≡ bit (b (e .start)) x
+      first : (x : ℕ) → x < 8 → cellBit e b x ≡ bit (b e.start) x
       first x l =
-          let q : e .start + x / 8 ≡ e .start = omega arith in
+          let q : e.start + x / 8 ≡ e.start = omega arith in
           let r : x % 8 ≡ x = omega arith in
           ap₂ (λ (i j : ℕ). bit (b i) j) q r
 
-  signals-in : (k : ℕ) → b 0 ≡ k → cellOf e b .signals ≡ listOf k (λ j. b (j + 1))
-  unfolding cellOf
-  signals-in k q = ap (λ (i : ℕ). listOf i (λ j. b (j + 1))) q
+  signals-in : (k : ℕ) → b 0 ≡ k → (cell_of e b).signals ≡ list_of k (λ j. b (j + 1))
+  unfolding cell_of
+  signals-in k q = ap (λ (i : ℕ). list_of i (λ j. b (j + 1))) q
 
-  first-one : listOf 1 (λ j. b (j + 1)) ≡ b 1 ∷ []
-  unfolding listOf
-  first-one = refl
+  first_one : list_of 1 (λ j. b (j + 1)) ≡ b 1 ∷ []
+  unfolding list_of
+  first_one = refl
 
-  first-two : listOf 2 (λ j. b (j + 1)) ≡ b 1 ∷ b 2 ∷ []
-  unfolding listOf
-  first-two = refl
+  first_two : list_of 2 (λ j. b (j + 1)) ≡ b 1 ∷ b 2 ∷ []
+  unfolding list_of
+  first_two = refl
 
-  made-of : {l : List ℕ} {t : ℕ} → cellOf e b .signals ≡ l → cellOf e b .table ≡ t → cellOf e b
+  made_of : {l : List ℕ} {t : ℕ} → (cell_of e b).signals ≡ l → (cell_of e b).table ≡ t → cell_of e b
       ≡ record { signals = l; table = t }
-  made-of p q = ap₂ (λ (l : List ℕ) (t : ℕ). record { signals = l; table = t }) p q
+  made_of p q = ap₂ (λ (l : List ℕ) (t : ℕ). record { signals = l; table = t }) p q
 
-  pub one-cell : b 0 ≡ 1 → cellOf e b ≡ record { signals = b 1 ∷ []; table = b (e .start) % 4 }
-  one-cell q = made-of (signals-in 1 q ∙ first-one) (table-in 1 q (omega arith))
+  pub one_cell : b 0 ≡ 1 → cell_of e b ≡ record { signals = b 1 ∷ []; table = b e.start % 4 }
+  one_cell q = made_of (signals-in 1 q ∙ first_one) (table-in 1 q (omega arith))
 
-  pub two-cell : b 0 ≡ 2 → cellOf e b ≡ record { signals = b 1 ∷ b 2 ∷ []; table = b (e .start) % 16 }
-  two-cell q = made-of (signals-in 2 q ∙ first-two) (table-in 2 q (omega arith))
+  pub two-cell : b 0 ≡ 2 → cell_of e b ≡ record { signals = b 1 ∷ b 2 ∷ []; table = b e.start % 16 }
+  two-cell q = made_of (signals-in 2 q ∙ first_two) (table-in 2 q (omega arith))
 
   -- ---- whether it is plain
 
-  pub plain-one : b 0 ≡ 1 → true ≡ plainCell (cellOf e b)
-  plain-one q = sym (ap plainCell (one-cell q))
+  pub plain-one : b 0 ≡ 1 → true ≡ plainCell (cell_of e b)
+  plain-one q = sym (ap plainCell (one_cell q))
 
-  pub plain-two : b 0 ≡ 2 → ltb 0 (markOf (b (e .start) % 16)) ≡ plainCell (cellOf e b)
+  pub plain-two : b 0 ≡ 2 → ltb 0 (mark_of (b e.start % 16)) ≡ plainCell (cell_of e b)
   plain-two q = sym (ap plainCell (two-cell q))
 
-  pub plain-other : (b 0 ≡ 1 → ⊥) → (b 0 ≡ 2 → ⊥) → false ≡ plainCell (cellOf e b)
-  plain-other p q =
-      sym (ap (λ (k : ℕ). eqb k 1 || (eqb k 2 && ltb 0 (markOf (cellOf e b .table)))) signals-length
-      ∙ ap₂ (λ (s t : Bool). s || (t && ltb 0 (markOf (cellOf e b .table)))) (ne-eqb (b 0) 1 p) (ne-eqb (b 0) 2 q))
+  pub plain_other : (b 0 ≡ 1 → ⊥) → (b 0 ≡ 2 → ⊥) → false ≡ plainCell (cell_of e b)
+  plain_other p q =
+      sym (ap (λ (k : ℕ). eqb k 1 || (eqb k 2 && ltb 0 (mark_of (cell_of e b).table))) signals-length
+      ∙ ap₂ (λ (s t : Bool). s || (t && ltb 0 (mark_of (cell_of e b).table))) (ne_eqb (b 0) 1 p) (ne_eqb (b 0) 2 q))
 
-  pub is-two : Plain (cellOf e b) → (b 0 ≡ 1 → ⊥) → b 0 ≡ 2
-  is-two p q = omega (arith, p .some, p .few, signals-length)
+  pub is-two : Plain (cell_of e b) → (b 0 ≡ 1 → ⊥) → b 0 ≡ 2
+  is-two p q = omega (arith, p.some, p.few, signals-length)
 
 -- ---- the records of a sheet in turn
 
 module _ (e : Edition) (s : List ℕ) where
   pub cells-next : (i m : ℕ) → i < m → cellsFrom e s i (m - i)
-      ≡ cellOf e (recordAt e s i) ∷ cellsFrom e s (i + 1) (m - (i + 1))
+      ≡ cell_of e (recordAt e s i) ∷ cellsFrom e s (i + 1) (m - (i + 1))
   unfolding cellsFrom
   cells-next i m h =
       let p : m - i ≡ suc (m - (i + 1)) = omega arith in
       let q : suc i ≡ i + 1 = omega arith in
-      ap (cellsFrom e s i) p ∙ ap (λ (j : ℕ). cellOf e (recordAt e s i) ∷ cellsFrom e s j (m - (i + 1))) q
+      ap (cellsFrom e s i) p ∙ ap (λ (j : ℕ). cell_of e (recordAt e s i) ∷ cellsFrom e s j (m - (i + 1))) q
 
   pub cells-end : (i m : ℕ) → m ≤ i → cellsFrom e s i (m - i) ≡ []
   unfolding cellsFrom
@@ -107,35 +107,35 @@ module _ (e : Edition) (s : List ℕ) where
   pub cells-all : (m : ℕ) → cellsFrom e s 0 (m - 0) ≡ sheetCells e s m
   cells-all m = let p : m - 0 ≡ m = omega arith in ap (cellsFrom e s 0) p
 
-  pub plain-at : (m i : ℕ) → AllPlain (cellsFrom e s i m) → (j : ℕ) → j < m → Plain (cellOf e (recordAt e s (i + j)))
+  pub plain_at : (m i : ℕ) → AllPlain (cellsFrom e s i m) → (j : ℕ) → j < m → Plain (cell_of e (recordAt e s (i + j)))
   unfolding cellsFrom
-  plain-at zero i p j h = absurd (omega arith)
-  plain-at (suc m) i p zero h = let q : i ≡ i + 0 = omega arith
-      in subst (λ (k : ℕ). Plain (cellOf e (recordAt e s k))) q (p .0)
-  plain-at (suc m) i p (suc j) h =
+  plain_at zero i p j h = absurd (omega arith)
+  plain_at (suc m) i p zero h = let q : i ≡ i + 0 = omega arith
+      in subst (λ (k : ℕ). Plain (cell_of e (recordAt e s k))) q p.0
+  plain_at (suc m) i p (suc j) h =
       let q : suc i + j ≡ i + suc j = omega arith in
-      subst (λ (k : ℕ). Plain (cellOf e (recordAt e s k))) q (plain-at m (suc i) (p .1) j (omega arith))
+      subst (λ (k : ℕ). Plain (cell_of e (recordAt e s k))) q (plain_at m (suc i) p.1 j (omega arith))
 
-  pub cell-at : (m i j : ℕ) (d : Cell) → j < m → getD (cellsFrom e s i m) j d ≡ cellOf e (recordAt e s (i + j))
+  pub cell-at : (m i j : ℕ) (d : Cell) → j < m → get_or (cellsFrom e s i m) j d ≡ cell_of e (recordAt e s (i + j))
   unfolding cellsFrom
   cell-at zero i j d h = absurd (omega arith)
-  cell-at (suc m) i zero d h = let q : i ≡ i + 0 = omega arith in ap (λ (k : ℕ). cellOf e (recordAt e s k)) q
+  cell-at (suc m) i zero d h = let q : i ≡ i + 0 = omega arith in ap (λ (k : ℕ). cell_of e (recordAt e s k)) q
   cell-at (suc m) i (suc j) d h =
       let q : suc i + j ≡ i + suc j = omega arith in
-      cell-at m (suc i) j d (omega arith) ∙ ap (λ (k : ℕ). cellOf e (recordAt e s k)) q
+      cell-at m (suc i) j d (omega arith) ∙ ap (λ (k : ℕ). cell_of e (recordAt e s k)) q
 
-  pub plain-record : (m : ℕ) → AllPlain (sheetCells e s m) → (i : ℕ) → i < m → Plain (cellOf e (recordAt e s i))
+  pub plain-record : (m : ℕ) → AllPlain (sheetCells e s m) → (i : ℕ) → i < m → Plain (cell_of e (recordAt e s i))
   plain-record m p i h = let q : 0 + i ≡ i = omega arith
-      in subst (λ (k : ℕ). Plain (cellOf e (recordAt e s k))) q (plain-at m 0 p i h)
+      in subst (λ (k : ℕ). Plain (cell_of e (recordAt e s k))) q (plain_at m 0 p i h)
 
   -- ---- whether all are plain, from record i on
 
   module _ (i m : ℕ) (X : Bool) (so : allPlain (cellsFrom e s i (m - i)) ≡ X) where
-    pub plain-stops : i < m → plainCell (cellOf e (recordAt e s i)) ≡ false → false ≡ X
+    pub plain-stops : i < m → plainCell (cell_of e (recordAt e s i)) ≡ false → false ≡ X
     plain-stops h q = sym (ap (λ (t : Bool). t && allPlain (cellsFrom e s (i + 1) (m - (i + 1)))) q)
         ∙ sym (ap allPlain (cells-next i m h)) ∙ so
 
-    pub plain-goes : i < m → plainCell (cellOf e (recordAt e s i)) ≡ true
+    pub plain-goes : i < m → plainCell (cell_of e (recordAt e s i)) ≡ true
         → allPlain (cellsFrom e s (i + 1) (m - (i + 1))) ≡ X
     plain-goes h q = sym (ap (λ (t : Bool). t && allPlain (cellsFrom e s (i + 1) (m - (i + 1)))) q)
         ∙ sym (ap allPlain (cells-next i m h)) ∙ so
@@ -145,8 +145,8 @@ module _ (e : Edition) (s : List ℕ) where
 
 -- ---- a pair
 
-pub start-within : {e : Edition} (r : List ℕ) → IsEdition e → length r ≡ e .size → e .start < length r
-start-within {e} r o h = omega (arith, o .ends, pow-pos (e .most - 3), h)
+pub start-within : {e : Edition} (r : List ℕ) → IsEdition e → length r ≡ e.size → e.start < length r
+start-within {e} r o h = omega (arith, o.ends, pow_pos (e.most - 3), h)
 
 pub times-two : (x low high : ℕ) {two : Bool} {a b : ℕ} → two ≡ true → a ≡ val (eqb x low) → b ≡ val (eqb x high)
     → a + b ≡ times x (cond two (low ∷ high ∷ []) (low ∷ []))

@@ -1,62 +1,62 @@
 -- The forms of tables: which tables have one, that it gives the table's bits, and its mark's level. Assumes nothing.
-use mathlib.Core.Path.{_≡_, refl, sym, ap, ap₂, _∙_}
-use mathlib.Core.Bool.{Bool, true, false, cond, not, _&&_, Bool·beq}
-use Prim.Native.Nat.{ℕ, zero, suc, _+_, _*_, _^_, _<_, _≤_}
+use mathlib.Core.Path.{◌≡◌, refl, sym, ap, ap₂, ◌∙◌}
+use mathlib.Core.Bool.{Bool, true, false, cond, not, ◌&&◌, beq}
+use Prim.Native.Nat.{ℕ, zero, suc, ◌+◌, ◌*◌, ◌^◌, ◌<◌, ◌≤◌}
 use native.Mathlib.Omega.{arith}
 use lib.Dec.{eqb, ltb}
-use borrow.Author.Tests.{ne-eqb, eqb-true, lt-ltb, ltb-true}
-use Rattle·bits.specs.Numbers.{bit, val, number}
-use Rattle·bits.specs.Below.{every}
-use Rattle·bits.proofs.Bools.{beq-same}
-use Rattle·bits.proofs.Below.{every-at}
-use Rattle·bits.proofs.Numbers.{bit-number, number-lt}
-use Rattle·tables.specs.Depends.{DependsOn}
-use Rattle·tables.specs.Counting.{counts, support}
-use Rattle·tables.proofs.Depending.{support-counting, support-all}
-use Rattle·values.specs.Formula.{Formula, value, join}
-use Rattle·formulas.specs.Text.{mark}
-use Rattle·printing·specs.specs.Forms.{markOf, flipsLow, flipsHigh}
-use Rattle·printing·specs.specs.Print.{levelOf, negatedIf, oneFormula, twoFormula}
+use borrow.Author.Tests.{ne_eqb, eqb-true, lt-ltb, ltb-true}
+use Rattle.bits.specs.Numbers.{bit, val, number}
+use Rattle.bits.specs.Below.{every}
+use Rattle.bits.proofs.Bools.{beq_same}
+use Rattle.bits.proofs.Below.{every-at}
+use Rattle.bits.proofs.Numbers.{bit-number, number_lt}
+use Rattle.tables.specs.Depends.{DependsOn}
+use Rattle.tables.specs.Counting.{counts, support}
+use Rattle.tables.proofs.Depending.{support-counting, support-all}
+use Rattle.values.specs.Formula.{Formula, value, join}
+use Rattle.formulas.specs.Text.{mark}
+use Rattle.printing.specs.Forms.{mark_of, flipsLow, flipsHigh}
+use Rattle.printing.specs.Print.{levelOf, negated_if, oneFormula, twoFormula}
 
 -- ---- a table has a mark exactly if it depends on both signals
 
-same-test : ℕ → Bool
-same-test t = Bool·beq (ltb 0 (markOf t)) (bit (support 2 (bit t)) 0 && bit (support 2 (bit t)) 1)
+same_test : ℕ → Bool
+same_test t = beq (ltb 0 (mark_of t)) (bit (support 2 (bit t)) 0 && bit (support 2 (bit t)) 1)
 
-all-same : every 16 same-test ≡ true
-unfolding same-test support counts number
-all-same = refl
+all_same : every 16 same_test ≡ true
+unfolding same_test support counts number
+all_same = refl
 
-marks : (t : ℕ) → t < 16 → ltb 0 (markOf t) ≡ (bit (support 2 (bit t)) 0 && bit (support 2 (bit t)) 1)
-unfolding same-test
-marks t h = beq-same (ltb 0 (markOf t)) _ (every-at 16 same-test all-same t h)
+marks : (t : ℕ) → t < 16 → ltb 0 (mark_of t) ≡ (bit (support 2 (bit t)) 0 && bit (support 2 (bit t)) 1)
+unfolding same_test
+marks t h = beq_same (ltb 0 (mark_of t)) _ (every-at 16 same_test all_same t h)
 
-and-both : (s t : Bool) → (s && t) ≡ true → (s ≡ true) × (t ≡ true)
-and-both true true e = (refl, refl)
-and-both true false e = (refl, e)
-and-both false t e = (e, cc)
+and_both : (s t : Bool) → (s && t) ≡ true → (s ≡ true) × (t ≡ true)
+and_both true true e = (refl, refl)
+and_both true false e = (refl, e)
+and_both false t e = (e, cc)
 
-pub mark-depends : (t : ℕ) → t < 16 → 0 < markOf t → (j : ℕ) → j < 2 → DependsOn 2 (bit t) j
+pub mark-depends : (t : ℕ) → t < 16 → 0 < mark_of t → (j : ℕ) → j < 2 → DependsOn 2 (bit t) j
 mark-depends t h g j l = support-counting 2 (bit t) j l (go j l)
   where
     both : (bit (support 2 (bit t)) 0 ≡ true) × (bit (support 2 (bit t)) 1 ≡ true)
-    both = and-both (bit (support 2 (bit t)) 0) (bit (support 2 (bit t)) 1) (sym (marks t h) ∙ lt-ltb 0 (markOf t) g)
+    both = and_both (bit (support 2 (bit t)) 0) (bit (support 2 (bit t)) 1) (sym (marks t h) ∙ lt-ltb 0 (mark_of t) g)
 
     go : (j : ℕ) → j < 2 → bit (support 2 (bit t)) j ≡ true
-    go zero l = both .0
-    go (suc zero) l = both .1
+    go zero l = both.0
+    go (suc zero) l = both.1
     go (suc (suc j)) l = absurd (omega arith)
 
-pub depends-mark : (t : ℕ) → t < 16 → ((j : ℕ) → j < 2 → DependsOn 2 (bit t) j) → 0 < markOf t
+pub depends-mark : (t : ℕ) → t < 16 → ((j : ℕ) → j < 2 → DependsOn 2 (bit t) j) → 0 < mark_of t
 depends-mark t h d =
-    ltb-true 0 (markOf t) (marks t h ∙ ap₂ (λ (a b : Bool). a && b)
+    ltb-true 0 (mark_of t) (marks t h ∙ ap₂ (λ (a b : Bool). a && b)
     (support-all 2 (bit t) 0 (omega arith) (d 0 (omega arith)))
     (support-all 2 (bit t) 1 (omega arith) (d 1 (omega arith))))
 
 -- ---- its mark is that of its level
 
 pub level-le : (t : ℕ) → levelOf t ≤ 2
-level-le t = go (eqb (markOf t) 38) (eqb (markOf t) 94)
+level-le t = go (eqb (mark_of t) 38) (eqb (mark_of t) 94)
   where
     go : (a b : Bool) → cond a 0 (cond b 1 2) ≤ 2
     go true b = omega arith
@@ -64,17 +64,17 @@ level-le t = go (eqb (markOf t) 38) (eqb (markOf t) 94)
     go false false = omega arith
 
 right-mark : ℕ → Bool
-right-mark t = cond (eqb (markOf t) 0) true (eqb (markOf t) (mark (levelOf t)))
+right-mark t = cond (eqb (mark_of t) 0) true (eqb (mark_of t) (mark (levelOf t)))
 
 all-marks : every 16 right-mark ≡ true
 unfolding right-mark
 all-marks = refl
 
-pub mark-of : (t : ℕ) → t < 16 → 0 < markOf t → markOf t ≡ mark (levelOf t)
+pub mark-of : (t : ℕ) → t < 16 → 0 < mark_of t → mark_of t ≡ mark (levelOf t)
 unfolding right-mark
 mark-of t h l =
-    eqb-true (markOf t) (mark (levelOf t))
-    (ap (λ (u : Bool). cond u true (eqb (markOf t) (mark (levelOf t)))) (sym (ne-eqb (markOf t) 0 (λ e. omega arith)))
+    eqb-true (mark_of t) (mark (levelOf t))
+    (ap (λ (u : Bool). cond u true (eqb (mark_of t) (mark (levelOf t)))) (sym (ne_eqb (mark_of t) 0 (λ e. omega arith)))
     ∙ every-at 16 right-mark all-marks t h)
 
 -- ---- it gives the table's bits
@@ -83,22 +83,22 @@ flip : Bool → Bool → Bool
 flip true b = not b
 flip false b = b
 
-value-flip : (f : Bool) (F : Formula) (x : ℕ) → value (negatedIf f F) x ≡ flip f (value F x)
+value-flip : (f : Bool) (F : Formula) (x : ℕ) → value (negated_if f F) x ≡ flip f (value F x)
 unfolding value flip
 value-flip true F x = refl
 value-flip false F x = refl
 
 right-bit : ℕ → ℕ → Bool
-right-bit t z = Bool·beq (join (levelOf t) (flip (flipsLow t) (bit z 0)) (flip (flipsHigh t) (bit z 1))) (bit t z)
+right-bit t z = beq (join (levelOf t) (flip (flipsLow t) (bit z 0)) (flip (flipsHigh t) (bit z 1))) (bit t z)
 
 right-bits : ℕ → Bool
-right-bits t = cond (eqb (markOf t) 0) true (every 4 (right-bit t))
+right-bits t = cond (eqb (mark_of t) 0) true (every 4 (right-bit t))
 
 all-bits : every 16 right-bits ≡ true
 unfolding right-bits right-bit flip
 all-bits = refl
 
-pub two-value : (t : ℕ) → t < 16 → 0 < markOf t → (F G : Formula) (x : ℕ) (f : ℕ → Bool) → value F x ≡ f 0 → value G x
+pub two-value : (t : ℕ) → t < 16 → 0 < mark_of t → (F G : Formula) (x : ℕ) (f : ℕ → Bool) → value F x ≡ f 0 → value G x
     ≡ f 1
     → value (twoFormula t F G) x ≡ bit t (number 2 f)
 unfolding value right-bits right-bit
@@ -107,16 +107,16 @@ two-value t h l F G x f p q =
     ap₂ (join (levelOf t))
     (value-flip (flipsLow t) F x ∙ ap (flip (flipsLow t)) (p ∙ sym (bit-number 2 f 0 (omega arith))))
     (value-flip (flipsHigh t) G x ∙ ap (flip (flipsHigh t)) (q ∙ sym (bit-number 2 f 1 (omega arith))))
-    ∙ beq-same (join (levelOf t) (flip (flipsLow t) (bit z 0)) (flip (flipsHigh t) (bit z 1))) (bit t z)
+    ∙ beq_same (join (levelOf t) (flip (flipsLow t) (bit z 0)) (flip (flipsHigh t) (bit z 1))) (bit t z)
     (every-at 4 (right-bit t)
-    (ap (λ (u : Bool). cond u true (every 4 (right-bit t))) (sym (ne-eqb (markOf t) 0 (λ e. omega arith)))
+    (ap (λ (u : Bool). cond u true (every 4 (right-bit t))) (sym (ne_eqb (mark_of t) 0 (λ e. omega arith)))
     ∙ every-at 16 right-bits all-bits t h)
-    z (number-lt 2 f))
+    z (number_lt 2 f))
 
-pub one-value : (t : ℕ) → t < 4 → (F : Formula) (x : ℕ) (f : ℕ → Bool) → value F x ≡ f 0 → value (oneFormula t F) x
+pub one_value : (t : ℕ) → t < 4 → (F : Formula) (x : ℕ) (f : ℕ → Bool) → value F x ≡ f 0 → value (oneFormula t F) x
     ≡ bit t (number 1 f)
 unfolding value number
-one-value t h F x f p = go t h (f 0) p
+one_value t h F x f p = go t h (f 0) p
   where
     go : (t : ℕ) → t < 4 → (b : Bool) → value F x ≡ b → value (oneFormula t F) x ≡ bit t (0 + val b * 2 ^ 0)
     go zero h true e = refl

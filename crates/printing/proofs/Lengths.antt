@@ -1,20 +1,20 @@
 -- What is measured of cells that are each read once: what each cell adds, and what the inputs that are read weigh. So
 -- the text is short: five bytes a cell, and a letter for each input that is read. Assumes nothing.
-use mathlib.Core.Path.{_≡_, refl, sym, ap, _∙_}
+use mathlib.Core.Path.{◌≡◌, refl, sym, ap, ◌∙◌}
 use mathlib.Core.Bool.{Bool, true, false, cond}
-use mathlib.Core.List.{List, [], _∷_, _++_}
-use Prim.Native.Nat.{ℕ, suc, _+_, _-_, _*_, _<_, _≤_}
+use mathlib.Core.List.{List, [], ◌∷◌, ◌++◌}
+use Prim.Native.Nat.{ℕ, suc, ◌+◌, ◌-◌, ◌*◌, ◌<◌, ◌≤◌}
 use native.Mathlib.Nat.{mul-suc}
 use native.Mathlib.Omega.{arith}
 use lib.Dec.{eqb, ltb}
-use lib.ListN.{length, getD, length-append}
-use borrow.Author.Tests.{eq-eqb, ne-eqb, eqb-true, eqb-false, le-ltb}
-use Rattle·bits.specs.Numbers.{val}
-use Rattle·sheets.specs.Network.{Cell, Wired}
-use Rattle·sheets.specs.Reading.{times, reads}
-use Rattle·printing·specs.specs.Forms.{markOf, flipsLow, flipsHigh}
-use Rattle·printing·specs.specs.Print.{inTurn, bySides, flippedText, oneText, twoText, cellText, letterText, printed}
-use Rattle·printing·specs.specs.Printable.{AllPlain, Printable}
+use lib.ListN.{length, get_or, length-append}
+use borrow.Author.Tests.{eq-eqb, ne_eqb, eqb-true, eqb-false, le-ltb}
+use Rattle.bits.specs.Numbers.{val}
+use Rattle.sheets.specs.Network.{Cell, Wired}
+use Rattle.sheets.specs.Reading.{times, reads}
+use Rattle.printing.specs.Forms.{mark_of, flipsLow, flipsHigh}
+use Rattle.printing.specs.Print.{in_turn, bySides, flippedText, oneText, twoText, cellText, letterText, printed}
+use Rattle.printing.specs.Printable.{AllPlain, Printable}
 
 -- the weight of what is read, each as often as it is
 abbrev pub weighed : (ℕ → ℕ) → List ℕ → ℕ
@@ -23,34 +23,34 @@ weighed m (s ∷ l) = m s + weighed m l
 
 abbrev pub weighedIn : (ℕ → ℕ) → List Cell → ℕ
 weighedIn m [] = 0
-weighedIn m (c ∷ cs) = weighed m (c .signals) + weighedIn m cs
+weighedIn m (c ∷ cs) = weighed m c.signals + weighedIn m cs
 
 mul-sum : (a b c : ℕ) → (a + b) * c ≡ a * c + b * c
 mul-sum a b c = omega arith
 
--- m′ is m, with w at signal i, which weighed nothing
-module _ (m m′ : ℕ → ℕ) (i w : ℕ) (same : (s : ℕ) → m′ s ≡ m s + val (eqb i s) * w) where
-  list-more : (l : List ℕ) → weighed m′ l ≡ weighed m l + times i l * w
+-- m' is m, with w at signal i, which weighed nothing
+module _ (m m' : ℕ → ℕ) (i w : ℕ) (same : (s : ℕ) → m' s ≡ m s + val (eqb i s) * w) where
+  list-more : (l : List ℕ) → weighed m' l ≡ weighed m l + times i l * w
   list-more [] = omega arith
   list-more (s ∷ l) = omega (arith, same s, list-more l, mul-sum (val (eqb i s)) (times i l) w)
 
-  cells-more : (cs : List Cell) → weighedIn m′ cs ≡ weighedIn m cs + reads i cs * w
+  cells-more : (cs : List Cell) → weighedIn m' cs ≡ weighedIn m cs + reads i cs * w
   cells-more [] = omega arith
   cells-more (c ∷ cs) = omega (
     arith,
-    list-more (c .signals),
+    list-more c.signals,
     cells-more cs,
-    mul-sum (times i (c .signals)) (reads i cs)
+    mul-sum (times i c.signals) (reads i cs)
         w,
   )
 
 -- ---- the cells in turn
 
-pub times-none : (l : List ℕ) (i x : ℕ) → ((j : ℕ) → j < length l → getD l j 0 < i) → i ≤ x → times x l ≡ 0
-times-none [] i x h g = refl
-times-none (s ∷ l) i x h g =
+pub times_none : (l : List ℕ) (i x : ℕ) → ((j : ℕ) → j < length l → get_or l j 0 < i) → i ≤ x → times x l ≡ 0
+times_none [] i x h g = refl
+times_none (s ∷ l) i x h g =
     let k : s < i = h 0 (omega arith) in
-    omega (arith, ap val (ne-eqb x s (λ e. omega arith)), times-none l i x (λ j q. h (suc j) (omega arith)) g)
+    omega (arith, ap val (ne_eqb x s (λ e. omega arith)), times_none l i x (λ j q. h (suc j) (omega arith)) g)
 
 -- each cell but the last is read once
 abbrev pub Once : ℕ → List Cell → Type 0
@@ -63,7 +63,7 @@ module _ (K : ℕ) where
       omega (
         arith,
         ap (λ (x : ℕ). reads x cs) q,
-        times-none (c .signals) i (i + suc j) (w .1) (omega arith),
+        times_none c.signals i (i + suc j) w.1 (omega arith),
         o (suc j)
             (omega arith),
       )
@@ -75,19 +75,19 @@ module _ (K : ℕ) where
       omega (
         arith,
         ap (λ (x : ℕ). reads x (c ∷ d ∷ cs)) q,
-        times-none (c .signals) i i (w .1) (omega arith),
+        times_none c.signals i i w.1 (omega arith),
         o 0
             (omega arith),
       )
 
   -- a measure to which a cell adds at most k
   module _ {A : Type 0} (makes : Cell → (ℕ → A) → A) (measure : A → ℕ) (k : ℕ)
-      (adds : (c : Cell) (v : ℕ → A) → measure (makes c v) ≤ k + weighed (λ s. measure (v s)) (c .signals)) where
+      (adds : (c : Cell) (v : ℕ → A) → measure (makes c v) ≤ k + weighed (λ s. measure (v s)) c.signals) where
     pub measured : (cs : List Cell) (c : Cell) (i : ℕ) (v : ℕ → A) → Wired K i (c ∷ cs) → Once i (c ∷ cs)
         → ((s : ℕ) → i ≤ s → measure (v s) ≡ 0)
-        → measure (inTurn makes i (c ∷ cs) v (i + length cs)) ≤ k * (1 + length cs)
+        → measure (in_turn makes i (c ∷ cs) v (i + length cs)) ≤ k * (1 + length cs)
         + weighedIn (λ s. measure (v s)) (c ∷ cs)
-    unfolding inTurn
+    unfolding in_turn
     measured [] c i v w o none =
         let q : i + 0 ≡ i = omega arith in
         let e = ap (λ (x : ℕ). cond (eqb x i) (makes c v) (v x)) q
@@ -97,13 +97,13 @@ module _ (K : ℕ) where
         let t = makes c v in
         let u : ℕ → A = λ x. cond (eqb x i) (makes c v) (v x) in
         let q : suc i + length cs ≡ i + suc (length cs) = omega arith in
-        let rest = measured cs d (suc i) u (w .2) (later-once c (d ∷ cs) i w o)
-        (λ s h. ap (λ (b : Bool). measure (cond b t (v s))) (ne-eqb s i (λ e. omega arith)) ∙ none s (omega arith))
+        let rest = measured cs d (suc i) u w.2 (later-once c (d ∷ cs) i w o)
+        (λ s h. ap (λ (b : Bool). measure (cond b t (v s))) (ne_eqb s i (λ e. omega arith)) ∙ none s (omega arith))
         in
         omega (
           arith,
           rest,
-          ap (λ (x : ℕ). measure (inTurn makes (suc i) (d ∷ cs) u x)) q,
+          ap (λ (x : ℕ). measure (in_turn makes (suc i) (d ∷ cs) u x)) q,
           cells-more (λ s. measure (v s)) (λ s. measure (u s)) i (measure t) (λ s. one s (eqb s i) refl) (d ∷ cs),
           ap (λ (r : ℕ). r * measure t) (first-once c d cs i w o),
           adds c v,
@@ -118,7 +118,7 @@ module _ (K : ℕ) where
         one s false q = omega (
           arith,
           ap (λ (b : Bool). val b * measure (makes c v))
-              (ne-eqb i s (λ e. eqb-false s i q (sym e))),
+              (ne_eqb i s (λ e. eqb-false s i q (sym e))),
         )
 
 -- ---- the text of one cell
@@ -138,7 +138,7 @@ two-short t l r =
     let b = flippedText (flipsHigh t) r in
     omega (
       arith,
-      length-append a (markOf t ∷ (b ++ (41 ∷ []))),
+      length-append a (mark_of t ∷ (b ++ (41 ∷ []))),
       length-append b (41 ∷ []),
       flip-short (flipsLow t) l,
       flip-short (flipsHigh t) r,
@@ -160,9 +160,9 @@ letters-short : (n : ℕ) (l : List ℕ) → weighed (λ s. length (letterText n
 letters-short n [] = omega arith
 letters-short n (s ∷ l) = omega (arith, letter-short (ltb s n) s, letters-short n l)
 
-read-short : (n : ℕ) (cs : List Cell) → AllPlain cs → weighedIn (λ s. length (letterText n s)) cs ≤ 2 * length cs
-read-short n [] p = omega arith
-read-short n (c ∷ cs) p = omega (arith, letters-short n (c .signals), p .0 .few, read-short n cs (p .1))
+read_short : (n : ℕ) (cs : List Cell) → AllPlain cs → weighedIn (λ s. length (letterText n s)) cs ≤ 2 * length cs
+read_short n [] p = omega arith
+read_short n (c ∷ cs) p = omega (arith, letters-short n c.signals, p.0.few, read_short n cs p.1)
 
 -- seven bytes a cell
 pub text-short : (n K : ℕ) (cs : List Cell) → 1 ≤ length cs → Wired K n cs → Printable n cs
@@ -173,8 +173,8 @@ text-short n K (c ∷ cs) some w p =
     let q : n + length cs ≡ n + (suc (length cs) - 1) = omega arith in
     omega (
       arith,
-      measured K cellText length 5 (λ c v. sides-short (c .signals) (c .table) v) cs c n (letterText n) w (p .once)
+      measured K cellText length 5 (λ c v. sides-short c.signals c.table v) cs c n (letterText n) w p.once
           (λ s h. ap (λ (b : Bool). length (cond b ((97 + s) ∷ []) [])) (le-ltb s n h)),
-      read-short n (c ∷ cs) (p .plain),
-      ap (λ (x : ℕ). length (inTurn cellText n (c ∷ cs) (letterText n) x)) q,
+      read_short n (c ∷ cs) p.plain,
+      ap (λ (x : ℕ). length (in_turn cellText n (c ∷ cs) (letterText n) x)) q,
     )

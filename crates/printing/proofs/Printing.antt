@@ -1,96 +1,96 @@
 -- The tests tell the printed sheets; their text has room, reads back, and is worth what the sheet is. Assumes nothing.
-use mathlib.Core.Path.{_≡_, refl, sym, ap, ap₂, _∙_, subst}
-use mathlib.Core.Logic.{_↔_}
-use mathlib.Core.Bool.{Bool, true, false, not, _&&_, _||_}
-use mathlib.Core.List.{List, _++_}
-use Prim.Native.Nat.{ℕ, zero, suc, _+_, _-_, _^_, _<_, _≤_}
+use mathlib.Core.Path.{◌≡◌, refl, sym, ap, ap₂, ◌∙◌, subst}
+use mathlib.Core.Logic.{◌↔◌}
+use mathlib.Core.Bool.{Bool, true, false, not, ◌&&◌, ◌||◌}
+use mathlib.Core.List.{List, ◌++◌}
+use Prim.Native.Nat.{ℕ, zero, suc, ◌+◌, ◌-◌, ◌^◌, ◌<◌, ◌≤◌}
 use native.Mathlib.Omega.{arith}
 use lib.Dec.{eqb, ltb}
 use lib.ListN.{length, drop}
 use lib.Seq.{sets-eq}
 use borrow.Author.Tests.{eq-eqb, eqb-true, eqb-false, ltb-true, ltb-false, lt-ltb, not-false}
-use Rattle·bits.proofs.Below.{every-at, every-all}
-use Rattle·bits.proofs.Bools.{and-left, and-right}
-use Rattle·tables.specs.Table.{mostInputs}
-use Rattle·sheets.specs.declared.kinds.Edition.{Edition}
-use Rattle·sheets.specs.Edition.{IsEdition}
-use Rattle·sheets.specs.Network.{Cell, Wired}
-use Rattle·sheets.specs.Record.{cellOf}
-use Rattle·sheets.specs.Sheet.{recordAt, records, cellsFrom, sheetCells, sheetBit, Good}
-use Rattle·sheets.specs.Reading.{reads}
-use Rattle·sheets.proofs.Wiring.{cells-length, good-wired}
-use Rattle·refusals.specs.declared.verdicts.Verdict.the-variants.{Fine}
-use Rattle·refusals.specs.Lines.{InOrder}
-use Rattle·refusals.proofs.Tests.{inside}
-use Rattle·refusals.proofs.Sheets.{good-sheet}
-use Rattle·values.specs.Formula.{value}
-use Rattle·formulas.specs.Text.{mostText, ReadAs}
-use Rattle·printing·specs.specs.Forms.{markOf}
-use Rattle·printing·specs.specs.Print.{printed, sheetText, formulaOf}
-use Rattle·printing·specs.specs.Printable.{Plain, AllPlain, Printable, plainCell, allPlain, onceRead, notPrinted}
-use Rattle·printing·specs.specs.Put.{Put, Room}
-use Rattle·printing·specs.specs.WriteFormula.{writeLines, writeDone}
-use Rattle·printing·proofs.proofs.Cells.{table-lt}
-use Rattle·printing·proofs.proofs.Forms.{mark-depends, depends-mark}
-use Rattle·printing·proofs.proofs.Turns.{Each}
-use Rattle·printing·proofs.proofs.Lengths.{text-short}
-use Rattle·printing·proofs.proofs.Spelling.{Formed, text-formula, formula-runs}
+use Rattle.bits.proofs.Below.{every-at, every-all}
+use Rattle.bits.proofs.Bools.{and_left, and_right}
+use Rattle.tables.specs.Table.{mostInputs}
+use Rattle.sheets.specs.declared.kinds.Edition.{Edition}
+use Rattle.sheets.specs.Edition.{IsEdition}
+use Rattle.sheets.specs.Network.{Cell, Wired}
+use Rattle.sheets.specs.Record.{cell_of}
+use Rattle.sheets.specs.Sheet.{recordAt, records, cellsFrom, sheetCells, sheetBit, Good}
+use Rattle.sheets.specs.Reading.{reads}
+use Rattle.sheets.proofs.Wiring.{cells-length, good-wired}
+use Rattle.refusals.specs.declared.verdicts.Verdict.TheVariants.{Fine}
+use Rattle.refusals.specs.Lines.{InOrder}
+use Rattle.refusals.proofs.Tests.{inside}
+use Rattle.refusals.proofs.Sheets.{good-sheet}
+use Rattle.values.specs.Formula.{value}
+use Rattle.formulas.specs.Text.{mostText, ReadAs}
+use Rattle.printing.specs.Forms.{mark_of}
+use Rattle.printing.specs.Print.{printed, sheetText, formulaOf}
+use Rattle.printing.specs.Printable.{Plain, AllPlain, Printable, plainCell, allPlain, onceRead, notPrinted}
+use Rattle.printing.specs.Put.{Put, Room}
+use Rattle.printing.specs.WriteFormula.{writeLines, writeDone}
+use Rattle.printing.proofs.Cells.{table-lt}
+use Rattle.printing.proofs.Forms.{mark-depends, depends-mark}
+use Rattle.printing.proofs.Turns.{Each}
+use Rattle.printing.proofs.Lengths.{text-short}
+use Rattle.printing.proofs.Spelling.{Formed, text-formula, formula-runs}
 
 -- ---- the tests
 
-module _ (c : Cell) (fits : c .table < 2 ^ (2 ^ length (c .signals))) where
-  small : length (c .signals) ≡ 2 → c .table < 16
-  small q = subst (λ (k : ℕ). c .table < 2 ^ (2 ^ k)) q fits
+module _ (c : Cell) (fits : c.table < 2 ^ (2 ^ length c.signals)) where
+  small : length c.signals ≡ 2 → c.table < 16
+  small q = subst (λ (k : ℕ). c.table < 2 ^ (2 ^ k)) q fits
 
   plain-is : plainCell c ≡ true → Plain c
-  plain-is h = go (eqb (length (c .signals)) 1) refl h
+  plain-is h = go (eqb (length c.signals) 1) refl h
     where
-      two : (length (c .signals) ≡ 2) → 0 < markOf (c .table) → Plain c
-      two q m = record { some = omega arith; few = omega arith; both = λ r. mark-depends (c .table) (small q) m }
+      two : (length c.signals ≡ 2) → 0 < mark_of c.table → Plain c
+      two q m = record { some = omega arith; few = omega arith; both = λ r. mark-depends c.table (small q) m }
 
-      go : (b : Bool) → eqb (length (c .signals)) 1 ≡ b
-          → (b || (eqb (length (c .signals)) 2 && ltb 0 (markOf (c .table)))) ≡ true → Plain c
-      go true q h = let e = eqb-true (length (c .signals)) 1 q
+      go : (b : Bool) → eqb (length c.signals) 1 ≡ b
+          → (b || (eqb (length c.signals) 2 && ltb 0 (mark_of c.table))) ≡ true → Plain c
+      go true q h = let e = eqb-true (length c.signals) 1 q
           in record { some = omega arith; few = omega arith; both = λ r. absurd (omega arith) }
       go false q h =
-          two (eqb-true (length (c .signals)) 2 (and-left (eqb (length (c .signals)) 2) (ltb 0 (markOf (c .table))) h))
-          (ltb-true 0 (markOf (c .table)) (and-right (eqb (length (c .signals)) 2) (ltb 0 (markOf (c .table))) h))
+          two (eqb-true (length c.signals) 2 (and_left (eqb (length c.signals) 2) (ltb 0 (mark_of c.table)) h))
+          (ltb-true 0 (mark_of c.table) (and_right (eqb (length c.signals) 2) (ltb 0 (mark_of c.table)) h))
 
-  is-plain : Plain c → plainCell c ≡ true
-  is-plain p = go (eqb (length (c .signals)) 1) refl
+  is_plain : Plain c → plainCell c ≡ true
+  is_plain p = go (eqb (length c.signals) 1) refl
     where
-      go : (b : Bool) → eqb (length (c .signals)) 1 ≡ b
-          → (b || (eqb (length (c .signals)) 2 && ltb 0 (markOf (c .table)))) ≡ true
+      go : (b : Bool) → eqb (length c.signals) 1 ≡ b
+          → (b || (eqb (length c.signals) 2 && ltb 0 (mark_of c.table))) ≡ true
       go true q = refl
       go false q =
-          let n = eqb-false (length (c .signals)) 1 q in
-          let e : length (c .signals) ≡ 2 = omega (arith, p .some, p .few) in
-          ap₂ (λ (a b : Bool). a && b) (eq-eqb (length (c .signals)) 2 e)
-          (lt-ltb 0 (markOf (c .table)) (depends-mark (c .table) (small e) (p .both e)))
+          let n = eqb-false (length c.signals) 1 q in
+          let e : length c.signals ≡ 2 = omega (arith, p.some, p.few) in
+          ap₂ (λ (a b : Bool). a && b) (eq-eqb (length c.signals) 2 e)
+          (lt-ltb 0 (mark_of c.table) (depends-mark c.table (small e) (p.both e)))
 
 module _ (e : Edition) (s : List ℕ) where
   pub plain-all : (m i : ℕ) → allPlain (cellsFrom e s i m) ≡ true → AllPlain (cellsFrom e s i m)
   unfolding cellsFrom
   plain-all zero i h = tt
   plain-all (suc m) i h =
-      let c = cellOf e (recordAt e s i) in (
-        plain-is c (table-lt e (recordAt e s i)) (and-left (plainCell c) (allPlain (cellsFrom e s (suc i) m)) h),
-        plain-all m (suc i) (and-right (plainCell c) (allPlain (cellsFrom e s (suc i) m)) h),
+      let c = cell_of e (recordAt e s i) in (
+        plain-is c (table-lt e (recordAt e s i)) (and_left (plainCell c) (allPlain (cellsFrom e s (suc i) m)) h),
+        plain-all m (suc i) (and_right (plainCell c) (allPlain (cellsFrom e s (suc i) m)) h),
       )
 
-  all-plain : (m i : ℕ) → AllPlain (cellsFrom e s i m) → allPlain (cellsFrom e s i m) ≡ true
+  all_plain : (m i : ℕ) → AllPlain (cellsFrom e s i m) → allPlain (cellsFrom e s i m) ≡ true
   unfolding cellsFrom
-  all-plain zero i p = refl
-  all-plain (suc m) i p = ap₂ (λ (a b : Bool). a && b)
-      (is-plain (cellOf e (recordAt e s i)) (table-lt e (recordAt e s i)) (p .0)) (all-plain m (suc i) (p .1))
+  all_plain zero i p = refl
+  all_plain (suc m) i p = ap₂ (λ (a b : Bool). a && b)
+      (is_plain (cell_of e (recordAt e s i)) (table-lt e (recordAt e s i)) p.0) (all_plain m (suc i) p.1)
 
   formed : (m i : ℕ) → AllPlain (cellsFrom e s i m) → Each Formed (cellsFrom e s i m)
   unfolding cellsFrom
   formed zero i p = tt
-  formed (suc m) i p = (record { plain = p .0; table = table-lt e (recordAt e s i) }, formed m (suc i) (p .1))
+  formed (suc m) i p = (record { plain = p.0; table = table-lt e (recordAt e s i) }, formed m (suc i) p.1)
 
-once-is : (n : ℕ) (cs : List Cell) → onceRead n cs ≡ true → (i : ℕ) → i + 1 < length cs → reads (n + i) cs ≡ 1
-once-is n cs h i l = eqb-true (reads (n + i) cs) 1
+once_is : (n : ℕ) (cs : List Cell) → onceRead n cs ≡ true → (i : ℕ) → i + 1 < length cs → reads (n + i) cs ≡ 1
+once_is n cs h i l = eqb-true (reads (n + i) cs) 1
     (every-at (length cs - 1) (λ i. eqb (reads (n + i) cs) 1) h i (omega arith))
 
 is-once : (n : ℕ) (cs : List Cell) → ((i : ℕ) → i + 1 < length cs → reads (n + i) cs ≡ 1) → onceRead n cs ≡ true
@@ -102,14 +102,14 @@ module _ (e : Edition) (n : ℕ) (s : List ℕ) where
   cells = sheetCells e s (records e s)
 
   -- line 16 lets through exactly the sheets that are printed
-  pub printed-exactly : (notPrinted e n s .holds ≡ false) ↔ Printable n cells
+  pub printed-exactly : ((notPrinted e n s).holds ≡ false) ↔ Printable n cells
   printed-exactly = (
     λ h. let b = not-false (allPlain cells && onceRead n cells) h in
         record {
-          plain = plain-all e s (records e s) 0 (and-left (allPlain cells) (onceRead n cells) b);
-          once = once-is n cells (and-right (allPlain cells) (onceRead n cells) b);
+          plain = plain-all e s (records e s) 0 (and_left (allPlain cells) (onceRead n cells) b);
+          once = once_is n cells (and_right (allPlain cells) (onceRead n cells) b);
         },
-    λ p. ap₂ (λ (a b : Bool). not (a && b)) (all-plain e s (records e s) 0 (p .plain)) (is-once n cells (p .once)),
+    λ p. ap₂ (λ (a b : Bool). not (a && b)) (all_plain e s (records e s) 0 p.plain) (is-once n cells p.once),
   )
 
 -- ---- a sheet that is printed
@@ -126,15 +126,15 @@ pub record Sound (e : Edition) (n : ℕ) (s room : List ℕ) : Type 0 where
 pub sound : (e : Edition) (d n : ℕ) (s room : List ℕ) → IsEdition e → InOrder (writeLines e d n s room)
     → Sound e n s room
 sound e d n s room o w =
-    let i = inside 1 n mostInputs (w .0) in
+    let i = inside 1 n mostInputs w.0 in
     record {
       sound = o;
-      some = i .0;
-      inputs = i .1;
-      long = ltb-false (length room) mostText (w .1 .0);
+      some = i.0;
+      inputs = i.1;
+      long = ltb-false (length room) mostText w.1.0;
       desk = d;
-      good = good-sheet e d n s o (w .1 .1 .0, (w .1 .1 .1 .0, tt));
-      printable = printed-exactly e n s .0 (w .1 .1 .1 .1 .0);
+      good = good-sheet e d n s o (w.1.1.0, (w.1.1.1.0, tt));
+      printable = (printed-exactly e n s).0 w.1.1.1.1.0;
     }
 
 module _ {e : Edition} {n : ℕ} {s room : List ℕ} (k : Sound e n s room) where
@@ -144,8 +144,8 @@ module _ {e : Edition} {n : ℕ} {s room : List ℕ} (k : Sound e n s room) wher
   many : length (sheetCells e s m) ≡ m
   many = cells-length e s 0 m
 
-  wired : Wired (e .most) n (sheetCells e s m)
-  wired = good-wired e (k .desk) n s (k .sound) m (k .good .rules)
+  wired : Wired e.most n (sheetCells e s m)
+  wired = good-wired e k.desk n s k.sound m k.good.rules
 
   last : n + (length (sheetCells e s m) - 1) ≡ n + (m - 1)
   last = ap (λ (j : ℕ). n + (j - 1)) many
@@ -154,25 +154,25 @@ module _ {e : Edition} {n : ℕ} {s room : List ℕ} (k : Sound e n s room) wher
   short =
       omega (
         arith,
-        text-short n (e .most) (sheetCells e s m) (omega (arith, many, k .good .some)) wired (k .printable),
+        text-short n e.most (sheetCells e s m) (omega (arith, many, k.good.some)) wired k.printable,
         ap (λ (x : ℕ). length (printed n (sheetCells e s m) x)) last,
         many,
-        k .good .most,
+        k.good.most,
       )
 
   -- the last record's signal has room
   pub ready : Room e n s (n + (m - 1)) false room 0
   ready = record {
     sheet = record {
-      sound = k .sound;
-      inputs = k .inputs;
-      most = k .good .most;
-      long = omega (arith, k .good .whole);
+      sound = k.sound;
+      inputs = k.inputs;
+      most = k.good.most;
+      long = omega (arith, k.good.whole);
       wired = wired;
-      plain = k .printable .plain;
+      plain = k.printable.plain;
     };
-    signal = omega (arith, k .good .some);
-    fits = omega (arith, short, k .long);
+    signal = omega (arith, k.good.some);
+    fits = omega (arith, short, k.long);
   }
 
   -- what was put is the text, and the bytes past it stay
@@ -180,22 +180,22 @@ module _ {e : Edition} {n : ℕ} {s room : List ℕ} (k : Sound e n s room) wher
       → record { answer = record { verdict = Fine; length = q }; room = after } ≡ writeDone e n s room
   written {after} {q} p =
       let w = sheetText e n s in
-      let l : q ≡ length w = omega (arith, p .next) in
+      let l : q ≡ length w = omega (arith, p.next) in
       let z : 0 + length w ≡ length w = omega arith in
       ap₂ (λ (i : ℕ) (r : List ℕ). record { answer = record { verdict = Fine; length = i }; room = r }) l
-      (p .bytes ∙ sets-eq w room 0 (omega (arith, short, k .long)) ∙ ap (λ (i : ℕ). w ++ drop i room) z)
+      (p.bytes ∙ sets-eq w room 0 (omega (arith, short, k.long)) ∙ ap (λ (i : ℕ). w ++ drop i room) z)
 
   -- the text is read back as the formula of the last record, which is worth what the sheet gives
   pub reads-back : ReadAs false n (sheetText e n s) (formulaOf n (sheetCells e s m) (n + (m - 1)))
   reads-back = record {
     short = omega (arith, short);
-    stands = rw (sym last) (text-formula n (e .most) (sheetCells e s m) wired (formed e s m 0 (k .printable .plain))
-        (omega (arith, many, k .good .some)) (omega (arith, many, k .good .most)));
+    stands = rw (sym last) (text-formula n e.most (sheetCells e s m) wired (formed e s m 0 k.printable.plain)
+        (omega (arith, many, k.good.some)) (omega (arith, many, k.good.most)));
   }
 
   pub worth : (x : ℕ) → value (formulaOf n (sheetCells e s m) (n + (m - 1))) x ≡ sheetBit e n s m x
   unfolding sheetBit
   worth x =
       ap (λ (j : ℕ). value (formulaOf n (sheetCells e s m) j) x) (sym last)
-      ∙ formula-runs n (e .most) (sheetCells e s m) wired (formed e s m 0 (k .printable .plain))
-      (omega (arith, many, k .good .some)) x
+      ∙ formula-runs n e.most (sheetCells e s m) wired (formed e s m 0 k.printable.plain)
+      (omega (arith, many, k.good.some)) x

@@ -1,23 +1,23 @@
 -- What is printed of a signal stands for the signal's formula, wherever it stands, and is worth what the signal is.
 -- Assumes nothing.
-use mathlib.Core.Path.{_≡_, refl, sym, ap, _∙_, subst}
+use mathlib.Core.Path.{◌≡◌, refl, sym, ap, ◌∙◌, subst}
 use mathlib.Core.Bool.{Bool, true, false, cond}
-use mathlib.Core.List.{List, [], _∷_, _++_}
-use Prim.Native.Nat.{ℕ, zero, suc, _+_, _-_, _*_, _^_, _<_, _≤_}
+use mathlib.Core.List.{List, [], ◌∷◌, ◌++◌}
+use Prim.Native.Nat.{ℕ, zero, suc, ◌+◌, ◌-◌, ◌*◌, ◌^◌, ◌<◌, ◌≤◌}
 use native.Mathlib.Omega.{arith}
-use lib.ListN.{length, getD, length-append}
+use lib.ListN.{length, get_or, length-append}
 use borrow.Author.Tests.{lt-ltb}
-use Rattle·bits.specs.Numbers.{bit}
-use Rattle·sheets.specs.Network.{Cell, packed, output, run, Wired}
-use Rattle·values.specs.Formula.{Formula, letter, constant, joined, value}
-use Rattle·formulas.specs.Text.{mark, Spells, a-letter, a-zero, a-one, a-not, a-nest, only, more, byteAt, mostLevels}
-use Rattle·formulas.specs.Text.{IsFormula}
-use Rattle·printing·specs.specs.Forms.{markOf, flipsLow, flipsHigh}
-use Rattle·printing·specs.specs.Print.{inTurn, bySides, flippedText, oneText, twoText, cellText, letterText, printed}
-use Rattle·printing·specs.specs.Print.{negatedIf, oneFormula, twoFormula, levelOf, cellFormula, formulaOf}
-use Rattle·printing·specs.specs.Printable.{Plain}
-use Rattle·printing·proofs.proofs.Forms.{depends-mark, level-le, mark-of, one-value, two-value}
-use Rattle·printing·proofs.proofs.Turns.{Each, each-signal, run-last}
+use Rattle.bits.specs.Numbers.{bit}
+use Rattle.sheets.specs.Network.{Cell, packed, output, run, Wired}
+use Rattle.values.specs.Formula.{Formula, letter, constant, joined, value}
+use Rattle.formulas.specs.Text.{mark, Spells, a-letter, a-zero, a_one, a-not, a-nest, only, more, byte_at, mostLevels}
+use Rattle.formulas.specs.Text.{IsFormula}
+use Rattle.printing.specs.Forms.{mark_of, flipsLow, flipsHigh}
+use Rattle.printing.specs.Print.{in_turn, bySides, flippedText, oneText, twoText, cellText, letterText, printed}
+use Rattle.printing.specs.Print.{negated_if, oneFormula, twoFormula, levelOf, cellFormula, formulaOf}
+use Rattle.printing.specs.Printable.{Plain}
+use Rattle.printing.proofs.Forms.{depends-mark, level-le, mark-of, one_value, two-value}
+use Rattle.printing.proofs.Turns.{Each, each-signal, run-last}
 
 -- ---- bytes at a place
 
@@ -29,10 +29,10 @@ Has c p (b ∷ w) = (c p ≡ b) × Has c (suc p) w
 has-append : (c : ℕ → ℕ) (p : ℕ) (v w : List ℕ) → Has c p (v ++ w) → Has c p v × Has c (p + length v) w
 has-append c p [] w h = (tt, subst (λ (q : ℕ). Has c q w) (omega arith) h)
 has-append c p (b ∷ v) w h =
-    let i = has-append c (suc p) v w (h .1) in
-    ((h .0, i .0), subst (λ (q : ℕ). Has c q w) (omega arith) (i .1))
+    let i = has-append c (suc p) v w h.1 in
+    ((h.0, i.0), subst (λ (q : ℕ). Has c q w) (omega arith) i.1)
 
-has-from : (c : ℕ → ℕ) (p : ℕ) (w : List ℕ) → ((i : ℕ) → i < length w → c (p + i) ≡ getD w i 0) → Has c p w
+has-from : (c : ℕ → ℕ) (p : ℕ) (w : List ℕ) → ((i : ℕ) → i < length w → c (p + i) ≡ get_or w i 0) → Has c p w
 has-from c p [] h = tt
 has-from c p (b ∷ w) h =
     let e : p ≡ p + 0 = omega arith in (
@@ -41,8 +41,8 @@ has-from c p (b ∷ w) h =
           (λ i l. (let f : suc p + i ≡ p + suc i = omega arith in ap c f ∙ h (suc i) (omega arith))),
     )
 
-has-all : (s : List ℕ) → Has (byteAt s) 0 s
-has-all s = has-from (byteAt s) 0 s (λ i l. (let e : 0 + i ≡ i = omega arith in ap (byteAt s) e))
+has_all : (s : List ℕ) → Has (byte_at s) 0 s
+has_all s = has-from (byte_at s) 0 s (λ i l. (let e : 0 + i ≡ i = omega arith in ap (byte_at s) e))
 
 -- ---- what w stands for wherever it stands, as a factor, with at least d levels left
 
@@ -63,66 +63,66 @@ joined-sum (suc (suc (suc k))) h a e b = absurd (omega arith)
 
 module _ (n : ℕ) where
   letter-spelled : (s : ℕ) → s < n → Spelled n 0 ((97 + s) ∷ []) (letter s)
-  letter-spelled s h β c p e l x = ends (omega arith) (a-letter s h (x .0))
+  letter-spelled s h β c p e l x = ends (omega arith) (a-letter s h x.0)
 
   flip-spelled : (f : Bool) (d : ℕ) (w : List ℕ) (F : Formula) → Spelled n d w F
-      → Spelled n (suc d) (flippedText f w) (negatedIf f F)
+      → Spelled n (suc d) (flippedText f w) (negated_if f F)
   flip-spelled true d w F h β c p zero l x = absurd (omega arith)
-  flip-spelled true d w F h β c p (suc e) l x = ends (omega arith) (a-not (x .0) (h β c (suc p) e (omega arith) (x .1)))
+  flip-spelled true d w F h β c p (suc e) l x = ends (omega arith) (a-not x.0 (h β c (suc p) e (omega arith) x.1))
   flip-spelled false d w F h β c p e l x = h β c p e (omega arith) x
 
   one-spelled : (t d : ℕ) (w : List ℕ) (F : Formula) → t < 4 → Spelled n d w F
       → Spelled n (suc (suc d)) (oneText t w) (oneFormula t F)
-  one-spelled zero d w F h k β c p e l x = ends (omega arith) (a-zero (x .0))
+  one-spelled zero d w F h k β c p e l x = ends (omega arith) (a-zero x.0)
   one-spelled (suc zero) d w F h k β c p e l x = flip-spelled true d w F k β c p e (omega arith) x
   one-spelled (suc (suc zero)) d w F h k β c p e l x = k β c p e (omega arith) x
-  one-spelled (suc (suc (suc zero))) d w F h k β c p e l x = ends (omega arith) (a-one (x .0))
+  one-spelled (suc (suc (suc zero))) d w F h k β c p e l x = ends (omega arith) (a_one x.0)
   one-spelled (suc (suc (suc (suc t)))) d w F h k β c p e l x = absurd (omega arith)
 
-  two-spelled : (t d : ℕ) (v w : List ℕ) (F G : Formula) → t < 16 → 0 < markOf t → Spelled n d v F → Spelled n d w G
+  two-spelled : (t d : ℕ) (v w : List ℕ) (F G : Formula) → t < 16 → 0 < mark_of t → Spelled n d v F → Spelled n d w G
       → Spelled n (suc (suc d)) (twoText t v w) (twoFormula t F G)
   two-spelled t d v w F G h l a b β c p zero k x = absurd (omega arith)
   two-spelled t d v w F G h l a b β c p (suc e) k x =
-      let v′ = flippedText (flipsLow t) v in
-      let w′ = flippedText (flipsHigh t) w in
-      let y = has-append c (suc p) v′ (markOf t ∷ (w′ ++ (41 ∷ []))) (x .1) in
-      let z = has-append c (suc (suc p + length v′)) w′ (41 ∷ []) (y .1 .1) in
-      ends (omega (arith, length-append v′ (markOf t ∷ (w′ ++ (41 ∷ []))), length-append w′ (41 ∷ [])))
-      (a-nest (x .0)
+      let v' = flippedText (flipsLow t) v in
+      let w' = flippedText (flipsHigh t) w in
+      let y = has-append c (suc p) v' (mark_of t ∷ (w' ++ (41 ∷ []))) x.1 in
+      let z = has-append c (suc (suc p + length v')) w' (41 ∷ []) y.1.1 in
+      ends (omega (arith, length-append v' (mark_of t ∷ (w' ++ (41 ∷ []))), length-append w' (41 ∷ [])))
+      (a-nest x.0
       (joined-sum (levelOf t) (level-le t)
-      (flip-spelled (flipsLow t) d v F a β c (suc p) e (omega arith) (y .0))
-      (y .1 .0 ∙ mark-of t h l)
-      (flip-spelled (flipsHigh t) d w G b β c (suc (suc p + length v′)) e (omega arith) (z .0)))
-      (z .1 .0))
+      (flip-spelled (flipsLow t) d v F a β c (suc p) e (omega arith) y.0)
+      (y.1.0 ∙ mark-of t h l)
+      (flip-spelled (flipsHigh t) d w G b β c (suc (suc p + length v')) e (omega arith) z.0))
+      z.1.0)
 
 -- ---- a cell
 
 -- a plain cell whose table fits it
 pub record Formed (c : Cell) : Type 0 where
   pub plain : Plain c
-  pub table : c .table < 2 ^ (2 ^ length (c .signals))
+  pub table : c.table < 2 ^ (2 ^ length c.signals)
 
 module _ (n d : ℕ) (v : ℕ → List ℕ) (u : ℕ → Formula) where
   cell-spelled : (l : List ℕ) (t : ℕ) → Formed (record { signals = l; table = t })
-      → ((j : ℕ) → j < length l → Spelled n d (v (getD l j 0)) (u (getD l j 0)))
+      → ((j : ℕ) → j < length l → Spelled n d (v (get_or l j 0)) (u (get_or l j 0)))
       → Spelled n (suc (suc d)) (bySides [] oneText twoText l t v)
       (bySides (constant false) oneFormula twoFormula l t u)
-  cell-spelled [] t k h = absurd (omega (arith, k .plain .some))
-  cell-spelled (a ∷ []) t k h = one-spelled n t d (v a) (u a) (k .table) (h 0 (omega arith))
+  cell-spelled [] t k h = absurd (omega (arith, k.plain.some))
+  cell-spelled (a ∷ []) t k h = one-spelled n t d (v a) (u a) k.table (h 0 (omega arith))
   cell-spelled (a ∷ b ∷ []) t k h =
-      two-spelled n t d (v a) (v b) (u a) (u b) (k .table) (depends-mark t (k .table) (k .plain .both refl))
+      two-spelled n t d (v a) (v b) (u a) (u b) k.table (depends-mark t k.table (k.plain.both refl))
       (h 0 (omega arith)) (h 1 (omega arith))
-  cell-spelled (a ∷ b ∷ c ∷ l) t k h = absurd (omega (arith, k .plain .few))
+  cell-spelled (a ∷ b ∷ c ∷ l) t k h = absurd (omega (arith, k.plain.few))
 
 cell-worth : (u : ℕ → Formula) (x : ℕ) (o : ℕ → Bool) (l : List ℕ) (t : ℕ) → Formed (record { signals = l; table = t })
-    → ((j : ℕ) → j < length l → value (u (getD l j 0)) x ≡ o (getD l j 0))
+    → ((j : ℕ) → j < length l → value (u (get_or l j 0)) x ≡ o (get_or l j 0))
     → value (bySides (constant false) oneFormula twoFormula l t u) x ≡ bit t (packed l o)
-cell-worth u x o [] t k h = absurd (omega (arith, k .plain .some))
-cell-worth u x o (a ∷ []) t k h = one-value t (k .table) (u a) x (λ j. o (getD (a ∷ []) j 0)) (h 0 (omega arith))
+cell-worth u x o [] t k h = absurd (omega (arith, k.plain.some))
+cell-worth u x o (a ∷ []) t k h = one_value t k.table (u a) x (λ j. o (get_or (a ∷ []) j 0)) (h 0 (omega arith))
 cell-worth u x o (a ∷ b ∷ []) t k h =
-    two-value t (k .table) (depends-mark t (k .table) (k .plain .both refl)) (u a) (u b) x
-    (λ j. o (getD (a ∷ b ∷ []) j 0)) (h 0 (omega arith)) (h 1 (omega arith))
-cell-worth u x o (a ∷ b ∷ c ∷ l) t k h = absurd (omega (arith, k .plain .few))
+    two-value t k.table (depends-mark t k.table (k.plain.both refl)) (u a) (u b) x
+    (λ j. o (get_or (a ∷ b ∷ []) j 0)) (h 0 (omega arith)) (h 1 (omega arith))
+cell-worth u x o (a ∷ b ∷ c ∷ l) t k h = absurd (omega (arith, k.plain.few))
 
 -- ---- the signals
 
@@ -137,27 +137,27 @@ module _ (n K : ℕ) (cs : List Cell) (w : Wired K n cs) (ok : Each Formed cs) w
       (λ β c p e l x. letter-spelled n s h β c p e (omega arith) x))
     where
       step : (c : Cell) (i : ℕ) (v : ℕ → List ℕ) (u : ℕ → Formula) → n ≤ i → Formed c
-          → ((j : ℕ) → j < length (c .signals) → getD (c .signals) j 0 < i)
+          → ((j : ℕ) → j < length c.signals → get_or c.signals j 0 < i)
           → ((s : ℕ) → s < i → Spelled n (2 * (suc s - n)) (v s) (u s))
           → Spelled n (2 * (suc i - n)) (cellText c v) (cellFormula c u)
       step c i v u low k known h =
           let d = 2 * (i - n) in
-          let whole = cell-spelled n d v u (c .signals) (c .table) k
-          (λ j l β b p e g x. h (getD (c .signals) j 0) (known j l) β b p e (let a = known j l in omega arith) x) in
+          let whole = cell-spelled n d v u c.signals c.table k
+          (λ j l β b p e g x. h (get_or c.signals j 0) (known j l) β b p e (let a = known j l in omega arith) x) in
           λ β b p e l x. whole β b p e (omega arith) x
 
   -- it is worth what the signal is
-  worth : (x s : ℕ) → s < n + length cs → value (formulaOf n cs s) x ≡ inTurn output n cs (bit x) s
+  worth : (x s : ℕ) → s < n + length cs → value (formulaOf n cs s) x ≡ in_turn output n cs (bit x) s
   unfolding formulaOf value output
   worth x =
       each-signal cellFormula output (λ s F b. value F x ≡ b) Formed n step K cs n letter (bit x) (omega arith) ok w
       (λ s h. refl)
     where
       step : (c : Cell) (i : ℕ) (v : ℕ → Formula) (u : ℕ → Bool) → n ≤ i → Formed c
-          → ((j : ℕ) → j < length (c .signals) → getD (c .signals) j 0 < i)
+          → ((j : ℕ) → j < length c.signals → get_or c.signals j 0 < i)
           → ((s : ℕ) → s < i → value (v s) x ≡ u s) → value (cellFormula c v) x ≡ output c u
-      step c i v u low k known h = cell-worth v x u (c .signals) (c .table) k
-          (λ j l. h (getD (c .signals) j 0) (known j l))
+      step c i v u low k known h = cell-worth v x u c.signals c.table k
+          (λ j l. h (get_or c.signals j 0) (known j l))
 
 -- ---- the last cell
 
@@ -167,8 +167,8 @@ pub text-formula : (n K : ℕ) (cs : List Cell) → Wired K n cs → Each Formed
 text-formula n K cs w ok some most =
     let s = n + (length cs - 1) in
     let e : 0 + length (printed n cs s) ≡ length (printed n cs s) = omega arith in
-    only (only (only (ends e (spelled n K cs w ok s (omega arith) (length (printed n cs s)) (byteAt (printed n cs s)) 0 mostLevels (omega arith)
-    (has-all (printed n cs s))))))
+    only (only (only (ends e (spelled n K cs w ok s (omega arith) (length (printed n cs s)) (byte_at (printed n cs s)) 0 mostLevels (omega arith)
+    (has_all (printed n cs s))))))
 
 -- and the formula's value is what running the cells gives
 pub formula-runs : (n K : ℕ) (cs : List Cell) → Wired K n cs → Each Formed cs → 1 ≤ length cs → (x : ℕ)
@@ -176,5 +176,5 @@ pub formula-runs : (n K : ℕ) (cs : List Cell) → Wired K n cs → Each Formed
 formula-runs n K [] w ok some x = absurd (omega arith)
 formula-runs n K (c ∷ cs) w ok some x =
     let q : n + (suc (length cs) - 1) ≡ n + length cs = omega arith in
-    worth n K (c ∷ cs) w ok x (n + (suc (length cs) - 1)) (omega arith) ∙ ap (inTurn output n (c ∷ cs) (bit x)) q
+    worth n K (c ∷ cs) w ok x (n + (suc (length cs) - 1)) (omega arith) ∙ ap (in_turn output n (c ∷ cs) (bit x)) q
     ∙ sym (run-last c cs n (bit x))

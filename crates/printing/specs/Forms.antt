@@ -1,19 +1,15 @@
 -- How a cell's table is printed. Of two signals, with L the lower: 8 (L&R), 4 (!L&R), 2 (L&!R), 1 (!L&!R), E (L|R),
 -- D (!L|R), B (L|!R), 7 (!L|!R), 6 (L^R), 9 (L^!R).
-use mathlib.Core.Bool.{Bool}
-use mathlib.Core.List.{[], _∷_}
-use Prim.Native.Nat.{ℕ}
-use lib.Dec.{eqb}
-use lib.ListN.{getD}
+use Rattle.std.specs.Prelude.{Bool, [], ◌∷◌, ℕ, eqb, get_or}
 
 -- the mark between L and R, by the table: `&`, `^` or `|`, and 0 where the table doesn't depend on both
-abbrev pub markOf : ℕ → ℕ
-markOf t = getD (0 ∷ 38 ∷ 38 ∷ 0 ∷ 38 ∷ 0 ∷ 94 ∷ 124 ∷ 38 ∷ 94 ∷ 0 ∷ 124 ∷ 0 ∷ 124 ∷ 124 ∷ 0 ∷ []) t 0
+abbrev pub mark_of : ℕ → ℕ
+mark_of t = get_or (0 ∷ 38 ∷ 38 ∷ 0 ∷ 38 ∷ 0 ∷ 94 ∷ 124 ∷ 38 ∷ 94 ∷ 0 ∷ 124 ∷ 0 ∷ 124 ∷ 124 ∷ 0 ∷ []) t 0
 
 -- whether L has `!` before it
 abbrev pub flipsLow : ℕ → Bool
-flipsLow t = eqb (getD (0 ∷ 1 ∷ 0 ∷ 0 ∷ 1 ∷ 0 ∷ 0 ∷ 1 ∷ 0 ∷ 0 ∷ 0 ∷ 0 ∷ 0 ∷ 1 ∷ 0 ∷ 0 ∷ []) t 0) 1
+flipsLow t = eqb (get_or (0 ∷ 1 ∷ 0 ∷ 0 ∷ 1 ∷ 0 ∷ 0 ∷ 1 ∷ 0 ∷ 0 ∷ 0 ∷ 0 ∷ 0 ∷ 1 ∷ 0 ∷ 0 ∷ []) t 0) 1
 
 -- whether R has
 abbrev pub flipsHigh : ℕ → Bool
-flipsHigh t = eqb (getD (0 ∷ 1 ∷ 1 ∷ 0 ∷ 0 ∷ 0 ∷ 0 ∷ 1 ∷ 0 ∷ 1 ∷ 0 ∷ 1 ∷ 0 ∷ 0 ∷ 0 ∷ 0 ∷ []) t 0) 1
+flipsHigh t = eqb (get_or (0 ∷ 1 ∷ 1 ∷ 0 ∷ 0 ∷ 0 ∷ 0 ∷ 1 ∷ 0 ∷ 1 ∷ 0 ∷ 1 ∷ 0 ∷ 0 ∷ 0 ∷ 0 ∷ []) t 0) 1

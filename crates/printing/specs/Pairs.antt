@@ -1,9 +1,8 @@
 -- The cell of a pair of signals, or of one.
-use mathlib.Core.Bool.{cond}
-use mathlib.Core.List.{[], _∷_}
-use Rattle·sheets.specs.Network.{Cell}
-use Rattle·printing·specs.specs.declared.pairs.Pair.{Pair}
+use Rattle.std.specs.Prelude.{cond, [], ◌∷◌}
+use Rattle.sheets.specs.Network.{Cell}
+use Rattle.printing.specs.declared.pairs.Pair.{Pair}
 
 -- the cell of two signals, or of one
 abbrev pub pairCell : Pair → Cell
-pairCell p = record { signals = cond (p .two) (p .low ∷ p .high ∷ []) (p .low ∷ []); table = p .table }
+pairCell p = record { signals = cond p.two (p.low ∷ p.high ∷ []) (p.low ∷ []); table = p.table }

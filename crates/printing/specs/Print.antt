@@ -1,20 +1,17 @@
 -- The text of a network's signals, and the formulas that they stand for. A signal is a letter or a cell; L and R of a
 -- cell are signals, and each side is written by the same rule again.
-use mathlib.Core.Bool.{Bool, true, false, cond}
-use mathlib.Core.List.{List, [], _∷_, _++_}
-use Prim.Native.Nat.{ℕ, suc, _+_, _-_}
-use lib.Dec.{eqb, ltb}
-use Rattle·sheets.specs.declared.kinds.Edition.{Edition}
-use Rattle·sheets.specs.Network.{Cell}
-use Rattle·sheets.specs.Sheet.{records, sheetCells}
-use Rattle·values.specs.Formula.{Formula, letter, constant, negated, joined}
-use Rattle·printing·specs.specs.Forms.{markOf, flipsLow, flipsHigh}
+use Rattle.std.specs.Prelude.{Bool, true, false, cond, List, [], ◌∷◌, ◌++◌, ℕ, suc, ◌+◌, ◌-◌, eqb, ltb}
+use Rattle.sheets.specs.declared.kinds.Edition.{Edition}
+use Rattle.sheets.specs.Network.{Cell}
+use Rattle.sheets.specs.Sheet.{records, sheetCells}
+use Rattle.values.specs.Formula.{Formula, letter, constant, negated, joined}
+use Rattle.printing.specs.Forms.{mark_of, flipsLow, flipsHigh}
 
 -- what each signal is, where signal s is v s before the cells, and a cell makes its own of what the others are: the
 -- cells in turn, the first giving signal i
-unfoldable pub inTurn : {A : Type 0} → (Cell → (ℕ → A) → A) → ℕ → List Cell → (ℕ → A) → ℕ → A
-inTurn makes i [] v = v
-inTurn makes i (c ∷ cs) v = inTurn makes (suc i) cs (λ s. cond (eqb s i) (makes c v) (v s))
+unfoldable pub in_turn : {A : Type 0} → (Cell → (ℕ → A) → A) → ℕ → List Cell → (ℕ → A) → ℕ → A
+in_turn makes i [] v = v
+in_turn makes i (c ∷ cs) v = in_turn makes (suc i) cs (λ s. cond (eqb s i) (makes c v) (v s))
 
 -- a cell by its signals: none, one of one, two of more
 abbrev pub bySides : {A : Type 0} → A → (ℕ → A → A) → (ℕ → A → A → A) → List ℕ → ℕ → (ℕ → A) → A
@@ -35,11 +32,11 @@ oneText t l = cond (eqb t 0) (48 ∷ []) (cond (eqb t 3) (49 ∷ []) (flippedTex
 
 -- a cell of two: (, L, the mark, R, )
 abbrev pub twoText : ℕ → List ℕ → List ℕ → List ℕ
-twoText t l r = 40 ∷ (flippedText (flipsLow t) l ++ (markOf t ∷ (flippedText (flipsHigh t) r ++ (41 ∷ []))))
+twoText t l r = 40 ∷ (flippedText (flipsLow t) l ++ (mark_of t ∷ (flippedText (flipsHigh t) r ++ (41 ∷ []))))
 
 -- a cell's text, by its signals
 abbrev pub cellText : Cell → (ℕ → List ℕ) → List ℕ
-cellText c v = bySides [] oneText twoText (c .signals) (c .table) v
+cellText c v = bySides [] oneText twoText c.signals c.table v
 
 -- input j is a letter; a signal that nobody gives is nothing
 abbrev pub letterText : ℕ → ℕ → List ℕ
@@ -47,7 +44,7 @@ letterText n j = cond (ltb j n) ((97 + j) ∷ []) []
 
 -- the text of signal s
 unfoldable pub printed : ℕ → List Cell → ℕ → List ℕ
-printed n cs = inTurn cellText n cs (letterText n)
+printed n cs = in_turn cellText n cs (letterText n)
 
 -- the text of a sheet: that of its last record
 abbrev pub sheetText : Edition → ℕ → List ℕ → List ℕ
@@ -56,26 +53,26 @@ sheetText e n s = printed n (sheetCells e s (records e s)) (n + (records e s - 1
 -- ---- the formulas, in the same way
 
 -- `!` before a formula, if so said
-abbrev pub negatedIf : Bool → Formula → Formula
-negatedIf true F = negated F
-negatedIf false F = F
+abbrev pub negated_if : Bool → Formula → Formula
+negated_if true F = negated F
+negated_if false F = F
 
 -- of a cell of one signal
 abbrev pub oneFormula : ℕ → Formula → Formula
-oneFormula t F = cond (eqb t 0) (constant false) (cond (eqb t 3) (constant true) (negatedIf (eqb t 1) F))
+oneFormula t F = cond (eqb t 0) (constant false) (cond (eqb t 3) (constant true) (negated_if (eqb t 1) F))
 
 -- the level of a mark: 0 of `&`, 1 of `^`, 2 of `|`
 abbrev pub levelOf : ℕ → ℕ
-levelOf t = cond (eqb (markOf t) 38) 0 (cond (eqb (markOf t) 94) 1 2)
+levelOf t = cond (eqb (mark_of t) 38) 0 (cond (eqb (mark_of t) 94) 1 2)
 
 -- of a cell of two
 abbrev pub twoFormula : ℕ → Formula → Formula → Formula
-twoFormula t F G = joined (levelOf t) (negatedIf (flipsLow t) F) (negatedIf (flipsHigh t) G)
+twoFormula t F G = joined (levelOf t) (negated_if (flipsLow t) F) (negated_if (flipsHigh t) G)
 
 -- of a cell, by its signals
 abbrev pub cellFormula : Cell → (ℕ → Formula) → Formula
-cellFormula c v = bySides (constant false) oneFormula twoFormula (c .signals) (c .table) v
+cellFormula c v = bySides (constant false) oneFormula twoFormula c.signals c.table v
 
 -- the formula of signal s
 unfoldable pub formulaOf : ℕ → List Cell → ℕ → Formula
-formulaOf n cs = inTurn cellFormula n cs letter
+formulaOf n cs = in_turn cellFormula n cs letter

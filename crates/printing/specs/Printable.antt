@@ -1,26 +1,21 @@
 -- Which sheets are printed.
-use mathlib.Core.Path.{_≡_}
-use mathlib.Core.Bool.{Bool, true, not, _&&_, _||_}
-use mathlib.Core.List.{List, [], _∷_}
-use Prim.Native.Nat.{ℕ, _+_, _-_, _<_, _≤_}
-use lib.Dec.{eqb, ltb}
-use lib.ListN.{length}
-use Rattle·bits.specs.Numbers.{bit}
-use Rattle·bits.specs.Below.{every}
-use Rattle·tables.specs.Depends.{DependsOn}
-use Rattle·sheets.specs.declared.kinds.Edition.{Edition}
-use Rattle·sheets.specs.Network.{Cell}
-use Rattle·sheets.specs.Reading.{reads}
-use Rattle·sheets.specs.Sheet.{records, sheetCells}
-use Rattle·refusals.specs.Numbers.{ofText}
-use Rattle·refusals.specs.Lines.{Line, line}
-use Rattle·printing·specs.specs.Forms.{markOf}
+use Rattle.std.specs.Prelude.{◌≡◌, Bool, true, not, ◌&&◌, ◌||◌, List, [], ◌∷◌, ℕ, ◌+◌, ◌-◌, ◌<◌, ◌≤◌, eqb, ltb, length}
+use Rattle.bits.specs.Numbers.{bit}
+use Rattle.bits.specs.Below.{every}
+use Rattle.tables.specs.Depends.{DependsOn}
+use Rattle.sheets.specs.declared.kinds.Edition.{Edition}
+use Rattle.sheets.specs.Network.{Cell}
+use Rattle.sheets.specs.Reading.{reads}
+use Rattle.sheets.specs.Sheet.{records, sheetCells}
+use Rattle.refusals.specs.Numbers.{ofText}
+use Rattle.refusals.specs.Lines.{Line, line}
+use Rattle.printing.specs.Forms.{mark_of}
 
 -- a cell that reads one or two signals, and whose table depends on both of two
 pub record Plain (c : Cell) : Type 0 where
-  pub some : 1 ≤ length (c .signals)
-  pub few : length (c .signals) ≤ 2
-  pub both : length (c .signals) ≡ 2 → (j : ℕ) → j < 2 → DependsOn 2 (bit (c .table)) j
+  pub some : 1 ≤ length c.signals
+  pub few : length c.signals ≤ 2
+  pub both : length c.signals ≡ 2 → (j : ℕ) → j < 2 → DependsOn 2 (bit c.table) j
 
 -- every cell is plain
 abbrev pub AllPlain : List Cell → Type 0
@@ -37,7 +32,7 @@ pub record Printable (n : ℕ) (cs : List Cell) : Type 0 where
 
 -- whether a cell is plain: it reads one signal, or two and has a printed form
 abbrev pub plainCell : Cell → Bool
-plainCell c = eqb (length (c .signals)) 1 || (eqb (length (c .signals)) 2 && ltb 0 (markOf (c .table)))
+plainCell c = eqb (length c.signals) 1 || (eqb (length c.signals) 2 && ltb 0 (mark_of c.table))
 
 -- whether all are
 abbrev pub allPlain : List Cell → Bool

@@ -1,17 +1,13 @@
 -- Bytes put into a lent room, and what writing a signal asks for.
-use mathlib.Core.Path.{_≡_}
-use mathlib.Core.Bool.{Bool}
-use mathlib.Core.List.{List}
-use Prim.Native.Nat.{ℕ, _+_, _*_, _<_, _≤_}
-use lib.ListN.{length}
-use lib.Seq.{sets}
-use Rattle·tables.specs.Table.{mostInputs}
-use Rattle·sheets.specs.declared.kinds.Edition.{Edition}
-use Rattle·sheets.specs.Edition.{IsEdition, mostRecords}
-use Rattle·sheets.specs.Network.{Wired}
-use Rattle·sheets.specs.Sheet.{records, sheetCells}
-use Rattle·printing·specs.specs.Print.{flippedText, printed}
-use Rattle·printing·specs.specs.Printable.{AllPlain}
+use Rattle.std.specs.Prelude.{◌≡◌, Bool, List, ℕ, ◌+◌, ◌*◌, ◌<◌, ◌≤◌, length}
+use Rattle.std.proofs.lemmas.List.Edits.{sets}
+use Rattle.tables.specs.Table.{mostInputs}
+use Rattle.sheets.specs.declared.kinds.Edition.{Edition}
+use Rattle.sheets.specs.Edition.{IsEdition, mostRecords}
+use Rattle.sheets.specs.Network.{Wired}
+use Rattle.sheets.specs.Sheet.{records, sheetCells}
+use Rattle.printing.specs.Print.{flippedText, printed}
+use Rattle.printing.specs.Printable.{AllPlain}
 
 -- the bytes w are put into the room at p, and q is the place after them; all other bytes stay
 pub record Put (before : List ℕ) (p : ℕ) (w : List ℕ) (after : List ℕ) (q : ℕ) : Type 0 where
@@ -23,8 +19,8 @@ pub record Writable (e : Edition) (n : ℕ) (s : List ℕ) : Type 0 where
   pub sound : IsEdition e
   pub inputs : n ≤ mostInputs
   pub most : records e s ≤ mostRecords
-  pub long : e .size * records e s ≤ length s
-  pub wired : Wired (e .most) n (sheetCells e s (records e s))
+  pub long : e.size * records e s ≤ length s
+  pub wired : Wired e.most n (sheetCells e s (records e s))
   pub plain : AllPlain (sheetCells e s (records e s))
 
 -- signal x, flipped or not, has room at p

@@ -1,20 +1,17 @@
 -- Write a sheet as a formula into a lent room.
-use mathlib.Core.List.{List, [], _∷_, _++_}
-use Prim.Native.Nat.{ℕ}
-use lib.Dec.{ltb}
-use lib.ListN.{length}
-use Rattle·sheets.specs.declared.kinds.Edition.{Edition}
-use Rattle·sheets.specs.Desk.{deskOf}
-use Rattle·refusals.specs.declared.verdicts.Refusal.{Refusal}
-use Rattle·refusals.specs.declared.verdicts.Verdict.the-variants.{Fine, Refused}
-use Rattle·refusals.specs.Numbers.{ofRoom}
-use Rattle·refusals.specs.Lines.{Line, line, verdict, reply}
-use Rattle·refusals.specs.Refusals.{badInputs, sheetLines}
-use Rattle·refusals.specs.Lent.{into}
-use Rattle·formulas.specs.Text.{mostText}
-use Rattle·printing·specs.specs.declared.write_formula.WriteAnswer.{WriteAnswer}
-use Rattle·printing·specs.specs.Print.{sheetText}
-use Rattle·printing·specs.specs.Printable.{notPrinted}
+use Rattle.std.specs.Prelude.{List, [], ◌∷◌, ◌++◌, ℕ, ltb, length}
+use Rattle.sheets.specs.declared.kinds.Edition.{Edition}
+use Rattle.sheets.specs.Desk.{deskOf}
+use Rattle.refusals.specs.declared.verdicts.Refusal.{Refusal}
+use Rattle.refusals.specs.declared.verdicts.Verdict.TheVariants.{Fine, Refused}
+use Rattle.refusals.specs.Numbers.{ofRoom}
+use Rattle.refusals.specs.Lines.{Line, line, verdict, reply}
+use Rattle.refusals.specs.Refusals.{badInputs, sheetLines}
+use Rattle.refusals.specs.Lent.{into}
+use Rattle.formulas.specs.Text.{mostText}
+use Rattle.printing.specs.declared.write_formula.WriteAnswer.{WriteAnswer}
+use Rattle.printing.specs.Print.{sheetText}
+use Rattle.printing.specs.Printable.{notPrinted}
 
 -- 6: room for the text under 1,024 bytes
 abbrev pub shortText : List ℕ → Line

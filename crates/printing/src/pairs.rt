@@ -1,19 +1,19 @@
 // Cells of one or two signals, and how their tables are printed.
+ghost use Rattle.std.specs.Prelude.{◌≡◌, ◌+◌, ◌*◌, ◌<◌, ◌≤◌, length};
+ghost use Rattle.bits.specs.Numbers.{val};
+ghost use Rattle.sheets.specs.Edition.{IsEdition, mostRecords};
+ghost use Rattle.sheets.specs.Record.{byte_at, cell_of};
+ghost use Rattle.sheets.specs.Sheet.{recordAt};
+ghost use Rattle.sheets.specs.Reading.{times};
+ghost use Rattle.printing.specs.Forms.{mark_of, flipsLow, flipsHigh};
+ghost use Rattle.printing.specs.Printable.{Plain, plainCell};
+ghost use Rattle.printing.specs.Pairs.{pairCell};
+
 use records::rules::record_of;
 use sheets::kinds::Edition;
-ghost use mathlib.Core.Path.{_≡_};
-ghost use Prim.Native.Nat.{_+_, _*_, _<_, _≤_};
-ghost use lib.ListN.{length};
-ghost use Rattle·bits.specs.Numbers.{val};
-ghost use Rattle·sheets.specs.Edition.{IsEdition, mostRecords};
-ghost use Rattle·sheets.specs.Record.{byteAt, cellOf};
-ghost use Rattle·sheets.specs.Sheet.{recordAt};
-ghost use Rattle·sheets.specs.Reading.{times};
-ghost use Rattle·printing·specs.specs.Forms.{markOf, flipsLow, flipsHigh};
-ghost use Rattle·printing·specs.specs.Printable.{Plain, plainCell};
-ghost use Rattle·printing·specs.specs.Pairs.{pairCell};
 
 // The lower signal, the other if there are two, and the table.
+#[derive(Drop)]
 pub struct Pair {
     pub two: bool,
     pub low: usize,
@@ -30,30 +30,30 @@ const FLIPS_LOW: [u8; 16] = [0, 1, 0, 0, 1, 0, 0, 1, 0, 0, 0, 0, 0, 1, 0, 0];
 const FLIPS_HIGH: [u8; 16] = [0, 1, 1, 0, 0, 0, 0, 1, 0, 1, 0, 1, 0, 0, 0, 0];
 
 pub fn mark(t: usize) -> u8
-    requires { ⌜ t < 16 ⌝ }
-    ensures { λ r. ⌜ r ≡ markOf t ⌝ }
+    requires { t < 16 }
+    ensures { result ≡ mark_of t }
 {
     MARKS[t]
 }
 
 pub fn flips_low(t: usize) -> bool
-    requires { ⌜ t < 16 ⌝ }
-    ensures { λ r. ⌜ r ≡ flipsLow t ⌝ }
+    requires { t < 16 }
+    ensures { result ≡ flipsLow t }
 {
     FLIPS_LOW[t] == 1
 }
 
 pub fn flips_high(t: usize) -> bool
-    requires { ⌜ t < 16 ⌝ }
-    ensures { λ r. ⌜ r ≡ flipsHigh t ⌝ }
+    requires { t < 16 }
+    ensures { result ≡ flipsHigh t }
 {
     FLIPS_HIGH[t] == 1
 }
 
 // Whether a record reads one signal, or two and depends on both.
 pub fn plain(e: Edition, b: &[u8]) -> bool
-    requires { ⌜ IsEdition e × (length (now b) ≡ e .size) ⌝ }
-    ensures { λ r. ⌜ r ≡ plainCell (cellOf e (byteAt (now (b .entry)))) ⌝ }
+    requires { IsEdition e × (length b.now ≡ e.size) }
+    ensures { result ≡ plainCell (cell_of e (byte_at b.now)) }
 {
     let k = b[0];
     if k == 1 {
@@ -69,8 +69,8 @@ pub fn plain(e: Edition, b: &[u8]) -> bool
 
 // The cell of such a record.
 fn pair_in(e: Edition, b: &[u8]) -> Pair
-    requires { ⌜ IsEdition e × (length (now b) ≡ e .size) × Plain (cellOf e (byteAt (now b))) ⌝ }
-    ensures { λ r. ⌜ (pairCell r ≡ cellOf e (byteAt (now (b .entry)))) × (r .table < 16) ⌝ }
+    requires { IsEdition e × (length b.now ≡ e.size) × Plain (cell_of e (byte_at b.now)) }
+    ensures { (pairCell result ≡ cell_of e (byte_at b.now)) × (result.table < 16) }
 {
     let start = e.start;
     let k = b[0];
@@ -95,18 +95,16 @@ fn pair_in(e: Edition, b: &[u8]) -> Pair
 
 // The cell of record i.
 pub fn pair_of(e: Edition, s: &[u8], i: usize) -> Pair
-    requires { ⌜
-        IsEdition e × (i < mostRecords) × (e .size * i + e .size ≤ length (now s))
-        × Plain (cellOf e (recordAt e (now s) i))
-        ⌝ }
-    ensures { λ r. ⌜ (pairCell r ≡ cellOf e (recordAt e (now (s .entry)) i)) × (r .table < 16) ⌝ }
+    requires { IsEdition e × (i < mostRecords) × (e.size * i + e.size ≤ length s.now)
+        × Plain (cell_of e (recordAt e s.now i)) }
+    ensures { (pairCell result ≡ cell_of e (recordAt e s.now i)) × (result.table < 16) }
 {
     pair_in(e, record_of(e, s, i))
 }
 
 // A bit as a number.
 fn one_if(t: bool) -> usize
-    ensures { λ r. ⌜ (r ≡ val t) × (r ≤ 1) ⌝ }
+    ensures { (result ≡ val t) × (result ≤ 1) }
 {
     if t {
         return 1;
@@ -116,7 +114,7 @@ fn one_if(t: bool) -> usize
 
 // How often it reads signal x.
 pub fn times_in(p: Pair, x: usize) -> usize
-    ensures { λ r. ⌜ (r ≡ times x (pairCell p .signals)) × (r ≤ 2) ⌝ }
+    ensures { (result ≡ times x (pairCell p).signals) × (result ≤ 2) }
 {
     let low = one_if(x == p.low);
     if p.two {

@@ -1,24 +1,20 @@
 // Whether a sheet is printed: its records read one or two signals, depend on both of two, and but for the last are each
 // read once.
-use crate::pairs::pair_of;
-use crate::pairs::plain;
-use crate::pairs::times_in;
+ghost use Rattle.std.specs.Prelude.{◌≡◌, ◌&&◌, ◌+◌, ◌*◌, ◌<◌, ◌≤◌, length};
+ghost use Rattle.tables.specs.Table.{mostInputs};
+ghost use Rattle.sheets.specs.Edition.{IsEdition, mostRecords};
+ghost use Rattle.sheets.specs.Sheet.{sheetCells};
+ghost use Rattle.sheets.specs.Reading.{reads};
+ghost use Rattle.printing.specs.Printable.{AllPlain, allPlain, onceRead};
+
+use crate::pairs::{pair_of, plain, times_in};
 use records::rules::record_of;
 use sheets::kinds::Edition;
-ghost use mathlib.Core.Path.{_≡_};
-ghost use mathlib.Core.Bool.{_&&_};
-ghost use Prim.Native.Nat.{_+_, _*_, _<_, _≤_};
-ghost use lib.ListN.{length};
-ghost use Rattle·tables.specs.Table.{mostInputs};
-ghost use Rattle·sheets.specs.Edition.{IsEdition, mostRecords};
-ghost use Rattle·sheets.specs.Sheet.{sheetCells};
-ghost use Rattle·sheets.specs.Reading.{reads};
-ghost use Rattle·printing·specs.specs.Printable.{AllPlain, allPlain, onceRead};
 
 // Whether each of m records is plain.
 fn all_plain(e: Edition, s: &[u8], m: usize) -> bool
-    requires { ⌜ IsEdition e × (m ≤ mostRecords) × (e .size * m ≤ length (now s)) ⌝ }
-    ensures { λ r. ⌜ r ≡ allPlain (sheetCells e (now (s .entry)) m) ⌝ }
+    requires { IsEdition e × (m ≤ mostRecords) × (e.size * m ≤ length s.now) }
+    ensures { result ≡ allPlain (sheetCells e s.now m) }
 {
     let mut i = 0;
     while i < m {
@@ -32,10 +28,8 @@ fn all_plain(e: Edition, s: &[u8], m: usize) -> bool
 
 // How often m plain records read signal x.
 fn reads_in(e: Edition, s: &[u8], m: usize, x: usize) -> usize
-    requires { ⌜
-        IsEdition e × (m ≤ mostRecords) × (e .size * m ≤ length (now s)) × AllPlain (sheetCells e (now s) m)
-        ⌝ }
-    ensures { λ r. ⌜ r ≡ reads x (sheetCells e (now (s .entry)) m) ⌝ }
+    requires { IsEdition e × (m ≤ mostRecords) × (e.size * m ≤ length s.now) × AllPlain (sheetCells e s.now m) }
+    ensures { result ≡ reads x (sheetCells e s.now m) }
 {
     let mut c = 0;
     let mut i = 0;
@@ -48,11 +42,9 @@ fn reads_in(e: Edition, s: &[u8], m: usize, x: usize) -> usize
 
 // Whether each of m plain records but the last is read once.
 fn once_read(e: Edition, n: u32, s: &[u8], m: usize) -> bool
-    requires { ⌜
-        IsEdition e × (m ≤ mostRecords) × (e .size * m ≤ length (now s)) × AllPlain (sheetCells e (now s) m)
-        ⌝ }
-    requires { ⌜ (1 ≤ m) × (n ≤ mostInputs) ⌝ }
-    ensures { λ r. ⌜ r ≡ onceRead n (sheetCells e (now (s .entry)) m) ⌝ }
+    requires edition { IsEdition e × (m ≤ mostRecords) × (e.size * m ≤ length s.now) × AllPlain (sheetCells e s.now m) }
+    requires le_m { (1 ≤ m) × (n ≤ mostInputs) }
+    ensures { result ≡ onceRead n (sheetCells e s.now m) }
 {
     let last = m - 1;
     let mut i = 0;
@@ -67,10 +59,8 @@ fn once_read(e: Edition, n: u32, s: &[u8], m: usize) -> bool
 
 // Whether a sheet of m records is printed.
 pub fn is_printed(e: Edition, n: u32, s: &[u8], m: usize) -> bool
-    requires { ⌜ IsEdition e × (m ≤ mostRecords) × (e .size * m ≤ length (now s)) × (1 ≤ m) × (n ≤ mostInputs) ⌝ }
-    ensures { λ r. ⌜
-        r ≡ (allPlain (sheetCells e (now (s .entry)) m) && onceRead n (sheetCells e (now (s .entry)) m))
-        ⌝ }
+    requires { IsEdition e × (m ≤ mostRecords) × (e.size * m ≤ length s.now) × (1 ≤ m) × (n ≤ mostInputs) }
+    ensures { result ≡ (allPlain (sheetCells e s.now m) && onceRead n (sheetCells e s.now m)) }
 {
     if !all_plain(e, s, m) {
         return false;

@@ -1,20 +1,16 @@
 // The writer of a signal: a letter or a cell, each side of a cell by the same rule again.
-use crate::pairs::flips_high;
-use crate::pairs::flips_low;
-use crate::pairs::mark;
-use crate::pairs::pair_of;
+ghost use Rattle.std.specs.Prelude.{[], ◌∷◌, ◌+◌, ◌<◌, ◌≤◌, length};
+ghost use Rattle.sheets.specs.Sheet.{records, sheetCells};
+ghost use Rattle.printing.specs.Print.{flippedText, printed};
+ghost use Rattle.printing.specs.Put.{Put, Room};
+
+use crate::pairs::{flips_high, flips_low, mark, pair_of};
 use sheets::kinds::Edition;
-ghost use mathlib.Core.List.{[], _∷_};
-ghost use Prim.Native.Nat.{_+_, _<_, _≤_};
-ghost use lib.ListN.{length};
-ghost use Rattle·sheets.specs.Sheet.{records, sheetCells};
-ghost use Rattle·printing·specs.specs.Print.{flippedText, printed};
-ghost use Rattle·printing·specs.specs.Put.{Put, Room};
 
 // One byte at a place of the room; the place after it.
 fn put(room: &mut [u8], at: usize, b: u8) -> usize
-    requires { ⌜ at < length (now room) ⌝ }
-    ensures { λ r. ⌜ Put (now (room .entry)) at (b ∷ []) (now (room .exit)) r ⌝ }
+    requires { at < length room.old }
+    ensures { Put room.old at (b ∷ []) room.new result }
 {
     room[at] = b;
     at + 1
@@ -22,8 +18,8 @@ fn put(room: &mut [u8], at: usize, b: u8) -> usize
 
 // `!` or nothing.
 fn put_flip(room: &mut [u8], at: usize, flip: bool) -> usize
-    requires { ⌜ at + length (flippedText flip []) ≤ length (now room) ⌝ }
-    ensures { λ r. ⌜ Put (now (room .entry)) at (flippedText flip []) (now (room .exit)) r ⌝ }
+    requires { at + length (flippedText flip []) ≤ length room.old }
+    ensures { Put room.old at (flippedText flip []) room.new result }
 {
     if flip {
         return put(room, at, b'!');
@@ -41,12 +37,10 @@ pub fn write(
     room: &mut [u8],
     at: usize,
 ) -> usize
-    requires { ⌜ Room e n (now s) x flip (now room) at ⌝ }
-    ensures { λ r. ⌜
-        Put (now (room .entry)) at
-        (flippedText flip (printed n (sheetCells e (now (s .entry)) (records e (now (s .entry)))) x))
-        (now (room .exit)) r
-        ⌝ }
+    requires { Room e n s.now x flip room.old at }
+    ensures { Put room.old at
+        (flippedText flip (printed n (sheetCells e s.now (records e s.now)) x))
+        room.new result }
 {
     let from = put_flip(room, at, flip);
     if x < n {

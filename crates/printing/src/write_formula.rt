@@ -1,19 +1,19 @@
 // Writing a sheet as a formula into a lent room.
+ghost use Rattle.std.specs.Prelude.{◌≡◌};
+ghost use Rattle.sheets.specs.Edition.{IsEdition, firstEdition};
+ghost use Rattle.refusals.specs.Lines.{verdict};
+ghost use Rattle.printing.specs.WriteFormula.{writeLines, writeOutcome, writeOwn};
+
 use crate::printed::is_printed;
 use crate::signals::write;
 use formulas::read_formula::MOST_TEXT;
 use records::desk::desk_of;
 use refusals::form;
-use refusals::verdicts::Refusal;
-use refusals::verdicts::Verdict;
-use refusals::verdicts::refuse;
+use refusals::verdicts::{Refusal, Verdict, refuse};
 use sheets::kinds::Edition;
-ghost use mathlib.Core.Path.{_≡_};
-ghost use Rattle·sheets.specs.Edition.{IsEdition, firstEdition};
-ghost use Rattle·refusals.specs.Lines.{verdict};
-ghost use Rattle·printing·specs.specs.WriteFormula.{writeLines, writeOutcome, writeOwn};
 
 // The text's length, if nothing is wrong.
+#[derive(Drop)]
 pub struct WriteAnswer {
     pub verdict: Verdict,
     pub length: usize,
@@ -21,8 +21,8 @@ pub struct WriteAnswer {
 
 // Lines 1, 6, 9, 10 and 16.
 fn write_form<'a>(e: Edition, d: u8, n: u64, s: &'a [u8], room: &'a [u8]) -> Verdict
-    requires { ⌜ IsEdition e ⌝ }
-    ensures { λ r. ⌜ r ≡ verdict (writeLines e d n (now (s .entry)) (now (room .entry))) ⌝ }
+    requires { IsEdition e }
+    ensures { result ≡ verdict (writeLines e d n s.now room.now) }
 {
     if form::bad_inputs(n) {
         return refuse(Refusal::INPUTS);
@@ -44,10 +44,8 @@ fn write_form<'a>(e: Edition, d: u8, n: u64, s: &'a [u8], room: &'a [u8]) -> Ver
 
 // Writes a sheet of an edition, which is to be the desk d's.
 pub fn write_in(e: Edition, d: u8, n: u64, s: &[u8], room: &mut [u8]) -> WriteAnswer
-    requires { ⌜ IsEdition e ⌝ }
-    ensures { λ r. ⌜
-        record { answer = r; room = now (room .exit) } ≡ writeOutcome e d n (now (s .entry)) (now (room .entry))
-        ⌝ }
+    requires { IsEdition e }
+    ensures { record { answer = result; room = room.new } ≡ writeOutcome e d n s.now room.old }
 {
     let form = write_form(e, d, n, s, room);
     let Verdict::Fine = form else {
@@ -67,10 +65,8 @@ pub fn write_in(e: Edition, d: u8, n: u64, s: &[u8], room: &mut [u8]) -> WriteAn
 
 // Writes a sheet of n inputs, whatever its desk, as a formula into a lent room.
 pub fn write_formula(n: u64, s: &[u8], room: &mut [u8]) -> WriteAnswer
-    ensures { λ r. ⌜
-        record { answer = r; room = now (room .exit) }
-        ≡ writeOwn firstEdition n (now (s .entry)) (now (room .entry))
-        ⌝ }
+    ensures { record { answer = result; room = room.new }
+        ≡ writeOwn firstEdition n s.now room.old }
 {
     let e = Edition::first();
     write_in(e, desk_of(e, s), n, s, room)

@@ -1,30 +1,30 @@
 -- The inspecting program writes the answer number, a space and the place over the beginning of its room. Assumes
 -- nothing.
-use mathlib.Core.Path.{_≡_, refl, sym, ap, ap₂, _∙_, subst}
+use mathlib.Core.Path.{◌≡◌, refl, sym, ap, ap₂, ◌∙◌, subst}
 use mathlib.Core.Bool.{Bool, false, cond}
-use mathlib.Core.List.{List, [], _∷_, _++_, append-nil, append-assoc}
-use Prim.Native.Nat.{ℕ, zero, suc, _+_, _-_, _/_, _%_, _^_, _<_, _≤_}
+use mathlib.Core.List.{List, [], ◌∷◌, ◌++◌, append-nil, append_assoc}
+use Prim.Native.Nat.{ℕ, zero, suc, ◌+◌, ◌-◌, ◌/◌, ◌%◌, ◌^◌, ◌<◌, ◌≤◌}
 use native.Mathlib.Nat.{not-suc-le-zero, pow-suc}
-use native.Mathlib.Decide.{decLt}
+use native.Mathlib.Decide.{dec_lt}
 use native.Mathlib.Omega.{arith}
 use lib.Dec.{ltb}
-use lib.ListN.{length, getD, take, drop, set, replicate, length-append, length-drop, length-set, drop-of-length-le}
-use lib.Seq.{drop-append-seam, take-append-seam}
+use lib.ListN.{length, get_or, take, drop, set, replicate, length-append, length-drop, length-set, drop_of_length-le}
+use lib.Seq.{drop-append_seam, take-append_seam}
 use borrow.Author.Tests.{lt-ltb, le-ltb}
-use borrow.Rule.Slice.PartMut.{putMid, midOf}
-use Rattle·tables.specs.Table.{mostInputs, tableLength}
-use Rattle·sheets.specs.Edition.{firstEdition}
-use Rattle·sheets.specs.Desk.{deskOf}
-use Rattle·refusals.specs.declared.verdicts.Verdict.{Verdict}
-use Rattle·refusals.specs.declared.verdicts.Verdict.the-variants.{Refused}
-use Rattle·refusals.specs.Lent.{into}
-use Rattle·refusals.specs.Lines.{refusal, numberOf, placeOf}
-use Rattle·refusals.proofs.Lines.{here, decides}
-use Rattle·refusals.proofs.Tests.{over}
-use Rattle·programs·proofs.proofs.BenchProgram.{rest, long-enough}
-use Rattle·inspection.specs.CheckSheet.{checkLines, checkOutcome, checkOwn}
-use Rattle·programs·specs.specs.InspectProgram.{digits, decimal, inspected, shown, written, mostWritten}
-use Rattle·programs·specs.specs.InspectProgram.{ProgramOutcome, programOutcome}
+use borrow.Rule.Slice.PartMut.{put_mid, mid_of}
+use Rattle.tables.specs.Table.{mostInputs, tableLength}
+use Rattle.sheets.specs.Edition.{firstEdition}
+use Rattle.sheets.specs.Desk.{deskOf}
+use Rattle.refusals.specs.declared.verdicts.Verdict.{Verdict}
+use Rattle.refusals.specs.declared.verdicts.Verdict.TheVariants.{Refused}
+use Rattle.refusals.specs.Lent.{into}
+use Rattle.refusals.specs.Lines.{refusal, number_of, placeOf}
+use Rattle.refusals.proofs.Lines.{here, decides}
+use Rattle.refusals.proofs.Tests.{over}
+use Rattle.programs.proofs.BenchProgram.{rest, long-enough}
+use Rattle.inspection.specs.CheckSheet.{checkLines, checkOutcome, checkOwn}
+use Rattle.programs.specs.InspectProgram.{digits, decimal, inspected, shown, written, mostWritten}
+use Rattle.programs.specs.InspectProgram.{ProgramOutcome, programOutcome}
 
 -- ---- a number's digits
 
@@ -32,14 +32,14 @@ step : Bool → ℕ → List ℕ → List ℕ
 step t x d = cond t [] d ++ ((48 + x % 10) ∷ [])
 
 -- any number of steps that is enough gives the same
-same-digits : (k j x : ℕ) → x < k → x < j → digits k x ≡ digits j x
+same_digits : (k j x : ℕ) → x < k → x < j → digits k x ≡ digits j x
 unfolding step
-same-digits zero j x h g = absurd (not-suc-le-zero h)
-same-digits (suc k) zero x h g = absurd (not-suc-le-zero g)
-same-digits (suc k) (suc j) x h g = elim (decLt x 10) [
+same_digits zero j x h g = absurd (not-suc-le-zero h)
+same_digits (suc k) zero x h g = absurd (not-suc-le-zero g)
+same_digits (suc k) (suc j) x h g = elim (dec_lt x 10) [
   | yes l ↦ ap (λ (t : Bool). step t x (digits k (x / 10))) (lt-ltb x 10 l)
       ∙ sym (ap (λ (t : Bool). step t x (digits j (x / 10))) (lt-ltb x 10 l))
-  | no l ↦ ap (step (ltb x 10) x) (same-digits k j (x / 10) (omega arith) (omega arith))
+  | no l ↦ ap (step (ltb x 10) x) (same_digits k j (x / 10) (omega arith) (omega arith))
 ]
 
 pub one-digit : (x : ℕ) → x < 10 → decimal x ≡ (48 + x) ∷ []
@@ -52,13 +52,13 @@ pub more-digits : (x : ℕ) → 10 ≤ x → decimal x ≡ decimal (x / 10) ++ (
 unfolding decimal step
 more-digits x h =
     ap (λ (t : Bool). step t x (digits x (x / 10))) (le-ltb x 10 h)
-    ∙ ap (step false x) (same-digits x (suc (x / 10)) (x / 10) (omega arith) (omega arith))
+    ∙ ap (step false x) (same_digits x (suc (x / 10)) (x / 10) (omega arith) (omega arith))
 
 -- a number below 10 ^ (b + 1) has at most b + 1 digits
 few-digits : (b k x : ℕ) → x < 10 ^ suc b → length (digits k x) ≤ suc b
 unfolding step
 few-digits b zero x h = omega arith
-few-digits b (suc k) x h = elim (decLt x 10) [
+few-digits b (suc k) x h = elim (dec_lt x 10) [
   | yes l ↦ subst (λ (t : Bool). length (step t x (digits k (x / 10))) ≤ suc b) (sym (lt-ltb x 10 l)) (omega arith)
   | no l ↦ subst (λ (t : Bool). length (step t x (digits k (x / 10))) ≤ suc b) (sym (le-ltb x 10 (omega arith)))
       (more b h (λ a. few-digits a k (x / 10)) l)
@@ -71,18 +71,18 @@ few-digits b (suc k) x h = elim (decLt x 10) [
     more (suc b) h ih l =
         omega (arith, length-append (digits k (x / 10)) ((48 + x % 10) ∷ []), ih b (omega (arith, pow-suc 10 (suc b))))
 
-pub at-most : (b x : ℕ) → x < 10 ^ suc b → length (decimal x) ≤ suc b
+pub at_most : (b x : ℕ) → x < 10 ^ suc b → length (decimal x) ≤ suc b
 unfolding decimal
-at-most b x h = few-digits b (suc x) x h
+at_most b x h = few-digits b (suc x) x h
 
 -- ---- bytes written over the beginning of a room
 
 -- one byte more
-one-more : (d o : List ℕ) (a : ℕ) → length d < length o → set (into d o) (length d) a ≡ into (d ++ (a ∷ [])) o
-one-more [] [] a h = absurd (not-suc-le-zero h)
-one-more [] (x ∷ o) a h = refl
-one-more (y ∷ d) [] a h = absurd (not-suc-le-zero h)
-one-more (y ∷ d) (x ∷ o) a h = ap (λ (l : List ℕ). y ∷ l) (one-more d o a (omega arith))
+one_more : (d o : List ℕ) (a : ℕ) → length d < length o → set (into d o) (length d) a ≡ into (d ++ (a ∷ [])) o
+one_more [] [] a h = absurd (not-suc-le-zero h)
+one_more [] (x ∷ o) a h = refl
+one_more (y ∷ d) [] a h = absurd (not-suc-le-zero h)
+one_more (y ∷ d) (x ∷ o) a h = ap (λ (l : List ℕ). y ∷ l) (one_more d o a (omega arith))
 
 -- the room keeps its length
 same-room : (d o : List ℕ) → length d ≤ length o → length (into d o) ≡ length o
@@ -100,7 +100,7 @@ last-digit x o h f = go (decimal x) (one-digit x h) f
         × ((1 ≡ length d) × (set o 0 (48 + x) ≡ into d o))
     go d q f =
         let l : length d ≡ 1 = ap length q in
-        (omega arith, (sym l, one-more [] o (48 + x) (omega arith) ∙ ap (λ (d : List ℕ). into d o) (sym q)))
+        (omega arith, (sym l, one_more [] o (48 + x) (omega arith) ∙ ap (λ (d : List ℕ). into d o) (sym q)))
 
 -- x has one digit more than x / 10
 pub one-longer : (x : ℕ) → 10 ≤ x → length (decimal x) ≡ length (decimal (x / 10)) + 1
@@ -109,40 +109,40 @@ one-longer x h = ap length (more-digits x h) ∙ length-append (decimal (x / 10)
 module _ (x : ℕ) (o left : List ℕ) (r : ℕ) (many : 10 ≤ x) (fit : length (decimal x) ≤ length o)
     (w : Written (x / 10) o left r) where
   kept : length left ≡ length o
-  kept = ap length (w .1) ∙ same-room (decimal (x / 10)) o (omega (arith, one-longer x many))
+  kept = ap length w.1 ∙ same-room (decimal (x / 10)) o (omega (arith, one-longer x many))
 
-  pub same-length : (a : ℕ) → length (set left r a) ≡ length o
-  same-length a = length-set left r a ∙ kept
+  pub same_length : (a : ℕ) → length (set left r a) ≡ length o
+  same_length a = length-set left r a ∙ kept
 
   pub inside : r < length left
-  inside = omega (arith, kept, w .0, one-longer x many)
+  inside = omega (arith, kept, w.0, one-longer x many)
 
   pub next-digit : Written x o (set left r (48 + x % 10)) (r + 1)
   next-digit = (
-    omega (arith, w .0, one-longer x many),
-    ap₂ (λ (l : List ℕ) (k : ℕ). set l k (48 + x % 10)) (w .1) (w .0)
-        ∙ one-more (decimal (x / 10)) o (48 + x % 10) (omega (arith, one-longer x many))
+    omega (arith, w.0, one-longer x many),
+    ap₂ (λ (l : List ℕ) (k : ℕ). set l k (48 + x % 10)) w.1 w.0
+        ∙ one_more (decimal (x / 10)) o (48 + x % 10) (omega (arith, one-longer x many))
         ∙ ap (λ (d : List ℕ). into d o) (sym (more-digits x many)),
   )
 
 -- ---- the parts of the input
 
 -- where n is too large, that alone decides
-too-many : (n : ℕ) (t s : List ℕ) → mostInputs < n → Refused (refusal 1 0) ≡ checkOwn firstEdition n t s
+too_many : (n : ℕ) (t s : List ℕ) → mostInputs < n → Refused (refusal 1 0) ≡ checkOwn firstEdition n t s
 unfolding checkOutcome
-too-many n t s h = decides (checkLines firstEdition (deskOf firstEdition s) n t s)
+too_many n t s h = decides (checkLines firstEdition (deskOf firstEdition s) n t s)
     (here (over 1 n mostInputs (omega arith) ∙ lt-ltb mostInputs n h))
 
 module _ (input : List ℕ) (n start bytes end : ℕ) where
   abbrev behind : List ℕ
-  behind = midOf start (length input - start) input
+  behind = mid_of start (length input - start) input
 
-  pub parted : n ≡ getD input 0 0 → drop start input ≡ drop 1 input → (n ≤ mostInputs → bytes ≡ tableLength n)
+  pub parted : n ≡ get_or input 0 0 → drop start input ≡ drop 1 input → (n ≤ mostInputs → bytes ≡ tableLength n)
       → take end behind ≡ take bytes behind → drop end behind ≡ drop bytes behind
-      → checkOwn firstEdition n (take end behind) (midOf end (length behind - end) behind) ≡ inspected input
+      → checkOwn firstEdition n (take end behind) (mid_of end (length behind - end) behind) ≡ inspected input
   unfolding inspected
-  parted p q b t s = elim (decLt mostInputs n) [
-    | yes l ↦ sym (too-many n _ _ l) ∙ too-many n _ _ l ∙ ap whole p
+  parted p q b t s = elim (dec_lt mostInputs n) [
+    | yes l ↦ sym (too_many n _ _ l) ∙ too_many n _ _ l ∙ ap whole p
     | no l ↦ ap₂ (checkOwn firstEdition n) (t ∙ ap₂ take (b (omega arith)) from)
         (rest end behind ∙ s ∙ ap₂ drop (b (omega arith)) from) ∙ ap whole p
   ]
@@ -162,63 +162,63 @@ into-twice (y ∷ d) p (x ∷ o) h = ap (λ (l : List ℕ). y ∷ l) (into-twice
 
 -- p over the beginning of a part lent from behind d on
 lent : (a : ℕ) (left d p o ys : List ℕ) → a ≡ length d → left ≡ into d o → length d ≤ length o
-    → ys ≡ into p (midOf a (length left - a) left) → putMid a (length left - a) left ys ≡ into (d ++ p) o
+    → ys ≡ into p (mid_of a (length left - a) left) → put_mid a (length left - a) left ys ≡ into (d ++ p) o
 lent a left d p o ys q r h w =
-    let tail : drop a left ≡ drop (length d) o = ap₂ drop q r ∙ drop-append-seam d (drop (length d) o) in
-    ap₂ (λ (f b : List ℕ). f ++ b) (ap₂ take q r ∙ take-append-seam d (drop (length d) o))
-    (ap (λ (b : List ℕ). ys ++ b) (drop-of-length-le (drop a left) {i = length left - a}
+    let tail : drop a left ≡ drop (length d) o = ap₂ drop q r ∙ drop-append_seam d (drop (length d) o) in
+    ap₂ (λ (f b : List ℕ). f ++ b) (ap₂ take q r ∙ take-append_seam d (drop (length d) o))
+    (ap (λ (b : List ℕ). ys ++ b) (drop_of_length-le (drop a left) {i = length left - a}
     (omega (arith, length-drop a left)))
     ∙ append-nil ys ∙ w ∙ ap (into p) (rest a left ∙ tail))
     ∙ into-twice d p o h
 
 module _ (room : List ℕ) (x : ℕ) (long : length room ≡ mostWritten) (small : x < 256) where
-  pub number-fits : length (decimal x) ≤ length room
-  number-fits = omega (arith, at-most 2 x (omega arith), long)
+  pub number_fits : length (decimal x) ≤ length room
+  number_fits = omega (arith, at_most 2 x (omega arith), long)
 
   module _ (left : List ℕ) (r : ℕ) (w : Written x room left r) where
     pub behind-number : (r ≤ 3) × (length left ≡ mostWritten)
     behind-number = (
-      omega (arith, at-most 2 x (omega arith), w .0),
-      ap length (w .1) ∙ same-room (decimal x) room number-fits ∙ long,
+      omega (arith, at_most 2 x (omega arith), w.0),
+      ap length w.1 ∙ same-room (decimal x) room number_fits ∙ long,
     )
 
     abbrev spaced : List ℕ
     spaced = set left r 32
 
-    pub place-fits : (y : ℕ) → y < 2 ^ 64 → length (decimal y) ≤ length (midOf (r + 1) (length spaced - (r + 1)) spaced)
+    pub place-fits : (y : ℕ) → y < 2 ^ 64 → length (decimal y) ≤ length (mid_of (r + 1) (length spaced - (r + 1)) spaced)
     place-fits y wide =
         omega (
           arith,
-          at-most 19 y (omega arith),
+          at_most 19 y (omega arith),
           ap length (rest (r + 1) spaced),
           length-drop (r + 1) spaced,
           length-set left r 32,
-          behind-number .0,
-          behind-number .1,
+          behind-number.0,
+          behind-number.1,
         )
 
     pub answered : (input : List ℕ) (v : Verdict) (y place : ℕ) (ys : List ℕ) → room ≡ replicate mostWritten 0
-        → v ≡ inspected input → x ≡ numberOf v → y ≡ placeOf v
-        → Written y (midOf (r + 1) (length spaced - (r + 1)) spaced) ys place
-        → record { count = r + 1 + place; out = putMid (r + 1) (length spaced - (r + 1)) spaced ys }
+        → v ≡ inspected input → x ≡ number_of v → y ≡ placeOf v
+        → Written y (mid_of (r + 1) (length spaced - (r + 1)) spaced) ys place
+        → record { count = r + 1 + place; out = put_mid (r + 1) (length spaced - (r + 1)) spaced ys }
         ≡ programOutcome input
     answered input v y place ys zeros asked number named second =
         let d = decimal x ++ (32 ∷ []) in
         let l : length d ≡ length (decimal x) + 1 = length-append (decimal x) (32 ∷ []) in
         let whole : length (d ++ decimal y) ≡ length d + length (decimal y) = length-append d (decimal y) in
-        let here : spaced ≡ into d room = ap₂ (λ (o : List ℕ) (k : ℕ). set o k 32) (w .1) (w .0)
-        ∙ one-more (decimal x) room 32 (omega (arith, w .0, at-most 2 x (omega arith), long)) in
-        let count : r + 1 + place ≡ length (d ++ decimal y) = omega (arith, l, whole, w .0, second .0) in
-        let out = lent (r + 1) spaced d (decimal y) room ys (omega (arith, l, w .0)) here
-        (omega (arith, l, at-most 2 x (omega arith), long)) (second .1) in
+        let here : spaced ≡ into d room = ap₂ (λ (o : List ℕ) (k : ℕ). set o k 32) w.1 w.0
+        ∙ one_more (decimal x) room 32 (omega (arith, w.0, at_most 2 x (omega arith), long)) in
+        let count : r + 1 + place ≡ length (d ++ decimal y) = omega (arith, l, whole, w.0, second.0) in
+        let out = lent (r + 1) spaced d (decimal y) room ys (omega (arith, l, w.0)) here
+        (omega (arith, l, at_most 2 x (omega arith), long)) second.1 in
         ap₂ (λ (k : ℕ) (o : List ℕ). record { count = k; out = o }) count out
         ∙ ap (λ (o : List ℕ). record { count = length (d ++ decimal y); out = into (d ++ decimal y) o }) zeros
         ∙ ap (λ (t : List ℕ). record { count = length t; out = into t (replicate mostWritten 0) })
-        (append-assoc (decimal x) (32 ∷ []) (decimal y) ∙ ap₂ (λ (i j : ℕ). decimal i ++ (32 ∷ decimal j)) number named
+        (append_assoc (decimal x) (32 ∷ []) (decimal y) ∙ ap₂ (λ (i j : ℕ). decimal i ++ (32 ∷ decimal j)) number named
         ∙ ap shown asked)
 
 -- what is to be written stands in the room handed over
 pub within : {count : ℕ} {out : List ℕ} (input : List ℕ) → record { count = count; out = out } ≡ programOutcome input
     → count ≤ length out
-within input q = subst (λ (o : ProgramOutcome). o .count ≤ length (o .out)) (sym q)
+within input q = subst (λ (o : ProgramOutcome). o.count ≤ length o.out) (sym q)
     (long-enough (written input) (replicate mostWritten 0))

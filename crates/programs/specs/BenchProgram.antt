@@ -1,12 +1,10 @@
 -- The bench program: what it writes is a definition of the bytes that it reads, and of nothing else.
-use mathlib.Core.List.{List, _∷_}
-use Prim.Native.Nat.{ℕ, _+_, _*_}
-use lib.ListN.{getD, take, drop, replicate}
-use Rattle·tables.specs.Table.{mostInputs, tableLength}
-use Rattle·sheets.specs.Edition.{recordSize, mostRecords, firstEdition}
-use Rattle·tables.specs.Work.{workLength}
-use Rattle·refusals.specs.Lines.{numberOf}
-use Rattle·making.specs.MakeSheet.{MakeOutcome, makeOutcome}
+use Rattle.std.specs.Prelude.{List, ◌∷◌, ℕ, ◌+◌, ◌*◌, get_or, take, drop, replicate}
+use Rattle.tables.specs.Table.{mostInputs, tableLength}
+use Rattle.sheets.specs.Edition.{recordSize, mostRecords, firstEdition}
+use Rattle.tables.specs.Work.{workLength}
+use Rattle.refusals.specs.Lines.{number_of}
+use Rattle.making.specs.MakeSheet.{MakeOutcome, makeOutcome}
 
 -- n, K, the longest table and one byte more are read; what follows changes nothing
 abbrev pub mostRead : ℕ
@@ -19,7 +17,7 @@ mostWritten = 1 + recordSize * mostRecords
 -- the input is n, K and the table, a missing n or K being 0; make gets rooms of zeros, just long enough
 unfoldable pub asked : List ℕ → MakeOutcome
 asked input =
-    makeOutcome firstEdition 0 (getD input 0 0) (getD input 1 0) (drop 2 input)
+    makeOutcome firstEdition 0 (get_or input 0 0) (get_or input 1 0) (drop 2 input)
     (replicate (recordSize * mostRecords) 0) (replicate workLength 0)
 
 -- how many bytes are to be written, the room that they begin, and the work area afterwards
@@ -31,9 +29,9 @@ pub record ProgramOutcome : Type 0 where
 -- the answer number, then the room for the sheet; a byte for the number and those of the records are to be written
 abbrev pub shown : MakeOutcome → ProgramOutcome
 shown o = record {
-  count = 1 + recordSize * o .answer .count;
-  out = numberOf (o .answer .verdict) ∷ o .sheet;
-  work = o .work;
+  count = 1 + recordSize * o.answer.count;
+  out = number_of o.answer.verdict ∷ o.sheet;
+  work = o.work;
 }
 
 -- what the program comes to, whatever it reads
@@ -42,4 +40,4 @@ programOutcome input = shown (asked input)
 
 -- what the program writes: the answer number, then the records; after a refusal only that byte
 abbrev pub written : List ℕ → List ℕ
-written input = take (programOutcome input .count) (programOutcome input .out)
+written input = take (programOutcome input).count (programOutcome input).out

@@ -1,15 +1,11 @@
 -- The inspecting program: what it writes is a definition of the bytes that it reads, and of nothing else.
-use mathlib.Core.Bool.{cond}
-use mathlib.Core.List.{List, [], _∷_, _++_}
-use Prim.Native.Nat.{ℕ, zero, suc, _+_, _*_, _/_, _%_}
-use lib.Dec.{ltb}
-use lib.ListN.{length, getD, take, drop, replicate}
-use Rattle·tables.specs.Table.{mostInputs, tableLength}
-use Rattle·sheets.specs.Edition.{recordSize, mostRecords, firstEdition}
-use Rattle·refusals.specs.declared.verdicts.Verdict.{Verdict}
-use Rattle·refusals.specs.Lent.{into}
-use Rattle·refusals.specs.Lines.{numberOf, placeOf}
-use Rattle·inspection.specs.CheckSheet.{checkOwn}
+use Rattle.std.specs.Prelude.{cond, List, [], ◌∷◌, ◌++◌, ℕ, zero, suc, ◌+◌, ◌*◌, ◌/◌, ◌%◌, ltb, length, get_or, take, drop, replicate}
+use Rattle.tables.specs.Table.{mostInputs, tableLength}
+use Rattle.sheets.specs.Edition.{recordSize, mostRecords, firstEdition}
+use Rattle.refusals.specs.declared.verdicts.Verdict.{Verdict}
+use Rattle.refusals.specs.Lent.{into}
+use Rattle.refusals.specs.Lines.{number_of, placeOf}
+use Rattle.inspection.specs.CheckSheet.{checkOwn}
 
 -- n, the longest table, the longest sheet and one byte more are read; what follows changes nothing
 abbrev pub mostRead : ℕ
@@ -27,12 +23,12 @@ decimal x = digits (suc x) x
 -- the input is n, a missing n being 0; then the table, as long as n says if the input is; then the sheet
 unfoldable pub inspected : List ℕ → Verdict
 inspected input =
-    let n = getD input 0 0 in
+    let n = get_or input 0 0 in
     checkOwn firstEdition n (take (tableLength n) (drop 1 input)) (drop (tableLength n) (drop 1 input))
 
 -- the answer number, a space and the place
 abbrev pub shown : Verdict → List ℕ
-shown v = decimal (numberOf v) ++ (32 ∷ decimal (placeOf v))
+shown v = decimal (number_of v) ++ (32 ∷ decimal (placeOf v))
 
 -- what the program writes, whatever it reads
 abbrev pub written : List ℕ → List ℕ

@@ -1,15 +1,13 @@
 // The bench program but for its reading and writing: n, K and the table come in as bytes, and the answer number and
 // the sheet go out.
+ghost use Rattle.std.specs.Prelude.{◌≡◌, ◌≤◌, length, get_or, take, drop};
+ghost use Rattle.tables.specs.Work.{workLength};
+ghost use Rattle.programs.specs.BenchProgram.{mostWritten, programOutcome};
+
 use making::make_sheet::make_sheet;
 use refusals::verdicts::number_of;
 use sheets::kinds::Sheet;
-use tables::HALF;
-use tables::clear;
-ghost use mathlib.Core.Path.{_≡_};
-ghost use Prim.Native.Nat.{_≤_};
-ghost use lib.ListN.{length, getD, take, drop};
-ghost use Rattle·tables.specs.Work.{workLength};
-ghost use Rattle·programs·specs.specs.BenchProgram.{mostWritten, programOutcome};
+use tables::{HALF, clear};
 
 // n, K, the longest table and one byte more: a table with that byte has a wrong length, however long it is.
 pub const MOST_READ: usize = 2 + HALF + 1;
@@ -18,18 +16,16 @@ pub const MOST_WRITTEN: usize = 1 + Sheet::BYTES;
 
 // Byte i of s, or 0 where s ends before it.
 pub fn byte_or_zero(s: &[u8], i: usize) -> u64
-    ensures { λ r. ⌜ r ≡ getD (now (s .entry)) i 0 ⌝ }
+    ensures { result ≡ get_or s.now i 0 }
 {
     if i < s.len() { s[i] as u64 } else { 0 }
 }
 
 // Where s is cut after its first i bytes: at its end if it has fewer.
 pub fn cut_at(s: &[u8], i: usize) -> usize
-    ensures { λ r. ⌜
-        (r ≤ length (now (s .entry)))
-        × (take r (now (s .entry)) ≡ take i (now (s .entry)))
-        × (drop r (now (s .entry)) ≡ drop i (now (s .entry)))
-        ⌝ }
+    ensures { (result ≤ length s.now)
+        × (take result s.now ≡ take i s.now)
+        × (drop result s.now ≡ drop i s.now) }
 {
     if s.len() < i { s.len() } else { i }
 }
@@ -37,10 +33,8 @@ pub fn cut_at(s: &[u8], i: usize) -> usize
 // Answers the input into the first bytes of out; how many they are. Both rooms are cleared first, so that nothing of
 // what they held matters.
 pub fn answer_input(input: &[u8], out: &mut [u8], work: &mut [u8]) -> usize
-    requires { ⌜ (length (now out) ≡ mostWritten) × (length (now work) ≡ workLength) ⌝ }
-    ensures { λ r. ⌜
-        record { count = r; out = now (out .exit); work = now (work .exit) } ≡ programOutcome (now (input .entry))
-        ⌝ }
+    requires { (length out.old ≡ mostWritten) × (length work.old ≡ workLength) }
+    ensures { record { count = result; out = out.new; work = work.new } ≡ programOutcome input.now }
 {
     clear(out);
     clear(work);

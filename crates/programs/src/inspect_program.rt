@@ -1,19 +1,15 @@
 // The inspecting program but for its reading and writing: n, the table and the sheet come in as bytes, and the answer
 // number and the place go out in decimal.
-use crate::bench_program::byte_or_zero;
-use crate::bench_program::cut_at;
+ghost use Rattle.std.specs.Prelude.{◌≡◌, ◌≤◌, length};
+ghost use Rattle.tables.specs.Table.{mostInputs, tableLength};
+ghost use Rattle.refusals.specs.Lent.{into};
+ghost use Rattle.programs.specs.InspectProgram.{decimal, inspected, mostWritten, programOutcome};
+
+use crate::bench_program::{byte_or_zero, cut_at};
 use inspection::check_sheet::check_sheet;
-use refusals::verdicts::Verdict;
-use refusals::verdicts::number_of;
-use refusals::verdicts::place_of;
+use refusals::verdicts::{Verdict, number_of, place_of};
 use sheets::kinds::Sheet;
 use tables::clear;
-ghost use mathlib.Core.Path.{_≡_};
-ghost use Prim.Native.Nat.{_≤_};
-ghost use lib.ListN.{length};
-ghost use Rattle·tables.specs.Table.{mostInputs, tableLength};
-ghost use Rattle·refusals.specs.Lent.{into};
-ghost use Rattle·programs·specs.specs.InspectProgram.{decimal, inspected, mostWritten, programOutcome};
 
 // n, the longest table, the longest sheet and one byte more: with that byte the sheet is too long, however long it is.
 pub const MOST_READ: usize = 1 + (1 << (tables::MOST_INPUTS - 3)) + Sheet::BYTES + 1;
@@ -22,7 +18,7 @@ pub const MOST_WRITTEN: usize = 24;
 
 // How many bytes the table of n inputs has; where n is too large any number will do, since that is refused first.
 fn table_bytes(n: u64) -> usize
-    ensures { λ r. ⌜ (n ≤ mostInputs → r ≡ tableLength n) ⌝ }
+    ensures { n ≤ mostInputs → result ≡ tableLength n }
 {
     if n > tables::MOST_INPUTS as u64 {
         return 0;
@@ -32,7 +28,7 @@ fn table_bytes(n: u64) -> usize
 
 // Checks the sheet in the input against the table in it.
 fn inspect(input: &[u8]) -> Verdict
-    ensures { λ r. ⌜ r ≡ inspected (now (input .entry)) ⌝ }
+    ensures { result ≡ inspected input.now }
 {
     let n = byte_or_zero(input, 0);
     let start = cut_at(input, 1);
@@ -43,8 +39,8 @@ fn inspect(input: &[u8]) -> Verdict
 
 // Writes x in decimal into the first bytes of out; how many they are.
 fn write_decimal(x: u64, out: &mut [u8]) -> usize
-    requires { ⌜ length (decimal x) ≤ length (now out) ⌝ }
-    ensures { λ r. ⌜ (r ≡ length (decimal x)) × (now (out .exit) ≡ into (decimal x) (now (out .entry))) ⌝ }
+    requires { length (decimal x) ≤ length out.old }
+    ensures { (result ≡ length (decimal x)) × (out.new ≡ into (decimal x) out.old) }
 {
     if x < 10 {
         out[0] = 48 + x as u8;
@@ -58,8 +54,8 @@ fn write_decimal(x: u64, out: &mut [u8]) -> usize
 // Answers the input into the first bytes of out; how many they are. The room is cleared first, so that nothing of what
 // it held matters.
 pub fn answer_input(input: &[u8], out: &mut [u8]) -> usize
-    requires { ⌜ length (now out) ≡ mostWritten ⌝ }
-    ensures { λ r. ⌜ record { count = r; out = now (out .exit) } ≡ programOutcome (now (input .entry)) ⌝ }
+    requires { length out.old ≡ mostWritten }
+    ensures { record { count = result; out = out.new } ≡ programOutcome input.now }
 {
     clear(out);
     let verdict = inspect(input);

@@ -1,14 +1,13 @@
 -- Rebuild a table from a sheet, into a lent one.
-use mathlib.Core.List.{List, [], _∷_, _++_}
-use Prim.Native.Nat.{ℕ}
-use Rattle·sheets.specs.declared.kinds.Edition.{Edition}
-use Rattle·sheets.specs.Desk.{deskOf}
-use Rattle·sheets.specs.Sheet.{records, rebuilt}
-use Rattle·refusals.specs.declared.verdicts.Refusal.{Refusal}
-use Rattle·refusals.specs.declared.verdicts.Verdict.{Verdict}
-use Rattle·refusals.specs.declared.verdicts.Verdict.the-variants.{Fine, Refused}
-use Rattle·refusals.specs.Lines.{Line, verdict, reply}
-use Rattle·refusals.specs.Refusals.{badInputs, badTable, sheetLines, unreadRecord}
+use Rattle.std.specs.Prelude.{List, [], ◌∷◌, ◌++◌, ℕ}
+use Rattle.sheets.specs.declared.kinds.Edition.{Edition}
+use Rattle.sheets.specs.Desk.{deskOf}
+use Rattle.sheets.specs.Sheet.{records, rebuilt}
+use Rattle.refusals.specs.declared.verdicts.Refusal.{Refusal}
+use Rattle.refusals.specs.declared.verdicts.Verdict.{Verdict}
+use Rattle.refusals.specs.declared.verdicts.Verdict.TheVariants.{Fine, Refused}
+use Rattle.refusals.specs.Lines.{Line, verdict, reply}
+use Rattle.refusals.specs.Refusals.{badInputs, badTable, sheetLines, unreadRecord}
 
 -- form: 1, 3, 9 and 10
 abbrev pub rebuildForm : Edition → ℕ → ℕ → List ℕ → List ℕ → List Line

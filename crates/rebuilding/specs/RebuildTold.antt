@@ -1,11 +1,10 @@
 -- Rebuild a table from a sheet of a told edition, into a lent one.
-use mathlib.Core.List.{List}
-use Prim.Native.Nat.{ℕ}
-use Rattle·sheets.specs.Edition.{editionOf}
-use Rattle·sheets.specs.Desk.{deskOf}
-use Rattle·refusals.specs.Lines.{Line, verdict, reply}
-use Rattle·refusals.specs.Refusals.{toldLines}
-use Rattle·rebuilding·specs.specs.RebuildTable.{RebuildOutcome, rebuildLines, rebuildDone, rebuildNot}
+use Rattle.std.specs.Prelude.{List, ℕ}
+use Rattle.sheets.specs.Edition.{editionOf}
+use Rattle.sheets.specs.Desk.{deskOf}
+use Rattle.refusals.specs.Lines.{Line, verdict, reply}
+use Rattle.refusals.specs.Refusals.{toldLines}
+use Rattle.rebuilding.specs.RebuildTable.{RebuildOutcome, rebuildLines, rebuildDone, rebuildNot}
 
 -- 1, 2 of the edition, and rebuild's own in that edition, for the sheet's own desk
 abbrev pub rebuildToldLines : ℕ → ℕ → List ℕ → List ℕ → List Line

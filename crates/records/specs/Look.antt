@@ -1,12 +1,9 @@
 -- What a look at a sheet says: its length, its first bad record, or how many records it has.
-use mathlib.Core.Path.{_≡_}
-use mathlib.Core.Bool.{true, false}
-use mathlib.Core.List.{List}
-use Prim.Native.Nat.{ℕ, _<_}
-use Rattle·sheets.specs.declared.kinds.Edition.{Edition}
-use Rattle·records·specs.specs.declared.rules.Looked.{Looked}
-use Rattle·records·specs.specs.declared.rules.Looked.the-variants.{Fine, Length, BadAt}
-use Rattle·sheets.specs.Sheet.{firstBad, badLength, records}
+use Rattle.std.specs.Prelude.{◌≡◌, true, false, List, ℕ, ◌<◌}
+use Rattle.sheets.specs.declared.kinds.Edition.{Edition}
+use Rattle.records.specs.declared.rules.Looked.{Looked}
+use Rattle.records.specs.declared.rules.Looked.TheVariants.{Fine, Length, BadAt}
+use Rattle.sheets.specs.Sheet.{firstBad, badLength, records}
 
 -- what a look says: a wrong length; else the first bad record; else that there is none, and how many records there are
 abbrev pub Saw : Edition → ℕ → ℕ → List ℕ → Looked → Type 0

@@ -1,20 +1,17 @@
 // The record rules, and a sheet looked over by them.
-use sheets::kinds::Edition;
-use sheets::kinds::HeldCell;
-use sheets::kinds::Sheet;
-ghost use mathlib.Core.Path.{_≡_};
-ghost use Prim.Native.Nat.{_+_, _-_, _*_, _<_, _≤_};
-ghost use lib.ListN.{length};
-ghost use Rattle·tables.specs.Table.{mostInputs};
-ghost use Rattle·sheets.specs.Edition.{IsEdition, mostRecords};
-ghost use Rattle·sheets.specs.Record.{spareOk, byteOk, byteAt, keeps};
-ghost use Rattle·sheets.specs.Sheet.{recordBytes, firstBad};
-ghost use Rattle·records·specs.specs.Look.{Saw};
+ghost use Rattle.std.specs.Prelude.{◌≡◌, ◌+◌, ◌-◌, ◌*◌, ◌<◌, ◌≤◌, length};
+ghost use Rattle.tables.specs.Table.{mostInputs};
+ghost use Rattle.sheets.specs.Edition.{IsEdition, mostRecords};
+ghost use Rattle.sheets.specs.Record.{spareOk, byteOk, byte_at, keeps};
+ghost use Rattle.sheets.specs.Sheet.{recordBytes, firstBad};
+ghost use Rattle.records.specs.Look.{Saw};
+
+use sheets::kinds::{Edition, HeldCell, Sheet};
 
 // The bytes of record i.
 pub fn record_of(e: Edition, s: &[u8], i: usize) -> &[u8]
-    requires { ⌜ IsEdition e × (i < mostRecords) × (e .size * i + e .size ≤ length (now s)) ⌝ }
-    ensures { λ r. ⌜ now r ≡ recordBytes e (now (s .entry)) i ⌝ }
+    requires { IsEdition e × (i < mostRecords) × (e.size * i + e.size ≤ length s.now) }
+    ensures { result.now ≡ recordBytes e s.now i }
 {
     let a = e.size * i;
     let z = a + e.size;
@@ -23,8 +20,8 @@ pub fn record_of(e: Edition, s: &[u8], i: usize) -> &[u8]
 
 // Whether byte m of a table of w bits has no bit from w up.
 fn spare_ok(w: usize, m: usize, x: u8) -> bool
-    requires { ⌜ (w ≤ 256) × (m < 48) ⌝ }
-    ensures { λ r. ⌜ r ≡ spareOk w m x ⌝ }
+    requires { (w ≤ 256) × (m < 48) }
+    ensures { result ≡ spareOk w m x }
 {
     let from = 8 * m;
     if w <= from {
@@ -39,8 +36,8 @@ fn spare_ok(w: usize, m: usize, x: u8) -> bool
 
 // Whether byte j + 1 of a record of k signals, which is x after p, keeps the rules.
 fn byte_ok(e: Edition, d: u8, top: usize, k: usize, j: usize, p: u8, x: u8) -> bool
-    requires { ⌜ IsEdition e × (k ≤ e .most) × (j + 1 < e .size) ⌝ }
-    ensures { λ r. ⌜ r ≡ byteOk e d top k j p x ⌝ }
+    requires { IsEdition e × (k ≤ e.most) × (j + 1 < e.size) }
+    ensures { result ≡ byteOk e d top k j p x }
 {
     if j < e.most {
         if j < k {
@@ -65,8 +62,8 @@ fn byte_ok(e: Edition, d: u8, top: usize, k: usize, j: usize, p: u8, x: u8) -> b
 
 // Whether a record keeps the rules, where the signals below top may be read.
 pub fn record_ok(e: Edition, d: u8, top: usize, b: &[u8]) -> bool
-    requires { ⌜ IsEdition e × (length (now b) ≡ e .size) ⌝ }
-    ensures { λ r. ⌜ r ≡ keeps e d top (byteAt (now (b .entry))) ⌝ }
+    requires { IsEdition e × (length b.now ≡ e.size) }
+    ensures { result ≡ keeps e d top (byte_at b.now) }
 {
     let end = e.size - 1;
     let k = b[0] as usize;
@@ -89,8 +86,8 @@ pub fn record_ok(e: Edition, d: u8, top: usize, b: &[u8]) -> bool
 
 // The first of m records that breaks the rules, and m where none does.
 pub fn first_bad(e: Edition, d: u8, n: u32, s: &[u8], m: usize) -> usize
-    requires { ⌜ IsEdition e × (m ≤ mostRecords) × (n ≤ mostInputs) × (e .size * m ≤ length (now s)) ⌝ }
-    ensures { λ r. ⌜ r ≡ firstBad e d n (now (s .entry)) m ⌝ }
+    requires { IsEdition e × (m ≤ mostRecords) × (n ≤ mostInputs) × (e.size * m ≤ length s.now) }
+    ensures { result ≡ firstBad e d n s.now m }
 {
     let inputs = n as usize;
     let mut i = 0;
@@ -104,6 +101,7 @@ pub fn first_bad(e: Edition, d: u8, n: u32, s: &[u8], m: usize) -> usize
 }
 
 // What looking a sheet over finds: a wrong length, the first bad record, or how many records there are.
+#[derive(Drop)]
 pub enum Looked {
     Length,
     BadAt(usize),
@@ -111,8 +109,8 @@ pub enum Looked {
 }
 
 pub fn look(e: Edition, d: u8, n: u32, s: &[u8]) -> Looked
-    requires { ⌜ IsEdition e × (n ≤ mostInputs) ⌝ }
-    ensures { λ r. ⌜ Saw e d n (now (s .entry)) r ⌝ }
+    requires { IsEdition e × (n ≤ mostInputs) }
+    ensures { Saw e d n s.now result }
 {
     let len = s.len();
     if len == 0 {

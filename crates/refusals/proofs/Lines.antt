@@ -1,23 +1,23 @@
 -- A number is given exactly when its line holds and no earlier line does; 0 is given exactly when no line holds.
 -- Assumes nothing.
-use mathlib.Core.Path.{_≡_, refl, sym, ap, _∙_}
-use mathlib.Core.Logic.{_↔_}
-use mathlib.Core.Bool.{Bool, true, false, cond, not, _&&_, _||_}
-use mathlib.Core.List.{List, [], _∷_, _++_, append-nil}
-use Prim.Native.Nat.{ℕ, zero, suc, _<_}
+use mathlib.Core.Path.{◌≡◌, refl, sym, ap, ◌∙◌}
+use mathlib.Core.Logic.{◌↔◌}
+use mathlib.Core.Bool.{Bool, true, false, cond, not, ◌&&◌, ◌||◌}
+use mathlib.Core.List.{List, [], ◌∷◌, ◌++◌, append-nil}
+use Prim.Native.Nat.{ℕ, zero, suc, ◌<◌}
 use native.Mathlib.Nat.{not-suc-le-zero}
 use native.Mathlib.Omega.{arith}
 use lib.Dec.{eqb}
 use lib.ListN.{length}
 use borrow.Author.Tests.{not-true, eqb-true, eqb-false}
-use Rattle·bits.proofs.Bools.{and-left, and-right}
-use Rattle·refusals·specs.specs.declared.verdicts.Refusal.{Refusal}
-use Rattle·refusals·specs.specs.declared.verdicts.Verdict.{Verdict}
-use Rattle·refusals·specs.specs.declared.verdicts.Verdict.the-variants.{Fine, Refused}
-use Rattle·refusals·specs.specs.Lines.{Line, verdict, InOrder, numberOf, placeOf, reply, lineAt, Given}
+use Rattle.bits.proofs.Bools.{and_left, and_right}
+use Rattle.refusals.specs.declared.verdicts.Refusal.{Refusal}
+use Rattle.refusals.specs.declared.verdicts.Verdict.{Verdict}
+use Rattle.refusals.specs.declared.verdicts.Verdict.TheVariants.{Fine, Refused}
+use Rattle.refusals.specs.Lines.{Line, verdict, InOrder, number_of, placeOf, reply, line_at, Given}
 
 pick : Line → Verdict → Bool → Verdict
-pick l v t = cond t (Refused (l .gives)) v
+pick l v t = cond t (Refused l.gives) v
 
 refused : Verdict → ℕ
 refused Fine = 0
@@ -25,7 +25,7 @@ refused (Refused r) = 1
 
 pub not-fine : (r : Refusal) → Fine ≡ Refused r → ⊥
 unfolding refused
-not-fine r e = let z : _≡_ {A = ℕ} 0 1 = ap refused e in omega arith
+not-fine r e = let z : ◌≡◌ {A = ℕ} 0 1 = ap refused e in omega arith
 
 -- ---- a part of the lines, and those that follow it
 
@@ -33,13 +33,13 @@ not-fine r e = let z : _≡_ {A = ℕ} 0 1 = ap refused e in omega arith
 pub passes : (ls ms : List Line) → InOrder ls → verdict (ls ++ ms) ≡ verdict ms
 unfolding pick
 passes [] ms s = refl
-passes (l ∷ ls) ms s = ap (pick l (verdict (ls ++ ms))) (s .0) ∙ passes ls ms (s .1)
+passes (l ∷ ls) ms s = ap (pick l (verdict (ls ++ ms))) s.0 ∙ passes ls ms s.1
 
 -- where it refuses, that is the verdict
 pub stops : (ls ms : List Line) (r : Refusal) → verdict ls ≡ Refused r → verdict (ls ++ ms) ≡ Refused r
 unfolding pick
 stops [] ms r e = absurd (not-fine r e)
-stops (l ∷ ls) ms r e = go (l .holds) e (stops ls ms r)
+stops (l ∷ ls) ms r e = go l.holds e (stops ls ms r)
   where
     go : (t : Bool) → pick l (verdict ls) t ≡ Refused r → (verdict ls ≡ Refused r → verdict (ls ++ ms) ≡ Refused r)
         → pick l (verdict (ls ++ ms)) t ≡ Refused r
@@ -50,16 +50,16 @@ stops (l ∷ ls) ms r e = go (l .holds) e (stops ls ms r)
 pub lapses : (ls ms : List Line) → InOrder ms → verdict (ls ++ ms) ≡ verdict ls
 unfolding pick
 lapses [] ms s = sym (ap verdict (append-nil ms)) ∙ passes ms [] s
-lapses (l ∷ ls) ms s = ap (λ (v : Verdict). pick l v (l .holds)) (lapses ls ms s)
+lapses (l ∷ ls) ms s = ap (λ (v : Verdict). pick l v l.holds) (lapses ls ms s)
 
 -- where it is fine it is in order
-pub in-order : (ls : List Line) → verdict ls ≡ Fine → InOrder ls
+pub in_order : (ls : List Line) → verdict ls ≡ Fine → InOrder ls
 unfolding pick
-in-order [] e = tt
-in-order (l ∷ ls) e = go (l .holds) refl e (in-order ls)
+in_order [] e = tt
+in_order (l ∷ ls) e = go l.holds refl e (in_order ls)
   where
-    go : (t : Bool) → l .holds ≡ t → pick l (verdict ls) t ≡ Fine → (verdict ls ≡ Fine → InOrder ls) → InOrder (l ∷ ls)
-    go true h q ih = absurd (not-fine (l .gives) (sym q))
+    go : (t : Bool) → l.holds ≡ t → pick l (verdict ls) t ≡ Fine → (verdict ls ≡ Fine → InOrder ls) → InOrder (l ∷ ls)
+    go true h q ih = absurd (not-fine l.gives (sym q))
     go false h q ih = (h, ih q)
 
 -- a call whose first lines are looked at before the others: what it returns and leaves
@@ -72,14 +72,14 @@ module _ {A : Type 0} (ls ms : List Line) (done : A) (refused : Refusal → A) w
   -- those are in order
   pub left-to : (v : Verdict) → v ≡ verdict ls → v ≡ Fine → reply (verdict ms) done refused
       ≡ reply (verdict (ls ++ ms)) done refused
-  left-to v q e = ap (λ (u : Verdict). reply u done refused) (sym (passes ls ms (in-order ls (sym q ∙ e))))
+  left-to v q e = ap (λ (u : Verdict). reply u done refused) (sym (passes ls ms (in_order ls (sym q ∙ e))))
 
 -- ---- the same step by step, as the code goes: each line before the first that holds is passed over
 
 pub data First : List Line → Verdict → Type 0 where
   fine : First [] Fine
-  here : {l : Line} {ls : List Line} → l .holds ≡ true → First (l ∷ ls) (Refused (l .gives))
-  later : {l : Line} {ls : List Line} {v : Verdict} → l .holds ≡ false → First ls v → First (l ∷ ls) v
+  here : {l : Line} {ls : List Line} → l.holds ≡ true → First (l ∷ ls) (Refused l.gives)
+  later : {l : Line} {ls : List Line} {v : Verdict} → l.holds ≡ false → First ls v → First (l ∷ ls) v
 
 pub decides : (ls : List Line) {v : Verdict} → First ls v → v ≡ verdict ls
 unfolding pick
@@ -94,24 +94,24 @@ module _ (ls ms : List Line) (v : Verdict) (looked : v ≡ verdict ls) where
   stopped r e = e ∙ sym (stops ls ms r (sym looked ∙ e))
 
   -- those are in order: the others decide, which a look at them or the first that holds does
-  pub goes-on : v ≡ Fine → {w : Verdict} → w ≡ verdict ms → w ≡ verdict (ls ++ ms)
-  goes-on e f = f ∙ sym (passes ls ms (in-order ls (sym looked ∙ e)))
+  pub goes_on : v ≡ Fine → {w : Verdict} → w ≡ verdict ms → w ≡ verdict (ls ++ ms)
+  goes_on e f = f ∙ sym (passes ls ms (in_order ls (sym looked ∙ e)))
 
   pub decided : v ≡ Fine → {w : Verdict} → First ms w → w ≡ verdict (ls ++ ms)
-  decided e f = goes-on e (decides ms f)
+  decided e f = goes_on e (decides ms f)
 
 -- ---- number k is given exactly when the line with number k holds and no earlier line does
 
-given-there : (ls : List Line) (k : ℕ) → (k ≡ 0 → ⊥) → numberOf (verdict ls) ≡ k → Given k ls
+given-there : (ls : List Line) (k : ℕ) → (k ≡ 0 → ⊥) → number_of (verdict ls) ≡ k → Given k ls
 unfolding pick
 given-there [] k some e = absurd (some (sym e))
-given-there (l ∷ ls) k some e = go (l .holds) refl e (given-there ls k some)
+given-there (l ∷ ls) k some e = go l.holds refl e (given-there ls k some)
   where
-    before : (g : Given k ls) → l .holds ≡ false → (j : ℕ) → j < suc (g .at) → lineAt (l ∷ ls) j .holds ≡ false
+    before : (g : Given k ls) → l.holds ≡ false → (j : ℕ) → j < suc g.at → (line_at (l ∷ ls) j).holds ≡ false
     before g h zero m = h
-    before g h (suc j) m = g .earlier j (omega arith)
+    before g h (suc j) m = g.earlier j (omega arith)
 
-    go : (t : Bool) → l .holds ≡ t → numberOf (pick l (verdict ls) t) ≡ k → (numberOf (verdict ls) ≡ k → Given k ls)
+    go : (t : Bool) → l.holds ≡ t → number_of (pick l (verdict ls) t) ≡ k → (number_of (verdict ls) ≡ k → Given k ls)
         → Given k (l ∷ ls)
     go true h q ih = record {
       at = 0;
@@ -121,27 +121,27 @@ given-there (l ∷ ls) k some e = go (l .holds) refl e (given-there ls k some)
       earlier = λ j m. absurd (not-suc-le-zero m);
     }
     go false h q ih = let g = ih q in record {
-      at = suc (g .at);
-      within = omega (arith, g .within);
-      number = g .number;
-      holds = g .holds;
+      at = suc g.at;
+      within = omega (arith, g.within);
+      number = g.number;
+      holds = g.holds;
       earlier = before g h;
     }
 
-there-given : (ls : List Line) (k : ℕ) → Given k ls → numberOf (verdict ls) ≡ k
+there-given : (ls : List Line) (k : ℕ) → Given k ls → number_of (verdict ls) ≡ k
 unfolding pick
-there-given [] k g = absurd (not-suc-le-zero (g .within))
-there-given (l ∷ ls) k g = go (g .at) (g .within) (g .number) (g .holds) (g .earlier) (there-given ls k)
+there-given [] k g = absurd (not-suc-le-zero g.within)
+there-given (l ∷ ls) k g = go g.at g.within g.number g.holds g.earlier (there-given ls k)
   where
-    go : (i : ℕ) → i < suc (length ls) → lineAt (l ∷ ls) i .gives .number ≡ k → lineAt (l ∷ ls) i .holds ≡ true
-        → ((j : ℕ) → j < i → lineAt (l ∷ ls) j .holds ≡ false) → (Given k ls → numberOf (verdict ls) ≡ k)
-        → numberOf (pick l (verdict ls) (l .holds)) ≡ k
-    go zero w n h e ih = ap (λ (t : Bool). numberOf (pick l (verdict ls) t)) h ∙ n
+    go : (i : ℕ) → i < suc (length ls) → (line_at (l ∷ ls) i).gives.number ≡ k → (line_at (l ∷ ls) i).holds ≡ true
+        → ((j : ℕ) → j < i → (line_at (l ∷ ls) j).holds ≡ false) → (Given k ls → number_of (verdict ls) ≡ k)
+        → number_of (pick l (verdict ls) l.holds) ≡ k
+    go zero w n h e ih = ap (λ (t : Bool). number_of (pick l (verdict ls) t)) h ∙ n
     go (suc i) w n h e ih =
-        ap (λ (t : Bool). numberOf (pick l (verdict ls) t)) (e 0 (omega arith))
+        ap (λ (t : Bool). number_of (pick l (verdict ls) t)) (e 0 (omega arith))
         ∙ ih (record { at = i; within = omega arith; number = n; holds = h; earlier = λ j m. e (suc j) (omega arith) })
 
-pub given : (ls : List Line) (k : ℕ) → (k ≡ 0 → ⊥) → (numberOf (verdict ls) ≡ k) ↔ Given k ls
+pub given : (ls : List Line) (k : ℕ) → (k ≡ 0 → ⊥) → (number_of (verdict ls) ≡ k) ↔ Given k ls
 given ls k some = (given-there ls k some, there-given ls k)
 
 -- ---- and 0, done, exactly when no line holds
@@ -149,84 +149,84 @@ given ls k some = (given-there ls k some, there-given ls k)
 -- no line has the number k
 abbrev pub others : ℕ → List Line → Bool
 others k [] = true
-others k (l ∷ ls) = not (eqb (l .gives .number) k) && others k ls
+others k (l ∷ ls) = not (eqb l.gives.number k) && others k ls
 
 -- lines of other numbers don't give k: then they are in order, and those that follow give it
-pub passed : (ls ms : List Line) (k : ℕ) → others k ls ≡ true → numberOf (verdict (ls ++ ms)) ≡ k → InOrder ls
-    × (numberOf (verdict ms) ≡ k)
+pub passed : (ls ms : List Line) (k : ℕ) → others k ls ≡ true → number_of (verdict (ls ++ ms)) ≡ k → InOrder ls
+    × (number_of (verdict ms) ≡ k)
 unfolding pick
 passed [] ms k o e = (tt, e)
-passed (l ∷ ls) ms k o e = go (l .holds) refl e
-    (passed ls ms k (and-right (not (eqb (l .gives .number) k)) (others k ls) o))
+passed (l ∷ ls) ms k o e = go l.holds refl e
+    (passed ls ms k (and_right (not (eqb l.gives.number k)) (others k ls) o))
   where
-    go : (t : Bool) → l .holds ≡ t → numberOf (pick l (verdict (ls ++ ms)) t) ≡ k
-        → (numberOf (verdict (ls ++ ms)) ≡ k → InOrder ls × (numberOf (verdict ms) ≡ k))
-        → InOrder (l ∷ ls) × (numberOf (verdict ms) ≡ k)
-    go true h q ih = absurd (eqb-false (l .gives .number) k
-        (not-true (eqb (l .gives .number) k) (and-left (not (eqb (l .gives .number) k)) (others k ls) o)) q)
-    go false h q ih = let r = ih q in ((h, r .0), r .1)
+    go : (t : Bool) → l.holds ≡ t → number_of (pick l (verdict (ls ++ ms)) t) ≡ k
+        → (number_of (verdict (ls ++ ms)) ≡ k → InOrder ls × (number_of (verdict ms) ≡ k))
+        → InOrder (l ∷ ls) × (number_of (verdict ms) ≡ k)
+    go true h q ih = absurd (eqb-false l.gives.number k
+        (not-true (eqb l.gives.number k) (and_left (not (eqb l.gives.number k)) (others k ls) o)) q)
+    go false h q ih = let r = ih q in ((h, r.0), r.1)
 
 -- lines of other numbers don't refuse by k
-pub another : (ls : List Line) (k : ℕ) (r : Refusal) → others k ls ≡ true → verdict ls ≡ Refused r → r .number ≡ k → ⊥
+pub another : (ls : List Line) (k : ℕ) (r : Refusal) → others k ls ≡ true → verdict ls ≡ Refused r → r.number ≡ k → ⊥
 another ls k r o e q =
-    let w = passed ls [] k o (ap (λ (l : List Line). numberOf (verdict l)) (append-nil ls) ∙ ap numberOf e ∙ q) in
-    not-fine r (sym (passes ls [] (w .0)) ∙ ap verdict (append-nil ls) ∙ e)
+    let w = passed ls [] k o (ap (λ (l : List Line). number_of (verdict l)) (append-nil ls) ∙ ap number_of e ∙ q) in
+    not-fine r (sym (passes ls [] w.0) ∙ ap verdict (append-nil ls) ∙ e)
 
 -- the numbers of all lines pass the test, and so does that of a refusal by them
 abbrev pub all-numbers : (ℕ → Bool) → List Line → Bool
 all-numbers p [] = true
-all-numbers p (l ∷ ls) = p (l .gives .number) && all-numbers p ls
+all-numbers p (l ∷ ls) = p l.gives.number && all-numbers p ls
 
 pub a-number : (p : ℕ → Bool) (ls : List Line) (r : Refusal) → all-numbers p ls ≡ true → verdict ls ≡ Refused r
-    → p (r .number) ≡ true
+    → p r.number ≡ true
 unfolding pick
 a-number p [] r o e = absurd (not-fine r e)
-a-number p (l ∷ ls) r o e = go (l .holds) e (a-number p ls r (and-right (p (l .gives .number)) (all-numbers p ls) o))
+a-number p (l ∷ ls) r o e = go l.holds e (a-number p ls r (and_right (p l.gives.number) (all-numbers p ls) o))
   where
-    go : (t : Bool) → pick l (verdict ls) t ≡ Refused r → (verdict ls ≡ Refused r → p (r .number) ≡ true)
-        → p (r .number) ≡ true
-    go true q ih = ap (λ (v : Verdict). p (numberOf v)) (sym q) ∙ and-left (p (l .gives .number)) (all-numbers p ls) o
+    go : (t : Bool) → pick l (verdict ls) t ≡ Refused r → (verdict ls ≡ Refused r → p r.number ≡ true)
+        → p r.number ≡ true
+    go true q ih = ap (λ (v : Verdict). p (number_of v)) (sym q) ∙ and_left (p l.gives.number) (all-numbers p ls) o
     go false q ih = ih q
 
 -- a number that one line alone has is given by that line, which holds
 pub held : (ls : List Line) (l : Line) (ms : List Line) (k : ℕ) → others k ls ≡ true → others k ms ≡ true → (k ≡ 0 → ⊥)
-    → numberOf (verdict (ls ++ (l ∷ ms))) ≡ k
-    → (l .holds ≡ true) × (verdict (ls ++ (l ∷ ms)) ≡ Refused (l .gives))
+    → number_of (verdict (ls ++ (l ∷ ms))) ≡ k
+    → (l.holds ≡ true) × (verdict (ls ++ (l ∷ ms)) ≡ Refused l.gives)
 unfolding pick
-held ls l ms k o p some e = go (l .holds) refl (w .1)
+held ls l ms k o p some e = go l.holds refl w.1
   where
-    w : InOrder ls × (numberOf (verdict (l ∷ ms)) ≡ k)
+    w : InOrder ls × (number_of (verdict (l ∷ ms)) ≡ k)
     w = passed ls (l ∷ ms) k o e
 
-    go : (t : Bool) → l .holds ≡ t → numberOf (pick l (verdict ms) t) ≡ k → (l .holds ≡ true)
-        × (verdict (ls ++ (l ∷ ms)) ≡ Refused (l .gives))
-    go true h q = (h, passes ls (l ∷ ms) (w .0) ∙ ap (pick l (verdict ms)) h)
+    go : (t : Bool) → l.holds ≡ t → number_of (pick l (verdict ms) t) ≡ k → (l.holds ≡ true)
+        × (verdict (ls ++ (l ∷ ms)) ≡ Refused l.gives)
+    go true h q = (h, passes ls (l ∷ ms) w.0 ∙ ap (pick l (verdict ms)) h)
     go false h q = absurd (some (sym (passed ms [] k p
-        (ap (λ (m : List Line). numberOf (verdict m)) (append-nil ms) ∙ q) .1)))
+        (ap (λ (m : List Line). number_of (verdict m)) (append-nil ms) ∙ q)).1))
 
 -- the lines whose number passes the test name something; the others name nothing
 abbrev pub naming-only : (ℕ → Bool) → List Line → Bool
 naming-only p [] = true
-naming-only p (l ∷ ls) = (p (l .gives .number) || eqb (l .gives .place) 0) && naming-only p ls
+naming-only p (l ∷ ls) = (p l.gives.number || eqb l.gives.place 0) && naming-only p ls
 
-pub names-nothing : (p : ℕ → Bool) (ls : List Line) → naming-only p ls ≡ true → p (numberOf (verdict ls)) ≡ false
+pub names-nothing : (p : ℕ → Bool) (ls : List Line) → naming-only p ls ≡ true → p (number_of (verdict ls)) ≡ false
     → placeOf (verdict ls) ≡ 0
 unfolding pick
 names-nothing p [] o h = refl
-names-nothing p (l ∷ ls) o h = go (l .holds) h
-    (names-nothing p ls (and-right (p (l .gives .number) || eqb (l .gives .place) 0) (naming-only p ls) o))
+names-nothing p (l ∷ ls) o h = go l.holds h
+    (names-nothing p ls (and_right (p l.gives.number || eqb l.gives.place 0) (naming-only p ls) o))
   where
-    go : (t : Bool) → p (numberOf (pick l (verdict ls) t)) ≡ false
-        → (p (numberOf (verdict ls)) ≡ false → placeOf (verdict ls) ≡ 0) → placeOf (pick l (verdict ls) t) ≡ 0
+    go : (t : Bool) → p (number_of (pick l (verdict ls) t)) ≡ false
+        → (p (number_of (verdict ls)) ≡ false → placeOf (verdict ls) ≡ 0) → placeOf (pick l (verdict ls) t) ≡ 0
     go true q ih =
-        eqb-true (l .gives .place) 0
-        (sym (ap (λ (t : Bool). t || eqb (l .gives .place) 0) q)
-        ∙ and-left (p (l .gives .number) || eqb (l .gives .place) 0) (naming-only p ls) o)
+        eqb-true l.gives.place 0
+        (sym (ap (λ (t : Bool). t || eqb l.gives.place 0) q)
+        ∙ and_left (p l.gives.number || eqb l.gives.place 0) (naming-only p ls) o)
     go false q ih = ih q
 
 -- no line has the number 0, so 0 is given exactly when no line holds
-pub done : (ls : List Line) → others 0 ls ≡ true → (numberOf (verdict ls) ≡ 0) ↔ InOrder ls
+pub done : (ls : List Line) → others 0 ls ≡ true → (number_of (verdict ls) ≡ 0) ↔ InOrder ls
 done ls o = (
-  λ e. passed ls [] 0 o (ap (λ (l : List Line). numberOf (verdict l)) (append-nil ls) ∙ e) .0,
-  λ s. ap (λ (l : List Line). numberOf (verdict l)) (sym (append-nil ls)) ∙ ap numberOf (passes ls [] s),
+  λ e. (passed ls [] 0 o (ap (λ (l : List Line). number_of (verdict l)) (append-nil ls) ∙ e)).0,
+  λ s. ap (λ (l : List Line). number_of (verdict l)) (sym (append-nil ls)) ∙ ap number_of (passes ls [] s),
 )

@@ -1,16 +1,16 @@
 -- A call with a work area that looks at form and room, the lines 1 to 7, before anything else. Assumes nothing.
-use mathlib.Core.Path.{_≡_, sym, ap₂, _∙_}
-use mathlib.Core.Bool.{true, _&&_}
-use mathlib.Core.List.{List, _++_}
+use mathlib.Core.Path.{◌≡◌, sym, ap₂, ◌∙◌}
+use mathlib.Core.Bool.{true, ◌&&◌}
+use mathlib.Core.List.{List, ◌++◌}
 use Prim.Native.Nat.{ℕ}
 use lib.Dec.{leb}
-use Rattle·refusals·specs.specs.declared.verdicts.Refusal.{Refusal}
-use Rattle·refusals·specs.specs.declared.verdicts.Verdict.{Verdict}
-use Rattle·refusals·specs.specs.declared.verdicts.Verdict.the-variants.{Refused}
-use Rattle·refusals·specs.specs.Lines.{Line, verdict, reply}
-use Rattle·refusals·specs.specs.Lent.{workAfter}
-use Rattle·refusals·proofs.proofs.Lines.{all-numbers, refused-by}
-use Rattle·refusals·proofs.proofs.Lent.{form-leaves}
+use Rattle.refusals.specs.declared.verdicts.Refusal.{Refusal}
+use Rattle.refusals.specs.declared.verdicts.Verdict.{Verdict}
+use Rattle.refusals.specs.declared.verdicts.Verdict.TheVariants.{Refused}
+use Rattle.refusals.specs.Lines.{Line, verdict, reply}
+use Rattle.refusals.specs.Lent.{workAfter}
+use Rattle.refusals.proofs.Lines.{all-numbers, refused-by}
+use Rattle.refusals.proofs.Lent.{form-leaves}
 
 -- they refuse: what is answered with the work area as it was found is what the call is to return and leave
 pub form-refuses : {A : Type 0} (ls ms : List Line) (done : A) (none : Verdict → List ℕ → A) (work : List ℕ)

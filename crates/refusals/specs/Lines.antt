@@ -1,12 +1,8 @@
 -- A call's lines of the table of refusals, in the order of their numbers, and the first of them that holds.
-use mathlib.Core.Path.{_≡_}
-use mathlib.Core.Bool.{Bool, false, true, cond}
-use mathlib.Core.List.{List, [], _∷_}
-use Prim.Native.Nat.{ℕ, _<_}
-use lib.ListN.{length, getD}
-use Rattle·refusals·specs.specs.declared.verdicts.Refusal.{Refusal}
-use Rattle·refusals·specs.specs.declared.verdicts.Verdict.{Verdict}
-use Rattle·refusals·specs.specs.declared.verdicts.Verdict.the-variants.{Fine, Refused}
+use Rattle.std.specs.Prelude.{◌≡◌, Bool, false, true, cond, List, [], ◌∷◌, ℕ, ◌<◌, length, get_or}
+use Rattle.refusals.specs.declared.verdicts.Refusal.{Refusal}
+use Rattle.refusals.specs.declared.verdicts.Verdict.{Verdict}
+use Rattle.refusals.specs.declared.verdicts.Verdict.TheVariants.{Fine, Refused}
 
 -- the refusal with number k that names p
 abbrev pub refusal : ℕ → ℕ → Refusal
@@ -28,22 +24,22 @@ line k test = naming k 0 test
 -- the first line that holds decides; where none does, nothing is wrong
 abbrev pub verdict : List Line → Verdict
 verdict [] = Fine
-verdict (l ∷ ls) = cond (l .holds) (Refused (l .gives)) (verdict ls)
+verdict (l ∷ ls) = cond l.holds (Refused l.gives) (verdict ls)
 
 -- none of these lines holds: what they look at is in order
 abbrev pub InOrder : List Line → Type 0
 InOrder [] = Unit {0}
-InOrder (l ∷ ls) = (l .holds ≡ false) × InOrder ls
+InOrder (l ∷ ls) = (l.holds ≡ false) × InOrder ls
 
 -- the paper's number of a verdict; 0 is done
-abbrev pub numberOf : Verdict → ℕ
-numberOf Fine = 0
-numberOf (Refused r) = r .number
+abbrev pub number_of : Verdict → ℕ
+number_of Fine = 0
+number_of (Refused r) = r.number
 
 -- what the verdict names besides, else 0
 abbrev pub placeOf : Verdict → ℕ
 placeOf Fine = 0
-placeOf (Refused r) = r .place
+placeOf (Refused r) = r.place
 
 -- what a call returns and leaves: `done` where nothing is wrong, else what goes with the refusal
 abbrev pub reply : {A : Type 0} → Verdict → A → (Refusal → A) → A
@@ -51,13 +47,13 @@ reply Fine done refused = done
 reply (Refused r) done refused = refused r
 
 -- line i of them
-abbrev pub lineAt : List Line → ℕ → Line
-lineAt ls i = getD ls i (line 0 false)
+abbrev pub line_at : List Line → ℕ → Line
+line_at ls i = get_or ls i (line 0 false)
 
 -- the line with number k holds, and no earlier line does
 pub record Given (k : ℕ) (ls : List Line) : Type 0 where
   pub at : ℕ
   pub within : at < length ls
-  pub number : lineAt ls at .gives .number ≡ k
-  pub holds : lineAt ls at .holds ≡ true
-  pub earlier : (j : ℕ) → j < at → lineAt ls j .holds ≡ false
+  pub number : (line_at ls at).gives.number ≡ k
+  pub holds : (line_at ls at).holds ≡ true
+  pub earlier : (j : ℕ) → j < at → (line_at ls j).holds ≡ false

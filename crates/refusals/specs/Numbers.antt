@@ -1,6 +1,6 @@
 -- The numbers of the table of refusals, each with its name here and nowhere else; the code has the same names
 -- (src/verdicts.rt). After each: where its lines stand; those of one room's own things stand in that room's specs.
-use Prim.Native.Nat.{ℕ}
+use Rattle.std.specs.Prelude.{ℕ}
 
 -- how many inputs (Refusals)
 abbrev pub ofInputs : ℕ

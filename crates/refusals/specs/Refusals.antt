@@ -1,26 +1,22 @@
 -- The table of refusals: each line under its number, with its words and what it names besides (nothing, where nothing
 -- is said). The numbers and where the other lines stand: Numbers.
-use mathlib.Core.Bool.{Bool, true, false, not, _&&_, _||_}
-use mathlib.Core.List.{List, [], _∷_, _++_}
-use Prim.Native.Nat.{ℕ, _+_, _-_, _*_, _^_}
-use lib.Dec.{leb, ltb, eqb}
-use lib.ListN.{length}
-use Rattle·bits.specs.Numbers.{bit}
-use Rattle·bits.specs.Sets.{disjoint, size}
-use Rattle·tables.specs.Table.{mostInputs, tableLength, tableBit, spareClear}
-use Rattle·tables.specs.Counting.{support}
-use Rattle·splits.specs.Columns.{mostFirst, fewColumns, firstBroken}
-use Rattle·splits.specs.Pair.{inputsH}
-use Rattle·best.specs.Search.{Answer, none, split}
-use Rattle·sheets.specs.declared.kinds.Edition.{Edition}
-use Rattle·sheets.specs.Edition.{mostRecords, mostDesk, lastEdition}
-use Rattle·sheets.specs.Sheet.{badLength, records, firstBad}
-use Rattle·sheets.specs.Reading.{firstUnread}
-use Rattle·runs.specs.Checking.{firstDifference}
-use Rattle·tables.specs.Work.{workLength}
-use Rattle·refusals·specs.specs.Numbers.{ofInputs, ofCell, ofEdition, ofTable, ofSpare, ofSets, ofDesk, ofRoom}
-use Rattle·refusals·specs.specs.Numbers.{ofNothing, ofSplit, ofSheet, ofRecord, ofAssignment, ofDifference, ofUnread}
-use Rattle·refusals·specs.specs.Lines.{Line, line, naming}
+use Rattle.std.specs.Prelude.{Bool, true, false, not, ◌&&◌, ◌||◌, List, [], ◌∷◌, ◌++◌, ℕ, ◌+◌, ◌-◌, ◌*◌, ◌^◌, leb, ltb, eqb, length}
+use Rattle.bits.specs.Numbers.{bit}
+use Rattle.bits.specs.Sets.{disjoint, size}
+use Rattle.tables.specs.Table.{mostInputs, tableLength, tableBit, spareClear}
+use Rattle.tables.specs.Counting.{support}
+use Rattle.splits.specs.Columns.{mostFirst, fewColumns, firstBroken}
+use Rattle.splits.specs.Pair.{inputsH}
+use Rattle.best.specs.Search.{Answer, none, split}
+use Rattle.sheets.specs.declared.kinds.Edition.{Edition}
+use Rattle.sheets.specs.Edition.{mostRecords, mostDesk, lastEdition}
+use Rattle.sheets.specs.Sheet.{badLength, records, firstBad}
+use Rattle.sheets.specs.Reading.{firstUnread}
+use Rattle.runs.specs.Checking.{firstDifference}
+use Rattle.tables.specs.Work.{workLength}
+use Rattle.refusals.specs.Numbers.{ofInputs, ofCell, ofEdition, ofTable, ofSpare, ofSets, ofDesk, ofRoom}
+use Rattle.refusals.specs.Numbers.{ofNothing, ofSplit, ofSheet, ofRecord, ofAssignment, ofDifference, ofUnread}
+use Rattle.refusals.specs.Lines.{Line, line, naming}
 
 -- 1: n outside 1 to 16
 abbrev pub badInputs : ℕ → Line
@@ -28,7 +24,7 @@ badInputs n = line ofInputs (not (leb 1 n && leb n mostInputs))
 
 -- 2: K outside 2 to the edition's largest cell
 abbrev pub badCell : Edition → ℕ → Line
-badCell e K = line ofCell (not (leb 2 K && leb K (e .most)))
+badCell e K = line ofCell (not (leb 2 K && leb K e.most))
 
 -- 2: the number of the edition is neither 1 nor 2
 abbrev pub badEdition : ℕ → Line
@@ -63,11 +59,11 @@ shortWork work = line ofRoom (ltb (length work) workLength)
 
 -- 6: room for the sheet under the bytes of the most records, or such a work area
 abbrev pub shortSheet : Edition → List ℕ → List ℕ → Line
-shortSheet e sheet work = line ofRoom (ltb (length sheet) (e .size * mostRecords) || ltb (length work) workLength)
+shortSheet e sheet work = line ofRoom (ltb (length sheet) (e.size * mostRecords) || ltb (length work) workLength)
 
 -- 6: room for the sheet under the bytes of the most records
 abbrev pub shortRecords : Edition → List ℕ → Line
-shortRecords e room = line ofRoom (ltb (length room) (e .size * mostRecords))
+shortRecords e room = line ofRoom (ltb (length room) (e.size * mostRecords))
 
 -- 7: at most K inputs count, so nothing to split
 abbrev pub nothingToSplit : ℕ → ℕ → List ℕ → Line
@@ -79,13 +75,13 @@ notPossible n r A B t = naming ofSplit (firstBroken n (tableBit t) (bit A) (bit 
     (not (fewColumns n (tableBit t) (bit A) (bit B) (2 ^ r)))
 
 -- whether there is no split
-abbrev pub isNone : Answer → Bool
-isNone none = true
-isNone (split A B) = false
+abbrev pub is_none : Answer → Bool
+is_none none = true
+is_none (split A B) = false
 
 -- 8: none is possible
 abbrev pub noneBest : Answer → Line
-noneBest a = line ofSplit (isNone a)
+noneBest a = line ofSplit (is_none a)
 
 -- 9: sheet empty, not a multiple of the record size, or over the bytes of the most records
 abbrev pub badSheet : Edition → List ℕ → Line

@@ -1,28 +1,22 @@
 // Lines that several calls share: 1 to 4 of a gate, 1 and 2 of a told edition, 1, 9, 10 and 15 of a sheet.
-use crate::verdicts::Refusal;
-use crate::verdicts::Verdict;
-use crate::verdicts::refuse;
-use crate::verdicts::refuse_at;
+ghost use Rattle.std.specs.Prelude.{◌≡◌, not, ◌&&◌, [], ◌∷◌, ◌≤◌, leb};
+ghost use Rattle.tables.specs.Table.{mostInputs};
+ghost use Rattle.sheets.specs.Edition.{IsEdition};
+ghost use Rattle.refusals.specs.Lines.{verdict, InOrder};
+ghost use Rattle.refusals.specs.Refusals.{badInputs, badCell, badEdition, badTable};
+ghost use Rattle.refusals.specs.Refusals.{sizedLines, tableLines, gateLines};
+ghost use Rattle.refusals.specs.Refusals.{sheetLines, unreadRecord, readSheetLines};
+ghost use Rattle.refusals.specs.Refusals.{toldForm};
+
+use crate::verdicts::{Refusal, Verdict, refuse, refuse_at};
 use records::rules;
 use records::rules::Looked;
 use sheets::kinds::Edition;
 use unread::reading::who_reads;
-ghost use mathlib.Core.Path.{_≡_};
-ghost use mathlib.Core.Bool.{not, _&&_};
-ghost use mathlib.Core.List.{[], _∷_};
-ghost use Prim.Native.Nat.{_≤_};
-ghost use lib.Dec.{leb};
-ghost use Rattle·tables.specs.Table.{mostInputs};
-ghost use Rattle·sheets.specs.Edition.{IsEdition};
-ghost use Rattle·refusals·specs.specs.Lines.{verdict, InOrder};
-ghost use Rattle·refusals·specs.specs.Refusals.{badInputs, badCell, badEdition, badTable};
-ghost use Rattle·refusals·specs.specs.Refusals.{sizedLines, tableLines, gateLines};
-ghost use Rattle·refusals·specs.specs.Refusals.{sheetLines, unreadRecord, readSheetLines};
-ghost use Rattle·refusals·specs.specs.Refusals.{toldForm};
 
 // Whether a number is outside its limits.
 pub fn outside(low: u64, x: u64, high: u64) -> bool
-    ensures { λ r. ⌜ r ≡ not (leb low x && leb x high) ⌝ }
+    ensures { result ≡ not (leb low x && leb x high) }
 {
     if x < low {
         return true;
@@ -32,29 +26,29 @@ pub fn outside(low: u64, x: u64, high: u64) -> bool
 
 // Line 1: n outside 1 to 16.
 pub fn bad_inputs(n: u64) -> bool
-    ensures { λ r. ⌜ r ≡ badInputs n .holds ⌝ }
+    ensures { result ≡ (badInputs n).holds }
 {
     outside(1, n, tables::MOST_INPUTS as u64)
 }
 
 // Line 2: K outside 2 to the largest cell.
 fn bad_cell(e: Edition, k: u64) -> bool
-    ensures { λ r. ⌜ r ≡ badCell e k .holds ⌝ }
+    ensures { result ≡ (badCell e k).holds }
 {
     outside(2, k, e.most as u64)
 }
 
 // Line 3: a wrong length.
 fn bad_table(n: u32, t: &[u8]) -> bool
-    requires { ⌜ n ≤ mostInputs ⌝ }
-    ensures { λ r. ⌜ r ≡ badTable n (now (t .entry)) .holds ⌝ }
+    requires { n ≤ mostInputs }
+    ensures { result ≡ (badTable n t.now).holds }
 {
     t.len() != tables::length_for(n)
 }
 
 // Lines 1 and 3.
 pub fn sized(n: u64, t: &[u8]) -> Verdict
-    ensures { λ r. ⌜ r ≡ verdict (sizedLines n (now (t .entry))) ⌝ }
+    ensures { result ≡ verdict (sizedLines n t.now) }
 {
     if bad_inputs(n) {
         return refuse(Refusal::INPUTS);
@@ -67,7 +61,7 @@ pub fn sized(n: u64, t: &[u8]) -> Verdict
 
 // Lines 1, 3 and 4; a table of three inputs or more has no spare bits.
 pub fn table(n: u64, t: &[u8]) -> Verdict
-    ensures { λ r. ⌜ r ≡ verdict (tableLines n (now (t .entry))) ⌝ }
+    ensures { result ≡ verdict (tableLines n t.now) }
 {
     let seen = sized(n, t);
     let Verdict::Fine = seen else {
@@ -81,7 +75,7 @@ pub fn table(n: u64, t: &[u8]) -> Verdict
 
 // Lines 1 to 4.
 pub fn gate(e: Edition, n: u64, k: u64, t: &[u8]) -> Verdict
-    ensures { λ r. ⌜ r ≡ verdict (gateLines e n k (now (t .entry))) ⌝ }
+    ensures { result ≡ verdict (gateLines e n k t.now) }
 {
     if bad_inputs(n) {
         return refuse(Refusal::INPUTS);
@@ -94,14 +88,14 @@ pub fn gate(e: Edition, n: u64, k: u64, t: &[u8]) -> Verdict
 
 // Line 2: the number of the edition is neither 1 nor 2.
 fn bad_edition(w: u64) -> bool
-    ensures { λ r. ⌜ r ≡ badEdition w .holds ⌝ }
+    ensures { result ≡ (badEdition w).holds }
 {
     outside(1, w, Edition::LAST)
 }
 
 // Lines 1 and 2 of a call that is told the edition.
 pub fn told(w: u64, n: u64) -> Verdict
-    ensures { λ r. ⌜ r ≡ verdict (toldForm w n) ⌝ }
+    ensures { result ≡ verdict (toldForm w n) }
 {
     if bad_inputs(n) {
         return refuse(Refusal::INPUTS);
@@ -114,8 +108,8 @@ pub fn told(w: u64, n: u64) -> Verdict
 
 // Lines 9 and 10.
 pub fn sheet(e: Edition, d: u8, n: u32, s: &[u8]) -> Verdict
-    requires { ⌜ IsEdition e × (n ≤ mostInputs) ⌝ }
-    ensures { λ r. ⌜ r ≡ verdict (sheetLines e d n (now (s .entry))) ⌝ }
+    requires { IsEdition e × (n ≤ mostInputs) }
+    ensures { result ≡ verdict (sheetLines e d n s.now) }
 {
     let seen = rules::look(e, d, n, s);
     match seen {
@@ -127,8 +121,8 @@ pub fn sheet(e: Edition, d: u8, n: u32, s: &[u8]) -> Verdict
 
 // Lines 1, 9 and 10.
 pub fn sheet_for(e: Edition, d: u8, n: u64, s: &[u8]) -> Verdict
-    requires { ⌜ IsEdition e ⌝ }
-    ensures { λ r. ⌜ r ≡ verdict (badInputs n ∷ sheetLines e d n (now (s .entry))) ⌝ }
+    requires { IsEdition e }
+    ensures { result ≡ verdict (badInputs n ∷ sheetLines e d n s.now) }
 {
     if bad_inputs(n) {
         return refuse(Refusal::INPUTS);
@@ -138,8 +132,8 @@ pub fn sheet_for(e: Edition, d: u8, n: u64, s: &[u8]) -> Verdict
 
 // Line 15, of a sheet that lines 9 and 10 let through.
 pub fn all_read(e: Edition, d: u8, n: u32, s: &[u8]) -> Verdict
-    requires { ⌜ IsEdition e × (n ≤ mostInputs) × InOrder (sheetLines e d n (now s)) ⌝ }
-    ensures { λ r. ⌜ r ≡ verdict (unreadRecord e n (now (s .entry)) ∷ []) ⌝ }
+    requires { IsEdition e × (n ≤ mostInputs) × InOrder (sheetLines e d n s.now) }
+    ensures { result ≡ verdict (unreadRecord e n s.now ∷ []) }
 {
     let m = s.len() / e.size;
     let i = who_reads(e, n, s, m).first;
@@ -151,8 +145,8 @@ pub fn all_read(e: Edition, d: u8, n: u32, s: &[u8]) -> Verdict
 
 // Lines 9, 10 and 15.
 pub fn read_sheet(e: Edition, d: u8, n: u32, s: &[u8]) -> Verdict
-    requires { ⌜ IsEdition e × (n ≤ mostInputs) ⌝ }
-    ensures { λ r. ⌜ r ≡ verdict (readSheetLines e d n (now (s .entry))) ⌝ }
+    requires { IsEdition e × (n ≤ mostInputs) }
+    ensures { result ≡ verdict (readSheetLines e d n s.now) }
 {
     let seen = sheet(e, d, n, s);
     let Verdict::Fine = seen else {

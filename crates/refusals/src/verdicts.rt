@@ -1,9 +1,10 @@
 // The table of refusals: the numbers and what they say. specs/Refusals.antt says exactly when each is given.
-ghost use mathlib.Core.Path.{_≡_};
-ghost use Rattle·refusals·specs.specs.declared.verdicts.Verdict.the-variants.{Refused};
-ghost use Rattle·refusals·specs.specs.Lines.{refusal, numberOf, placeOf};
+ghost use Rattle.std.specs.Prelude.{◌≡◌};
+ghost use Rattle.refusals.specs.declared.verdicts.Verdict.TheVariants.{Refused};
+ghost use Rattle.refusals.specs.Lines.{refusal, number_of, placeOf};
 
 // Why a call says no, and what it names besides, else 0.
+#[derive(Drop)]
 pub struct Refusal {
     pub number: u8,
     pub place: u64,
@@ -63,6 +64,7 @@ impl Refusal {
 }
 
 // What looking at a call's lines comes to.
+#[derive(Drop)]
 pub enum Verdict {
     Fine,
     Refused(Refusal),
@@ -70,7 +72,7 @@ pub enum Verdict {
 
 // A refusal that names nothing.
 pub fn refuse(number: u8) -> Verdict
-    ensures { λ r. ⌜ r ≡ Refused (refusal number 0) ⌝ }
+    ensures { result ≡ Refused (refusal number 0) }
 {
     Verdict::Refused(Refusal {
         number: number,
@@ -80,7 +82,7 @@ pub fn refuse(number: u8) -> Verdict
 
 // A refusal that names a place.
 pub fn refuse_at(number: u8, place: u64) -> Verdict
-    ensures { λ r. ⌜ r ≡ Refused (refusal number place) ⌝ }
+    ensures { result ≡ Refused (refusal number place) }
 {
     Verdict::Refused(Refusal {
         number: number,
@@ -90,7 +92,7 @@ pub fn refuse_at(number: u8, place: u64) -> Verdict
 
 // The paper's number; 0 is done.
 pub fn number_of(v: Verdict) -> u8
-    ensures { λ r. ⌜ r ≡ numberOf v ⌝ }
+    ensures { result ≡ number_of v }
 {
     match v {
         Verdict::Fine => 0,
@@ -100,7 +102,7 @@ pub fn number_of(v: Verdict) -> u8
 
 // What is named besides, else 0.
 pub fn place_of(v: Verdict) -> u64
-    ensures { λ r. ⌜ r ≡ placeOf v ⌝ }
+    ensures { result ≡ placeOf v }
 {
     match v {
         Verdict::Fine => 0,

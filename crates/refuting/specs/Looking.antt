@@ -1,14 +1,10 @@
 -- What the code looks at: a step that is all there, and what steps come to as a verdict.
-use mathlib.Core.Bool.{Bool, cond, _&&_}
-use mathlib.Core.List.{List}
-use Prim.Native.Nat.{ℕ, _+_, _<_, _≤_}
-use lib.Dec.{leb}
-use lib.ListN.{length}
-use Rattle·clauses.specs.Step.{stepLength}
-use Rattle·refusals.specs.declared.verdicts.Verdict.{Verdict}
-use Rattle·refusals.specs.declared.verdicts.Verdict.the-variants.{Fine, Refused}
-use Rattle·refusals.specs.Lines.{refusal}
-use Rattle·refuting·specs.specs.Steps.{Shown, shown, notShown}
+use Rattle.std.specs.Prelude.{Bool, cond, ◌&&◌, List, ℕ, ◌+◌, ◌<◌, ◌≤◌, leb, length}
+use Rattle.clauses.specs.Step.{stepLength}
+use Rattle.refusals.specs.declared.verdicts.Verdict.{Verdict}
+use Rattle.refusals.specs.declared.verdicts.Verdict.TheVariants.{Fine, Refused}
+use Rattle.refusals.specs.Lines.{refusal}
+use Rattle.refuting.specs.Steps.{Shown, shown, notShown}
 
 -- there is such a kind, and the step is all there
 abbrev pub isThere : List ℕ → ℕ → Bool

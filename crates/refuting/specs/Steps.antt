@@ -1,13 +1,9 @@
 -- A certificate: the header, and the steps one after the other.
-use mathlib.Core.Bool.{Bool, true, false, cond, _&&_, _||_}
-use mathlib.Core.List.{List}
-use Prim.Native.Nat.{ℕ, zero, suc, _+_, _*_, _^_}
-use lib.Dec.{eqb, leb, ltb}
-use lib.ListN.{length}
-use Rattle·bits.specs.Below.{every}
-use Rattle·clauses.specs.Clause.{Question, inOrder}
-use Rattle·clauses.specs.Step.{rowsIn, rowAt, kindAt, literalsAt, givenAt, stepLength}
-use Rattle·following.specs.Following.{derivedInOrder}
+use Rattle.std.specs.Prelude.{Bool, true, false, cond, ◌&&◌, ◌||◌, List, ℕ, zero, suc, ◌+◌, ◌*◌, ◌^◌, eqb, leb, ltb, length}
+use Rattle.bits.specs.Below.{every}
+use Rattle.clauses.specs.Clause.{Question, inOrder}
+use Rattle.clauses.specs.Step.{rowsIn, row_at, kind_at, literalsAt, givenAt, stepLength}
+use Rattle.following.specs.Following.{derivedInOrder}
 
 -- a certificate names at most 512 rows
 abbrev pub mostRows : ℕ
@@ -17,7 +13,7 @@ mostRows = 512
 unfoldable pub headerInOrder : ℕ → List ℕ → Bool
 headerInOrder n c =
     leb 1 (rowsIn c) && (leb (rowsIn c) mostRows && (leb (2 + 2 * rowsIn c) (length c)
-    && every (rowsIn c) (λ a. ltb (rowAt c a) (2 ^ n))))
+    && every (rowsIn c) (λ a. ltb (row_at c a) (2 ^ n))))
 
 -- what a certificate comes to: it shows what it is to show, or it doesn't, and a byte's place is named
 pub data Shown : Type 0 where
@@ -29,15 +25,15 @@ module _ (q : Question) (c : List ℕ) where
   unfoldable pub stepInOrder : (ℕ → Bool) → ℕ → Bool
   stepInOrder begun at =
       leb 1 (stepLength c at) && (leb (at + stepLength c at) (length c)
-      && cond (eqb (kindAt c at) 0) (derivedInOrder q c at begun) (inOrder (q .size) (q .table) (givenAt c at)))
+      && cond (eqb (kind_at c at) 0) (derivedInOrder q c at begun) (inOrder q.size q.table (givenAt c at)))
 
   -- a place more at which a step begins
   abbrev pub alsoAt : ℕ → (ℕ → Bool) → ℕ → Bool
   alsoAt at begun p = eqb p at || begun p
 
   -- an empty clause that followed
-  abbrev pub isEmpty : ℕ → Bool
-  isEmpty at = eqb (kindAt c at) 0 && eqb (literalsAt c at) 0
+  abbrev pub is_empty : ℕ → Bool
+  is_empty at = eqb (kind_at c at) 0 && eqb (literalsAt c at) 0
 
   -- at the end: whether the last step was an empty clause
   abbrev pub ended : Bool → Shown
@@ -48,7 +44,7 @@ module _ (q : Question) (c : List ℕ) where
   steps zero at begun empty = ended empty
   steps (suc k) at begun empty =
       cond (ltb at (length c))
-      (cond (stepInOrder begun at) (steps k (at + stepLength c at) (alsoAt at begun) (isEmpty at)) (notShown at))
+      (cond (stepInOrder begun at) (steps k (at + stepLength c at) (alsoAt at begun) (is_empty at)) (notShown at))
       (ended empty)
 
   -- the whole certificate, its header in order

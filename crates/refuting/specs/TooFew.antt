@@ -1,19 +1,15 @@
 -- Show that no network of m or fewer cells carries a table, by a certificate.
-use mathlib.Core.Bool.{Bool, true, false, not, _&&_}
-use mathlib.Core.List.{List, [], _∷_, _++_}
-use Prim.Native.Nat.{ℕ, _+_, _*_}
-use lib.Dec.{leb, ltb}
-use lib.ListN.{length}
-use Rattle·sheets.specs.declared.kinds.Edition.{Edition}
-use Rattle·sheets.specs.Edition.{mostRecords, editionOf}
-use Rattle·refusals.specs.declared.verdicts.Verdict.{Verdict}
-use Rattle·refusals.specs.Numbers.{ofCells, ofRoom, ofShown}
-use Rattle·refusals.specs.Lines.{Line, line, naming, verdict}
-use Rattle·refusals.specs.Refusals.{gateLines, toldLines}
-use Rattle·refusals.specs.Lent.{workAfter}
-use Rattle·clauses.specs.Variables.{variables}
-use Rattle·clauses.specs.Step.{sizeWith, asked}
-use Rattle·refuting·specs.specs.Steps.{Shown, shown, notShown, headerInOrder, outcomeOf}
+use Rattle.std.specs.Prelude.{Bool, true, false, not, ◌&&◌, List, [], ◌∷◌, ◌++◌, ℕ, ◌+◌, ◌*◌, leb, ltb, length}
+use Rattle.sheets.specs.declared.kinds.Edition.{Edition}
+use Rattle.sheets.specs.Edition.{mostRecords, editionOf}
+use Rattle.refusals.specs.declared.verdicts.Verdict.{Verdict}
+use Rattle.refusals.specs.Numbers.{ofCells, ofRoom, ofShown}
+use Rattle.refusals.specs.Lines.{Line, line, naming, verdict}
+use Rattle.refusals.specs.Refusals.{gateLines, toldLines}
+use Rattle.refusals.specs.Lent.{workAfter}
+use Rattle.clauses.specs.Variables.{variables}
+use Rattle.clauses.specs.Step.{sizeWith, asked}
+use Rattle.refuting.specs.Steps.{Shown, shown, notShown, headerInOrder, outcomeOf}
 
 -- 5: m outside 1 to 15
 abbrev pub badCells : ℕ → Line
@@ -28,14 +24,14 @@ abbrev pub isNotShown : Shown → Bool
 isNotShown shown = false
 isNotShown (notShown p) = true
 
-abbrev pub placeIn : Shown → ℕ
-placeIn shown = 0
-placeIn (notShown p) = p
+abbrev pub place_in : Shown → ℕ
+place_in shown = 0
+place_in (notShown p) = p
 
 -- 22: the certificate doesn't show it; where it fails is named
 abbrev pub doesNotShow : ℕ → ℕ → ℕ → List ℕ → List ℕ → Line
 doesNotShow n K m t c =
-    let s = outcomeOf n (asked n K m t c) c in naming ofShown (placeIn s) (isNotShown s)
+    let s = outcomeOf n (asked n K m t c) c in naming ofShown (place_in s) (isNotShown s)
 
 -- what is asked: 1 to 5
 abbrev pub fewForm : Edition → ℕ → ℕ → ℕ → List ℕ → List Line

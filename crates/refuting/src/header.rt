@@ -1,21 +1,19 @@
 // A certificate's header.
+ghost use Rattle.std.specs.Prelude.{◌≡◌, ◌+◌, ◌*◌, ◌^◌, ◌≤◌, ltb, length};
+ghost use Rattle.bits.specs.Below.{every};
+ghost use Rattle.tables.specs.Table.{mostInputs};
+ghost use Rattle.clauses.specs.Step.{row_at};
+ghost use Rattle.refuting.specs.Steps.{headerInOrder};
+
 use clauses::numbers::two_at;
-ghost use mathlib.Core.Path.{_≡_};
-ghost use Prim.Native.Nat.{_+_, _*_, _^_, _≤_};
-ghost use lib.Dec.{ltb};
-ghost use lib.ListN.{length};
-ghost use Rattle·bits.specs.Below.{every};
-ghost use Rattle·tables.specs.Table.{mostInputs};
-ghost use Rattle·clauses.specs.Step.{rowAt};
-ghost use Rattle·refuting·specs.specs.Steps.{headerInOrder};
 
 // A certificate names at most so many rows.
 const MOST_ROWS: usize = 512;
 
 // Whether each of so many rows is an assignment of n inputs.
 fn rows_below(n: u32, c: &[u8], many: usize) -> bool
-    requires { ⌜ (n ≤ mostInputs) × (2 + 2 * many ≤ length (now c)) ⌝ }
-    ensures { λ r. ⌜ r ≡ every many (λ a. ltb (rowAt (now (c .entry)) a) (2 ^ n)) ⌝ }
+    requires { (n ≤ mostInputs) × (2 + 2 * many ≤ length c.now) }
+    ensures { result ≡ every many (λ a. ltb (row_at c.now a) (2 ^ n)) }
 {
     let end: usize = 1 << n;
     let mut a: usize = 0;
@@ -30,8 +28,8 @@ fn rows_below(n: u32, c: &[u8], many: usize) -> bool
 
 // Whether the header is in order.
 pub fn header_in_order(n: u32, c: &[u8]) -> bool
-    requires { ⌜ n ≤ mostInputs ⌝ }
-    ensures { λ r. ⌜ r ≡ headerInOrder n (now (c .entry)) ⌝ }
+    requires { n ≤ mostInputs }
+    ensures { result ≡ headerInOrder n c.now }
 {
     let many = c.len();
     if many < 2 {

@@ -1,34 +1,26 @@
 // A certificate's steps, one after the other.
-use clauses::fields::given_at;
-use clauses::fields::length_of;
+ghost use Rattle.std.specs.Prelude.{◌≡◌, false, cond, ◌&&◌, ℕ, ◌+◌, ◌<◌, eqb, length};
+ghost use Rattle.tables.specs.Table.{tableBit, tableLength};
+ghost use Rattle.clauses.specs.Variables.{IsSize, variables};
+ghost use Rattle.clauses.specs.Clause.{inOrder};
+ghost use Rattle.clauses.specs.Step.{questionIn, kind_at, literalsAt, givenAt};
+ghost use Rattle.clauses.specs.Shapes.{HasRows};
+ghost use Rattle.following.specs.Following.{derivedInOrder};
+ghost use Rattle.following.specs.Standing.{Clean, Kept, begunIn, Ready};
+ghost use Rattle.refuting.specs.Steps.{allSteps};
+ghost use Rattle.refuting.specs.Looking.{lengthThere, AllOf, shownAs};
+
+use clauses::fields::{given_at, length_of};
 use clauses::given::in_order;
-use clauses::numbers::four_at;
-use clauses::numbers::two_at;
-use clauses::variables::Size;
-use clauses::variables::all_variables;
+use clauses::numbers::{four_at, two_at};
+use clauses::variables::{Size, all_variables};
 use following::following::derived_in_order;
-use refusals::verdicts::Refusal;
-use refusals::verdicts::Verdict;
-use refusals::verdicts::refuse_at;
-ghost use mathlib.Core.Path.{_≡_};
-ghost use mathlib.Core.Bool.{false, cond, _&&_};
-ghost use Prim.Native.Nat.{ℕ, _+_, _<_};
-ghost use lib.Dec.{eqb};
-ghost use lib.ListN.{length};
-ghost use Rattle·tables.specs.Table.{tableBit, tableLength};
-ghost use Rattle·clauses.specs.Variables.{IsSize, variables};
-ghost use Rattle·clauses.specs.Clause.{inOrder};
-ghost use Rattle·clauses.specs.Step.{questionIn, kindAt, literalsAt, givenAt};
-ghost use Rattle·clauses.specs.Shapes.{HasRows};
-ghost use Rattle·following.specs.Following.{derivedInOrder};
-ghost use Rattle·following.specs.Standing.{Clean, Kept, begunIn, Ready};
-ghost use Rattle·refuting·specs.specs.Steps.{allSteps};
-ghost use Rattle·refuting·specs.specs.Looking.{lengthThere, AllOf, shownAs};
+use refusals::verdicts::{Refusal, Verdict, refuse_at};
 
 // The length of a step of kind 0; 0 if not all of it is there.
 fn derived_length(c: &[u8], at: usize) -> usize
-    requires { ⌜ (at < length (now c)) × (kindAt (now c) at ≡ 0) ⌝ }
-    ensures { λ r. ⌜ r ≡ lengthThere (now (c .entry)) at ⌝ }
+    requires { (at < length c.now) × (kind_at c.now at ≡ 0) }
+    ensures { result ≡ lengthThere c.now at }
 {
     let left = c.len() - at;
     if left < 7 {
@@ -47,8 +39,8 @@ fn derived_length(c: &[u8], at: usize) -> usize
 
 // The length of the step at a place; 0 if there is no such kind, or not all of it is there.
 fn length_there(c: &[u8], at: usize) -> usize
-    requires { ⌜ at < length (now c) ⌝ }
-    ensures { λ r. ⌜ r ≡ lengthThere (now (c .entry)) at ⌝ }
+    requires { at < length c.now }
+    ensures { result ≡ lengthThere c.now at }
 {
     let kind = c[at];
     if kind == 0 {
@@ -63,18 +55,14 @@ fn length_there(c: &[u8], at: usize) -> usize
 
 // Whether the step at a place, all of which is there, is in order.
 fn is_in_order<'a>(z: Size, t: &'a [u8], c: &'a [u8], at: usize, work: &mut [u8]) -> bool
-    requires { ⌜
-        IsSize z × HasRows z (now c) × (length (now t) ≡ tableLength (z .inputs)) × AllOf (now c) at
-        × Ready z (now t) (now c) (now work)
-        ⌝ }
-    ensures { λ r. ⌜
-        (r ≡ cond (eqb (kindAt (now (c .entry)) at) 0)
-        (derivedInOrder (questionIn z (now (t .entry)) (now (c .entry))) (now (c .entry)) at
-        (begunIn (variables z) (length (now (c .entry))) (now (work .entry))))
-        (inOrder z (tableBit (now (t .entry))) (givenAt (now (c .entry)) at)))
-        × Clean (variables z) (now (work .exit))
-        × Kept (variables z) (variables z + length (now (c .entry))) (now (work .entry)) (now (work .exit))
-        ⌝ }
+    requires { IsSize z × HasRows z c.now × (length t.now ≡ tableLength z.inputs) × AllOf c.now at
+        × Ready z t.now c.now work.old }
+    ensures { (result ≡ cond (eqb (kind_at c.now at) 0)
+        (derivedInOrder (questionIn z t.now c.now) c.now at
+        (begunIn (variables z) (length c.now) work.old))
+        (inOrder z (tableBit t.now) (givenAt c.now at)))
+        × Clean (variables z) work.new
+        × Kept (variables z) (variables z + length c.now) work.old work.new }
 {
     if c[at] == 0 {
         return derived_in_order(z, t, c, at, work);
@@ -84,8 +72,8 @@ fn is_in_order<'a>(z: Size, t: &'a [u8], c: &'a [u8], at: usize, work: &mut [u8]
 
 // Whether the step at a place, all of which is there, is an empty clause.
 fn is_empty(c: &[u8], at: usize) -> bool
-    requires { ⌜ AllOf (now c) at ⌝ }
-    ensures { λ r. ⌜ r ≡ (eqb (kindAt (now (c .entry)) at) 0 && eqb (literalsAt (now (c .entry)) at) 0) ⌝ }
+    requires { AllOf c.now at }
+    ensures { result ≡ (eqb (kind_at c.now at) 0 && eqb (literalsAt c.now at) 0) }
 {
     if c[at] != 0 {
         return false;
@@ -95,11 +83,9 @@ fn is_empty(c: &[u8], at: usize) -> bool
 
 // All steps: fine if they show it, else where they don't. Where each begins is marked in the work area.
 pub fn look_through<'a>(z: Size, t: &'a [u8], c: &'a [u8], work: &mut [u8]) -> Verdict
-    requires { ⌜
-        IsSize z × HasRows z (now c) × (length (now t) ≡ tableLength (z .inputs)) × Ready z (now t) (now c) (now work)
-        × ((j : ℕ) → begunIn (variables z) (length (now c)) (now work) j ≡ false)
-        ⌝ }
-    ensures { λ r. ⌜ r ≡ shownAs (allSteps (questionIn z (now (t .entry)) (now (c .entry))) (now (c .entry))) ⌝ }
+    requires { IsSize z × HasRows z c.now × (length t.now ≡ tableLength z.inputs) × Ready z t.now c.now work.old
+        × ((j : ℕ) → begunIn (variables z) (length c.now) work.old j ≡ false) }
+    ensures { result ≡ shownAs (allSteps (questionIn z t.now c.now) c.now) }
 {
     let all = all_variables(z);
     let mut at = 2 + 2 * z.rows;

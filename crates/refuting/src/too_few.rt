@@ -1,29 +1,22 @@
 // Showing, by a certificate, that no network of m cells or fewer carries a table.
+ghost use Rattle.std.specs.Prelude.{◌≡◌, ◌+◌, ◌*◌, ◌≤◌, ltb, length};
+ghost use Rattle.tables.specs.Table.{mostInputs, tableLength};
+ghost use Rattle.sheets.specs.Edition.{IsEdition, mostRecords};
+ghost use Rattle.refusals.specs.Lines.{verdict};
+ghost use Rattle.refuting.specs.TooFew.{fewForm, certificateLines, fewIn, fewAfter, tooFewOutcome};
+
 use crate::header::header_in_order;
 use crate::steps::look_through;
 use clauses::numbers::two_at;
-use clauses::variables::Size;
-use clauses::variables::all_variables;
+use clauses::variables::{Size, all_variables};
 use refusals::form;
-use refusals::verdicts::Refusal;
-use refusals::verdicts::Verdict;
-use refusals::verdicts::refuse;
-use refusals::verdicts::refuse_at;
-use sheets::kinds::Edition;
-use sheets::kinds::Sheet;
+use refusals::verdicts::{Refusal, Verdict, refuse, refuse_at};
+use sheets::kinds::{Edition, Sheet};
 use tables::clear;
-ghost use mathlib.Core.Path.{_≡_};
-ghost use Prim.Native.Nat.{_+_, _*_, _≤_};
-ghost use lib.Dec.{ltb};
-ghost use lib.ListN.{length};
-ghost use Rattle·tables.specs.Table.{mostInputs, tableLength};
-ghost use Rattle·sheets.specs.Edition.{IsEdition, mostRecords};
-ghost use Rattle·refusals.specs.Lines.{verdict};
-ghost use Rattle·refuting·specs.specs.TooFew.{fewForm, certificateLines, fewIn, fewAfter, tooFewOutcome};
 
 // Lines 1 to 5.
 fn few_form(e: Edition, n: u64, k: u64, m: u64, t: &[u8]) -> Verdict
-    ensures { λ r. ⌜ r ≡ verdict (fewForm e n k m (now (t .entry))) ⌝ }
+    ensures { result ≡ verdict (fewForm e n k m t.now) }
 {
     let gate = form::gate(e, n, k, t);
     let Verdict::Fine = gate else {
@@ -37,7 +30,7 @@ fn few_form(e: Edition, n: u64, k: u64, m: u64, t: &[u8]) -> Verdict
 
 // Whether a work area is shorter than V + 2 times the certificate's length.
 fn is_short(all: usize, many: usize, room: usize) -> bool
-    ensures { λ r. ⌜ r ≡ ltb room (all + 2 * many) ⌝ }
+    ensures { result ≡ ltb room (all + 2 * many) }
 {
     if room < all {
         return true;
@@ -47,13 +40,9 @@ fn is_short(all: usize, many: usize, room: usize) -> bool
 
 // Lines 6 and 22, the others being in order.
 fn look_at<'a>(n: u64, k: u64, m: u64, t: &'a [u8], c: &'a [u8], work: &mut [u8]) -> Verdict
-    requires { ⌜
-        (n ≤ mostInputs) × (k ≤ 8) × (1 ≤ m) × (m ≤ mostRecords) × (length (now t) ≡ tableLength n)
-        ⌝ }
-    ensures { λ r. ⌜
-        record { verdict = r; work = now (work .exit) }
-        ≡ fewAfter (now (work .entry)) (verdict (certificateLines n k m (now (t .entry)) (now (c .entry)) (now (work .entry))))
-        ⌝ }
+    requires { (n ≤ mostInputs) × (k ≤ 8) × (1 ≤ m) × (m ≤ mostRecords) × (length t.now ≡ tableLength n) }
+    ensures { record { verdict = result; work = work.new }
+        ≡ fewAfter work.old (verdict (certificateLines n k m t.now c.now work.old)) }
 {
     if !header_in_order(n as u32, c) {
         clear(work);
@@ -84,11 +73,9 @@ fn few_in<'a>(
     c: &'a [u8],
     work: &mut [u8],
 ) -> Verdict
-    requires { ⌜ IsEdition e ⌝ }
-    ensures { λ r. ⌜
-        record { verdict = r; work = now (work .exit) }
-        ≡ fewAfter (now (work .entry)) (verdict (fewIn e n k m (now (t .entry)) (now (c .entry)) (now (work .entry))))
-        ⌝ }
+    requires { IsEdition e }
+    ensures { record { verdict = result; work = work.new }
+        ≡ fewAfter work.old (verdict (fewIn e n k m t.now c.now work.old)) }
 {
     let form = few_form(e, n, k, m, t);
     let Verdict::Fine = form else {
@@ -107,10 +94,8 @@ pub fn too_few<'a>(
     c: &'a [u8],
     work: &mut [u8],
 ) -> Verdict
-    ensures { λ r. ⌜
-        record { verdict = r; work = now (work .exit) }
-        ≡ tooFewOutcome w n k m (now (t .entry)) (now (c .entry)) (now (work .entry))
-        ⌝ }
+    ensures { record { verdict = result; work = work.new }
+        ≡ tooFewOutcome w n k m t.now c.now work.old }
 {
     let told = form::told(w, n);
     let Verdict::Fine = told else {

@@ -1,19 +1,16 @@
 -- Write a sheet of the edition e in the edition f.
-use mathlib.Core.Path.{_≡_}
-use mathlib.Core.List.{List, [], _∷_, _++_}
-use Prim.Native.Nat.{ℕ, _*_}
-use lib.ListN.{take}
-use Rattle·sheets.specs.declared.kinds.Edition.{Edition}
-use Rattle·sheets.specs.Desk.{deskOf}
-use Rattle·sheets.specs.Sheet.{sheetCells, records, rebuilt, Good}
-use Rattle·sheets.specs.Reading.{EachRead}
-use Rattle·sheets.specs.Writing.{sheetBytes}
-use Rattle·refusals.specs.declared.verdicts.Refusal.{Refusal}
-use Rattle·refusals.specs.declared.verdicts.Verdict.the-variants.{Fine, Refused}
-use Rattle·refusals.specs.Lines.{Line, verdict, reply}
-use Rattle·refusals.specs.Refusals.{badInputs, shortRecords, sheetLines, unreadRecord}
-use Rattle·refusals.specs.Lent.{into}
-use Rattle·rewriting·specs.specs.declared.rewrite.RewriteAnswer.{RewriteAnswer}
+use Rattle.std.specs.Prelude.{◌≡◌, List, [], ◌∷◌, ◌++◌, ℕ, ◌*◌, take}
+use Rattle.sheets.specs.declared.kinds.Edition.{Edition}
+use Rattle.sheets.specs.Desk.{deskOf}
+use Rattle.sheets.specs.Sheet.{sheetCells, records, rebuilt, Good}
+use Rattle.sheets.specs.Reading.{EachRead}
+use Rattle.sheets.specs.Writing.{sheetBytes}
+use Rattle.refusals.specs.declared.verdicts.Refusal.{Refusal}
+use Rattle.refusals.specs.declared.verdicts.Verdict.TheVariants.{Fine, Refused}
+use Rattle.refusals.specs.Lines.{Line, verdict, reply}
+use Rattle.refusals.specs.Refusals.{badInputs, shortRecords, sheetLines, unreadRecord}
+use Rattle.refusals.specs.Lent.{into}
+use Rattle.rewriting.specs.declared.rewrite.RewriteAnswer.{RewriteAnswer}
 
 -- ---- meaning
 
@@ -46,7 +43,7 @@ pub record RewriteOutcome : Type 0 where
 
 -- the records that were written: so many of the room's first bytes, as they are afterwards
 abbrev pub newRecords : Edition → RewriteOutcome → List ℕ
-newRecords f o = take (f .size * o .answer .count) (o .room)
+newRecords f o = take (f.size * o.answer.count) o.room
 
 -- done: how many records; the bytes after the last stay
 abbrev pub rewriteDone : Edition → Edition → ℕ → List ℕ → List ℕ → RewriteOutcome

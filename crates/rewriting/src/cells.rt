@@ -1,19 +1,17 @@
 // A record of a sheet, held as a cell.
-use sheets::kinds::Edition;
-use sheets::kinds::HeldCell;
+ghost use Rattle.std.specs.Prelude.{◌≡◌, ℕ, ◌+◌, ◌<◌, ◌≤◌, length, get_or};
+ghost use Rattle.sheets.specs.Edition.{largestCell};
+ghost use Rattle.sheets.specs.Record.{byte_at, cell_of};
+ghost use Rattle.sheets.specs.Held.{networkCell};
+ghost use Rattle.runs.specs.Running.{Runnable};
+
+use sheets::kinds::{Edition, HeldCell};
 use tables::cell::CellTable;
-ghost use mathlib.Core.Path.{_≡_};
-ghost use Prim.Native.Nat.{ℕ, _+_, _<_, _≤_};
-ghost use lib.ListN.{length, getD};
-ghost use Rattle·sheets.specs.Edition.{largestCell};
-ghost use Rattle·sheets.specs.Record.{byteAt, cellOf};
-ghost use Rattle·sheets.specs.Held.{networkCell};
-ghost use Rattle·runs.specs.Running.{Runnable};
 
 // The signals of a record, in the first places.
 fn signals_of(b: &[u8]) -> [u8; HeldCell::MOST]
-    requires { ⌜ (byteAt (now b) 0 ≤ largestCell) × (byteAt (now b) 0 < length (now b)) ⌝ }
-    ensures { λ r. ⌜ ((j : ℕ) → j < byteAt (now (b .entry)) 0 → getD r j 0 ≡ byteAt (now (b .entry)) (j + 1)) ⌝ }
+    requires { (byte_at b.now 0 ≤ largestCell) × (byte_at b.now 0 < length b.now) }
+    ensures { (j : ℕ) → j < byte_at b.now 0 → get_or result j 0 ≡ byte_at b.now (j + 1) }
 {
     let k = b[0] as usize;
     let mut places = [HeldCell::UNUSED; HeldCell::MOST];
@@ -28,8 +26,8 @@ fn signals_of(b: &[u8]) -> [u8; HeldCell::MOST]
 
 // The cell of a record.
 pub fn cell_of(e: Edition, b: &[u8]) -> HeldCell
-    requires { ⌜ Runnable e (now b) ⌝ }
-    ensures { λ r. ⌜ (r .k ≤ e .most) × (networkCell r ≡ cellOf e (byteAt (now (b .entry)))) ⌝ }
+    requires { Runnable e b.now }
+    ensures { (result.k ≤ e.most) × (networkCell result ≡ cell_of e (byte_at b.now)) }
 {
     let start = e.start;
     let k = b[0];

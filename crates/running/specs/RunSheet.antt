@@ -1,15 +1,13 @@
 -- Run a sheet at an assignment: one bit.
-use mathlib.Core.Bool.{false}
-use mathlib.Core.List.{List, [], _∷_, _++_}
-use Prim.Native.Nat.{ℕ}
-use Rattle·sheets.specs.declared.kinds.Edition.{Edition}
-use Rattle·sheets.specs.Desk.{deskOf}
-use Rattle·sheets.specs.Sheet.{records, sheetBit}
-use Rattle·refusals.specs.declared.verdicts.Refusal.{Refusal}
-use Rattle·refusals.specs.declared.verdicts.Verdict.the-variants.{Fine, Refused}
-use Rattle·refusals.specs.Lines.{Line, verdict, reply}
-use Rattle·refusals.specs.Refusals.{badInputs, sheetLines, badAssignment, unreadRecord}
-use Rattle·running·specs.specs.declared.run_sheet.RunAnswer.{RunAnswer}
+use Rattle.std.specs.Prelude.{false, List, [], ◌∷◌, ◌++◌, ℕ}
+use Rattle.sheets.specs.declared.kinds.Edition.{Edition}
+use Rattle.sheets.specs.Desk.{deskOf}
+use Rattle.sheets.specs.Sheet.{records, sheetBit}
+use Rattle.refusals.specs.declared.verdicts.Refusal.{Refusal}
+use Rattle.refusals.specs.declared.verdicts.Verdict.TheVariants.{Fine, Refused}
+use Rattle.refusals.specs.Lines.{Line, verdict, reply}
+use Rattle.refusals.specs.Refusals.{badInputs, sheetLines, badAssignment, unreadRecord}
+use Rattle.running.specs.declared.run_sheet.RunAnswer.{RunAnswer}
 
 -- form: 1, 9, 10 and 11
 abbrev pub runForm : Edition → ℕ → ℕ → List ℕ → ℕ → List Line

@@ -1,12 +1,11 @@
 -- Run a sheet of a told edition at an assignment.
-use mathlib.Core.List.{List}
-use Prim.Native.Nat.{ℕ}
-use Rattle·sheets.specs.Edition.{editionOf}
-use Rattle·sheets.specs.Desk.{deskOf}
-use Rattle·refusals.specs.Lines.{Line, verdict, reply}
-use Rattle·refusals.specs.Refusals.{toldLines}
-use Rattle·running·specs.specs.declared.run_sheet.RunAnswer.{RunAnswer}
-use Rattle·running·specs.specs.RunSheet.{runLines, runDone, runNot}
+use Rattle.std.specs.Prelude.{List, ℕ}
+use Rattle.sheets.specs.Edition.{editionOf}
+use Rattle.sheets.specs.Desk.{deskOf}
+use Rattle.refusals.specs.Lines.{Line, verdict, reply}
+use Rattle.refusals.specs.Refusals.{toldLines}
+use Rattle.running.specs.declared.run_sheet.RunAnswer.{RunAnswer}
+use Rattle.running.specs.RunSheet.{runLines, runDone, runNot}
 
 -- 1, 2 of the edition, and run's own in that edition, for the sheet's own desk
 abbrev pub runToldLines : ℕ → ℕ → List ℕ → ℕ → List Line

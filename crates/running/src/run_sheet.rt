@@ -1,17 +1,17 @@
 // Running a sheet at an assignment.
+ghost use Rattle.std.specs.Prelude.{◌≡◌};
+ghost use Rattle.sheets.specs.Edition.{IsEdition, firstEdition};
+ghost use Rattle.refusals.specs.Lines.{verdict};
+ghost use Rattle.running.specs.RunSheet.{runLines, runOutcome, runOwn};
+
 use records::desk::desk_of;
 use refusals::form;
-use refusals::verdicts::Refusal;
-use refusals::verdicts::Verdict;
-use refusals::verdicts::refuse;
+use refusals::verdicts::{Refusal, Verdict, refuse};
 use runs::running::bit_of;
 use sheets::kinds::Edition;
-ghost use mathlib.Core.Path.{_≡_};
-ghost use Rattle·sheets.specs.Edition.{IsEdition, firstEdition};
-ghost use Rattle·refusals.specs.Lines.{verdict};
-ghost use Rattle·running·specs.specs.RunSheet.{runLines, runOutcome, runOwn};
 
 // The bit, if nothing is wrong.
+#[derive(Drop)]
 pub struct RunAnswer {
     pub verdict: Verdict,
     pub bit: bool,
@@ -19,8 +19,8 @@ pub struct RunAnswer {
 
 // Lines 1, 9, 10, 11 and 15.
 fn run_form(e: Edition, d: u8, n: u64, s: &[u8], x: u64) -> Verdict
-    requires { ⌜ IsEdition e ⌝ }
-    ensures { λ r. ⌜ r ≡ verdict (runLines e d n (now (s .entry)) x) ⌝ }
+    requires { IsEdition e }
+    ensures { result ≡ verdict (runLines e d n s.now x) }
 {
     let seen = form::sheet_for(e, d, n, s);
     let Verdict::Fine = seen else {
@@ -34,8 +34,8 @@ fn run_form(e: Edition, d: u8, n: u64, s: &[u8], x: u64) -> Verdict
 
 // Runs a sheet of an edition, which is to be the desk d's, at the assignment x.
 pub fn run_in(e: Edition, d: u8, n: u64, s: &[u8], x: u64) -> RunAnswer
-    requires { ⌜ IsEdition e ⌝ }
-    ensures { λ r. ⌜ r ≡ runOutcome e d n (now (s .entry)) x ⌝ }
+    requires { IsEdition e }
+    ensures { result ≡ runOutcome e d n s.now x }
 {
     let form = run_form(e, d, n, s, x);
     let Verdict::Fine = form else {
@@ -53,15 +53,15 @@ pub fn run_in(e: Edition, d: u8, n: u64, s: &[u8], x: u64) -> RunAnswer
 
 // Runs a sheet of an edition, whatever its desk, at the assignment x.
 pub fn run_own(e: Edition, n: u64, s: &[u8], x: u64) -> RunAnswer
-    requires { ⌜ IsEdition e ⌝ }
-    ensures { λ r. ⌜ r ≡ runOwn e n (now (s .entry)) x ⌝ }
+    requires { IsEdition e }
+    ensures { result ≡ runOwn e n s.now x }
 {
     run_in(e, desk_of(e, s), n, s, x)
 }
 
 // Runs a sheet, whatever its desk, at the assignment x.
 pub fn run_sheet(n: u64, s: &[u8], x: u64) -> RunAnswer
-    ensures { λ r. ⌜ r ≡ runOwn firstEdition n (now (s .entry)) x ⌝ }
+    ensures { result ≡ runOwn firstEdition n s.now x }
 {
     run_own(Edition::first(), n, s, x)
 }

@@ -1,93 +1,93 @@
 -- Words of 64 assignments: an input's word is a pattern or alike in all bits, and a cell's word is found by choosing
 -- between the halves of its table, one induction over its inputs. Assumes nothing.
-use mathlib.Core.Path.{_≡_, refl, sym, ap, ap₂, _∙_}
-use mathlib.Core.Bool.{Bool, true, false, cond, not, _&&_}
-use mathlib.Core.List.{List, [], _∷_}
-use Prim.Native.Nat.{ℕ, zero, suc, _+_, _-_, _*_, _/_, _%_, _^_, _<_, _≤_}
-use native.Mathlib.Nat.{mod-lt, add-mul, mul-assoc, zero-add}
-use native.Mathlib.Decide.{decLt}
+use mathlib.Core.Path.{◌≡◌, refl, sym, ap, ap₂, ◌∙◌}
+use mathlib.Core.Bool.{Bool, true, false, cond, not, ◌&&◌}
+use mathlib.Core.List.{List, [], ◌∷◌}
+use Prim.Native.Nat.{ℕ, zero, suc, ◌+◌, ◌-◌, ◌*◌, ◌/◌, ◌%◌, ◌^◌, ◌<◌, ◌≤◌}
+use native.Mathlib.Nat.{mod-lt, add-mul, mul_assoc, zero-add}
+use native.Mathlib.Decide.{dec_lt}
 use native.Mathlib.Omega.{arith}
 use lib.Dec.{ltb, eqb, lit<}
-use lib.ListN.{length, getD, set, take, drop}
-use lib.Pow.{pow-mono, pow-pos, pow-add}
-use lib.Seq.{getD-set-same, getD-set-other}
+use lib.ListN.{length, get_or, set, take, drop}
+use lib.Pow.{pow_mono, pow_pos, pow-add}
+use lib.Seq.{get_or-set_same, get_or-set_other}
 use borrow.Author.Tests.{lt-ltb, le-ltb, ltb-true, ltb-false, eqb-true, eqb-false}
-use Rattle·bits.specs.Numbers.{bit, val, number}
-use Rattle·bits.specs.Patterns.{pattern}
-use Rattle·bits.proofs.Numbers.{bit-below, bit-shr, bit-mod, bit-zero, number-bit, number-ext, number-lt, number-mod}
-use Rattle·bits.proofs.Numbers.{val-lt}
-use Rattle·bits.proofs.Sums.{number-append, bit-not}
-use Rattle·bits.proofs.Filling.{Filled}
-use Rattle·tables.specs.Table.{tableLength, tableBit}
-use Rattle·tables.specs.Words.{WordAt}
-use Rattle·runs·specs.specs.Words.{inputWord, lane}
-use Rattle·sheets.specs.declared.kinds.Edition.{Edition}
-use Rattle·sheets.specs.Network.{output}
-use Rattle·sheets.specs.Record.{byteAt, cellBit, cellOf}
-use Rattle·runs·specs.specs.Running.{inputAt, Runnable}
-use Rattle·runs·proofs.proofs.Runs.{number-short, output-at, table-room, table-part, part-length}
+use Rattle.bits.specs.Numbers.{bit, val, number}
+use Rattle.bits.specs.Patterns.{pattern}
+use Rattle.bits.proofs.Numbers.{bit_below, bit-shr, bit-mod, bit-zero, number_bit, number-ext, number_lt, number-mod}
+use Rattle.bits.proofs.Numbers.{val-lt}
+use Rattle.bits.proofs.Sums.{number_append, bit_not}
+use Rattle.bits.proofs.Filling.{Filled}
+use Rattle.tables.specs.Table.{tableLength, tableBit}
+use Rattle.tables.specs.Words.{WordAt}
+use Rattle.runs.specs.Words.{inputWord, lane}
+use Rattle.sheets.specs.declared.kinds.Edition.{Edition}
+use Rattle.sheets.specs.Network.{output}
+use Rattle.sheets.specs.Record.{byte_at, cellBit, cell_of}
+use Rattle.runs.specs.Running.{input_at, Runnable}
+use Rattle.runs.proofs.Runs.{number_short, output-at, table-room, table-part, part_length}
 
 -- ---- of a cell's table inputs 6 and 7 choose a word, and the others a bit of it
 
 module _ (e : Edition) (r : List ℕ) (w : Runnable e r) (v : ℕ → Bool) {q : ℕ}
-    (is : q ≡ number 2 (λ j. inputAt (byteAt r) v (6 + j))) where
+    (is : q ≡ number 2 (λ j. input_at (byte_at r) v (6 + j))) where
   abbrev part : List ℕ
-  part = take (length r - e .start) (drop (e .start) r)
+  part = take (length r - e.start) (drop e.start r)
 
   abbrev f : ℕ → Bool
-  f = inputAt (byteAt r) v
+  f = input_at (byte_at r) v
 
   all : 64 * q + number 6 f ≡ number 8 f
-  all = omega (arith, is, number-append 6 2 f)
+  all = omega (arith, is, number_append 6 2 f)
 
-  room : (64 * q + number 6 f) / 8 < length r - e .start
+  room : (64 * q + number 6 f) / 8 < length r - e.start
   room =
-      let g : ℕ → Bool = λ j. v (byteAt r (j + 1)) in
-      let h : 64 * q + number 6 f < 2 ^ byteAt r 0 =
+      let g : ℕ → Bool = λ j. v (byte_at r (j + 1)) in
+      let h : 64 * q + number 6 f < 2 ^ byte_at r 0 =
       omega (
         arith,
         all,
-        number-short (byteAt r 0) 8 g (omega (arith, w .sound .eight, w .readable .few)),
-        number-lt
-            (byteAt r 0) g,
+        number_short (byte_at r 0) 8 g (omega (arith, w.sound.eight, w.readable.few)),
+        number_lt
+            (byte_at r 0) g,
       ) in
-      omega (arith, w .long, table-room e (w .sound) (byteAt r 0) (64 * q + number 6 f) (w .readable .few) h)
+      omega (arith, w.long, table-room e w.sound (byte_at r 0) (64 * q + number 6 f) w.readable.few h)
 
   pub word-there : WordAt part (64 * q)
   word-there = record {
-    long = λ h. elim (decLt (e .most) 6) [ yes g ↦ absurd (short h g) | no g ↦ long (omega arith) ];
-    short = λ h. omega (arith, room, part-length e r);
+    long = λ h. elim (dec_lt e.most 6) [ yes g ↦ absurd (short h g) | no g ↦ long (omega arith) ];
+    short = λ h. omega (arith, room, part_length e r);
   }
     where
-      short : 8 ≤ length part → e .most < 6 → ⊥
+      short : 8 ≤ length part → e.most < 6 → ⊥
       short h g = omega (
         arith,
-        w .long,
-        part-length e r,
-        w .sound .ends,
-        pow-mono {i = e .most - 3} {j = 2}
+        w.long,
+        part_length e r,
+        w.sound.ends,
+        pow_mono {i = e.most - 3} {j = 2}
             (omega arith),
       )
 
-      long : 6 ≤ e .most → 8 * (64 * q / 64) + 8 ≤ length part
+      long : 6 ≤ e.most → 8 * (64 * q / 64) + 8 ≤ length part
       long g =
-          let z : e .most - 3 ≡ 3 + (e .most - 6) = omega arith in
+          let z : e.most - 3 ≡ 3 + (e.most - 6) = omega arith in
           omega (
             arith,
             room,
-            w .long,
-            part-length e r,
-            w .sound .ends,
+            w.long,
+            part_length e r,
+            w.sound.ends,
             ap (λ (k : ℕ). 2 ^ k) z
-                ∙ pow-add 2 3 (e .most - 6),
+                ∙ pow-add 2 3 (e.most - 6),
           )
 
   pub output-word : (t : ℕ) → ((k : ℕ) → 64 * q % 64 + k < 64 → bit t k ≡ tableBit part (64 * q + k))
-      → bit t (number 6 f) ≡ output (cellOf e (byteAt r)) v
+      → bit t (number 6 f) ≡ output (cell_of e (byte_at r)) v
   output-word t at =
-      at (number 6 f) (omega (arith, number-lt 6 f)) ∙ table-part e r (64 * q + number 6 f) room
-      ∙ ap (cellBit e (byteAt r)) all
-      ∙ sym (output-at e (byteAt r) v 8 (omega (arith, w .sound .eight, w .readable .few)))
+      at (number 6 f) (omega (arith, number_lt 6 f)) ∙ table-part e r (64 * q + number 6 f) room
+      ∙ ap (cellBit e (byte_at r)) all
+      ∙ sym (output-at e (byte_at r) v 8 (omega (arith, w.sound.eight, w.readable.few)))
 
 -- ---- an input's word
 
@@ -95,7 +95,7 @@ pub input-low : (j w : ℕ) → j < 6 → pattern j ≡ inputWord j w
 unfolding pattern
 input-low j w h =
     number-ext 64 (λ x. bit x j) (λ i. bit (64 * w + i) j)
-    (λ i l. let q : i + w * 2 ^ 6 ≡ 64 * w + i = omega arith in sym (bit-below i w 6 j h) ∙ ap (λ (x : ℕ). bit x j) q)
+    (λ i l. let q : i + w * 2 ^ 6 ≡ 64 * w + i = omega arith in sym (bit_below i w 6 j h) ∙ ap (λ (x : ℕ). bit x j) q)
 
 pub input-high : (j w : ℕ) (t : Bool) → 6 ≤ j → bit w (j - 6) ≡ t → inputWord j w ≡ number 64 (λ i. t)
 input-high j w t h e =
@@ -110,9 +110,9 @@ input-high j w t h e =
 abbrev pub four : ℕ → List ℕ
 four s = 0 ∷ (2 ^ 64 - 1 - s) ∷ s ∷ (2 ^ 64 - 1 - 0) ∷ []
 
-four-bit : (s i z : ℕ) → s < 2 ^ 64 → i < 64 → z < 4 → bit (getD (four s) z 0) i ≡ bit z (val (bit s i))
+four-bit : (s i z : ℕ) → s < 2 ^ 64 → i < 64 → z < 4 → bit (get_or (four s) z 0) i ≡ bit z (val (bit s i))
 four-bit s i zero l h g = bit-zero i ∙ sym (bit-zero (val (bit s i)))
-four-bit s i (suc zero) l h g = bit-not 64 s i l h ∙ go (bit s i)
+four-bit s i (suc zero) l h g = bit_not 64 s i l h ∙ go (bit s i)
   where
     go : (t : Bool) → not t ≡ bit 1 (val t)
     go true = refl
@@ -122,7 +122,7 @@ four-bit s i (suc (suc zero)) l h g = go (bit s i)
     go : (t : Bool) → t ≡ bit 2 (val t)
     go true = refl
     go false = refl
-four-bit s i (suc (suc (suc zero))) l h g = bit-not 64 0 i (lit< tt) h ∙ ap not (bit-zero i) ∙ go (bit s i)
+four-bit s i (suc (suc (suc zero))) l h g = bit_not 64 0 i (lit< tt) h ∙ ap not (bit-zero i) ∙ go (bit s i)
   where
     go : (t : Bool) → true ≡ bit 3 (val t)
     go true = refl
@@ -130,15 +130,15 @@ four-bit s i (suc (suc (suc zero))) l h g = bit-not 64 0 i (lit< tt) h ∙ ap no
 four-bit s i (suc (suc (suc (suc z)))) l h g = absurd (omega arith)
 
 pub pair-bit : (t : List ℕ) (s h i : ℕ) → s < 2 ^ 64 → i < 64
-    → bit (getD (four s) (getD t (h / 4) 0 / 2 ^ (2 * (h % 4)) % 4) 0) i ≡ tableBit t (2 * h + val (bit s i))
+    → bit (get_or (four s) (get_or t (h / 4) 0 / 2 ^ (2 * (h % 4)) % 4) 0) i ≡ tableBit t (2 * h + val (bit s i))
 pair-bit t s h i l g =
-    let y = getD t (h / 4) 0 / 2 ^ (2 * (h % 4)) in
+    let y = get_or t (h / 4) 0 / 2 ^ (2 * (h % 4)) in
     let b = val (bit s i) in
     let u = val-lt (bit s i) in
     let p : h / 4 ≡ (2 * h + b) / 8 = omega arith in
     let q : 2 * (h % 4) + b ≡ (2 * h + b) % 8 = omega arith in
     four-bit s i (y % 4) l g (mod-lt y (lit< tt)) ∙ bit-mod y 2 b (omega arith)
-    ∙ bit-shr (getD t (h / 4) 0) (2 * (h % 4)) b ∙ ap₂ (λ (a c : ℕ). bit (getD t a 0) c) p q
+    ∙ bit-shr (get_or t (h / 4) 0) (2 * (h % 4)) b ∙ ap₂ (λ (a c : ℕ). bit (get_or t a 0) c) p q
 
 -- ---- a cell's word, in one of its bits: T is the cell's table, f its inputs' values there, 1 + n of them
 
@@ -146,20 +146,20 @@ pair-bit t s h i l g =
 abbrev above : ℕ → (ℕ → Bool) → ℕ → ℕ → ℕ
 above n g j h = h + number (n - j) (λ i. g (j + i)) * 2 ^ j
 
-above-more : (n : ℕ) (g : ℕ → Bool) (j h : ℕ) → j < n → above n g (j + 1) (h + val (g j) * 2 ^ j) ≡ above n g j h
+above_more : (n : ℕ) (g : ℕ → Bool) (j h : ℕ) → j < n → above n g (j + 1) (h + val (g j) * 2 ^ j) ≡ above n g j h
 unfolding number
-above-more n g j h l =
+above_more n g j h l =
     let r = number (n - (j + 1)) (λ i. g (j + 1 + i)) in
     let q : n - j ≡ 1 + (n - (j + 1)) = omega arith in
     let z : j + 0 ≡ j = omega arith in
     let e : number (n - j) (λ i. g (j + i)) ≡ val (g j) + r * 2 =
-    ap (λ (k : ℕ). number k (λ i. g (j + i))) q ∙ number-append 1 (n - (j + 1)) (λ i. g (j + i))
+    ap (λ (k : ℕ). number k (λ i. g (j + i))) q ∙ number_append 1 (n - (j + 1)) (λ i. g (j + i))
     ∙ ap₂ (λ (a b : ℕ). a + b * 2) (ap (λ (i : ℕ). 0 + val (g i) * 2 ^ 0) z ∙ omega arith)
     (number-ext (n - (j + 1)) (λ i. g (j + (1 + i))) (λ i. g (j + 1 + i))
     (λ i k. let p : j + (1 + i) ≡ j + 1 + i = omega arith in ap g p)) in
     let d : (val (g j) + r * 2) * 2 ^ j ≡ val (g j) * 2 ^ j + r * 2 ^ (j + 1) =
     add-mul (val (g j)) (r * 2) (2 ^ j) ∙ ap (λ (x : ℕ). val (g j) * 2 ^ j + x)
-    (mul-assoc r 2 (2 ^ j) ∙ ap (λ (x : ℕ). r * x) p) in
+    (mul_assoc r 2 (2 ^ j) ∙ ap (λ (x : ℕ). r * x) p) in
     omega (arith, ap (λ (x : ℕ). x * 2 ^ j) e, d)
   where
     p : 2 * 2 ^ j ≡ 2 ^ (j + 1)
@@ -179,7 +179,7 @@ module _ (T f : ℕ → Bool) (n : ℕ) where
 
   -- input 1 + j chooses too
   pub left-more : (j h : ℕ) → j < n → left j h ≡ cond (f (1 + j)) (left (j + 1) (2 ^ j + h)) (left (j + 1) h)
-  left-more j h l = ap (λ (x : ℕ). T (2 * x + val (f 0))) (sym (above-more n (λ i. f (1 + i)) j h l)) ∙ go (f (1 + j))
+  left-more j h l = ap (λ (x : ℕ). T (2 * x + val (f 0))) (sym (above_more n (λ i. f (1 + i)) j h l)) ∙ go (f (1 + j))
     where
       at : ℕ → Bool
       at x = left (j + 1) x
@@ -196,7 +196,7 @@ module _ (T f : ℕ → Bool) (n : ℕ) where
       ap (λ (k : ℕ). number k (λ i. f (1 + (0 + i)))) q
       ∙ number-ext n (λ i. f (1 + (0 + i))) (λ i. f (1 + i))
       (λ i l. let p : 1 + (0 + i) ≡ 1 + i = omega arith in ap f p) in
-      ap T (omega (arith, e, number-append 1 n f))
+      ap T (omega (arith, e, number_append 1 n f))
 
 -- ---- words in places
 
@@ -204,7 +204,7 @@ module _ (T f : ℕ → Bool) (n : ℕ) where
 pub lane-filled : {end : ℕ} {f : ℕ → ℕ} {before after : List ℕ} {i : ℕ} → Filled 0 end f before after i → (j h : ℕ) → h
     < i → lane after j h ≡ bit (f h) j
 lane-filled {after = after} w j h l = ap (λ (m : ℕ). lane after j m) (sym (zero-add h))
-    ∙ ap (λ (x : ℕ). bit x j) (w .new h l)
+    ∙ ap (λ (x : ℕ). bit x j) (w.new h l)
 
 pub lane-set : (words : List ℕ) (t o i h : ℕ) → t < length words → lane (set words t o) i h
     ≡ cond (eqb h t) (bit o i) (lane words i h)
@@ -212,62 +212,62 @@ lane-set words t o i h l = go (eqb h t) refl
   where
     go : (b : Bool) → eqb h t ≡ b → lane (set words t o) i h ≡ cond b (bit o i) (lane words i h)
     go true q = ap (λ (x : ℕ). lane (set words t o) i x) (eqb-true h t q)
-        ∙ ap (λ (x : ℕ). bit x i) (getD-set-same words t o 0 l)
-    go false q = ap (λ (x : ℕ). bit x i) (getD-set-other words t h o 0 (eqb-false h t q))
+        ∙ ap (λ (x : ℕ). bit x i) (get_or-set_same words t o 0 l)
+    go false q = ap (λ (x : ℕ). bit x i) (get_or-set_other words t h o 0 (eqb-false h t q))
 
 -- the places of v hold what is left of a cell's table where input 0 and those above j, of 1 + n, have chosen
 module _ (e : Edition) (b : ℕ → ℕ) (words : List ℕ) (n : ℕ) where
   abbrev at : ℕ → ℕ → ℕ → Bool
-  at i = left (cellBit e b) (inputAt b (lane words i)) n
+  at i = left (cellBit e b) (input_at b (lane words i)) n
 
   abbrev pub Left : List ℕ → ℕ → Type 0
   Left v j = (h i : ℕ) → h < 2 ^ j → i < 64 → lane v i h ≡ at i j h
 
-  pub left-halved : (v v′ : List ℕ) (s half j : ℕ) → 0 < j → j ≤ n → half ≡ 2 ^ (j - 1)
-      → ((i : ℕ) → bit s i ≡ inputAt b (lane words i) j)
-      → ((h i : ℕ) → h < half → i < 64 → lane v′ i h ≡ cond (bit s i) (lane v i (half + h)) (lane v i h)) → Left v j
-      → Left v′ (j - 1)
-  left-halved v v′ s half j p l q f g w h i m k =
+  pub left-halved : (v v' : List ℕ) (s half j : ℕ) → 0 < j → j ≤ n → half ≡ 2 ^ (j - 1)
+      → ((i : ℕ) → bit s i ≡ input_at b (lane words i) j)
+      → ((h i : ℕ) → h < half → i < 64 → lane v' i h ≡ cond (bit s i) (lane v i (half + h)) (lane v i h)) → Left v j
+      → Left v' (j - 1)
+  left-halved v v' s half j p l q f g w h i m k =
       let r : 1 + (j - 1) ≡ j = omega arith in
       let t : j - 1 + 1 ≡ j = omega arith in
       let u = pow-add 2 (j - 1) 1 in
       let z = ap (λ (x : ℕ). 2 ^ x) t in
       g h i (omega arith) k ∙ ap (λ (c : Bool). cond c (lane v i (half + h)) (lane v i h))
-      (f i ∙ ap (inputAt b (lane words i)) (sym r))
-      ∙ ap₂ (cond (inputAt b (lane words i) (1 + (j - 1))))
+      (f i ∙ ap (input_at b (lane words i)) (sym r))
+      ∙ ap₂ (cond (input_at b (lane words i) (1 + (j - 1))))
       (w (half + h) i (omega arith) k ∙ ap₂ (at i) (sym t) (ap (λ (x : ℕ). x + h) q))
       (w h i (omega arith) k ∙ ap (λ (x : ℕ). at i x h) (sym t))
-      ∙ sym (left-more (cellBit e b) (inputAt b (lane words i)) n (j - 1) h (omega arith))
+      ∙ sym (left-more (cellBit e b) (input_at b (lane words i)) n (j - 1) h (omega arith))
 
   pub left-output : (v : List ℕ) → b 0 ≤ 1 + n → Left v 0 → (i : ℕ) → i < 64 → lane v i 0
-      ≡ output (cellOf e b) (lane words i)
+      ≡ output (cell_of e b) (lane words i)
   left-output v h w i l =
-      w 0 i (lit< tt) l ∙ left-all (cellBit e b) (inputAt b (lane words i)) n
+      w 0 i (lit< tt) l ∙ left-all (cellBit e b) (input_at b (lane words i)) n
       ∙ sym (output-at e b (lane words i) (1 + n) h)
 
 -- ---- a word's first 2 ^ n bits
 
-pub first-short : (n o : ℕ) → n < 6 → o % 2 ^ (2 ^ n) ≡ number 64 (λ i. ltb i (2 ^ n) && bit o i)
-first-short n o h = sym (number-mod (2 ^ n) o)
-    ∙ sym (number-short (2 ^ n) 64 (bit o) (omega (arith, pow-mono {i = n} {j = 6} (omega arith))))
+pub first_short : (n o : ℕ) → n < 6 → o % 2 ^ (2 ^ n) ≡ number 64 (λ i. ltb i (2 ^ n) && bit o i)
+first_short n o h = sym (number-mod (2 ^ n) o)
+    ∙ sym (number_short (2 ^ n) 64 (bit o) (omega (arith, pow_mono {i = n} {j = 6} (omega arith))))
 
 pub first-whole : (n o : ℕ) → 6 ≤ n → o < 2 ^ 64 → o ≡ number 64 (λ i. ltb i (2 ^ n) && bit o i)
 first-whole n o h l =
-    sym (number-bit 64 o l)
+    sym (number_bit 64 o l)
     ∙ number-ext 64 (bit o) (λ i. ltb i (2 ^ n) && bit o i)
-    (λ i g. sym (ap (λ (t : Bool). t && bit o i) (lt-ltb i (2 ^ n) (omega (arith, pow-mono {i = 6} {j = n} h)))))
+    (λ i g. sym (ap (λ (t : Bool). t && bit o i) (lt-ltb i (2 ^ n) (omega (arith, pow_mono {i = 6} {j = n} h)))))
 
 -- are those of F from 64 w on
-pub first-of : (n w o : ℕ) (F : ℕ → Bool) → 64 * w < 2 ^ n
+pub first_of : (n w o : ℕ) (F : ℕ → Bool) → 64 * w < 2 ^ n
     → ((i : ℕ) → i < 64 → 64 * w + i < 2 ^ n → F (64 * w + i) ≡ bit o i)
     → number 64 (λ i. ltb i (2 ^ n) && bit o i) ≡ number 64 (λ i. ltb (64 * w + i) (2 ^ n) && F (64 * w + i))
-first-of n w o F some at =
+first_of n w o F some at =
     number-ext 64 (λ i. ltb i (2 ^ n) && bit o i) (λ i. ltb (64 * w + i) (2 ^ n) && F (64 * w + i))
     (λ i l. go i l (ltb (64 * w + i) (2 ^ n)) refl)
   where
     past : (i : ℕ) → i < 64 → 2 ^ n ≤ 64 * w + i → 2 ^ n ≤ i
-    past i l h = elim (decLt n 6) [
-      | yes g ↦ omega (arith, pow-mono {i = n} {j = 5} (omega arith))
+    past i l h = elim (dec_lt n 6) [
+      | yes g ↦ omega (arith, pow_mono {i = n} {j = 5} (omega arith))
       | no g ↦ let q : 6 + (n - 6) ≡ n = omega arith
           in absurd (omega (arith, ap (λ (k : ℕ). 2 ^ k) q, pow-add 2 6 (n - 6)))
     ]
@@ -281,7 +281,7 @@ first-of n w o F some at =
 
 -- byte i of a table is in a word of it
 pub word-starts : (n i : ℕ) → i < tableLength n → 64 * (i / 8) < 2 ^ n
-word-starts n i h = elim (decLt n 3) [
-  | yes l ↦ let z : n - 3 ≡ 0 = omega arith in omega (arith, ap (λ (k : ℕ). 2 ^ k) z, pow-pos n)
+word-starts n i h = elim (dec_lt n 3) [
+  | yes l ↦ let z : n - 3 ≡ 0 = omega arith in omega (arith, ap (λ (k : ℕ). 2 ^ k) z, pow_pos n)
   | no l ↦ let q : 3 + (n - 3) ≡ n = omega arith in omega (arith, ap (λ (k : ℕ). 2 ^ k) q, pow-add 2 3 (n - 3))
 ]

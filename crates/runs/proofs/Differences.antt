@@ -1,27 +1,27 @@
 -- Words of a sheet and of a table, place by place: where they are the same no assignment differs, and the lowest place
 -- at which they aren't is the least assignment that does. Past the last assignment both are 0. Assumes nothing.
-use mathlib.Core.Path.{_≡_, sym, ap, ap₂, _∙_, subst}
-use mathlib.Core.Bool.{Bool, true, false, not, _&&_, _||_, Bool·beq}
+use mathlib.Core.Path.{◌≡◌, sym, ap, ap₂, ◌∙◌, subst}
+use mathlib.Core.Bool.{Bool, true, false, not, ◌&&◌, ◌||◌, beq}
 use mathlib.Core.List.{List}
-use Prim.Native.Nat.{ℕ, _+_, _-_, _*_, _/_, _%_, _^_, _<_, _≤_}
-use native.Mathlib.Decide.{decLt}
+use Prim.Native.Nat.{ℕ, ◌+◌, ◌-◌, ◌*◌, ◌/◌, ◌%◌, ◌^◌, ◌<◌, ◌≤◌}
+use native.Mathlib.Decide.{dec_lt}
 use native.Mathlib.Omega.{arith}
 use lib.Dec.{ltb}
-use lib.ListN.{length, List·getD-eq-default}
-use lib.Pow.{pow-add, pow-mono}
+use lib.ListN.{length, get_or-eq_default}
+use lib.Pow.{pow-add, pow_mono}
 use borrow.Author.Tests.{lt-ltb, le-ltb, not-true, not-false}
-use Rattle·bits.specs.Numbers.{bit}
-use Rattle·bits.specs.Below.{least, IsLeast}
-use Rattle·bits.proofs.Bools.{clash, beq-same, same-beq}
-use Rattle·bits.proofs.Below.{every-at}
-use Rattle·bits.proofs.Least.{is-least, least-of}
-use Rattle·bits.proofs.Numbers.{bit-number, bit-zero, number-bit, number-ext, number-lt}
-use Rattle·tables.specs.Table.{tableLength, tableBit, spareClear}
-use Rattle·tables.specs.Words.{WordAt}
-use Rattle·sheets.specs.declared.kinds.Edition.{Edition}
-use Rattle·sheets.specs.Sheet.{sheetBit}
-use Rattle·runs·specs.specs.Words.{sheetWord}
-use Rattle·runs·specs.specs.Checking.{differs, firstDifference, apart}
+use Rattle.bits.specs.Numbers.{bit}
+use Rattle.bits.specs.Below.{least, IsLeast}
+use Rattle.bits.proofs.Bools.{clash, beq_same, same-beq}
+use Rattle.bits.proofs.Below.{every-at}
+use Rattle.bits.proofs.Least.{is-least, least-of}
+use Rattle.bits.proofs.Numbers.{bit-number, bit-zero, number_bit, number-ext, number_lt}
+use Rattle.tables.specs.Table.{tableLength, tableBit, spareClear}
+use Rattle.tables.specs.Words.{WordAt}
+use Rattle.sheets.specs.declared.kinds.Edition.{Edition}
+use Rattle.sheets.specs.Sheet.{sheetBit}
+use Rattle.runs.specs.Words.{sheetWord}
+use Rattle.runs.specs.Checking.{differs, firstDifference, apart}
 
 not-apart : (a b i : ℕ) → bit a i ≡ bit b i → apart a b i ≡ false
 not-apart a b i h = ap not (same-beq (bit a i) (bit b i) h)
@@ -30,15 +30,15 @@ not-apart a b i h = ap not (same-beq (bit a i) (bit b i) h)
 pub spare-false : (n : ℕ) (t : List ℕ) → length t ≡ tableLength n → spareClear n t ≡ true → (x : ℕ) → 2 ^ n ≤ x
     → tableBit t x ≡ false
 unfolding spareClear
-spare-false n t long spare x h = elim (decLt x 8) [
+spare-false n t long spare x h = elim (dec_lt x 8) [
   | yes l ↦
       not-true (tableBit t x) (sym (ap (λ (s : Bool). s || not (tableBit t x)) (le-ltb x (2 ^ n) h))
       ∙ every-at 8 (λ y. ltb y (2 ^ n) || not (tableBit t y)) spare x l)
-  | no l ↦ ap (λ (b : ℕ). bit b (x % 8)) (List·getD-eq-default t 0 (past l)) ∙ bit-zero (x % 8)
+  | no l ↦ ap (λ (b : ℕ). bit b (x % 8)) (get_or-eq_default t 0 (past l)) ∙ bit-zero (x % 8)
 ]
   where
     past : (x < 8 → ⊥) → length t ≤ x / 8
-    past l = elim (decLt n 3) [
+    past l = elim (dec_lt n 3) [
       | yes g ↦ let e : n - 3 ≡ 0 = omega arith in omega (arith, long, ap (λ (m : ℕ). 2 ^ m) e)
       | no g ↦ let e : n ≡ 3 + (n - 3) = omega arith
           in omega (arith, long, ap (λ (m : ℕ). 2 ^ m) e ∙ pow-add 2 3 (n - 3))
@@ -46,10 +46,10 @@ spare-false n t long spare x h = elim (decLt x 8) [
 
 -- the word of the table at a multiple of 64 lies in it
 pub word-there : (n : ℕ) (t : List ℕ) → length t ≡ tableLength n → (f : ℕ) → f % 64 ≡ 0 → f < 2 ^ n → WordAt t f
-word-there n t long f z l = elim (decLt n 6) [
+word-there n t long f z l = elim (dec_lt n 6) [
   | yes g ↦
-      let p = pow-mono {i = n - 3} {j = 2} (omega arith) in
-      let q = pow-mono {i = n} {j = 5} (omega arith) in
+      let p = pow_mono {i = n - 3} {j = 2} (omega arith) in
+      let q = pow_mono {i = n} {j = 5} (omega arith) in
       record { long = λ h. absurd (omega (arith, long, p)); short = λ h. omega (arith, q) }
   | no g ↦
       let e : n ≡ 6 + (n - 6) = omega arith in
@@ -58,7 +58,7 @@ word-there n t long f z l = elim (decLt n 6) [
       let q = ap (λ (m : ℕ). 2 ^ m) d ∙ pow-add 2 3 (n - 6) in
       record {
         long = λ h. omega (arith, long, p, q);
-        short = λ h. absurd (omega (arith, long, q, pow-mono {i = 0} {j = n - 6} (omega arith)));
+        short = λ h. absurd (omega (arith, long, q, pow_mono {i = 0} {j = n - 6} (omega arith)));
       }
 ]
 
@@ -83,7 +83,7 @@ module _ (e : Edition) (n : ℕ) (s : List ℕ) (m : ℕ) (t : List ℕ) (long :
     -- within the table a place differs exactly as its assignment does; past it none does
     inside : (k : ℕ) → k < 64 → f + k < 2 ^ n → apart a b k ≡ differs e n s m t (f + k)
     inside k h l =
-        ap₂ (λ (u v : Bool). not (Bool·beq u v)) (given-at k h
+        ap₂ (λ (u v : Bool). not (beq u v)) (given-at k h
         ∙ ap (λ (v : Bool). v && sheetBit e n s m (f + k)) (lt-ltb (f + k) (2 ^ n) l)) (asked-at k h)
 
     past : (k : ℕ) → k < 64 → 2 ^ n ≤ f + k → apart a b k ≡ false
@@ -92,8 +92,8 @@ module _ (e : Edition) (n : ℕ) (s : List ℕ) (m : ℕ) (t : List ℕ) (long :
         ∙ sym (asked-at k h ∙ spare-false n t long spare (f + k) l))
 
     -- the same word: no assignment of it differs
-    pub same-word : a ≡ b → (x : ℕ) → f ≤ x → x < f + 64 → x < 2 ^ n → differs e n s m t x ≡ false
-    same-word q x g h l =
+    pub same_word : a ≡ b → (x : ℕ) → f ≤ x → x < f + 64 → x < 2 ^ n → differs e n s m t x ≡ false
+    same_word q x g h l =
         let k = x - f in
         let r : f + k ≡ x = omega arith in
         let i : k < 64 = omega arith in
@@ -107,36 +107,36 @@ module _ (e : Edition) (n : ℕ) (s : List ℕ) (m : ℕ) (t : List ℕ) (long :
         let i = least 64 (apart a b) in
         let l = is-least 64 (apart a b) in
         let h : i < 64 = low l in
-        let g : f + i < 2 ^ n = within i h (l .here h) in
+        let g : f + i < 2 ^ n = within i h (l.here h) in
         sym (least-of (2 ^ n) (differs e n s m t) (f + i) (record {
           within = omega arith;
           before = λ x p. early x p g;
-          here = λ _. sym (inside i h g) ∙ l .here h;
+          here = λ _. sym (inside i h g) ∙ l.here h;
         }))
       where
         -- no place differs: then the words are the same
         equal : ((k : ℕ) → k < 64 → apart a b k ≡ false) → a ≡ b
         equal h =
-            let p = sym (number-bit 64 a (subst (λ (v : ℕ). v < 2 ^ 64) (sym given) (number-lt 64 _))) in
-            p ∙ number-ext 64 (bit a) (bit b) (λ k l. beq-same (bit a k) (bit b k)
-            (not-false (Bool·beq (bit a k) (bit b k)) (h k l))) ∙ number-bit 64 b w
+            let p = sym (number_bit 64 a (subst (λ (v : ℕ). v < 2 ^ 64) (sym given) (number_lt 64 _))) in
+            p ∙ number-ext 64 (bit a) (bit b) (λ k l. beq_same (bit a k) (bit b k)
+            (not-false (beq (bit a k) (bit b k)) (h k l))) ∙ number_bit 64 b w
 
         low : IsLeast 64 (apart a b) (least 64 (apart a b)) → least 64 (apart a b) < 64
-        low l = elim (decLt (least 64 (apart a b)) 64) [
+        low l = elim (dec_lt (least 64 (apart a b)) 64) [
           | yes h ↦ h
-          | no h ↦ absurd (q (equal (λ k g. l .before k (omega arith))))
+          | no h ↦ absurd (q (equal (λ k g. l.before k (omega arith))))
         ]
 
         within : (k : ℕ) → k < 64 → apart a b k ≡ true → f + k < 2 ^ n
-        within k h p = elim (decLt (f + k) (2 ^ n)) [ yes l ↦ l | no l ↦ absurd (clash p (past k h (omega arith))) ]
+        within k h p = elim (dec_lt (f + k) (2 ^ n)) [ yes l ↦ l | no l ↦ absurd (clash p (past k h (omega arith))) ]
 
         early : (x : ℕ) → x < f + least 64 (apart a b) → f + least 64 (apart a b) < 2 ^ n → differs e n s m t x ≡ false
-        early x p g = elim (decLt x f) [
+        early x p g = elim (dec_lt x f) [
           | yes l ↦ before x l (omega arith)
           | no l ↦
               let k = x - f in
               let r : f + k ≡ x = omega arith in
               let d = is-least 64 (apart a b) in
-              let i : k < 64 = omega (arith, d .within) in
-              sym (inside k i (omega arith) ∙ ap (differs e n s m t) r) ∙ d .before k (omega arith)
+              let i : k < 64 = omega (arith, d.within) in
+              sym (inside k i (omega arith) ∙ ap (differs e n s m t) r) ∙ d.before k (omega arith)
         ]

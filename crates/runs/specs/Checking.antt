@@ -1,16 +1,15 @@
 -- A sheet held against a table.
-use mathlib.Core.Bool.{Bool, not, Bool·beq}
-use mathlib.Core.List.{List}
-use Prim.Native.Nat.{ℕ, _^_}
-use Rattle·bits.specs.Numbers.{bit}
-use Rattle·bits.specs.Below.{least}
-use Rattle·tables.specs.Table.{tableBit}
-use Rattle·sheets.specs.declared.kinds.Edition.{Edition}
-use Rattle·sheets.specs.Sheet.{sheetBit}
+use Rattle.std.specs.Prelude.{Bool, not, List, ℕ, ◌^◌}
+use Rattle.std.specs.Bool.{beq}
+use Rattle.bits.specs.Numbers.{bit}
+use Rattle.bits.specs.Below.{least}
+use Rattle.tables.specs.Table.{tableBit}
+use Rattle.sheets.specs.declared.kinds.Edition.{Edition}
+use Rattle.sheets.specs.Sheet.{sheetBit}
 
 -- a sheet of m records and the table t differ at the assignment x
 abbrev pub differs : Edition → ℕ → List ℕ → ℕ → List ℕ → ℕ → Bool
-differs e n s m t x = not (Bool·beq (sheetBit e n s m x) (tableBit t x))
+differs e n s m t x = not (beq (sheetBit e n s m x) (tableBit t x))
 
 -- the least assignment at which they do, and 2 ^ n where there is none
 abbrev pub firstDifference : Edition → ℕ → List ℕ → ℕ → List ℕ → ℕ
@@ -18,4 +17,4 @@ firstDifference e n s m t = least (2 ^ n) (differs e n s m t)
 
 -- two words differ at place i
 abbrev pub apart : ℕ → ℕ → ℕ → Bool
-apart a b i = not (Bool·beq (bit a i) (bit b i))
+apart a b i = not (beq (bit a i) (bit b i))

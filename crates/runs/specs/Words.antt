@@ -1,12 +1,8 @@
 -- Tables 64 assignments at a time.
-use mathlib.Core.Bool.{Bool, _&&_}
-use mathlib.Core.List.{List}
-use Prim.Native.Nat.{ℕ, _+_, _*_, _^_}
-use lib.Dec.{ltb}
-use lib.ListN.{getD}
-use Rattle·bits.specs.Numbers.{bit, number}
-use Rattle·sheets.specs.declared.kinds.Edition.{Edition}
-use Rattle·sheets.specs.Sheet.{sheetBit}
+use Rattle.std.specs.Prelude.{Bool, ◌&&◌, List, ℕ, ◌+◌, ◌*◌, ◌^◌, ltb, get_or}
+use Rattle.bits.specs.Numbers.{bit, number}
+use Rattle.sheets.specs.declared.kinds.Edition.{Edition}
+use Rattle.sheets.specs.Sheet.{sheetBit}
 
 -- word w of the table of a sheet of m records, spare bits zero
 abbrev pub sheetWord : Edition → ℕ → List ℕ → ℕ → ℕ → ℕ
@@ -18,4 +14,4 @@ inputWord j w = number 64 (λ i. bit (64 * w + i) j)
 
 -- the values of the signals at the i-th of 64 assignments, where signal s has the word at place s
 abbrev pub lane : List ℕ → ℕ → ℕ → Bool
-lane words i s = bit (getD words s 0) i
+lane words i s = bit (get_or words s 0) i

@@ -1,24 +1,23 @@
 // Running a sheet at an assignment, and rebuilding its table.
+ghost use Rattle.std.specs.Prelude.{◌≡◌, ◌*◌, ◌^◌, ◌<◌, ◌≤◌, length};
+ghost use Rattle.bits.specs.Numbers.{bit, number};
+ghost use Rattle.tables.specs.Table.{mostInputs, tableLength};
+ghost use Rattle.sheets.specs.Network.{output};
+ghost use Rattle.sheets.specs.Edition.{IsEdition, mostRecords};
+ghost use Rattle.sheets.specs.Record.{byte_at, cell_of};
+ghost use Rattle.runs.specs.Running.{input_at, Runnable};
+ghost use Rattle.sheets.specs.Sheet.{AllReadable, sheetBit, rebuilt};
+
 use crate::words::sheet_word;
 use bits::patterns::half;
 use records::rules;
 use sheets::kinds::Edition;
 use tables::words::bits_from;
-ghost use mathlib.Core.Path.{_≡_};
-ghost use Prim.Native.Nat.{_*_, _^_, _<_, _≤_};
-ghost use lib.ListN.{length};
-ghost use Rattle·bits.specs.Numbers.{bit, number};
-ghost use Rattle·tables.specs.Table.{mostInputs, tableLength};
-ghost use Rattle·sheets.specs.Network.{output};
-ghost use Rattle·sheets.specs.Edition.{IsEdition, mostRecords};
-ghost use Rattle·sheets.specs.Record.{byteAt, cellOf};
-ghost use Rattle·runs·specs.specs.Running.{inputAt, Runnable};
-ghost use Rattle·sheets.specs.Sheet.{AllReadable, sheetBit, rebuilt};
 
 // The value of input j of a record's cell, where bit t of w is signal t; an input that the cell hasn't counts as 0.
 fn value(e: Edition, b: &[u8], w: u32, j: u32) -> bool
-    requires { ⌜ Runnable e (now b) ⌝ }
-    ensures { λ r. ⌜ r ≡ inputAt (byteAt (now (b .entry))) (bit w) j ⌝ }
+    requires { Runnable e b.now }
+    ensures { result ≡ input_at (byte_at b.now) (bit w) j }
 {
     if b[0] as u32 <= j {
         return false;
@@ -30,8 +29,8 @@ fn value(e: Edition, b: &[u8], w: u32, j: u32) -> bool
 // The bit of the table t at the number that inputs 0 to 5 make: t is halved by input after input, until only that bit
 // is left.
 fn halved(e: Edition, b: &[u8], w: u32, t: u64) -> bool
-    requires { ⌜ Runnable e (now b) ⌝ }
-    ensures { λ r. ⌜ r ≡ bit t (number 6 (inputAt (byteAt (now (b .entry))) (bit w))) ⌝ }
+    requires { Runnable e b.now }
+    ensures { result ≡ bit t (number 6 (input_at (byte_at b.now) (bit w))) }
 {
     let mut left = t;
     let mut j: u32 = 0;
@@ -44,8 +43,8 @@ fn halved(e: Edition, b: &[u8], w: u32, t: u64) -> bool
 
 // What the cell of a record gives: inputs 6 and 7 choose a word of its table, and the others a bit of that.
 fn output_of(e: Edition, b: &[u8], w: u32) -> bool
-    requires { ⌜ Runnable e (now b) ⌝ }
-    ensures { λ r. ⌜ r ≡ output (cellOf e (byteAt (now (b .entry)))) (bit w) ⌝ }
+    requires { Runnable e b.now }
+    ensures { result ≡ output (cell_of e (byte_at b.now)) (bit w) }
 {
     let start = e.start;
     let high = value(e, b, w, 6) as u32 + 2 * (value(e, b, w, 7) as u32);
@@ -55,12 +54,10 @@ fn output_of(e: Edition, b: &[u8], w: u32) -> bool
 // What a sheet of m records gives at the assignment x. The word holds the signals so far: the inputs, then each
 // record's output.
 pub fn bit_of(e: Edition, n: u32, s: &[u8], m: usize, x: u32) -> bool
-    requires { ⌜
-        IsEdition e × (m ≤ mostRecords) × (n ≤ mostInputs) × (e .size * m ≤ length (now s))
-        × AllReadable e (now s) m
-        ⌝ }
-    requires { ⌜ x < 2 ^ n ⌝ }
-    ensures { λ r. ⌜ r ≡ sheetBit e n (now (s .entry)) m x ⌝ }
+    requires edition { IsEdition e × (m ≤ mostRecords) × (n ≤ mostInputs) × (e.size * m ≤ length s.now)
+        × AllReadable e s.now m }
+    requires x_bound { x < 2 ^ n }
+    ensures { result ≡ sheetBit e n s.now m x }
 {
     let mut w = x;
     let mut o = false;
@@ -77,12 +74,10 @@ pub fn bit_of(e: Edition, n: u32, s: &[u8], m: usize, x: u32) -> bool
 
 // The table of a sheet of m records, into a lent one of its length, which is written whole.
 pub fn rebuild(e: Edition, n: u32, s: &[u8], m: usize, out: &mut [u8])
-    requires { ⌜
-        IsEdition e × (m ≤ mostRecords) × (n ≤ mostInputs) × (e .size * m ≤ length (now s))
-        × AllReadable e (now s) m
-        ⌝ }
-    requires { ⌜ length (now out) ≡ tableLength n ⌝ }
-    ensures { λ r. ⌜ now (out .exit) ≡ rebuilt e n (now (s .entry)) m ⌝ }
+    requires edition { IsEdition e × (m ≤ mostRecords) × (n ≤ mostInputs) × (e.size * m ≤ length s.now)
+        × AllReadable e s.now m }
+    requires out_len { length out.old ≡ tableLength n }
+    ensures { out.new ≡ rebuilt e n s.now m }
 {
     let mut o: u64 = 0;
     let mut i: usize = 0;

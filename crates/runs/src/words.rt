@@ -1,21 +1,17 @@
 // A sheet's table 64 assignments at a time. The word of a signal has, as bit i, its value at assignment 64 w + i.
-use bits::patterns::choose;
-use bits::patterns::of_input;
+ghost use Rattle.std.specs.Prelude.{◌≡◌, cond, ◌&&◌, ℕ, ◌+◌, ◌-◌, ◌*◌, ◌^◌, ◌<◌, ◌≤◌, ltb, length};
+ghost use Rattle.bits.specs.Numbers.{bit, val, number};
+ghost use Rattle.tables.specs.Table.{mostInputs, tableBit};
+ghost use Rattle.sheets.specs.Network.{output};
+ghost use Rattle.sheets.specs.Edition.{IsEdition, mostRecords};
+ghost use Rattle.sheets.specs.Record.{byte_at, cellBit, cell_of};
+ghost use Rattle.runs.specs.Running.{input_at, Runnable};
+ghost use Rattle.sheets.specs.Sheet.{AllReadable};
+ghost use Rattle.runs.specs.Words.{sheetWord, inputWord, lane};
+
+use bits::patterns::{choose, of_input};
 use records::rules::record_of;
 use sheets::kinds::Edition;
-ghost use mathlib.Core.Path.{_≡_};
-ghost use mathlib.Core.Bool.{cond, _&&_};
-ghost use Prim.Native.Nat.{ℕ, _+_, _-_, _*_, _^_, _<_, _≤_};
-ghost use lib.Dec.{ltb};
-ghost use lib.ListN.{length};
-ghost use Rattle·bits.specs.Numbers.{bit, val, number};
-ghost use Rattle·tables.specs.Table.{mostInputs, tableBit};
-ghost use Rattle·sheets.specs.Network.{output};
-ghost use Rattle·sheets.specs.Edition.{IsEdition, mostRecords};
-ghost use Rattle·sheets.specs.Record.{byteAt, cellBit, cellOf};
-ghost use Rattle·runs·specs.specs.Running.{inputAt, Runnable};
-ghost use Rattle·sheets.specs.Sheet.{AllReadable};
-ghost use Rattle·runs·specs.specs.Words.{sheetWord, inputWord, lane};
 
 // Room for a word of each signal: 16 inputs and 15 records have numbers below 32.
 const SIGNALS: usize = 32;
@@ -24,8 +20,8 @@ const PAIRS: usize = 128;
 
 // The word of input j: a pattern below 6; from there on all assignments have the same value.
 pub fn input_word(j: u32, w: u32) -> u64
-    requires { ⌜ j < mostInputs ⌝ }
-    ensures { λ r. ⌜ r ≡ inputWord j w ⌝ }
+    requires { j < mostInputs }
+    ensures { result ≡ inputWord j w }
 {
     if j < 6 {
         return of_input(j);
@@ -38,8 +34,8 @@ pub fn input_word(j: u32, w: u32) -> u64
 
 // The words of the signals before the first record: the inputs', and 0 for the records to come.
 fn inputs(n: u32, w: u32) -> [u64; SIGNALS]
-    requires { ⌜ n ≤ mostInputs ⌝ }
-    ensures { λ r. ⌜ (length r ≡ 32) × ((i s : ℕ) → i < 64 → 64 * w + i < 2 ^ n → lane r i s ≡ bit (64 * w + i) s) ⌝ }
+    requires { n ≤ mostInputs }
+    ensures { (length result ≡ 32) × ((i s : ℕ) → i < 64 → 64 * w + i < 2 ^ n → lane result i s ≡ bit (64 * w + i) s) }
 {
     let end = n as usize;
     let mut r = [0u64; SIGNALS];
@@ -53,15 +49,15 @@ fn inputs(n: u32, w: u32) -> [u64; SIGNALS]
 
 // The pairs' words, none filled in.
 fn room() -> [u64; PAIRS]
-    ensures { λ r. ⌜ length r ≡ 128 ⌝ }
+    ensures { length result ≡ 128 }
 {
     [0; PAIRS]
 }
 
 // The word of input j of a record's cell; an input that the cell hasn't counts as 0.
 fn cell_input<'a>(e: Edition, b: &'a [u8], words: &'a [u64], j: usize) -> u64
-    requires { ⌜ Runnable e (now b) × (32 ≤ length (now words)) ⌝ }
-    ensures { λ r. ⌜ ((i : ℕ) → bit r i ≡ inputAt (byteAt (now (b .entry))) (lane (now (words .entry)) i) j) ⌝ }
+    requires { Runnable e b.now × (32 ≤ length words.now) }
+    ensures { (i : ℕ) → bit result i ≡ input_at (byte_at b.now) (lane words.now i) j }
 {
     if b[0] as usize <= j {
         return 0;
@@ -73,11 +69,9 @@ fn cell_input<'a>(e: Edition, b: &'a [u8], words: &'a [u64], j: usize) -> u64
 
 // For each pair h of a table's bits, 2 h and 2 h + 1, the word that the word of input 0 chooses from it.
 fn pairs(t: &[u8], first: u64, many: usize, v: &mut [u64])
-    requires { ⌜ (many ≤ 4 * length (now t)) × (many ≤ length (now v)) ⌝ }
-    ensures { λ r. ⌜
-        ((h i : ℕ) → h < many → i < 64 → lane (now (v .exit)) i h ≡ tableBit (now (t .entry))
-        (2 * h + val (bit first i)))
-        ⌝ }
+    requires { (many ≤ 4 * length t.now) × (many ≤ length v.old) }
+    ensures { (h i : ℕ) → h < many → i < 64 → lane v.new i h ≡ tableBit t.now
+        (2 * h + val (bit first i)) }
 {
     let four = [0, !first, first, !0];
     let mut h = 0;
@@ -90,11 +84,9 @@ fn pairs(t: &[u8], first: u64, many: usize, v: &mut [u64])
 
 // Halves a table of words by an input: place h takes the word at h or the one at half + h, as the input's word chooses.
 fn halve(s: u64, half: usize, v: &mut [u64])
-    requires { ⌜ half + half ≤ length (now v) ⌝ }
-    ensures { λ r. ⌜
-        ((h i : ℕ) → h < half → i < 64 → lane (now (v .exit)) i h ≡ cond (bit s i)
-        (lane (now (v .entry)) i (half + h)) (lane (now (v .entry)) i h))
-        ⌝ }
+    requires { half + half ≤ length v.old }
+    ensures { (h i : ℕ) → h < half → i < 64 → lane v.new i h ≡ cond (bit s i)
+        (lane v.old i (half + h)) (lane v.old i h) }
 {
     let mut h = 0;
     while h < half {
@@ -106,20 +98,18 @@ fn halve(s: u64, half: usize, v: &mut [u64])
 
 // One less, and 0 of 0.
 fn one_less(k: usize) -> usize
-    ensures { λ r. ⌜ r ≡ k - 1 ⌝ }
+    ensures { result ≡ k - 1 }
 {
     if k < 1 { 0 } else { k - 1 }
 }
 
 // The pairs of a cell's table, halved by input 0; how many inputs are left to halve by.
 fn first_half<'a>(e: Edition, b: &'a [u8], words: &'a [u64], v: &mut [u64]) -> usize
-    requires { ⌜ Runnable e (now b) × (32 ≤ length (now words)) × (128 ≤ length (now v)) ⌝ }
-    ensures { λ r. ⌜ r ≡ byteAt (now (b .entry)) 0 - 1 ⌝ }
-    ensures { λ r. ⌜
-        ((h i : ℕ) → h < 2 ^ r → i < 64
-        → lane (now (v .exit)) i h ≡ cellBit e (byteAt (now (b .entry)))
-        (2 * h + val (inputAt (byteAt (now (b .entry))) (lane (now (words .entry)) i) 0)))
-        ⌝ }
+    requires { Runnable e b.now × (32 ≤ length words.now) × (128 ≤ length v.old) }
+    ensures value { result ≡ byte_at b.now 0 - 1 }
+    ensures by_index { (h i : ℕ) → h < 2 ^ result → i < 64
+        → lane v.new i h ≡ cellBit e (byte_at b.now)
+        (2 * h + val (input_at (byte_at b.now) (lane words.now i) 0)) }
 {
     let start = e.start;
     let k = b[0] as usize;
@@ -130,10 +120,8 @@ fn first_half<'a>(e: Edition, b: &'a [u8], words: &'a [u64], v: &mut [u64]) -> u
 
 // The word of a record's cell: its table is halved by input 0 pair by pair, then from the highest input down.
 fn cell_word<'a>(e: Edition, b: &'a [u8], words: &'a [u64], v: &mut [u64]) -> u64
-    requires { ⌜ Runnable e (now b) × (32 ≤ length (now words)) × (128 ≤ length (now v)) ⌝ }
-    ensures { λ r. ⌜
-        ((i : ℕ) → i < 64 → bit r i ≡ output (cellOf e (byteAt (now (b .entry)))) (lane (now (words .entry)) i))
-        ⌝ }
+    requires { Runnable e b.now × (32 ≤ length words.now) × (128 ≤ length v.old) }
+    ensures { (i : ℕ) → i < 64 → bit result i ≡ output (cell_of e (byte_at b.now)) (lane words.now i) }
 {
     let mut j = first_half(e, b, words, v);
     while 0 < j {
@@ -146,8 +134,8 @@ fn cell_word<'a>(e: Edition, b: &'a [u8], words: &'a [u64], v: &mut [u64]) -> u6
 
 // The first 2 ^ n bits of a word, the others 0.
 pub fn first_bits(n: u32, o: u64) -> u64
-    requires { ⌜ n ≤ mostInputs ⌝ }
-    ensures { λ r. ⌜ r ≡ number 64 (λ i. ltb i (2 ^ n) && bit o i) ⌝ }
+    requires { n ≤ mostInputs }
+    ensures { result ≡ number 64 (λ i. ltb i (2 ^ n) && bit o i) }
 {
     if n < 6 {
         let many: u64 = 1 << n;
@@ -159,12 +147,10 @@ pub fn first_bits(n: u32, o: u64) -> u64
 
 // Word w of the table of a sheet of m records.
 pub fn sheet_word(e: Edition, n: u32, s: &[u8], m: usize, w: u32) -> u64
-    requires { ⌜
-        IsEdition e × (m ≤ mostRecords) × (n ≤ mostInputs) × (e .size * m ≤ length (now s))
-        × AllReadable e (now s) m
-        ⌝ }
-    requires { ⌜ 64 * w < 2 ^ n ⌝ }
-    ensures { λ r. ⌜ r ≡ sheetWord e n (now (s .entry)) m w ⌝ }
+    requires edition { IsEdition e × (m ≤ mostRecords) × (n ≤ mostInputs) × (e.size * m ≤ length s.now)
+        × AllReadable e s.now m }
+    requires w_bound { 64 * w < 2 ^ n }
+    ensures { result ≡ sheetWord e n s.now m w }
 {
     let from = n as usize;
     let mut words = inputs(n, w);

@@ -1,37 +1,37 @@
 -- Two answers without a walk: the very first candidate is possible, or no two inputs can be own. Assumes nothing.
-use mathlib.Core.Path.{_≡_, refl, sym, ap, ap₂, _∙_, subst}
-use mathlib.Core.Logic.{⊎-elim}
-use mathlib.Core.Bool.{Bool, true, false, not, _&&_, _||_, and-false}
+use mathlib.Core.Path.{◌≡◌, refl, sym, ap, ap₂, ◌∙◌, subst}
+use mathlib.Core.Logic.{⊎_elim}
+use mathlib.Core.Bool.{Bool, true, false, not, ◌&&◌, ◌||◌, and-false}
 use mathlib.Core.List.{List}
-use Prim.Native.Nat.{ℕ, zero, suc, _+_, _-_, _*_, _/_, _%_, _^_, _<_, _≤_}
+use Prim.Native.Nat.{ℕ, zero, suc, ◌+◌, ◌-◌, ◌*◌, ◌/◌, ◌%◌, ◌^◌, ◌<◌, ◌≤◌}
 use native.Mathlib.Nat.{not-suc-le-zero, pow-suc}
 use native.Mathlib.Numerals.{add-one}
 use native.Mathlib.Omega.{arith}
 use lib.Dec.{eqb}
-use lib.ListN.{getD}
-use lib.Bits.{bitAnd}
-use lib.Pow.{pow-mono, pow-pos, pow-lt}
-use borrow.Author.Tests.{eq-eqb, ne-eqb, eqb-true}
-use Rattle·bits.specs.Numbers.{bit, val, number}
-use Rattle·bits.specs.Sets.{union, size}
-use Rattle·bits.proofs.Bools.{clash, and-left}
-use Rattle·bits.proofs.Below.{below-suc}
-use Rattle·bits.proofs.Counting.{size-none, size-all, size-or}
-use Rattle·bits.proofs.Numbers.{bit-number, number-bit, bit-zero}
-use Rattle·bits.proofs.Sizes.{size-le, size-ext}
-use Rattle·bits.proofs.Sums.{all-ones, bit-not}
-use Rattle·bits.proofs.Machine.{ones-size, bit-and}
-use Rattle·splits.specs.Columns.{fewColumns}
-use Rattle·splits.proofs.Possible.{possible-iff}
-use Rattle·best.specs.Best.{Candidate}
-use Rattle·best.specs.Moves.{both}
-use Rattle·best.specs.Search.{Answer, none, split, above, first, tryB, ofSizes, best}
-use Rattle·best.proofs.Tries.{tryB-split}
-use Rattle·best.proofs.Best.{best-split, best-answer, above-best}
-use Rattle·witness.specs.Witness.{Inside}
-use Rattle·known.specs.Notes.{Needs, BadPairs, Dead, AllDead}
-use Rattle·witness.proofs.Members.{power-bit}
-use Rattle·walks.proofs.Pruning.{crowded, wide-size, lacks}
+use lib.ListN.{get_or}
+use lib.Bits.{bit_and}
+use lib.Pow.{pow_mono, pow_pos, pow-lt}
+use borrow.Author.Tests.{eq-eqb, ne_eqb, eqb-true}
+use Rattle.bits.specs.Numbers.{bit, val, number}
+use Rattle.bits.specs.Sets.{union, size}
+use Rattle.bits.proofs.Bools.{clash, and_left}
+use Rattle.bits.proofs.Below.{below_suc}
+use Rattle.bits.proofs.Counting.{size_none, size-all, size-or}
+use Rattle.bits.proofs.Numbers.{bit-number, number_bit, bit-zero}
+use Rattle.bits.proofs.Sizes.{size-le, size-ext}
+use Rattle.bits.proofs.Sums.{all_ones, bit_not}
+use Rattle.bits.proofs.Machine.{ones-size, bit-and}
+use Rattle.splits.specs.Columns.{fewColumns}
+use Rattle.splits.proofs.Possible.{possible-iff}
+use Rattle.best.specs.Best.{Candidate}
+use Rattle.best.specs.Moves.{both}
+use Rattle.best.specs.Search.{Answer, none, split, above, first, tryB, ofSizes, best}
+use Rattle.best.proofs.Tries.{tryB-split}
+use Rattle.best.proofs.Best.{best-split, best-answer, above-best}
+use Rattle.witness.specs.Witness.{Inside}
+use Rattle.known.specs.Notes.{Needs, BadPairs, Dead, AllDead}
+use Rattle.witness.proofs.Members.{power-bit}
+use Rattle.walks.proofs.Pruning.{crowded, wide-size, lacks}
 
 -- ---- the first candidate
 
@@ -42,27 +42,27 @@ least-number zero s = omega arith
 least-number (suc n) s = go (s n) (least-number n s)
   where
     go : (t : Bool) → 2 ^ size n s ≤ number n s + 1 → 2 ^ (size n s + val t) ≤ number n s + val t * 2 ^ n + 1
-    go true ih = rw add-one (omega (arith, pow-suc 2 (size n s), pow-mono {i = size n s} {j = n} (size-le n s)))
-    go false ih = omega (arith, ap (λ (m : ℕ). 2 ^ m) (plus-none (size n s)))
+    go true ih = rw add-one (omega (arith, pow-suc 2 (size n s), pow_mono {i = size n s} {j = n} (size-le n s)))
+    go false ih = omega (arith, ap (λ (m : ℕ). 2 ^ m) (plus_none (size n s)))
       where
-        plus-none : (m : ℕ) → m + 0 ≡ m
-        plus-none m = omega arith
+        plus_none : (m : ℕ) → m + 0 ≡ m
+        plus_none m = omega arith
 
 full : (k : ℕ) → 2 ^ k - 1 ≡ number k (λ j. true)
-full k = omega (arith, all-ones k)
+full k = omega (arith, all_ones k)
 
 module _ (n k : ℕ) (enough : k ≤ n) where
   first-lt : 2 ^ k - 1 < 2 ^ n
-  first-lt = omega (arith, pow-pos k, pow-mono {i = k} {j = n} enough)
+  first-lt = omega (arith, pow_pos k, pow_mono {i = k} {j = n} enough)
 
   first-size : size n (bit (2 ^ k - 1)) ≡ k
   first-size =
-      sym (ones-size n (2 ^ k - 1) first-lt) ∙ ones-size k (2 ^ k - 1) (omega (arith, pow-pos k))
+      sym (ones-size n (2 ^ k - 1) first-lt) ∙ ones-size k (2 ^ k - 1) (omega (arith, pow_pos k))
       ∙ size-ext k (bit (2 ^ k - 1)) (λ j. true) (λ j l. ap (λ (m : ℕ). bit m j) (full k)
       ∙ bit-number k (λ j. true) j l) ∙ size-all k
 
   none-size : size n (bit 0) ≡ 0
-  none-size = size-ext n (bit 0) (λ j. false) (λ j l. bit-zero j) ∙ size-none n
+  none-size = size-ext n (bit 0) (λ j. false) (λ j l. bit-zero j) ∙ size_none n
 
   -- where the search tries it and answers, that is the best split, and all k inputs are own
   pub first-best : (r : ℕ) (F : ℕ → Bool) → r < k → (q A B : ℕ) → tryB n r F q (2 ^ k - 1) 0 ≡ split A B
@@ -72,27 +72,27 @@ module _ (n k : ℕ) (enough : k ≤ n) where
         best-answer n r F k (2 ^ k - 1) 0 (record {
           candidate = record {
             belowA = first-lt;
-            belowB = pow-pos n;
-            apart = h .apart;
+            belowB = pow_pos n;
+            apart = h.apart;
             more = omega (arith, first-size);
             most = omega (arith, first-size, none-size);
           };
-          possible = h .possible;
-          ahead = λ A′ B′ c P. record {
-            largestA = omega (arith, first-size, c .most);
+          possible = h.possible;
+          ahead = λ A' B' c P. record {
+            largestA = omega (arith, first-size, c.most);
             smallestB = λ s. omega (arith, none-size);
             leastA = λ s t. omega (
               arith,
-              least-number n (bit A′),
-              number-bit n A′ (c .belowA),
+              least-number n (bit A'),
+              number_bit n A' c.belowA,
               ap (λ (m : ℕ). 2 ^ m)
                   (s ∙ first-size),
             );
             leastB = λ s t u. omega arith;
           };
         })
-            ∙ ap₂ split (h .sameA) (h .sameB),
-        ap (λ (m : ℕ). size n (bit m)) (sym (h .sameA)) ∙ first-size,
+            ∙ ap₂ split h.sameA h.sameB,
+        ap (λ (m : ℕ). size n (bit m)) (sym h.sameA) ∙ first-size,
       )
 
 -- ---- no two inputs can be own
@@ -105,8 +105,8 @@ module _ (n r : ℕ) (F : ℕ → Bool) (k : ℕ) where
       go none e = refl
       go (split A B) e =
           let w = best-split n r F k A B e in
-          absurd (clash (possible-iff n F (bit A) (bit B) (w .candidate .apart) r .1 (w .possible))
-          (h A B (w .candidate)))
+          absurd (clash ((possible-iff n F (bit A) (bit B) w.candidate.apart r).1 w.possible)
+          (h A B w.candidate))
 
 one-member : (n : ℕ) (s : ℕ → Bool) → 0 < size n s → (j : ℕ) × (j < n) × (s j ≡ true)
 unfolding size
@@ -114,7 +114,7 @@ one-member zero s h = absurd (not-suc-le-zero h)
 one-member (suc n) s h = go (s n) refl (one-member n s)
   where
     up : (j : ℕ) × (j < n) × (s j ≡ true) → (j : ℕ) × (j < suc n) × (s j ≡ true)
-    up w = (w .0, omega (arith, w .1), w .2)
+    up w = (w.0, omega (arith, w.1), w.2)
 
     go : (t : Bool) → s n ≡ t → (0 < size n s → (j : ℕ) × (j < n) × (s j ≡ true)) → (j : ℕ) × (j < suc n) × (s j ≡ true)
     go true e ih = (n, omega arith, e)
@@ -128,29 +128,29 @@ two-members (suc n) s h = go (s n) refl (two-members n s)
   where
     up : (i : ℕ) × (j : ℕ) × (j < i) × (i < n) × (s i ≡ true) × (s j ≡ true) → (i : ℕ) × (j : ℕ) × (j < i) × (i < suc n)
         × (s i ≡ true) × (s j ≡ true)
-    up w = (w .0, w .1, w .2, omega (arith, w .3), w .4, w .5)
+    up w = (w.0, w.1, w.2, omega (arith, w.3), w.4, w.5)
 
     top : s n ≡ true → (j : ℕ) × (j < n) × (s j ≡ true) → (i : ℕ) × (j : ℕ) × (j < i) × (i < suc n) × (s i ≡ true)
         × (s j ≡ true)
-    top e w = (n, w .0, w .1, omega arith, e, w .2)
+    top e w = (n, w.0, w.1, omega arith, e, w.2)
 
     go : (t : Bool) → s n ≡ t → (1 < size n s → (i : ℕ) × (j : ℕ) × (j < i) × (i < n) × (s i ≡ true) × (s j ≡ true))
         → (i : ℕ) × (j : ℕ) × (j < i) × (i < suc n) × (s i ≡ true) × (s j ≡ true)
     go true e ih = top e (one-member n s (omega (arith, ap val e)))
     go false e ih = up (ih (omega (arith, ap val e)))
 
-pair-size : (n i j : ℕ) → j < i → i < n → 2 ≤ size n (both i j)
+pair_size : (n i j : ℕ) → j < i → i < n → 2 ≤ size n (both i j)
 unfolding size
-pair-size zero i j l h = absurd (not-suc-le-zero h)
-pair-size (suc n) i j l h = ⊎-elim (λ g. omega (arith, pair-size n i j l g))
-    (λ e. omega (arith, ap val (here e), one n i j (omega (arith, e)))) (below-suc h)
+pair_size zero i j l h = absurd (not-suc-le-zero h)
+pair_size (suc n) i j l h = ⊎_elim (λ g. omega (arith, pair_size n i j l g))
+    (λ e. omega (arith, ap val (here e), one n i j (omega (arith, e)))) (below_suc h)
   where
     here : i ≡ n → both i j n ≡ true
     here e = ap (λ (t : Bool). t || eqb n j) (eq-eqb n i (sym e))
 
     one : (n i j : ℕ) → j < n → 1 ≤ size n (both i j)
     one zero i j h = absurd (not-suc-le-zero h)
-    one (suc n) i j h = ⊎-elim (λ g. omega (arith, one n i j g)) (λ e. omega (arith, ap val (there e))) (below-suc h)
+    one (suc n) i j h = ⊎_elim (λ g. omega (arith, one n i j g)) (λ e. omega (arith, ap val (there e))) (below_suc h)
       where
         there : j ≡ n → both i j n ≡ true
         there e = or-true (eqb n i) (eqb n j) (eq-eqb n j (sym e))
@@ -162,15 +162,15 @@ pair-size (suc n) i j l h = ⊎-elim (λ g. omega (arith, pair-size n i j l g))
 module _ {n : ℕ} {F : ℕ → Bool} (k : ℕ) (l : List ℕ) (most : n ≤ 16) (w : BadPairs n F 2 l) (dead : AllDead l n k 256)
   where
     fails : (A B : ℕ) → Candidate n k 1 A B → fewColumns n F (bit A) (bit B) 2 ≡ false
-    fails A B c = go (two-members n (bit A) (c .more))
+    fails A B c = go (two-members n (bit A) c.more)
       where
         go : (i : ℕ) × (j : ℕ) × (j < i) × (i < n) × (bit A i ≡ true) × (bit A j ≡ true)
             → fewColumns n F (bit A) (bit B) 2 ≡ false
-        go u = at (u .0) (u .1) (u .2) (u .3) (u .4) (u .5)
+        go u = at u.0 u.1 u.2 u.3 u.4 u.5
           where
             at : (i j : ℕ) → j < i → i < n → bit A i ≡ true → bit A j ≡ true → fewColumns n F (bit A) (bit B) 2 ≡ false
-            at i j p q hasI hasJ = lacks n 1 F (both i j) A B (x .0) (needs (x .0) (d .part (x .0) (x .2))) own (x .3)
-                (c .apart)
+            at i j p q hasI hasJ = lacks n 1 F (both i j) A B x.0 (needs x.0 (d.part x.0 x.2)) own x.3
+                c.apart
               where
                 m : ℕ
                 m = i * 16 + j
@@ -181,15 +181,15 @@ module _ {n : ℕ} {F : ℕ → Bool} (k : ℕ) (l : List ℕ) (most : n ≤ 16)
                 low : m % 16 ≡ j
                 low = omega (arith, most)
 
-                d : Dead (getD l m 0) i j k
-                d = subst (λ (b : ℕ). Dead (getD l m 0) i b k) low
-                    (subst (λ (a : ℕ). Dead (getD l m 0) a (m % 16) k) high
+                d : Dead (get_or l m 0) i j k
+                d = subst (λ (b : ℕ). Dead (get_or l m 0) i b k) low
+                    (subst (λ (a : ℕ). Dead (get_or l m 0) a (m % 16) k) high
                     (dead m (omega (arith, most)) (omega (arith, high, low)) (omega (arith, high))))
 
-                needs : Needs n F 2 (both i j) (getD l m 0)
-                needs = subst (λ (b : ℕ). Needs n F 2 (both i b) (getD l m 0)) low
-                    (subst (λ (a : ℕ). Needs n F 2 (both a (m % 16)) (getD l m 0)) high
-                    (w .each m (omega (arith, most))))
+                needs : Needs n F 2 (both i j) (get_or l m 0)
+                needs = subst (λ (b : ℕ). Needs n F 2 (both i b) (get_or l m 0)) low
+                    (subst (λ (a : ℕ). Needs n F 2 (both a (m % 16)) (get_or l m 0)) high
+                    (w.each m (omega (arith, most))))
 
                 own : Inside (both i j) (bit A)
                 own y e = pick (eqb y i) refl e
@@ -198,48 +198,48 @@ module _ {n : ℕ} {F : ℕ → Bool} (k : ℕ) (l : List ℕ) (most : n ≤ 16)
                     pick true f g = ap (bit A) (eqb-true y i f) ∙ hasI
                     pick false f g = ap (bit A) (eqb-true y j g) ∙ hasJ
 
-                apart : (y : ℕ) → y < 16 → bit (d .other) y ≡ true → both i j y ≡ false
-                apart y g e = ap₂ _||_ (ne-eqb y i (λ r. clash e (ap (bit (d .other)) r ∙ d .noI)))
-                    (ne-eqb y j (λ r. clash e (ap (bit (d .other)) r ∙ d .noJ)))
+                apart : (y : ℕ) → y < 16 → bit d.other y ≡ true → both i j y ≡ false
+                apart y g e = ap₂ ◌||◌ (ne_eqb y i (λ r. clash e (ap (bit d.other) r ∙ d.noI)))
+                    (ne_eqb y j (λ r. clash e (ap (bit d.other) r ∙ d.noJ)))
 
-                x : (c : ℕ) × (c < 16) × (bit (d .other) c ≡ true) × (union (bit A) (bit B) c ≡ false)
-                x = crowded 16 (both i j) (bit (d .other)) (union (bit A) (bit B)) apart
+                x : (c : ℕ) × (c < 16) × (bit d.other c ≡ true) × (union (bit A) (bit B) c ≡ false)
+                x = crowded 16 (both i j) (bit d.other) (union (bit A) (bit B)) apart
                     (λ y e. ap (λ (t : Bool). t || bit B y) (own y e))
                     (omega (
                       arith,
-                      d .many,
-                      pair-size 16 i j p (omega (arith, most)),
+                      d.many,
+                      pair_size 16 i j p (omega (arith, most)),
                       size-or 16 (bit A) (bit B),
-                      wide-size n A most (c .belowA),
-                      wide-size n B most (c .belowB),
-                      c .most,
+                      wide-size n A most c.belowA,
+                      wide-size n B most c.belowB,
+                      c.most,
                     ))
 
     pub dead-none : best n 1 F k ≡ none
     dead-none = never-best n 1 F k fails
 
 -- ---- as the code says it
-dead-other : (mask i p j : ℕ) → i < 16 → p ≡ 2 ^ i → bit (bitAnd mask (65535 - p)) i ≡ false
+dead-other : (mask i p j : ℕ) → i < 16 → p ≡ 2 ^ i → bit (bit_and mask (65535 - p)) i ≡ false
 dead-other mask i p j h e =
     bit-and mask (65535 - p) i ∙ ap (λ (t : Bool). bit mask i && t)
-    (bit-not 16 p i (subst (λ (m : ℕ). m < 65536) (sym e) (pow-lt h)) h
+    (bit_not 16 p i (subst (λ (m : ℕ). m < 65536) (sym e) (pow-lt h)) h
     ∙ ap not (ap (λ (m : ℕ). bit m i) e ∙ power-bit i i ∙ eq-eqb i i refl)) ∙ and-false (bit mask i)
 
 pub dead-code : (mask i j k p q : ℕ) → i < 16 → j < 16 → p ≡ 2 ^ i → q ≡ 2 ^ j → k < 2
-    + size 16 (bit (bitAnd (bitAnd mask (65535 - p)) (65535 - q))) → Dead mask i j k
+    + size 16 (bit (bit_and (bit_and mask (65535 - p)) (65535 - q))) → Dead mask i j k
 dead-code mask i j k p q hi hj ep eq many = record {
-  other = bitAnd (bitAnd mask (65535 - p)) (65535 - q);
-  part = λ c e. and-left (bit mask c) (bit (65535 - p) c) (sym (bit-and mask (65535 - p) c) ∙ first c e);
-  noI = bit-and (bitAnd mask (65535 - p)) (65535 - q) i
+  other = bit_and (bit_and mask (65535 - p)) (65535 - q);
+  part = λ c e. and_left (bit mask c) (bit (65535 - p) c) (sym (bit-and mask (65535 - p) c) ∙ first c e);
+  noI = bit-and (bit_and mask (65535 - p)) (65535 - q) i
       ∙ ap (λ (t : Bool). t && bit (65535 - q) i) (dead-other mask i p j hi ep);
-  noJ = dead-other (bitAnd mask (65535 - p)) j q i hj eq;
+  noJ = dead-other (bit_and mask (65535 - p)) j q i hj eq;
   many = many;
 }
   where
-    first : (c : ℕ) → bit (bitAnd (bitAnd mask (65535 - p)) (65535 - q)) c ≡ true → bit (bitAnd mask (65535 - p)) c
+    first : (c : ℕ) → bit (bit_and (bit_and mask (65535 - p)) (65535 - q)) c ≡ true → bit (bit_and mask (65535 - p)) c
         ≡ true
-    first c e = and-left (bit (bitAnd mask (65535 - p)) c) (bit (65535 - q) c)
-        (sym (bit-and (bitAnd mask (65535 - p)) (65535 - q) c) ∙ e)
+    first c e = and_left (bit (bit_and mask (65535 - p)) c) (bit (65535 - q) c)
+        (sym (bit-and (bit_and mask (65535 - p)) (65535 - q) c) ∙ e)
 
 -- no own set has more inputs than a cell
 pub above-small : (n r : ℕ) (F : ℕ → Bool) (k low : ℕ) → r ≤ low → k ≤ low → above n low (best n r F k) ≡ none

@@ -1,18 +1,13 @@
 -- What the code that looks for the best split over the inputs that count promises.
-use mathlib.Core.Path.{_≡_}
-use mathlib.Core.Bool.{Bool, true, false, cond}
-use mathlib.Core.List.{List}
-use Prim.Native.Nat.{ℕ}
-use lib.Dec.{leb}
-use lib.ListN.{length, replicate}
-use Rattle·bits.specs.Numbers.{bit}
-use Rattle·bits.specs.Sets.{size}
-use Rattle·tables.specs.Table.{tableBit}
-use Rattle·tables.specs.Counting.{support}
-use Rattle·search·specs.specs.declared.counted.Counted.{Counted}
-use Rattle·search·specs.specs.declared.counted.Counted.the-variants.{Few, Split, Nothing}
-use Rattle·best.specs.Search.{Answer, none, split}
-use Rattle·best.specs.Counting.{bestCounting}
+use Rattle.std.specs.Prelude.{◌≡◌, Bool, true, false, cond, List, ℕ, leb, length, replicate}
+use Rattle.bits.specs.Numbers.{bit}
+use Rattle.bits.specs.Sets.{size}
+use Rattle.tables.specs.Table.{tableBit}
+use Rattle.tables.specs.Counting.{support}
+use Rattle.search.specs.declared.counted.Counted.{Counted}
+use Rattle.search.specs.declared.counted.Counted.TheVariants.{Few, Split, Nothing}
+use Rattle.best.specs.Search.{Answer, none, split}
+use Rattle.best.specs.Counting.{bestCounting}
 
 -- that at most K inputs count
 abbrev pub isFew : Counted → Bool
@@ -28,7 +23,7 @@ splitIn Nothing = none
 
 -- few exactly if at most K inputs count, and then the work area is as it was; else the best split with r first cells
 -- over them, and the work area is zeros
-pub record FoundCounting (n r K : ℕ) (t work : List ℕ) (f : Counted) (work′ : List ℕ) : Type 0 where
+pub record FoundCounting (n r K : ℕ) (t work : List ℕ) (f : Counted) (work' : List ℕ) : Type 0 where
   pub few : isFew f ≡ leb (size n (bit (support n (tableBit t)))) K
   pub answer : splitIn f ≡ cond (isFew f) none (bestCounting n r (tableBit t) K)
-  pub left : work′ ≡ cond (isFew f) work (replicate (length work) 0)
+  pub left : work' ≡ cond (isFew f) work (replicate (length work) 0)

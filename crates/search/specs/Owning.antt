@@ -1,12 +1,10 @@
 -- Why no split has some inputs among its own ones: whatever else is own or shared, it would be too many.
-use mathlib.Core.Path.{_≡_}
-use mathlib.Core.Bool.{Bool, true, false, _&&_, _||_}
-use Prim.Native.Nat.{ℕ, _^_, _≤_}
-use Rattle·bits.specs.Numbers.{bit}
-use Rattle·bits.specs.Sets.{size}
-use Rattle·splits.specs.Columns.{fewColumns}
-use Rattle·best.specs.Best.{Candidate}
-use Rattle·witness.specs.Witness.{Inside, RulesOut}
+use Rattle.std.specs.Prelude.{◌≡◌, Bool, true, false, ◌&&◌, ◌||◌, ℕ, ◌^◌, ◌≤◌}
+use Rattle.bits.specs.Numbers.{bit}
+use Rattle.bits.specs.Sets.{size}
+use Rattle.splits.specs.Columns.{fewColumns}
+use Rattle.best.specs.Best.{Candidate}
+use Rattle.witness.specs.Witness.{Inside, RulesOut}
 
 -- a candidate with r first cells that has the mask P among its own inputs, and few columns
 pub record Owns (n k r : ℕ) (F : ℕ → Bool) (P A B : ℕ) : Type 0 where

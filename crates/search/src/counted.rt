@@ -1,25 +1,22 @@
 // The best split over the inputs that count.
+ghost use Rattle.std.specs.Prelude.{◌≡◌, false, ◌≤◌, length, replicate};
+ghost use Rattle.bits.specs.Numbers.{bit};
+ghost use Rattle.tables.specs.Table.{mostInputs, tableLength, tableBit};
+ghost use Rattle.tables.specs.Counting.{CountingIn};
+ghost use Rattle.best.specs.Answers.{answer_of};
+ghost use Rattle.best.specs.Counting.{spreadAnswer, bestCounting};
+ghost use Rattle.best.specs.Walk.{mostFirst};
+ghost use Rattle.search.specs.Counted.{isFew, splitIn, FoundCounting};
+
 use crate::search::find_with;
 use best::Found;
-use tables::aside::set_aside;
-use tables::aside::spread_mask;
+use tables::aside::{set_aside, spread_mask};
 use tables::clear;
-use tables::counting::CountingInputs;
-use tables::counting::counting_inputs;
-ghost use mathlib.Core.Path.{_≡_};
-ghost use mathlib.Core.Bool.{false};
-ghost use Prim.Native.Nat.{_≤_};
-ghost use lib.ListN.{length, replicate};
-ghost use Rattle·bits.specs.Numbers.{bit};
-ghost use Rattle·tables.specs.Table.{mostInputs, tableLength, tableBit};
-ghost use Rattle·tables.specs.Counting.{CountingIn};
-ghost use Rattle·best.specs.Answers.{answerOf};
-ghost use Rattle·best.specs.Counting.{spreadAnswer, bestCounting};
-ghost use Rattle·best.specs.Walk.{mostFirst};
-ghost use Rattle·search·specs.specs.Counted.{isFew, splitIn, FoundCounting};
+use tables::counting::{CountingInputs, counting_inputs};
 
 // What a search over the inputs that count finds: that at most k of them do; an own and a shared mask in the caller's
 // positions; or nothing.
+#[derive(Drop)]
 pub enum Counted {
     Few,
     Split(u16, u16),
@@ -28,8 +25,8 @@ pub enum Counted {
 
 // Masks over the members of a mask, spread back to the members.
 fn spread_back(n: u32, mask: u16, found: Found) -> Counted
-    requires { ⌜ n ≤ mostInputs ⌝ }
-    ensures { λ r. ⌜ (isFew r ≡ false) × (splitIn r ≡ spreadAnswer n (bit mask) (answerOf found)) ⌝ }
+    requires { n ≤ mostInputs }
+    ensures { (isFew result ≡ false) × (splitIn result ≡ spreadAnswer n (bit mask) (answer_of found)) }
 {
     let Found::Split(own, shared) = found else {
         return Counted::Nothing;
@@ -48,12 +45,10 @@ pub fn search_counting(
     k: u32,
     work: &mut [u8],
 ) -> Counted
-    requires { ⌜ (length (now t) ≡ tableLength n) × (n ≤ mostInputs) × (r ≤ mostFirst) × (k ≤ mostInputs)
-        × (length (now t) ≤ length (now work)) × CountingIn n (tableBit (now t)) counting ⌝ }
-    ensures { λ f. ⌜
-        (isFew f ≡ false) × (splitIn f ≡ bestCounting n r (tableBit (now (t .entry))) k)
-        × (now (work .exit) ≡ replicate (length (now (work .entry))) 0)
-        ⌝ }
+    requires { (length t.now ≡ tableLength n) × (n ≤ mostInputs) × (r ≤ mostFirst) × (k ≤ mostInputs)
+        × (length t.now ≤ length work.old) × CountingIn n (tableBit t.now) counting }
+    ensures { (isFew result ≡ false) × (splitIn result ≡ bestCounting n r (tableBit t.now) k)
+        × (work.new ≡ replicate (length work.old) 0) }
 {
     set_aside(t, n, counting.mask, work);
     let found = find_with(work, counting.many, r, k);
@@ -63,9 +58,9 @@ pub fn search_counting(
 
 // The same; where at most k inputs count nothing is looked for, and the work area stays.
 pub fn find_counting(t: &[u8], n: u32, r: u32, k: u32, work: &mut [u8]) -> Counted
-    requires { ⌜ (length (now t) ≡ tableLength n) × (n ≤ mostInputs) × (r ≤ mostFirst) × (k ≤ mostInputs)
-        × (length (now t) ≤ length (now work)) ⌝ }
-    ensures { λ f. ⌜ FoundCounting n r k (now (t .entry)) (now (work .entry)) f (now (work .exit)) ⌝ }
+    requires { (length t.now ≡ tableLength n) × (n ≤ mostInputs) × (r ≤ mostFirst) × (k ≤ mostInputs)
+        × (length t.now ≤ length work.old) }
+    ensures { FoundCounting n r k t.now work.old result work.new }
 {
     let counting = counting_inputs(t, n);
     if counting.many <= k {

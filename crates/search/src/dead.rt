@@ -1,15 +1,13 @@
 // Whether no two inputs can be own: then there is no split, and no walk is needed.
-ghost use mathlib.Core.Path.{_≡_};
-ghost use mathlib.Core.Bool.{true};
-ghost use Prim.Native.Nat.{_/_, _%_, _<_};
-ghost use lib.ListN.{length, getD};
-ghost use Rattle·known.specs.Notes.{Dead, AllDead};
+ghost use Rattle.std.specs.Prelude.{◌≡◌, true, ◌/◌, ◌%◌, ◌<◌, length, get_or};
+ghost use Rattle.known.specs.Notes.{Dead, AllDead};
+
 use bits::sets::members;
 
 // Whether more inputs than k - 2 beside i and j are in the mask.
 fn dead(mask: u16, i: u32, j: u32, k: u32) -> bool
-    requires { ⌜ (i < 16) × (j < 16) ⌝ }
-    ensures { λ r. ⌜ (r ≡ true → Dead mask i j k) ⌝ }
+    requires { (i < 16) × (j < 16) }
+    ensures { result ≡ true → Dead mask i j k }
 {
     let other = mask & !(1 << i) & !(1 << j);
     k < 2 + members(other)
@@ -17,11 +15,9 @@ fn dead(mask: u16, i: u32, j: u32, k: u32) -> bool
 
 // The same of a place of the table of pairs, and yes where it stands for no two inputs.
 fn dead_at(pairs: &[u16], n: u32, k: u32, at: usize) -> bool
-    requires { ⌜ (length (now pairs) ≡ 256) × (at < 256) ⌝ }
-    ensures { λ r. ⌜
-        (r ≡ true → at % 16 < at / 16 → at / 16 < n
-        → Dead (getD (now (pairs .entry)) at 0) (at / 16) (at % 16) k)
-        ⌝ }
+    requires { (length pairs.now ≡ 256) × (at < 256) }
+    ensures { result ≡ true → at % 16 < at / 16 → at / 16 < n
+        → Dead (get_or pairs.now at 0) (at / 16) (at % 16) k }
 {
     let i = (at / 16) as u32;
     let j = (at % 16) as u32;
@@ -35,8 +31,8 @@ fn dead_at(pairs: &[u16], n: u32, k: u32, at: usize) -> bool
 }
 
 pub fn all_dead(pairs: &[u16], n: u32, k: u32) -> bool
-    requires { ⌜ length (now pairs) ≡ 256 ⌝ }
-    ensures { λ r. ⌜ (r ≡ true → AllDead (now (pairs .entry)) n k 256) ⌝ }
+    requires { length pairs.now ≡ 256 }
+    ensures { result ≡ true → AllDead pairs.now n k 256 }
 {
     let mut at: usize = 0;
     while at < 256 {

@@ -1,23 +1,21 @@
 // The best split: the largest own set first, then the smallest shared set, then the least masks.
-ghost use mathlib.Core.Path.{_≡_};
-ghost use Prim.Native.Nat.{ℕ, _+_, _*_, _^_, _<_, _≤_};
-ghost use lib.ListN.{length};
-ghost use Rattle·bits.specs.Numbers.{bit};
-ghost use Rattle·bits.specs.Sets.{size};
-ghost use Rattle·tables.specs.Table.{mostInputs, tableBit};
-ghost use Rattle·best.specs.Search.{split, above, first, ofSizes, best};
-ghost use Rattle·best.specs.Answers.{answerOf};
-ghost use Rattle·best.specs.Walk.{mostFirst};
-ghost use Rattle·walks.specs.Known.{Known};
-ghost use Rattle·witness.specs.Points.{Wide};
-ghost use Rattle·known.specs.Notes.{BadPairs};
+ghost use Rattle.std.specs.Prelude.{◌≡◌, ℕ, ◌+◌, ◌*◌, ◌^◌, ◌<◌, ◌≤◌, length};
+ghost use Rattle.bits.specs.Numbers.{bit};
+ghost use Rattle.bits.specs.Sets.{size};
+ghost use Rattle.tables.specs.Table.{mostInputs, tableBit};
+ghost use Rattle.best.specs.Search.{split, above, first, ofSizes, best};
+ghost use Rattle.best.specs.Answers.{answer_of};
+ghost use Rattle.best.specs.Walk.{mostFirst};
+ghost use Rattle.walks.specs.Known.{Known};
+ghost use Rattle.witness.specs.Points.{Wide};
+ghost use Rattle.known.specs.Notes.{BadPairs};
+
 use crate::dead::all_dead;
 use crate::owning::none_owns;
 use best::Found;
 use best::pair::attempt;
 use known::notes::blank;
-use known::pairs::fill;
-use known::pairs::unknown;
+use known::pairs::{fill, unknown};
 use walks::walk::walk_own;
 
 // The first possible pair with p own and at most `most` shared inputs, the smallest shared sets first.
@@ -30,13 +28,9 @@ fn with_own<'a>(
     most: u32,
     notes: &mut [u32],
 ) -> Found
-    requires { ⌜
-        Known n r (now t) (now notes) × BadPairs n (tableBit (now t)) (2 ^ r) (now pairs) × (most ≤ mostInputs)
-        ⌝ }
-    ensures { λ f. ⌜
-        (answerOf f ≡ first (most + 1) (ofSizes n r (tableBit (now (t .entry))) p))
-        × Known n r (now (t .entry)) (now (notes .exit))
-        ⌝ }
+    requires { Known n r t.now notes.old × BadPairs n (tableBit t.now) (2 ^ r) pairs.now × (most ≤ mostInputs) }
+    ensures { (answer_of result ≡ first (most + 1) (ofSizes n r (tableBit t.now) p))
+        × Known n r t.now notes.new }
 {
     let mut q: u32 = 0;
     while q <= most {
@@ -52,9 +46,9 @@ fn with_own<'a>(
 // The best split with r first cells of k inputs, if it has more than `low` own inputs: the largest own sets first, by
 // what is known of pairs.
 fn walk_all<'a>(t: &'a [u8], n: u32, r: u32, pairs: &'a [u16], k: u32, low: u32) -> Found
-    requires { ⌜ (n ≤ mostInputs) × (r ≤ mostFirst) × (2 ^ n ≤ 8 * length (now t)) × (k ≤ mostInputs) × (r ≤ low) ⌝ }
-    requires { ⌜ BadPairs n (tableBit (now t)) (2 ^ r) (now pairs) ⌝ }
-    ensures { λ f. ⌜ answerOf f ≡ above n low (best n r (tableBit (now (t .entry))) k) ⌝ }
+    requires n_le_most_inputs { (n ≤ mostInputs) × (r ≤ mostFirst) × (2 ^ n ≤ 8 * length t.now) × (k ≤ mostInputs) × (r ≤ low) }
+    requires bad_pairs { BadPairs n (tableBit t.now) (2 ^ r) pairs.now }
+    ensures { answer_of result ≡ above n low (best n r (tableBit t.now) k) }
 {
     let mut notes = blank();
     let mut i: u32 = 0;
@@ -71,11 +65,9 @@ fn walk_all<'a>(t: &'a [u8], n: u32, r: u32, pairs: &'a [u16], k: u32, low: u32)
 // The very first candidate: the least own mask of k inputs, and nothing shared. Where it is possible, it is the best
 // split.
 pub fn first_try(t: &[u8], n: u32, r: u32, k: u32) -> Found
-    requires { ⌜ (n ≤ mostInputs) × (r ≤ mostFirst) × (2 ^ n ≤ 8 * length (now t)) ⌝ }
-    ensures { λ f. ⌜
-        ((A B : ℕ) → answerOf f ≡ split A B
-        → (best n r (tableBit (now (t .entry))) k ≡ split A B) × (size n (bit A) ≡ k))
-        ⌝ }
+    requires { (n ≤ mostInputs) × (r ≤ mostFirst) × (2 ^ n ≤ 8 * length t.now) }
+    ensures { (A B : ℕ) → answer_of result ≡ split A B
+        → (best n r (tableBit t.now) k ≡ split A B) × (size n (bit A) ≡ k) }
 {
     if k <= r {
         return Found::Nothing;
@@ -90,8 +82,8 @@ pub fn first_try(t: &[u8], n: u32, r: u32, k: u32) -> Found
 // The best split with one first cell of a table of one word or more, if it has more than `low` own inputs, by what its
 // triples say of pairs.
 fn by_pairs(t: &[u8], n: u32, k: u32, low: u32) -> Found
-    requires { ⌜ Wide n (now t) × (1 ≤ low) × (low < k) × (k ≤ mostInputs) ⌝ }
-    ensures { λ f. ⌜ answerOf f ≡ above n low (best n 1 (tableBit (now (t .entry))) k) ⌝ }
+    requires { Wide n t.now × (1 ≤ low) × (low < k) × (k ≤ mostInputs) }
+    ensures { answer_of result ≡ above n low (best n 1 (tableBit t.now) k) }
 {
     let mut pairs = unknown();
     fill(t, n, k - 2, &mut pairs);
@@ -104,8 +96,8 @@ fn by_pairs(t: &[u8], n: u32, k: u32, low: u32) -> Found
 // The best split with r first cells of k inputs, if it has more than `low` own inputs: who has a split that good needs
 // no other.
 pub fn find_above(t: &[u8], n: u32, r: u32, k: u32, low: u32) -> Found
-    requires { ⌜ (n ≤ mostInputs) × (r ≤ mostFirst) × (2 ^ n ≤ 8 * length (now t)) × (k ≤ mostInputs) × (r ≤ low) ⌝ }
-    ensures { λ f. ⌜ answerOf f ≡ above n low (best n r (tableBit (now (t .entry))) k) ⌝ }
+    requires { (n ≤ mostInputs) × (r ≤ mostFirst) × (2 ^ n ≤ 8 * length t.now) × (k ≤ mostInputs) × (r ≤ low) }
+    ensures { answer_of result ≡ above n low (best n r (tableBit t.now) k) }
 {
     if k <= low {
         return Found::Nothing;
@@ -124,8 +116,8 @@ pub fn find_above(t: &[u8], n: u32, r: u32, k: u32, low: u32) -> Found
 
 // The best split with r first cells of k inputs. What splits at once is answered before any table of pairs is filled.
 pub fn find_with(t: &[u8], n: u32, r: u32, k: u32) -> Found
-    requires { ⌜ (n ≤ mostInputs) × (r ≤ mostFirst) × (2 ^ n ≤ 8 * length (now t)) × (k ≤ mostInputs) ⌝ }
-    ensures { λ f. ⌜ answerOf f ≡ best n r (tableBit (now (t .entry))) k ⌝ }
+    requires { (n ≤ mostInputs) × (r ≤ mostFirst) × (2 ^ n ≤ 8 * length t.now) × (k ≤ mostInputs) }
+    ensures { answer_of result ≡ best n r (tableBit t.now) k }
 {
     let early = first_try(t, n, r, k);
     if let Found::Split(a, b) = early {

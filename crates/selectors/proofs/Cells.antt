@@ -1,49 +1,49 @@
 -- Cells with a table of one word. Assumes nothing.
-use mathlib.Core.Path.{_≡_, refl, sym, ap, ap₂, _∙_}
+use mathlib.Core.Path.{◌≡◌, refl, sym, ap, ap₂, ◌∙◌}
 use mathlib.Core.Bool.{Bool, true, false}
-use mathlib.Core.List.{List, [], _∷_, _++_}
-use Prim.Native.Nat.{ℕ, zero, suc, _+_, _*_, _/_, _%_, _^_, _<_, _≤_}
-use native.Mathlib.Decide.{decLt}
-use native.Mathlib.Nat.{lt-of-lt-of-le}
+use mathlib.Core.List.{List, [], ◌∷◌, ◌++◌}
+use Prim.Native.Nat.{ℕ, zero, suc, ◌+◌, ◌*◌, ◌/◌, ◌%◌, ◌^◌, ◌<◌, ◌≤◌}
+use native.Mathlib.Decide.{dec_lt}
+use native.Mathlib.Nat.{lt_of_lt_of_le}
 use native.Mathlib.Omega.{arith}
 use lib.Dec.{leb, lit≤}
-use lib.ListN.{getD}
+use lib.ListN.{get_or}
 use borrow.Author.Tests.{le-leb, lt-leb}
-use Rattle·bits.specs.Numbers.{bit, number}
-use Rattle·bits.specs.Lists.{listOf}
-use Rattle·bits.proofs.Numbers.{number-ext, number-bit, bit-high, bit-zero}
-use Rattle·tables.specs.Cells.{joined, tableNumber}
-use Rattle·sheets.specs.Network.{Cell}
-use Rattle·cofactors.specs.Cofactors.{selector, selecting, cellsEach}
-use Rattle·selectors·specs.specs.Standing.{wordCell, spaced, from}
+use Rattle.bits.specs.Numbers.{bit, number}
+use Rattle.bits.specs.Lists.{list_of}
+use Rattle.bits.proofs.Numbers.{number-ext, number_bit, bit_high, bit-zero}
+use Rattle.tables.specs.Cells.{joined, tableNumber}
+use Rattle.sheets.specs.Network.{Cell}
+use Rattle.cofactors.specs.Cofactors.{selector, selecting, cellsEach}
+use Rattle.selectors.specs.Standing.{wordCell, spaced, from}
 
 -- such a table as a number
-pub one-word : (T : ℕ) → T < 2 ^ 64 → tableNumber (record { words = T ∷ 0 ∷ 0 ∷ 0 ∷ [] }) ≡ T
+pub one_word : (T : ℕ) → T < 2 ^ 64 → tableNumber (record { words = T ∷ 0 ∷ 0 ∷ 0 ∷ [] }) ≡ T
 unfolding joined
-one-word T h =
-    number-ext 256 (λ x. bit (getD (T ∷ 0 ∷ 0 ∷ 0 ∷ []) (x / 64) 0) (x % 64)) (bit T) same
-    ∙ number-bit 256 T (lt-of-lt-of-le h (lit≤ tt))
+one_word T h =
+    number-ext 256 (λ x. bit (get_or (T ∷ 0 ∷ 0 ∷ 0 ∷ []) (x / 64) 0) (x % 64)) (bit T) same
+    ∙ number_bit 256 T (lt_of_lt_of_le h (lit≤ tt))
   where
-    zeros : (i : ℕ) → 1 ≤ i → getD (T ∷ 0 ∷ 0 ∷ 0 ∷ []) i 0 ≡ 0
+    zeros : (i : ℕ) → 1 ≤ i → get_or (T ∷ 0 ∷ 0 ∷ 0 ∷ []) i 0 ≡ 0
     zeros zero h = absurd (omega arith)
     zeros (suc zero) h = refl
     zeros (suc (suc zero)) h = refl
     zeros (suc (suc (suc zero))) h = refl
     zeros (suc (suc (suc (suc i)))) h = refl
 
-    same : (x : ℕ) → x < 256 → bit (getD (T ∷ 0 ∷ 0 ∷ 0 ∷ []) (x / 64) 0) (x % 64) ≡ bit T x
-    same x l = elim (decLt x 64) [
+    same : (x : ℕ) → x < 256 → bit (get_or (T ∷ 0 ∷ 0 ∷ 0 ∷ []) (x / 64) 0) (x % 64) ≡ bit T x
+    same x l = elim (dec_lt x 64) [
       | yes g ↦
           let a : x / 64 ≡ 0 = omega arith in
           let b : x % 64 ≡ x = omega arith in
-          ap₂ (λ (i j : ℕ). bit (getD (T ∷ 0 ∷ 0 ∷ 0 ∷ []) i 0) j) a b
+          ap₂ (λ (i j : ℕ). bit (get_or (T ∷ 0 ∷ 0 ∷ 0 ∷ []) i 0) j) a b
       | no g ↦
           let a : 1 ≤ x / 64 = omega arith in
-          ap (λ (w : ℕ). bit w (x % 64)) (zeros (x / 64) a) ∙ bit-zero (x % 64) ∙ sym (bit-high T 64 x h (omega arith))
+          ap (λ (w : ℕ). bit w (x % 64)) (zeros (x / 64) a) ∙ bit-zero (x % 64) ∙ sym (bit_high T 64 x h (omega arith))
     ]
 
 -- ---- the cells that select, as they are written
-module _ (l : List ℕ) (i at base step x p : ℕ) (here : p ≡ getD l at 0) where
+module _ (l : List ℕ) (i at base step x p : ℕ) (here : p ≡ get_or l at 0) where
   abbrev q : ℕ → ℕ
   q = from l at
 
@@ -51,7 +51,7 @@ module _ (l : List ℕ) (i at base step x p : ℕ) (here : p ≡ getD l at 0) wh
   f t = spaced base step (x + t)
 
   q-here : p ≡ q 0
-  q-here = here ∙ ap (λ (j : ℕ). getD l j 0) (let e : at ≡ at + 0 = omega arith in e)
+  q-here = here ∙ ap (λ (j : ℕ). get_or l j 0) (let e : at ≡ at + 0 = omega arith in e)
 
   f-here : base + step * x ≡ f 0
   f-here = ap (λ (j : ℕ). base + step * j) (let e : x ≡ x + 0 = omega arith in e)
@@ -67,17 +67,17 @@ module _ (l : List ℕ) (i at base step x p : ℕ) (here : p ≡ getD l at 0) wh
       cc
 
   -- by one
-  pub of-two : (u : List ℕ) → wordCell 3 (p ∷ (base + step * x) ∷ (base + step * (x + 1)) ∷ u) 228 ∷ []
+  pub of_two : (u : List ℕ) → wordCell 3 (p ∷ (base + step * x) ∷ (base + step * (x + 1)) ∷ u) 228 ∷ []
       ≡ selecting true 1 i q f
-  unfolding listOf number
-  of-two u = ap₂ (λ (a b : ℕ). record { signals = a ∷ b ∷ f 1 ∷ []; table = 228 } ∷ []) q-here f-here
+  unfolding list_of number
+  of_two u = ap₂ (λ (a b : ℕ). record { signals = a ∷ b ∷ f 1 ∷ []; table = 228 } ∷ []) q-here f-here
 
   -- one of four
-  pub of-four : (p₂ : ℕ) → p₂ ≡ getD l (at + 1) 0 → (u : List ℕ)
+  pub of_four : (p₂ : ℕ) → p₂ ≡ get_or l (at + 1) 0 → (u : List ℕ)
       → wordCell 6 (p ∷ p₂ ∷ (base + step * x) ∷ (base + step * (x + 1)) ∷ (base + step * (x + 2))
       ∷ (base + step * (x + 3)) ∷ u) 18364758544493064720 ∷ [] ≡ selecting true 2 i q f
-  unfolding listOf number
-  of-four p₂ e u =
+  unfolding list_of number
+  of_four p₂ e u =
       ap₂ (λ (a c : ℕ). record {
         signals = a ∷ c ∷ (base + step * x) ∷ f 1 ∷ f 2 ∷ f 3 ∷ [];
         table = 18364758544493064720;

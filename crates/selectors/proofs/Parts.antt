@@ -1,19 +1,19 @@
 -- A part of a table, of 2 ^ k bits, lies in whole words or within one. Assumes nothing.
-use mathlib.Core.Path.{_≡_, refl, sym, ap, ap₂, _∙_, subst}
-use mathlib.Core.Bool.{Bool, true, false, _&&_}
+use mathlib.Core.Path.{◌≡◌, refl, sym, ap, ap₂, ◌∙◌, subst}
+use mathlib.Core.Bool.{Bool, true, false, ◌&&◌}
 use mathlib.Core.List.{List}
-use Prim.Native.Nat.{ℕ, _+_, _-_, _*_, _/_, _%_, _^_, _<_, _≤_}
-use native.Mathlib.Decide.{decLt}
-use native.Mathlib.Nat.{mul-assoc, mul-comm, suc-mul, mul-le-mul-right, mod-lt, mul-mod-left}
+use Prim.Native.Nat.{ℕ, ◌+◌, ◌-◌, ◌*◌, ◌/◌, ◌%◌, ◌^◌, ◌<◌, ◌≤◌}
+use native.Mathlib.Decide.{dec_lt}
+use native.Mathlib.Nat.{mul_assoc, mul_comm, suc-mul, mul-le-mul_right, mod-lt, mul-mod_left}
 use native.Mathlib.Omega.{arith}
 use lib.Dec.{ltb}
-use lib.Pow.{pow-add, pow-pos, pow-mono, mod-pow-add, shl-shr}
+use lib.Pow.{pow-add, pow_pos, pow_mono, mod-pow-add, shl-shr}
 use borrow.Author.Tests.{lt-ltb, le-ltb}
-use Rattle·bits.specs.Numbers.{bit, number}
-use Rattle·bits.proofs.Numbers.{number-ext, number-of, none-zero, bit-mod, bit-high}
-use Rattle·tables.specs.Table.{tableBit}
-use Rattle·tables.specs.Words.{gateWord}
-use Rattle·selectors·specs.specs.Standing.{partBit}
+use Rattle.bits.specs.Numbers.{bit, number}
+use Rattle.bits.proofs.Numbers.{number-ext, number-of, none-zero, bit-mod, bit_high}
+use Rattle.tables.specs.Table.{tableBit}
+use Rattle.tables.specs.Words.{gateWord}
+use Rattle.selectors.specs.Standing.{partBit}
 
 -- past its end there is nothing
 pub past-part : (k w : ℕ) (F : ℕ → Bool) → 2 ^ k ≤ 64 * w → gateWord k F w ≡ 0
@@ -25,7 +25,7 @@ past-part k w F h =
 word-is : (k w x : ℕ) (F : ℕ → Bool) → x < 2 ^ 64 → ((j : ℕ) → j < 64 → 64 * w + j < 2 ^ k → bit x j ≡ F (64 * w + j))
     → ((j : ℕ) → j < 64 → 2 ^ k ≤ 64 * w + j → bit x j ≡ false) → x ≡ gateWord k F w
 word-is k w x F l in-it past =
-    number-of 64 x (λ i. ltb (64 * w + i) (2 ^ k) && F (64 * w + i)) l (λ j h. elim (decLt (64 * w + j) (2 ^ k)) [
+    number-of 64 x (λ i. ltb (64 * w + i) (2 ^ k) && F (64 * w + i)) l (λ j h. elim (dec_lt (64 * w + j) (2 ^ k)) [
       | yes g ↦ in-it j h g ∙ sym (ap (λ (b : Bool). b && F (64 * w + j)) (lt-ltb (64 * w + j) (2 ^ k) g))
       | no g ↦ past j h (omega arith)
           ∙ sym (ap (λ (b : Bool). b && F (64 * w + j)) (le-ltb (64 * w + j) (2 ^ k) (omega arith)))
@@ -37,35 +37,35 @@ module _ (t : List ℕ) (k v w r : ℕ) (inside : 64 * w < 2 ^ k) (byte : r < 2 
   at j h = bits j h ∙ ap (tableBit t) (let e : v * 2 ^ k + 64 * w + j ≡ v * 2 ^ k + (64 * w + j) = omega arith in e)
 
   -- with 64 bits or more it lies in whole words
-  pub whole-word : 6 ≤ k → r ≡ gateWord k (partBit t k v) w
-  whole-word h =
+  pub whole_word : 6 ≤ k → r ≡ gateWord k (partBit t k v) w
+  whole_word h =
       let m = 2 ^ (k - 6) in
       let e : (k - 6) + 6 ≡ k = omega arith in
       let p : 2 ^ k ≡ m * 64 = ap (λ (x : ℕ). 2 ^ x) (sym e) ∙ pow-add 2 (k - 6) 6 in
-      let q : v * 2 ^ k ≡ v * m * 64 = ap (λ (x : ℕ). v * x) p ∙ sym (mul-assoc v m 64) in
+      let q : v * 2 ^ k ≡ v * m * 64 = ap (λ (x : ℕ). v * x) p ∙ sym (mul_assoc v m 64) in
       word-is k w r (partBit t k v) byte (λ j l g. at j (omega arith)) (λ j l g. absurd (omega arith))
 
   -- with fewer in one
   pub part-word : k < 6 → r % 2 ^ (2 ^ k) ≡ gateWord k (partBit t k v) w
   part-word h =
-      let five : 2 ^ k ≤ 2 ^ 5 = pow-mono {i = k} {j = 5} (omega arith) in
+      let five : 2 ^ k ≤ 2 ^ 5 = pow_mono {i = k} {j = 5} (omega arith) in
       let z : w ≡ 0 = omega arith in
       let e : (6 - k) + k ≡ 6 = omega arith in
       let q : v * 2 ^ k % 64 ≡ (v % 2 ^ (6 - k)) * 2 ^ k + v * 2 ^ k % 2 ^ k =
       ap (λ (x : ℕ). v * 2 ^ k % 2 ^ x) (sym e) ∙ mod-pow-add (v * 2 ^ k) (6 - k) k
       ∙ ap (λ (x : ℕ). (x % 2 ^ (6 - k)) * 2 ^ k + v * 2 ^ k % 2 ^ k) (shl-shr v k) in
-      let small = mod-lt v (pow-pos (6 - k)) in
+      let small = mod-lt v (pow_pos (6 - k)) in
       let room : (v % 2 ^ (6 - k)) * 2 ^ k + 2 ^ k ≤ 64 =
       omega (
         arith,
         suc-mul (v % 2 ^ (6 - k)) (2 ^ k),
-        mul-le-mul-right (2 ^ k) small,
+        mul-le-mul_right (2 ^ k) small,
         pow-add 2 (6 - k) k,
         ap (λ (x : ℕ). 2 ^ x) e,
       ) in
-      let none : v * 2 ^ k % 2 ^ k ≡ 0 = mul-mod-left v (2 ^ k) in
-      let cut : 2 ^ (2 ^ k) ≤ 2 ^ 32 = pow-mono {i = 2 ^ k} {j = 32} five in
-      let less : r % 2 ^ (2 ^ k) < 2 ^ (2 ^ k) = mod-lt r (pow-pos (2 ^ k)) in
+      let none : v * 2 ^ k % 2 ^ k ≡ 0 = mul-mod_left v (2 ^ k) in
+      let cut : 2 ^ (2 ^ k) ≤ 2 ^ 32 = pow_mono {i = 2 ^ k} {j = 32} five in
+      let less : r % 2 ^ (2 ^ k) < 2 ^ (2 ^ k) = mod-lt r (pow_pos (2 ^ k)) in
       word-is k w (r % 2 ^ (2 ^ k)) (partBit t k v) (omega arith)
       (λ j l g. bit-mod r (2 ^ k) j (omega arith) ∙ at j (omega arith))
-      (λ j l g. bit-high (r % 2 ^ (2 ^ k)) (2 ^ k) j less (omega arith))
+      (λ j l g. bit_high (r % 2 ^ (2 ^ k)) (2 ^ k) j less (omega arith))

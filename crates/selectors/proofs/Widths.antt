@@ -1,29 +1,29 @@
 -- How many signals select on the next level. Assumes nothing.
-use mathlib.Core.Path.{_≡_, refl, sym, ap, ap₂, _∙_}
-use mathlib.Core.Logic.{_⊎_, inl, inr, ⊎-elim}
+use mathlib.Core.Path.{◌≡◌, refl, sym, ap, ap₂, ◌∙◌}
+use mathlib.Core.Logic.{◌⊎◌, inl, inr, ⊎_elim}
 use mathlib.Core.Bool.{Bool, true, false, cond}
-use mathlib.Core.List.{List, [], _∷_}
-use Prim.Native.Nat.{ℕ, zero, suc, _-_, _*_, _<_, _≤_}
+use mathlib.Core.List.{List, [], ◌∷◌}
+use Prim.Native.Nat.{ℕ, zero, suc, ◌-◌, ◌*◌, ◌<◌, ◌≤◌}
 use native.Mathlib.Nat.{mul-le-mul}
 use native.Mathlib.Omega.{arith}
 use lib.Dec.{leb}
 use borrow.Author.Tests.{le-leb, lt-leb}
-use Rattle·cofactors.specs.Cofactors.{cellsEach, byOnes, byTwos, widths}
-use Rattle·selectors·specs.specs.Standing.{NextWidth}
+use Rattle.cofactors.specs.Cofactors.{cellsEach, byOnes, byTwos, widths}
+use Rattle.selectors.specs.Standing.{NextWidth}
 
 -- by the kind of K
 by-twos : (k s : ℕ) → 6 ≤ k → widths k s ≡ byTwos s
 by-twos k s h = ap (λ (t : Bool). cond t (byTwos s) (byOnes s)) (le-leb 6 k h)
 
-by-ones : (k s : ℕ) → k < 6 → widths k s ≡ byOnes s
-by-ones k s h = ap (λ (t : Bool). cond t (byTwos s) (byOnes s)) (lt-leb 6 k h)
+by_ones : (k s : ℕ) → k < 6 → widths k s ≡ byOnes s
+by_ones k s h = ap (λ (t : Bool). cond t (byTwos s) (byOnes s)) (lt-leb 6 k h)
 
 pub ones-next : (k s : ℕ) → k < 6 → 1 ≤ s → NextWidth k s 1
 ones-next k zero h g = absurd (omega arith)
 ones-next k (suc s) h g =
     let e : suc s - 1 ≡ s = omega arith in
     record {
-      widths = by-ones k (suc s) h ∙ ap (λ (l : List ℕ). 1 ∷ l) (sym (ap (widths k) e ∙ by-ones k s h));
+      widths = by_ones k (suc s) h ∙ ap (λ (l : List ℕ). 1 ∷ l) (sym (ap (widths k) e ∙ by_ones k s h));
       fits = inl refl;
       within = omega arith;
     }
@@ -50,22 +50,22 @@ twos-next k (suc (suc s)) h g =
 
 -- one at least
 pub some-width : {k w : ℕ} → (w ≡ 1) ⊎ ((w ≡ 2) × (3 ≤ k)) → 1 ≤ w
-some-width h = ⊎-elim (λ e. omega arith) (λ e. omega (arith, e .0)) h
+some-width h = ⊎_elim (λ e. omega arith) (λ e. omega (arith, e.0)) h
 
 -- and two at most
 pub few-width : {k w : ℕ} → (w ≡ 1) ⊎ ((w ≡ 2) × (3 ≤ k)) → w ≤ 2
-few-width h = ⊎-elim (λ e. omega arith) (λ e. omega (arith, e .0)) h
+few-width h = ⊎_elim (λ e. omega arith) (λ e. omega (arith, e.0)) h
 
 -- how many cells for a group, by K
-pub each-three : (k : ℕ) → k < 3 → cellsEach (leb 3 k) ≡ 3
-each-three k h = ap cellsEach (lt-leb 3 k h)
+pub each_three : (k : ℕ) → k < 3 → cellsEach (leb 3 k) ≡ 3
+each_three k h = ap cellsEach (lt-leb 3 k h)
 
 pub each-one : (k : ℕ) → 3 ≤ k → cellsEach (leb 3 k) ≡ 1
 each-one k h = ap cellsEach (le-leb 3 k h)
 
 -- small steps make small signals
-pub near-by : (s x : ℕ) → s ≤ 3 → x ≤ 11 → s * x ≤ 33
-near-by s x h g = mul-le-mul h g
+pub near_by : (s x : ℕ) → s ≤ 3 → x ≤ 11 → s * x ≤ 33
+near_by s x h g = mul-le-mul h g
 
 pub few-each : (k : ℕ) → (1 ≤ cellsEach (leb 3 k)) × (cellsEach (leb 3 k) ≤ 3)
 few-each k = go (leb 3 k)

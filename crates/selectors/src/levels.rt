@@ -1,24 +1,23 @@
 // The sheet of cofactors: a cell for each cofactor, then level by level the cells that select.
+ghost use Rattle.std.specs.Prelude.{◌≡◌, ◌^◌, ◌<◌, ◌≤◌, length};
+ghost use Rattle.bits.specs.Numbers.{number};
+ghost use Rattle.tables.specs.Table.{mostInputs, tableBit};
+ghost use Rattle.tables.specs.Work.{half};
+ghost use Rattle.sheets.specs.Edition.{largestCell};
+ghost use Rattle.sheets.specs.Held.{cells_of};
+ghost use Rattle.cofactors.specs.Cofactors.{cofactorCells};
+ghost use Rattle.cofactors.specs.Chosen.{Near};
+ghost use Rattle.steps.specs.Stage.{signalsOf, Listed};
+ghost use Rattle.selectors.specs.Standing.{NextWidth, InRoom, OneLevel};
+
 use crate::cofactor::cofactor_cells;
-use crate::select::cells_each;
-use crate::select::level;
+use crate::select::{cells_each, level};
 use sheets::kinds::Sheet;
 use steps::signals::Signals;
-ghost use mathlib.Core.Path.{_≡_};
-ghost use Prim.Native.Nat.{_^_, _<_, _≤_};
-ghost use lib.ListN.{length};
-ghost use Rattle·bits.specs.Numbers.{number};
-ghost use Rattle·tables.specs.Table.{mostInputs, tableBit};
-ghost use Rattle·tables.specs.Work.{half};
-ghost use Rattle·sheets.specs.Edition.{largestCell};
-ghost use Rattle·sheets.specs.Held.{cellsOf};
-ghost use Rattle·cofactors.specs.Cofactors.{cofactorCells};
-ghost use Rattle·cofactors.specs.Chosen.{Near};
-ghost use Rattle·steps.specs.Stage.{signalsOf, Listed};
-ghost use Rattle·selectors·specs.specs.Standing.{NextWidth, InRoom, OneLevel};
 
 // The cells so far; so many signals are left to select, from the place `at` on; they select from those at base,
 // base + step, ..; the next cell gives signal `next`.
+#[derive(Drop)]
 pub struct Stand {
     pub sheet: Sheet,
     pub at: usize,
@@ -30,8 +29,8 @@ pub struct Stand {
 
 // How many signals select on the next level.
 fn width(k: u32, left: u32) -> u32
-    requires { ⌜ (1 ≤ left) × (left ≤ 3) ⌝ }
-    ensures { λ w. ⌜ NextWidth k left w ⌝ }
+    requires { (1 ≤ left) × (left ≤ 3) }
+    ensures { NextWidth k left result }
 {
     if k < 6 {
         return 1;
@@ -44,8 +43,8 @@ fn width(k: u32, left: u32) -> u32
 
 // One level more.
 fn one_level(k: u32, l: Signals, s: Stand) -> Stand
-    requires { ⌜ (2 ≤ k) × Listed l × InRoom k l s × (1 ≤ s .left) ⌝ }
-    ensures { λ r. ⌜ OneLevel k l s r ⌝ }
+    requires { (2 ≤ k) × Listed l × InRoom k l s × (1 ≤ s.left) }
+    ensures { OneLevel k l s result }
 {
     let left = s.left;
     let w = width(k, left);
@@ -66,12 +65,8 @@ fn one_level(k: u32, l: Signals, s: Stand) -> Stand
 
 // The sheet of cofactors of the table at hand over the signals l of a gate of n inputs.
 pub fn cofactor_sheet(t: &[u8], n: u32, l: Signals, k: u32) -> Sheet
-    requires { ⌜
-        (n ≤ mostInputs) × (2 ≤ k) × (k ≤ largestCell) × Listed l × Near k (l .count) × (length (now t) ≡ half)
-        ⌝ }
-    ensures { λ r. ⌜
-        cellsOf r ≡ cofactorCells k n (signalsOf l) (number (2 ^ l .count) (tableBit (now (t .entry))))
-        ⌝ }
+    requires { (n ≤ mostInputs) × (2 ≤ k) × (k ≤ largestCell) × Listed l × Near k l.count × (length t.now ≡ half) }
+    ensures { cells_of result ≡ cofactorCells k n (signalsOf l) (number (2 ^ l.count) (tableBit t.now)) }
 {
     let at = k as usize;
     let left = l.count as u32 - k;

@@ -1,18 +1,14 @@
 // The cells that select one of several signals.
-use sheets::kinds::HeldCell;
-use sheets::kinds::Sheet;
+ghost use Rattle.std.specs.Prelude.{◌≡◌, ◌⊎◌, [], ◌∷◌, ◌++◌, ◌+◌, ◌*◌, ◌^◌, ◌<◌, ◌≤◌, leb};
+ghost use Rattle.sheets.specs.Edition.{mostRecords};
+ghost use Rattle.sheets.specs.Held.{networkCell, cells_of};
+ghost use Rattle.cofactors.specs.Cofactors.{selecting, cellsEach, join_of};
+ghost use Rattle.steps.specs.Stage.{signalsOf, Listed};
+ghost use Rattle.selectors.specs.Standing.{wordCell, spaced, from, Small};
+
+use sheets::kinds::{HeldCell, Sheet};
 use steps::signals::Signals;
 use tables::cell::CellTable;
-ghost use mathlib.Core.Path.{_≡_};
-ghost use mathlib.Core.Logic.{_⊎_};
-ghost use mathlib.Core.List.{[], _∷_, _++_};
-ghost use Prim.Native.Nat.{_+_, _*_, _^_, _<_, _≤_};
-ghost use lib.Dec.{leb};
-ghost use Rattle·sheets.specs.Edition.{mostRecords};
-ghost use Rattle·sheets.specs.Held.{networkCell, cellsOf};
-ghost use Rattle·cofactors.specs.Cofactors.{selecting, cellsEach, joinOf};
-ghost use Rattle·steps.specs.Stage.{signalsOf, Listed};
-ghost use Rattle·selectors·specs.specs.Standing.{wordCell, spaced, from, Small};
 
 // The tables: of two inputs the one that the first selects; of four the one that the first two do, hexadecimal digit b
 // being b; and for cells of two inputs `!q & a`, `q & b` and the OR.
@@ -28,7 +24,7 @@ const OR: u64 = 14;
 
 // A cell with a table of one word.
 fn word_cell(k: usize, signals: [u8; HeldCell::MOST], table: u64) -> HeldCell
-    ensures { λ r. ⌜ networkCell r ≡ wordCell k signals table ⌝ }
+    ensures { networkCell result ≡ wordCell k signals table }
 {
     HeldCell {
         k: k,
@@ -41,7 +37,7 @@ fn word_cell(k: usize, signals: [u8; HeldCell::MOST], table: u64) -> HeldCell
 
 // A cell of two inputs.
 fn two_cell(x: u8, y: u8, table: u64) -> HeldCell
-    ensures { λ r. ⌜ networkCell r ≡ record { signals = x ∷ y ∷ []; table = table } ⌝ }
+    ensures { networkCell result ≡ record { signals = x ∷ y ∷ []; table = table } }
 {
     let none = HeldCell::UNUSED;
     word_cell(2, [x, y, none, none, none, none, none, none], table)
@@ -49,12 +45,10 @@ fn two_cell(x: u8, y: u8, table: u64) -> HeldCell
 
 // With cells of two inputs: the signal p selects x or y, in three cells, the first giving signal `next`.
 fn by_three(sheet: Sheet, next: u8, p: u8, x: u8, y: u8) -> Sheet
-    requires { ⌜ (sheet .count + 3 ≤ mostRecords) × (next ≤ 100) ⌝ }
-    ensures { λ r. ⌜
-        (cellsOf r ≡ cellsOf sheet ++ (record { signals = p ∷ x ∷ []; table = 4 }
+    requires { (sheet.count + 3 ≤ mostRecords) × (next ≤ 100) }
+    ensures { (cells_of result ≡ cells_of sheet ++ (record { signals = p ∷ x ∷ []; table = 4 }
         ∷ record { signals = p ∷ y ∷ []; table = 8 } ∷ record { signals = next ∷ (next + 1) ∷ []; table = 14 } ∷ []))
-        × (r .count ≡ sheet .count + 3)
-        ⌝ }
+        × (result.count ≡ sheet.count + 3) }
 {
     let one = sheet.with_cell(two_cell(p, x, NOT_AND));
     let two = one.with_cell(two_cell(p, y, AND));
@@ -63,7 +57,7 @@ fn by_three(sheet: Sheet, next: u8, p: u8, x: u8, y: u8) -> Sheet
 
 // How many cells select one signal.
 pub fn cells_each(k: u32) -> u8
-    ensures { λ r. ⌜ (r ≡ cellsEach (leb 3 k)) × (1 ≤ r) × (r ≤ 3) ⌝ }
+    ensures { (result ≡ cellsEach (leb 3 k)) × (1 ≤ result) × (result ≤ 3) }
 {
     if k < 3 {
         return 3;
@@ -83,14 +77,10 @@ fn select(
     step: u8,
     x: u8,
 ) -> Sheet
-    requires { ⌜
-        (sheet .count + cellsEach (leb 3 k) ≤ mostRecords) × ((w ≡ 1) ⊎ ((w ≡ 2) × (3 ≤ k))) × Listed l
-        × (at + w ≤ l .count) × Small base step next × (x ≤ 8)
-        ⌝ }
-    ensures { λ r. ⌜
-        (cellsOf r ≡ cellsOf sheet ++ selecting (leb 3 k) w next (from (signalsOf l) at) (λ t. spaced base step (x + t)))
-        × (r .count ≡ sheet .count + cellsEach (leb 3 k))
-        ⌝ }
+    requires { (sheet.count + cellsEach (leb 3 k) ≤ mostRecords) × ((w ≡ 1) ⊎ ((w ≡ 2) × (3 ≤ k))) × Listed l
+        × (at + w ≤ l.count) × Small base step next × (x ≤ 8) }
+    ensures { (cells_of result ≡ cells_of sheet ++ selecting (leb 3 k) w next (from (signalsOf l) at) (λ t. spaced base step (x + t)))
+        × (result.count ≡ sheet.count + cellsEach (leb 3 k)) }
 {
     let q = l.at;
     let p = q[at];
@@ -122,15 +112,11 @@ pub fn level(
     step: u8,
     many: u8,
 ) -> Sheet
-    requires { ⌜
-        (held .count + cellsEach (leb 3 k) * many ≤ mostRecords) × ((w ≡ 1) ⊎ ((w ≡ 2) × (3 ≤ k))) × Listed l
-        × (at + w ≤ l .count) × Small base step (next + cellsEach (leb 3 k) * many) × (2 ^ w * many ≤ 8)
-        ⌝ }
-    ensures { λ r. ⌜
-        (cellsOf r ≡ cellsOf held ++ joinOf many (λ g. selecting (leb 3 k) w (next + cellsEach (leb 3 k) * g)
+    requires { (held.count + cellsEach (leb 3 k) * many ≤ mostRecords) × ((w ≡ 1) ⊎ ((w ≡ 2) × (3 ≤ k))) × Listed l
+        × (at + w ≤ l.count) × Small base step (next + cellsEach (leb 3 k) * many) × (2 ^ w * many ≤ 8) }
+    ensures { (cells_of result ≡ cells_of held ++ join_of many (λ g. selecting (leb 3 k) w (next + cellsEach (leb 3 k) * g)
         (from (signalsOf l) at) (λ t. spaced base step (2 ^ w * g + t))))
-        × (r .count ≡ held .count + cellsEach (leb 3 k) * many)
-        ⌝ }
+        × (result.count ≡ held.count + cellsEach (leb 3 k) * many) }
 {
     let each = cells_each(k);
     let mut sheet = held;

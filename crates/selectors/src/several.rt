@@ -1,38 +1,33 @@
 // The sheet for a gate that make has none for: the chain with several first cells or the sheet of cofactors.
+ghost use Rattle.std.specs.Prelude.{◌≡◌, true, false, List, ◌^◌, ◌≤◌, length, replicate};
+ghost use Rattle.bits.specs.Numbers.{bit, number};
+ghost use Rattle.bits.specs.Sets.{size};
+ghost use Rattle.tables.specs.Table.{mostInputs, tableLength, tableBit};
+ghost use Rattle.tables.specs.Counting.{kept, tableOver};
+ghost use Rattle.tables.specs.Work.{workLength};
+ghost use Rattle.sheets.specs.Edition.{largestCell};
+ghost use Rattle.sheets.specs.Network.{Cell};
+ghost use Rattle.sheets.specs.Held.{cells_of};
+ghost use Rattle.chains.specs.Chain.{pick, Made, made, inputs};
+ghost use Rattle.cofactors.specs.Cofactors.{cofactorCells};
+ghost use Rattle.cofactors.specs.Any.{shorter, otherwise};
+ghost use Rattle.cofactors.specs.Chosen.{Near};
+ghost use Rattle.steps.specs.Chaining.{Tells};
+
 use crate::levels::cofactor_sheet;
 use bits::sets::members;
 use columns::split::Split;
 use sheets::kinds::Sheet;
-use steps::chaining::ChainEnd;
-use steps::chaining::chain_upto;
+use steps::chaining::{ChainEnd, chain_upto};
 use steps::signals::Signals;
-use tables::HALF;
 use tables::aside::set_aside;
-use tables::clear;
 use tables::counting::kept_of;
-ghost use mathlib.Core.Path.{_≡_};
-ghost use mathlib.Core.Bool.{true, false};
-ghost use mathlib.Core.List.{List};
-ghost use Prim.Native.Nat.{_^_, _≤_};
-ghost use lib.ListN.{length, replicate};
-ghost use Rattle·bits.specs.Numbers.{bit, number};
-ghost use Rattle·bits.specs.Sets.{size};
-ghost use Rattle·tables.specs.Table.{mostInputs, tableLength, tableBit};
-ghost use Rattle·tables.specs.Counting.{kept, tableOver};
-ghost use Rattle·tables.specs.Work.{workLength};
-ghost use Rattle·sheets.specs.Edition.{largestCell};
-ghost use Rattle·sheets.specs.Network.{Cell};
-ghost use Rattle·sheets.specs.Held.{cellsOf};
-ghost use Rattle·chains.specs.Chain.{pick, Made, made, inputs};
-ghost use Rattle·cofactors.specs.Cofactors.{cofactorCells};
-ghost use Rattle·cofactors.specs.Any.{shorter, otherwise};
-ghost use Rattle·cofactors.specs.Chosen.{Near};
-ghost use Rattle·steps.specs.Chaining.{Tells};
+use tables::{HALF, clear};
 
 // Whether a sheet of cofactors has room for so many inputs that count.
 fn is_near(k: u32, many: u32) -> bool
-    requires { ⌜ k ≤ largestCell ⌝ }
-    ensures { λ r. ⌜ (r ≡ true → Near k many) × (r ≡ false → Near k many → ⊥) ⌝ }
+    requires { k ≤ largestCell }
+    ensures { (result ≡ true → Near k many) × (result ≡ false → Near k many → ⊥) }
 {
     if many <= k {
         return false;
@@ -45,15 +40,11 @@ fn is_near(k: u32, many: u32) -> bool
 
 // The sheet of cofactors of a gate's table, with what does not count set aside; the work area is cleared.
 fn cofactors_of(t: &[u8], n: u32, mask: u16, k: u32, work: &mut [u8]) -> Sheet
-    requires { ⌜
-        (1 ≤ n) × (n ≤ mostInputs) × (2 ≤ k) × (k ≤ largestCell) × (length (now t) ≡ tableLength n)
-        × (workLength ≤ length (now work))
-        ⌝ }
-    requires { ⌜ (mask ≡ kept n (tableBit (now t))) × Near k (size n (bit mask)) ⌝ }
-    ensures { λ r. ⌜
-        (cellsOf r ≡ cofactorCells k n (pick n (bit mask) (inputs n)) (tableOver n (bit mask) (tableBit (now (t .entry)))))
-        × (now (work .exit) ≡ replicate (length (now (work .entry))) 0)
-        ⌝ }
+    requires le_n { (1 ≤ n) × (n ≤ mostInputs) × (2 ≤ k) × (k ≤ largestCell) × (length t.now ≡ tableLength n)
+        × (workLength ≤ length work.old) }
+    requires mask_value { (mask ≡ kept n (tableBit t.now)) × Near k (size n (bit mask)) }
+    ensures { (cells_of result ≡ cofactorCells k n (pick n (bit mask) (inputs n)) (tableOver n (bit mask) (tableBit t.now)))
+        × (work.new ≡ replicate (length work.old) 0) }
 {
     set_aside(t, n, mask, work);
     let signals = Signals::inputs(n).pick(mask);
@@ -64,9 +55,7 @@ fn cofactors_of(t: &[u8], n: u32, mask: u16, k: u32, work: &mut [u8]) -> Sheet
 
 // The chain, or the other sheet where it has fewer cells or the chain has no end.
 fn fewer(chain: ChainEnd, other: Sheet) -> ChainEnd
-    ensures { λ r. ⌜
-        ((x : Made) (cs : List Cell) → Tells chain x → cellsOf other ≡ cs → Tells r (shorter x (made cs)))
-        ⌝ }
+    ensures { (x : Made) (cs : List Cell) → Tells chain x → cells_of other ≡ cs → Tells result (shorter x (made cs)) }
 {
     let count = other.count;
     if chain.finished {
@@ -83,7 +72,7 @@ fn fewer(chain: ChainEnd, other: Sheet) -> ChainEnd
 
 // Whether a chain came to its end with three cells or fewer: no sheet of cofactors has fewer.
 fn few_cells(chain: ChainEnd) -> bool
-    ensures { λ r. ⌜ (r ≡ true → (chain .finished ≡ true) × (chain .count ≤ 3)) ⌝ }
+    ensures { result ≡ true → (chain.finished ≡ true) × (chain.count ≤ 3) }
 {
     if chain.finished {
         return chain.count <= 3;
@@ -94,14 +83,10 @@ fn few_cells(chain: ChainEnd) -> bool
 // What is made of a gate's table with up to three first cells at each step, or from its cofactors, whichever has fewer
 // cells; the work area is cleared.
 pub fn several_or_cofactors(t: &[u8], n: u32, k: u32, work: &mut [u8]) -> ChainEnd
-    requires { ⌜
-        (1 ≤ n) × (n ≤ mostInputs) × (2 ≤ k) × (k ≤ largestCell) × (length (now t) ≡ tableLength n)
-        × (workLength ≤ length (now work))
-        ⌝ }
-    ensures { λ r. ⌜
-        Tells r (otherwise n k (number (2 ^ n) (tableBit (now (t .entry)))))
-        × (now (work .exit) ≡ replicate (length (now (work .entry))) 0)
-        ⌝ }
+    requires { (1 ≤ n) × (n ≤ mostInputs) × (2 ≤ k) × (k ≤ largestCell) × (length t.now ≡ tableLength n)
+        × (workLength ≤ length work.old) }
+    ensures { Tells result (otherwise n k (number (2 ^ n) (tableBit t.now)))
+        × (work.new ≡ replicate (length work.old) 0) }
 {
     let chain = chain_upto(t, n, Split::MOST_FIRST as u32, k, work);
     if few_cells(chain) {

@@ -1,44 +1,44 @@
 -- What lines 1, 9, 10 and 13 leave for times. Assumes nothing.
-use mathlib.Core.Path.{_≡_}
-use mathlib.Core.Bool.{true, _&&_}
+use mathlib.Core.Path.{◌≡◌}
+use mathlib.Core.Bool.{true, ◌&&◌}
 use mathlib.Core.List.{List}
-use Prim.Native.Nat.{ℕ, _≤_}
-use native.Mathlib.Nat.{le-of-eq}
+use Prim.Native.Nat.{ℕ, ◌≤◌}
+use native.Mathlib.Nat.{le_of_eq}
 use native.Mathlib.Omega.{arith}
 use lib.Ieee.{Float}
 use lib.ListN.{length}
 use borrow.Author.Tests.{not-false}
-use Rattle·bits.specs.Below.{every}
-use Rattle·bits.proofs.Bools.{and-left, and-right}
-use Rattle·bits.proofs.Below.{every-at, every-all}
-use Rattle·tables.specs.Table.{mostInputs}
-use Rattle·sheets.specs.declared.kinds.Edition.{Edition}
-use Rattle·sheets.specs.Edition.{IsEdition}
-use Rattle·sheets.specs.Sheet.{records, Good}
-use Rattle·sheets.proofs.Looks.{record-keeps}
-use Rattle·sheets.proofs.Places.{record-within, record-length}
-use Rattle·times.specs.declared.input_time.InputTime.{InputTime}
-use Rattle·times.specs.InputTimes.{inRange, soundTime, timeAt}
-use Rattle·times.specs.Reading.{Timed}
-use Rattle·refusals.specs.Lines.{InOrder}
-use Rattle·refusals.proofs.Sheets.{good-sheet}
-use Rattle·refusals.proofs.Tests.{inside}
-use Rattle·settling·specs.specs.Refusals.{inputSound}
-use Rattle·settling·specs.specs.Settle.{settleLines}
+use Rattle.bits.specs.Below.{every}
+use Rattle.bits.proofs.Bools.{and_left, and_right}
+use Rattle.bits.proofs.Below.{every-at, every-all}
+use Rattle.tables.specs.Table.{mostInputs}
+use Rattle.sheets.specs.declared.kinds.Edition.{Edition}
+use Rattle.sheets.specs.Edition.{IsEdition}
+use Rattle.sheets.specs.Sheet.{records, Good}
+use Rattle.sheets.proofs.Looks.{record-keeps}
+use Rattle.sheets.proofs.Places.{record-within, record-length}
+use Rattle.times.specs.declared.input_time.InputTime.{InputTime}
+use Rattle.times.specs.InputTimes.{in_range, soundTime, timeAt}
+use Rattle.times.specs.Reading.{Timed}
+use Rattle.refusals.specs.Lines.{InOrder}
+use Rattle.refusals.proofs.Sheets.{good-sheet}
+use Rattle.refusals.proofs.Tests.{inside}
+use Rattle.settling.specs.Refusals.{inputSound}
+use Rattle.settling.specs.Settle.{settleLines}
 
 -- the times of a good sheet can be found
 pub good-timed : (e : Edition) → IsEdition e → (d n : ℕ) (s : List ℕ) (m : ℕ) → n ≤ mostInputs → Good e d n s m
     → Timed e s m
 good-timed e ok d n s m h g = record {
   sound = ok;
-  most = g .most;
-  long = le-of-eq (g .whole);
-  reads = λ i l. let k = record-keeps e ok d n s m (g .rules) i l in record {
+  most = g.most;
+  long = le_of_eq g.whole;
+  reads = λ i l. let k = record-keeps e ok d n s m g.rules i l in record {
     sound = ok;
-    long = record-length e s i (record-within (e .size) i m (length s) l (le-of-eq (g .whole)));
-    some = k .some;
-    few = k .most;
-    known = λ j q. omega (arith, k .known j q, g .most);
+    long = record-length e s i (record-within e.size i m (length s) l (le_of_eq g.whole));
+    some = k.some;
+    few = k.most;
+    known = λ j q. omega (arith, k.known j q, g.most);
   };
 }
 
@@ -47,24 +47,24 @@ pub record Leaves (e : Edition) (d n : ℕ) (s : List ℕ) (delay : Float) (ts :
   pub some : 1 ≤ n
   pub inputs : n ≤ mostInputs
   pub good : Good e d n s (records e s)
-  pub within : inRange delay ≡ true
+  pub within : in_range delay ≡ true
   pub times : every n (inputSound e s (records e s) ts) ≡ true
 
 module _ (e : Edition) (ok : IsEdition e) (d n : ℕ) (s : List ℕ) (delay : Float) (ts : List InputTime) where
   pub leaves : InOrder (settleLines e d n s delay ts) → Leaves e d n s delay ts
   leaves w =
-      let r = inside 1 n mostInputs (w .0) in
-      let t = not-false (inRange delay && every n (inputSound e s (records e s) ts)) (w .1 .1 .1 .0) in record {
-        some = r .0;
-        inputs = r .1;
-        good = good-sheet e d n s ok (w .1 .0, (w .1 .1 .0, tt));
-        within = and-left (inRange delay) (every n (inputSound e s (records e s) ts)) t;
-        times = and-right (inRange delay) (every n (inputSound e s (records e s) ts)) t;
+      let r = inside 1 n mostInputs w.0 in
+      let t = not-false (in_range delay && every n (inputSound e s (records e s) ts)) w.1.1.1.0 in record {
+        some = r.0;
+        inputs = r.1;
+        good = good-sheet e d n s ok (w.1.0, (w.1.1.0, tt));
+        within = and_left (in_range delay) (every n (inputSound e s (records e s) ts)) t;
+        times = and_right (in_range delay) (every n (inputSound e s (records e s) ts)) t;
       }
 
 -- each input's time is sound
-pub all-sound : (e : Edition) (n : ℕ) (s : List ℕ) (m : ℕ) (ts : List InputTime) → every n (inputSound e s m ts) ≡ true
+pub all_sound : (e : Edition) (n : ℕ) (s : List ℕ) (m : ℕ) (ts : List InputTime) → every n (inputSound e s m ts) ≡ true
     → every n (λ j. soundTime (timeAt ts j)) ≡ true
-all-sound e n s m ts h =
-    every-all n (λ j. soundTime (timeAt ts j)) (λ j l. and-left (soundTime (timeAt ts j)) _
+all_sound e n s m ts h =
+    every-all n (λ j. soundTime (timeAt ts j)) (λ j l. and_left (soundTime (timeAt ts j)) _
     (every-at n (inputSound e s m ts) h j l))

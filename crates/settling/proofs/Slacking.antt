@@ -1,33 +1,33 @@
 -- A sheet whose lines are in order and whose times are in sixteenths: the output's times are exact, and the slack is a
 -- whole number. Assumes nothing.
-use mathlib.Core.Path.{_≡_, refl, subst, _∙_}
-use mathlib.Core.Bool.{Bool, true, false, cond, _&&_}
-use mathlib.Core.List.{List, [], _∷_}
-use Prim.Native.Nat.{ℕ, zero, suc, _-_, _^_, _<_, _≤_}
+use mathlib.Core.Path.{◌≡◌, refl, subst, ◌∙◌}
+use mathlib.Core.Bool.{Bool, true, false, cond, ◌&&◌}
+use mathlib.Core.List.{List, [], ◌∷◌}
+use Prim.Native.Nat.{ℕ, zero, suc, ◌-◌, ◌^◌, ◌<◌, ◌≤◌}
 use native.Mathlib.Omega.{arith}
 use lib.Dec.{ltb}
-use lib.IntN.{ℤ, pos, negsuc, _-ℤ_, subℕ}
+use lib.IntN.{ℤ, pos, negsuc, ◌-ℤ◌, sub_ℕ}
 use lib.Ieee.{Float, le}
 use lib.Ieee.Exact.{HasValue}
-use lib.Signed.{mag, leZ}
+use lib.Signed.{mag, le_z}
 use borrow.Author.Tests.{not-false, ltb-true, leb-true}
-use Rattle·bits.specs.Below.{every}
-use Rattle·bits.proofs.Below.{every-at}
-use Rattle·bits.proofs.Bools.{and-left, and-right}
-use Rattle·sheets.specs.declared.kinds.Edition.{Edition}
-use Rattle·sheets.specs.Sheet.{records, sheetCells}
-use Rattle·sheets.proofs.Wiring.{cells-length}
-use Rattle·times.specs.declared.input_time.InputTime.{InputTime}
-use Rattle·times.specs.declared.input_time.InputTime.the-variants.{NotRead, Arrival, Between}
-use Rattle·times.specs.InputTimes.{zeroTime, plainZero, inRange, soundTime, timeOf, timeAt, inputTimes}
-use Rattle·times.specs.Signals.{settled}
-use Rattle·times.specs.Sixteenths.{sixteenthsOf, inSixteenths, timeInSixteenths, deadlineOk}
-use Rattle·times.specs.Whole.{settledWhole}
-use Rattle·times.proofs.Telling.{whole-of, of-whole, ranged, same-count, same-sixteenths}
-use Rattle·times.proofs.Exact.{Exactly, exact}
-use Rattle·refusals.specs.Lines.{InOrder}
-use Rattle·settling·specs.specs.Refusals.{badSlack}
-use Rattle·settling·proofs.proofs.Kept.{Leaves, all-sound}
+use Rattle.bits.specs.Below.{every}
+use Rattle.bits.proofs.Below.{every-at}
+use Rattle.bits.proofs.Bools.{and_left, and_right}
+use Rattle.sheets.specs.declared.kinds.Edition.{Edition}
+use Rattle.sheets.specs.Sheet.{records, sheetCells}
+use Rattle.sheets.proofs.Wiring.{cells-length}
+use Rattle.times.specs.declared.input_time.InputTime.{InputTime}
+use Rattle.times.specs.declared.input_time.InputTime.TheVariants.{NotRead, Arrival, Between}
+use Rattle.times.specs.InputTimes.{zeroTime, plainZero, in_range, soundTime, timeOf, timeAt, inputTimes}
+use Rattle.times.specs.Signals.{settled}
+use Rattle.times.specs.Sixteenths.{sixteenthsOf, inSixteenths, timeInSixteenths, deadlineOk}
+use Rattle.times.specs.Whole.{settledWhole}
+use Rattle.times.proofs.Telling.{whole_of, of-whole, ranged, same_count, same-sixteenths}
+use Rattle.times.proofs.Exact.{Exactly, exact}
+use Rattle.refusals.specs.Lines.{InOrder}
+use Rattle.settling.specs.Refusals.{badSlack}
+use Rattle.settling.proofs.Kept.{Leaves, all_sound}
 
 zero-exact : Exactly 0 zeroTime (sixteenthsOf zeroTime)
 unfolding sixteenthsOf
@@ -36,19 +36,19 @@ zero-exact = ((refl, refl), omega arith)
 nothing : Exactly 0 zeroTime 0
 nothing = ((refl, refl), omega arith)
 
-plain-exact : (x : Float) → inRange x ≡ true → inSixteenths x ≡ true
+plain-exact : (x : Float) → in_range x ≡ true → inSixteenths x ≡ true
     → Exactly 0 (plainZero x) (sixteenthsOf (plainZero x))
-plain-exact x r h = let w = of-whole (plainZero x) (ranged x r) (same-sixteenths x ∙ h) in (w .0, omega (arith, w .1))
+plain-exact x r h = let w = of-whole (plainZero x) (ranged x r) (same-sixteenths x ∙ h) in (w.0, omega (arith, w.1))
 
 time-exact : (late : Bool) (t : InputTime) → soundTime t ≡ true → timeInSixteenths t ≡ true
     → Exactly 0 (timeOf late t) (sixteenthsOf (timeOf late t))
 time-exact late NotRead s h = zero-exact
 time-exact late (Arrival x) s h = plain-exact x s h
 time-exact true (Between x y) s h =
-    plain-exact y (and-left (inRange y) (le x y) (and-right (inRange x) (inRange y && le x y) s))
-    (and-right (inSixteenths x) (inSixteenths y) h)
-time-exact false (Between x y) s h = plain-exact x (and-left (inRange x) (inRange y && le x y) s)
-    (and-left (inSixteenths x) (inSixteenths y) h)
+    plain-exact y (and_left (in_range y) (le x y) (and_right (in_range x) (in_range y && le x y) s))
+    (and_right (inSixteenths x) (inSixteenths y) h)
+time-exact false (Between x y) s h = plain-exact x (and_left (in_range x) (in_range y && le x y) s)
+    (and_left (inSixteenths x) (inSixteenths y) h)
 
 inputs-exact : (late : Bool) (n : ℕ) (ts : List InputTime) → every n (λ j. soundTime (timeAt ts j)) ≡ true
     → every n (λ j. timeInSixteenths (timeAt ts j)) ≡ true
@@ -73,16 +73,16 @@ module _ (e : Edition) (d n : ℕ) (s : List ℕ) (delay : Float) (ts : List Inp
       let c = cells-length e s 0 m in
       let x = exact late (sheetCells e s m) n (plainZero delay) (sixteenthsOf delay) zeroTime 0 (inputTimes late n ts)
       (λ j. sixteenthsOf (inputTimes late n ts j))
-      (omega (arith, c, l .good .most))
-      (subst (Exactly 0 (plainZero delay)) (same-count delay) (plain-exact delay (l .within) w)) nothing
-      (inputs-exact late n ts (all-sound e n s m ts (l .times)) ws) in
-      (x .0, omega (arith, x .1, c, l .good .most))
+      (omega (arith, c, l.good.most))
+      (subst (Exactly 0 (plainZero delay)) (same_count delay) (plain-exact delay l.within w)) nothing
+      (inputs-exact late n ts (all_sound e n s m ts l.times) ws) in
+      (x.0, omega (arith, x.1, c, l.good.most))
 
   pub counted : (late : Bool) → sixteenthsOf (settled late e n s delay ts) ≡ settledWhole late e n s delay ts
-  counted late = whole-of (settled late e n s delay ts) (settledWhole late e n s delay ts) (settled-exact late .0) .1
+  counted late = (whole_of (settled late e n s delay ts) (settledWhole late e n s delay ts) (settled-exact late).0).1
 
 -- a deadline in range less such a number fits an i64
-sub-mag : (a b k : ℕ) → a < k → b < k → mag (subℕ a b) < k
+sub-mag : (a b k : ℕ) → a < k → b < k → mag (sub_ℕ a b) < k
 sub-mag a b k h l = go (ltb a b)
   where
     go : (t : Bool) → mag (cond t (negsuc (b - suc a)) (pos (a - b))) < k
@@ -90,10 +90,10 @@ sub-mag a b k h l = go (ltb a b)
     go false = omega arith
 
 pub small : (z : ℤ) (n : ℕ) → deadlineOk z ≡ true → n ≤ 1048576 → mag (z -ℤ pos n) < 2 ^ 63
-small z n h l = go z n (and-left (leZ (negsuc 1048575) z) (leZ z (pos 1048576)) h)
-    (and-right (leZ (negsuc 1048575) z) (leZ z (pos 1048576)) h) l
+small z n h l = go z n (and_left (le_z (negsuc 1048575) z) (le_z z (pos 1048576)) h)
+    (and_right (le_z (negsuc 1048575) z) (le_z z (pos 1048576)) h) l
   where
-    go : (z : ℤ) (n : ℕ) → leZ (negsuc 1048575) z ≡ true → leZ z (pos 1048576) ≡ true → n ≤ 1048576 → mag (z -ℤ pos n)
+    go : (z : ℤ) (n : ℕ) → le_z (negsuc 1048575) z ≡ true → le_z z (pos 1048576) ≡ true → n ≤ 1048576 → mag (z -ℤ pos n)
         < 2 ^ 63
     go (pos a) zero h k l = omega (arith, leb-true a 1048576 k)
     go (pos a) (suc n) h k l = sub-mag a (suc n) (2 ^ 63) (omega (arith, leb-true a 1048576 k)) (omega arith)
@@ -106,14 +106,14 @@ pub record InWhole (n : ℕ) (delay : Float) (ts : List InputTime) (deadline : �
   pub wholes : every n (λ j. timeInSixteenths (timeAt ts j)) ≡ true
   pub within : deadlineOk deadline ≡ true
 
-pub in-whole : (n : ℕ) (delay : Float) (ts : List InputTime) (deadline : ℤ)
+pub in_whole : (n : ℕ) (delay : Float) (ts : List InputTime) (deadline : ℤ)
     → InOrder (badSlack n delay ts deadline ∷ []) → InWhole n delay ts deadline
-in-whole n delay ts deadline w =
+in_whole n delay ts deadline w =
     let q = every n (λ j. timeInSixteenths (timeAt ts j)) in
-    let t = not-false (inSixteenths delay && (q && deadlineOk deadline)) (w .0) in
-    let u = and-right (inSixteenths delay) (q && deadlineOk deadline) t in
+    let t = not-false (inSixteenths delay && (q && deadlineOk deadline)) w.0 in
+    let u = and_right (inSixteenths delay) (q && deadlineOk deadline) t in
     record {
-      whole = and-left (inSixteenths delay) (q && deadlineOk deadline) t;
-      wholes = and-left q (deadlineOk deadline) u;
-      within = and-right q (deadlineOk deadline) u;
+      whole = and_left (inSixteenths delay) (q && deadlineOk deadline) t;
+      wholes = and_left q (deadlineOk deadline) u;
+      within = and_right q (deadlineOk deadline) u;
     }

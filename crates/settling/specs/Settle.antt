@@ -1,19 +1,16 @@
 -- When does the gate settle?
-use mathlib.Core.Bool.{true, false}
-use mathlib.Core.List.{List, [], _∷_, _++_}
-use Prim.Native.Nat.{ℕ}
-use lib.Ieee.{Float}
-use Rattle·sheets.specs.declared.kinds.Edition.{Edition}
-use Rattle·sheets.specs.Desk.{deskOf}
-use Rattle·times.specs.declared.input_time.InputTime.{InputTime}
-use Rattle·times.specs.InputTimes.{zeroTime}
-use Rattle·times.specs.Signals.{settled}
-use Rattle·refusals.specs.declared.verdicts.Refusal.{Refusal}
-use Rattle·refusals.specs.declared.verdicts.Verdict.the-variants.{Fine, Refused}
-use Rattle·refusals.specs.Lines.{Line, verdict, reply}
-use Rattle·refusals.specs.Refusals.{badInputs, sheetLines}
-use Rattle·settling·specs.specs.declared.settle.SettleAnswer.{SettleAnswer}
-use Rattle·settling·specs.specs.Refusals.{badTimes}
+use Rattle.std.specs.Prelude.{true, false, List, [], ◌∷◌, ◌++◌, ℕ, Float}
+use Rattle.sheets.specs.declared.kinds.Edition.{Edition}
+use Rattle.sheets.specs.Desk.{deskOf}
+use Rattle.times.specs.declared.input_time.InputTime.{InputTime}
+use Rattle.times.specs.InputTimes.{zeroTime}
+use Rattle.times.specs.Signals.{settled}
+use Rattle.refusals.specs.declared.verdicts.Refusal.{Refusal}
+use Rattle.refusals.specs.declared.verdicts.Verdict.TheVariants.{Fine, Refused}
+use Rattle.refusals.specs.Lines.{Line, verdict, reply}
+use Rattle.refusals.specs.Refusals.{badInputs, sheetLines}
+use Rattle.settling.specs.declared.settle.SettleAnswer.{SettleAnswer}
+use Rattle.settling.specs.Refusals.{badTimes}
 
 -- 1, 9, 10 and 13
 abbrev pub settleLines : Edition → ℕ → ℕ → List ℕ → Float → List InputTime → List Line

@@ -1,20 +1,16 @@
 -- The slack: how much earlier than a deadline, in sixteenths, the output settles.
-use mathlib.Core.Bool.{true}
-use mathlib.Core.List.{List, [], _∷_, _++_}
-use Prim.Native.Nat.{ℕ}
-use lib.IntN.{ℤ, pos, _-ℤ_}
-use lib.Ieee.{Float}
-use Rattle·sheets.specs.declared.kinds.Edition.{Edition}
-use Rattle·sheets.specs.Desk.{deskOf}
-use Rattle·times.specs.declared.input_time.InputTime.{InputTime}
-use Rattle·times.specs.Signals.{settled}
-use Rattle·times.specs.Sixteenths.{sixteenthsOf}
-use Rattle·refusals.specs.declared.verdicts.Refusal.{Refusal}
-use Rattle·refusals.specs.declared.verdicts.Verdict.the-variants.{Fine, Refused}
-use Rattle·refusals.specs.Lines.{Line, verdict, reply}
-use Rattle·settling·specs.specs.declared.slack.SlackAnswer.{SlackAnswer}
-use Rattle·settling·specs.specs.Refusals.{badSlack}
-use Rattle·settling·specs.specs.Settle.{settleLines}
+use Rattle.std.specs.Prelude.{true, List, [], ◌∷◌, ◌++◌, ℕ, ℤ, pos, ◌-ℤ◌, Float}
+use Rattle.sheets.specs.declared.kinds.Edition.{Edition}
+use Rattle.sheets.specs.Desk.{deskOf}
+use Rattle.times.specs.declared.input_time.InputTime.{InputTime}
+use Rattle.times.specs.Signals.{settled}
+use Rattle.times.specs.Sixteenths.{sixteenthsOf}
+use Rattle.refusals.specs.declared.verdicts.Refusal.{Refusal}
+use Rattle.refusals.specs.declared.verdicts.Verdict.TheVariants.{Fine, Refused}
+use Rattle.refusals.specs.Lines.{Line, verdict, reply}
+use Rattle.settling.specs.declared.slack.SlackAnswer.{SlackAnswer}
+use Rattle.settling.specs.Refusals.{badSlack}
+use Rattle.settling.specs.Settle.{settleLines}
 
 -- 1, 9, 10, 13 and 14
 abbrev pub slackLines : Edition → ℕ → ℕ → List ℕ → Float → List InputTime → ℤ → List Line

@@ -1,25 +1,21 @@
 // Whether the times of a gate's inputs are sound, and there where a cell reads them.
+ghost use Rattle.std.specs.Prelude.{◌≡◌, not, ◌&&◌, ◌||◌, ◌*◌, ◌<◌, ◌≤◌, length};
+ghost use Rattle.bits.specs.Numbers.{bit};
+ghost use Rattle.bits.specs.Below.{every};
+ghost use Rattle.tables.specs.Table.{mostInputs};
+ghost use Rattle.sheets.specs.Edition.{IsEdition, mostRecords};
+ghost use Rattle.sheets.specs.Sheet.{AllReadable};
+ghost use Rattle.times.specs.InputTimes.{soundTime, given, timeAt};
+ghost use Rattle.settling.specs.Refusals.{inputSound};
+
 use sheets::kinds::Edition;
-use times::input_time::InputTime;
-use times::input_time::is_given;
-use times::input_time::sound_time;
+use times::input_time::{InputTime, is_given, sound_time};
 use unread::reading::who_reads;
-ghost use mathlib.Core.Path.{_≡_};
-ghost use mathlib.Core.Bool.{not, _&&_, _||_};
-ghost use Prim.Native.Nat.{_*_, _<_, _≤_};
-ghost use lib.ListN.{length};
-ghost use Rattle·bits.specs.Numbers.{bit};
-ghost use Rattle·bits.specs.Below.{every};
-ghost use Rattle·tables.specs.Table.{mostInputs};
-ghost use Rattle·sheets.specs.Edition.{IsEdition, mostRecords};
-ghost use Rattle·sheets.specs.Sheet.{AllReadable};
-ghost use Rattle·times.specs.InputTimes.{soundTime, given, timeAt};
-ghost use Rattle·settling·specs.specs.Refusals.{inputSound};
 
 // Whether what is said of input j is sound, and a time is given unless the mask of the signals that are read lacks it.
 fn input_sound(read: u32, times: [InputTime; 16], j: usize) -> bool
-    requires { ⌜ j < mostInputs ⌝ }
-    ensures { λ r. ⌜ r ≡ (soundTime (timeAt times j) && (given (timeAt times j) || not (bit read j))) ⌝ }
+    requires { j < mostInputs }
+    ensures { result ≡ (soundTime (timeAt times j) && (given (timeAt times j) || not (bit read j))) }
 {
     let time = times[j];
     if !sound_time(time) {
@@ -33,12 +29,10 @@ fn input_sound(read: u32, times: [InputTime; 16], j: usize) -> bool
 
 // Whether what is said of each of the n inputs is sound, and a time is given where one of m cells reads it.
 pub fn inputs_sound(e: Edition, n: u32, s: &[u8], m: usize, times: [InputTime; 16]) -> bool
-    requires { ⌜
-        IsEdition e × (m ≤ mostRecords) × (n ≤ mostInputs) × (e .size * m ≤ length (now s))
-        × AllReadable e (now s) m
-        ⌝ }
-    requires { ⌜ 1 ≤ m ⌝ }
-    ensures { λ r. ⌜ r ≡ every n (inputSound e (now (s .entry)) m times) ⌝ }
+    requires edition { IsEdition e × (m ≤ mostRecords) × (n ≤ mostInputs) × (e.size * m ≤ length s.now)
+        × AllReadable e s.now m }
+    requires le_m { 1 ≤ m }
+    ensures { result ≡ every n (inputSound e s.now m times) }
 {
     let read = who_reads(e, n, s, m).read;
     let inputs = n as usize;

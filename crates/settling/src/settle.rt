@@ -1,27 +1,23 @@
 // When does the gate settle?
+ghost use Rattle.std.specs.Prelude.{◌≡◌, ◌≤◌};
+ghost use Rattle.tables.specs.Table.{mostInputs};
+ghost use Rattle.sheets.specs.Edition.{IsEdition, firstEdition};
+ghost use Rattle.sheets.specs.Sheet.{records};
+ghost use Rattle.times.specs.Reading.{Timed};
+ghost use Rattle.times.specs.Signals.{settled};
+ghost use Rattle.refusals.specs.Lines.{verdict};
+ghost use Rattle.settling.specs.Settle.{settleLines, settleOutcome, settleOwn};
+
 use crate::reading::inputs_sound;
 use records::desk::desk_of;
 use refusals::form;
-use refusals::verdicts::Refusal;
-use refusals::verdicts::Verdict;
-use refusals::verdicts::refuse;
+use refusals::verdicts::{Refusal, Verdict, refuse};
 use sheets::kinds::Edition;
-use times::input_time::InputTime;
-use times::input_time::in_range;
-use times::input_time::plain_zero;
-use times::signals::output_time;
-use times::signals::times_of_inputs;
-ghost use mathlib.Core.Path.{_≡_};
-ghost use Prim.Native.Nat.{_≤_};
-ghost use Rattle·tables.specs.Table.{mostInputs};
-ghost use Rattle·sheets.specs.Edition.{IsEdition, firstEdition};
-ghost use Rattle·sheets.specs.Sheet.{records};
-ghost use Rattle·times.specs.Reading.{Timed};
-ghost use Rattle·times.specs.Signals.{settled};
-ghost use Rattle·refusals.specs.Lines.{verdict};
-ghost use Rattle·settling·specs.specs.Settle.{settleLines, settleOutcome, settleOwn};
+use times::input_time::{InputTime, in_range, plain_zero};
+use times::signals::{output_time, times_of_inputs};
 
 // The output's earliest and latest time, if nothing is wrong.
+#[derive(Drop)]
 pub struct SettleAnswer {
     pub verdict: Verdict,
     pub earliest: f64,
@@ -30,8 +26,8 @@ pub struct SettleAnswer {
 
 // Lines 1, 9, 10 and 13.
 fn settle_form(e: Edition, d: u8, n: u64, s: &[u8], delay: f64, times: [InputTime; 16]) -> Verdict
-    requires { ⌜ IsEdition e ⌝ }
-    ensures { λ r. ⌜ r ≡ verdict (settleLines e d n (now (s .entry)) delay times) ⌝ }
+    requires { IsEdition e }
+    ensures { result ≡ verdict (settleLines e d n s.now delay times) }
 {
     let seen = form::sheet_for(e, d, n, s);
     let Verdict::Fine = seen else {
@@ -49,8 +45,8 @@ fn settle_form(e: Edition, d: u8, n: u64, s: &[u8], delay: f64, times: [InputTim
 
 // The output's latest time (late), or its earliest.
 fn settle_at(late: bool, e: Edition, n: u32, s: &[u8], delay: f64, times: [InputTime; 16]) -> f64
-    requires { ⌜ Timed e (now s) (records e (now s)) × (n ≤ mostInputs) ⌝ }
-    ensures { λ r. ⌜ r ≡ settled late e n (now (s .entry)) delay times ⌝ }
+    requires { Timed e s.now (records e s.now) × (n ≤ mostInputs) }
+    ensures { result ≡ settled late e n s.now delay times }
 {
     let inputs = times_of_inputs(late, n, times);
     let m = s.len() / e.size;
@@ -66,8 +62,8 @@ pub fn settle_in(
     delay: f64,
     times: [InputTime; 16],
 ) -> SettleAnswer
-    requires { ⌜ IsEdition e ⌝ }
-    ensures { λ r. ⌜ r ≡ settleOutcome e d n (now (s .entry)) delay times ⌝ }
+    requires { IsEdition e }
+    ensures { result ≡ settleOutcome e d n s.now delay times }
 {
     let form = settle_form(e, d, n, s, delay, times);
     let Verdict::Fine = form else {
@@ -87,7 +83,7 @@ pub fn settle_in(
 
 // The output's earliest and latest time, from each input's time and one delay for all cells.
 pub fn settle(n: u64, s: &[u8], delay: f64, times: [InputTime; 16]) -> SettleAnswer
-    ensures { λ r. ⌜ r ≡ settleOwn firstEdition n (now (s .entry)) delay times ⌝ }
+    ensures { result ≡ settleOwn firstEdition n s.now delay times }
 {
     let e = Edition::first();
     settle_in(e, desk_of(e, s), n, s, delay, times)

@@ -1,28 +1,22 @@
 // The slack: how much earlier than a deadline the output settles.
+ghost use Rattle.std.specs.Prelude.{◌≡◌, true, [], ◌∷◌, ◌≤◌};
+ghost use Rattle.bits.specs.Below.{every};
+ghost use Rattle.tables.specs.Table.{mostInputs};
+ghost use Rattle.sheets.specs.Edition.{IsEdition, firstEdition};
+ghost use Rattle.times.specs.InputTimes.{in_range, soundTime, timeAt};
+ghost use Rattle.refusals.specs.Lines.{verdict};
+ghost use Rattle.settling.specs.Refusals.{badSlack};
+ghost use Rattle.settling.specs.Slack.{slackOutcome, slackOwn};
+
 use crate::settle::settle_in;
 use records::desk::desk_of;
-use refusals::verdicts::Refusal;
-use refusals::verdicts::Verdict;
-use refusals::verdicts::refuse;
+use refusals::verdicts::{Refusal, Verdict, refuse};
 use sheets::kinds::Edition;
 use times::input_time::InputTime;
-use times::sixteenths::count_of;
-use times::sixteenths::deadline_ok;
-use times::sixteenths::in_sixteenths;
-use times::sixteenths::inputs_in_sixteenths;
-ghost use mathlib.Core.Path.{_≡_};
-ghost use mathlib.Core.Bool.{true};
-ghost use mathlib.Core.List.{[], _∷_};
-ghost use Prim.Native.Nat.{_≤_};
-ghost use Rattle·bits.specs.Below.{every};
-ghost use Rattle·tables.specs.Table.{mostInputs};
-ghost use Rattle·sheets.specs.Edition.{IsEdition, firstEdition};
-ghost use Rattle·times.specs.InputTimes.{inRange, soundTime, timeAt};
-ghost use Rattle·refusals.specs.Lines.{verdict};
-ghost use Rattle·settling·specs.specs.Refusals.{badSlack};
-ghost use Rattle·settling·specs.specs.Slack.{slackOutcome, slackOwn};
+use times::sixteenths::{count_of, deadline_ok, in_sixteenths, inputs_in_sixteenths};
 
 // The slack in sixteenths, if nothing is wrong.
+#[derive(Drop)]
 pub struct SlackAnswer {
     pub verdict: Verdict,
     pub slack: i64,
@@ -30,10 +24,8 @@ pub struct SlackAnswer {
 
 // Line 14.
 fn slack_form(n: u32, delay: f64, times: [InputTime; 16], deadline: i64) -> Verdict
-    requires { ⌜
-        (n ≤ mostInputs) × (inRange delay ≡ true) × (every n (λ j. soundTime (timeAt times j)) ≡ true)
-        ⌝ }
-    ensures { λ r. ⌜ r ≡ verdict (badSlack n delay times deadline ∷ []) ⌝ }
+    requires { (n ≤ mostInputs) × (in_range delay ≡ true) × (every n (λ j. soundTime (timeAt times j)) ≡ true) }
+    ensures { result ≡ verdict (badSlack n delay times deadline ∷ []) }
 {
     if !in_sixteenths(delay) {
         return refuse(Refusal::SLACK);
@@ -57,8 +49,8 @@ pub fn slack_in(
     times: [InputTime; 16],
     deadline: i64,
 ) -> SlackAnswer
-    requires { ⌜ IsEdition e ⌝ }
-    ensures { λ r. ⌜ r ≡ slackOutcome e d n (now (s .entry)) delay times deadline ⌝ }
+    requires { IsEdition e }
+    ensures { result ≡ slackOutcome e d n s.now delay times deadline }
 {
     let answer = settle_in(e, d, n, s, delay, times);
     let settled = answer.verdict;
@@ -83,7 +75,7 @@ pub fn slack_in(
 
 // A deadline in sixteenths less the output's latest time.
 pub fn slack(n: u64, s: &[u8], delay: f64, times: [InputTime; 16], deadline: i64) -> SlackAnswer
-    ensures { λ r. ⌜ r ≡ slackOwn firstEdition n (now (s .entry)) delay times deadline ⌝ }
+    ensures { result ≡ slackOwn firstEdition n s.now delay times deadline }
 {
     let e = Edition::first();
     slack_in(e, desk_of(e, s), n, s, delay, times, deadline)

@@ -1,19 +1,17 @@
 -- Find the best split with 1, 2 or 3 first cells: how many, and two masks.
-use mathlib.Core.Bool.{Bool, true, false}
-use mathlib.Core.List.{List, [], _∷_, _++_}
-use Prim.Native.Nat.{ℕ}
-use Rattle·tables.specs.Table.{tableBit}
-use Rattle·splits.specs.Columns.{mostFirst}
-use Rattle·sheets.specs.declared.kinds.Edition.{Edition}
-use Rattle·refusals.specs.declared.verdicts.Refusal.{Refusal}
-use Rattle·refusals.specs.declared.verdicts.Verdict.the-variants.{Fine, Refused}
-use Rattle·refusals.specs.Numbers.{ofSplit}
-use Rattle·refusals.specs.Lines.{Line, line, verdict, reply}
-use Rattle·refusals.specs.Refusals.{nothingToSplit}
-use Rattle·refusals.specs.Lent.{workAfter}
-use Rattle·finding.specs.FindBest.{findForm}
-use Rattle·several·specs.specs.declared.find_several.FindSeveralAnswer.{FindSeveralAnswer}
-use Rattle·choices.specs.Search.{Choice, nothing, choice, bestOver}
+use Rattle.std.specs.Prelude.{Bool, true, false, List, [], ◌∷◌, ◌++◌, ℕ}
+use Rattle.tables.specs.Table.{tableBit}
+use Rattle.splits.specs.Columns.{mostFirst}
+use Rattle.sheets.specs.declared.kinds.Edition.{Edition}
+use Rattle.refusals.specs.declared.verdicts.Refusal.{Refusal}
+use Rattle.refusals.specs.declared.verdicts.Verdict.TheVariants.{Fine, Refused}
+use Rattle.refusals.specs.Numbers.{ofSplit}
+use Rattle.refusals.specs.Lines.{Line, line, verdict, reply}
+use Rattle.refusals.specs.Refusals.{nothingToSplit}
+use Rattle.refusals.specs.Lent.{workAfter}
+use Rattle.finding.specs.FindBest.{findForm}
+use Rattle.several.specs.declared.find_several.FindSeveralAnswer.{FindSeveralAnswer}
+use Rattle.choices.specs.Search.{Choice, nothing, choice, bestOver}
 
 -- the best split of a gate's table with 1 to 3 first cells
 abbrev pub bestSeveral : ℕ → ℕ → List ℕ → Choice
@@ -42,14 +40,14 @@ pub record FindSeveralOutcome : Type 0 where
   pub work : List ℕ
 
 -- how many first cells a choice has
-abbrev pub firstOf : Choice → ℕ
-firstOf nothing = 0
-firstOf (choice r A B) = r
+abbrev pub first_of : Choice → ℕ
+first_of nothing = 0
+first_of (choice r A B) = r
 
 -- its own mask
-abbrev pub ownOf : Choice → ℕ
-ownOf nothing = 0
-ownOf (choice r A B) = A
+abbrev pub own_of : Choice → ℕ
+own_of nothing = 0
+own_of (choice r A B) = A
 
 -- and its shared mask
 abbrev pub sharedOf : Choice → ℕ
@@ -59,7 +57,7 @@ sharedOf (choice r A B) = B
 -- done: how many first cells, and the masks
 abbrev pub severalDone : Choice → List ℕ → FindSeveralOutcome
 severalDone c work = record {
-  answer = record { verdict = Fine; first = firstOf c; own = ownOf c; shared = sharedOf c };
+  answer = record { verdict = Fine; first = first_of c; own = own_of c; shared = sharedOf c };
   work = workAfter Fine work;
 }
 

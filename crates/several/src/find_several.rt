@@ -1,22 +1,20 @@
 // Finding the best split with several first cells.
+ghost use Rattle.std.specs.Prelude.{◌≡◌, ◌≤◌, length};
+ghost use Rattle.tables.specs.Table.{mostInputs, tableLength};
+ghost use Rattle.sheets.specs.Edition.{firstEdition};
+ghost use Rattle.tables.specs.Work.{workLength};
+ghost use Rattle.refusals.specs.Lines.{verdict, reply};
+ghost use Rattle.several.specs.FindSeveral.{bestSeveral, severalSays, severalDone, severalNot};
+ghost use Rattle.several.specs.FindSeveral.{findSeveralOutcome};
+
 use choices::counted::find_over;
 use finding::find_best::find_form;
-use refusals::verdicts::Refusal;
-use refusals::verdicts::Verdict;
-use refusals::verdicts::refuse;
+use refusals::verdicts::{Refusal, Verdict, refuse};
 use sheets::kinds::Edition;
 use tables::counting::counting_inputs;
-ghost use mathlib.Core.Path.{_≡_};
-ghost use Prim.Native.Nat.{_≤_};
-ghost use lib.ListN.{length};
-ghost use Rattle·tables.specs.Table.{mostInputs, tableLength};
-ghost use Rattle·sheets.specs.Edition.{firstEdition};
-ghost use Rattle·tables.specs.Work.{workLength};
-ghost use Rattle·refusals.specs.Lines.{verdict, reply};
-ghost use Rattle·several·specs.specs.FindSeveral.{bestSeveral, severalSays, severalDone, severalNot};
-ghost use Rattle·several·specs.specs.FindSeveral.{findSeveralOutcome};
 
 // How many first cells, the own and the shared mask, if nothing is wrong.
+#[derive(Drop)]
 pub struct FindSeveralAnswer {
     pub verdict: Verdict,
     pub first: u32,
@@ -26,7 +24,7 @@ pub struct FindSeveralAnswer {
 
 // A refusal: nothing was found.
 fn without(verdict: Verdict) -> FindSeveralAnswer
-    ensures { λ r. ⌜ r ≡ record { verdict = verdict; first = 0; own = 0; shared = 0 } ⌝ }
+    ensures { result ≡ record { verdict = verdict; first = 0; own = 0; shared = 0 } }
 {
     FindSeveralAnswer {
         verdict: verdict,
@@ -38,14 +36,10 @@ fn without(verdict: Verdict) -> FindSeveralAnswer
 
 // Lines 7 and 8: the best over 1, 2 and 3 first cells, or that at most k inputs count, or that none is possible.
 fn search(n: u32, k: u32, t: &[u8], work: &mut [u8]) -> FindSeveralAnswer
-    requires { ⌜
-        (n ≤ mostInputs) × (k ≤ mostInputs) × (length (now t) ≡ tableLength n) × (workLength ≤ length (now work))
-        ⌝ }
-    ensures { λ r. ⌜
-        record { answer = r; work = now (work .exit) }
-        ≡ reply (verdict (severalSays n k (now (t .entry))))
-        (severalDone (bestSeveral n k (now (t .entry))) (now (work .entry))) (severalNot (now (work .entry)))
-        ⌝ }
+    requires { (n ≤ mostInputs) × (k ≤ mostInputs) × (length t.now ≡ tableLength n) × (workLength ≤ length work.old) }
+    ensures { record { answer = result; work = work.new }
+        ≡ reply (verdict (severalSays n k t.now))
+        (severalDone (bestSeveral n k t.now) work.old) (severalNot work.old) }
 {
     let counting = counting_inputs(t, n);
     if counting.many <= k {
@@ -65,10 +59,8 @@ fn search(n: u32, k: u32, t: &[u8], work: &mut [u8]) -> FindSeveralAnswer
 
 // Finds the best split with 1, 2 or 3 first cells: how many, and two masks.
 pub fn find_several(n: u64, k: u64, t: &[u8], work: &mut [u8]) -> FindSeveralAnswer
-    ensures { λ r. ⌜
-        record { answer = r; work = now (work .exit) }
-        ≡ findSeveralOutcome firstEdition n k (now (t .entry)) (now (work .entry))
-        ⌝ }
+    ensures { record { answer = result; work = work.new }
+        ≡ findSeveralOutcome firstEdition n k t.now work.old }
 {
     let form = find_form(Edition::first(), n, k, t, work);
     let Verdict::Fine = form else {

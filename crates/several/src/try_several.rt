@@ -1,10 +1,10 @@
 // Trying a named split with several first cells.
+ghost use Rattle.std.specs.Prelude.{◌≡◌};
+ghost use Rattle.sheets.specs.Edition.{firstEdition};
+ghost use Rattle.splitting.specs.TrySplit.{tryOutcome};
+
 use sheets::kinds::Edition;
-use splitting::try_split::TryAnswer;
-use splitting::try_split::try_in;
-ghost use mathlib.Core.Path.{_≡_};
-ghost use Rattle·sheets.specs.Edition.{firstEdition};
-ghost use Rattle·splitting.specs.TrySplit.{tryOutcome};
+use splitting::try_split::{TryAnswer, try_in};
 
 // Tries the split with the masks own and shared and r first cells: their tables, and H into the lent room.
 pub fn try_several(
@@ -16,10 +16,8 @@ pub fn try_several(
     t: &[u8],
     room: &mut [u8],
 ) -> TryAnswer
-    ensures { λ a. ⌜
-        record { answer = a; room = now (room .exit) }
-        ≡ tryOutcome firstEdition n k r own shared (now (t .entry)) (now (room .entry))
-        ⌝ }
+    ensures { record { answer = result; room = room.new }
+        ≡ tryOutcome firstEdition n k r own shared t.now room.old }
 {
     try_in(Edition::first(), n, k, r, own, shared, t, room)
 }

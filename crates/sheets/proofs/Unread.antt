@@ -1,36 +1,36 @@
 -- Which records are read, in words: the test of a record is that a later one names its signal. Cells each of which but
 -- the last is read make records of which that is so. Assumes nothing.
-use mathlib.Core.Path.{_≡_, refl, sym, ap, ap₂, _∙_, subst}
-use mathlib.Core.Logic.{_↔_}
+use mathlib.Core.Path.{◌≡◌, refl, sym, ap, ap₂, ◌∙◌, subst}
+use mathlib.Core.Logic.{◌↔◌}
 use mathlib.Core.Bool.{Bool, true, false}
-use mathlib.Core.List.{List, [], _∷_}
-use Prim.Native.Nat.{ℕ, zero, suc, _+_, _-_, _<_, _≤_}
+use mathlib.Core.List.{List, [], ◌∷◌}
+use Prim.Native.Nat.{ℕ, zero, suc, ◌+◌, ◌-◌, ◌<◌, ◌≤◌}
 use native.Mathlib.Nat.{not-suc-le-zero}
 use native.Mathlib.Omega.{arith}
-use native.Mathlib.Decide.{decLt}
+use native.Mathlib.Decide.{dec_lt}
 use lib.Dec.{eqb}
-use lib.ListN.{length, getD, drop}
-use borrow.Author.Tests.{eq-eqb, ne-eqb, eqb-true, eqb-false}
-use Rattle·bits.specs.Numbers.{val}
-use Rattle·bits.specs.Lists.{listOf}
-use Rattle·bits.proofs.Bools.{clash}
-use Rattle·bits.proofs.Lists.{length-list, list-at}
-use Rattle·bits.proofs.Least.{is-least, least-of}
-use Rattle·sheets·specs.specs.declared.kinds.Edition.{Edition}
-use Rattle·sheets·specs.specs.Network.{Cell}
-use Rattle·sheets·specs.specs.Edition.{IsEdition}
-use Rattle·sheets·specs.specs.Record.{cellOf}
-use Rattle·sheets·specs.specs.Sheet.{recordAt, cellsFrom, sheetCells}
-use Rattle·sheets·specs.specs.Writing.{FitsFrom, sheetBytes}
-use Rattle·sheets·specs.specs.Reading.{times, reads, noneReads, AllRead, unreadCell, unread, firstUnread, IsRead}
-use Rattle·sheets·specs.specs.Reading.{EachRead, IsFirstUnread}
-use Rattle·sheets·proofs.proofs.Wholes.{cells-back}
+use lib.ListN.{length, get_or, drop}
+use borrow.Author.Tests.{eq-eqb, ne_eqb, eqb-true, eqb-false}
+use Rattle.bits.specs.Numbers.{val}
+use Rattle.bits.specs.Lists.{list_of}
+use Rattle.bits.proofs.Bools.{clash}
+use Rattle.bits.proofs.Lists.{length-list, list_at}
+use Rattle.bits.proofs.Least.{is-least, least-of}
+use Rattle.sheets.specs.declared.kinds.Edition.{Edition}
+use Rattle.sheets.specs.Network.{Cell}
+use Rattle.sheets.specs.Edition.{IsEdition}
+use Rattle.sheets.specs.Record.{cell_of}
+use Rattle.sheets.specs.Sheet.{recordAt, cellsFrom, sheetCells}
+use Rattle.sheets.specs.Writing.{FitsFrom, sheetBytes}
+use Rattle.sheets.specs.Reading.{times, reads, noneReads, AllRead, unreadCell, unread, firstUnread, IsRead}
+use Rattle.sheets.specs.Reading.{EachRead, IsFirstUnread}
+use Rattle.sheets.proofs.Wholes.{cells-back}
 
 -- a signal that is there stands at some place
 record At (x : ℕ) (l : List ℕ) : Type 0 where
   place : ℕ
   within : place < length l
-  is : getD l place 0 ≡ x
+  is : get_or l place 0 ≡ x
 
 there : (x : ℕ) (l : List ℕ) → 1 ≤ times x l → At x l
 there x [] h = absurd (not-suc-le-zero h)
@@ -39,26 +39,26 @@ there x (y ∷ l) h = go (eqb x y) refl h (there x l)
     go : (t : Bool) → eqb x y ≡ t → 1 ≤ val t + times x l → (1 ≤ times x l → At x l) → At x (y ∷ l)
     go true q h ih = record { place = 0; within = omega arith; is = sym (eqb-true x y q) }
     go false q h ih = let a = ih (omega arith) in record
-        { place = suc (a .place); within = omega (arith, a .within); is = a .is }
+        { place = suc a.place; within = omega (arith, a.within); is = a.is }
 
-pub times-at : (l : List ℕ) (p : ℕ) → p < length l → 1 ≤ times (getD l p 0) l
+pub times-at : (l : List ℕ) (p : ℕ) → p < length l → 1 ≤ times (get_or l p 0) l
 times-at [] p h = absurd (not-suc-le-zero h)
 times-at (x ∷ l) zero h = omega (arith, ap val (eq-eqb x x refl))
 times-at (x ∷ l) (suc p) h = omega (arith, times-at l p (omega arith))
 
 module _ (e : Edition) (s : List ℕ) where
-  drop-cells : (i a m : ℕ) → i ≤ m → drop i (cellsFrom e s a m) ≡ cellsFrom e s (a + i) (m - i)
+  drop_cells : (i a m : ℕ) → i ≤ m → drop i (cellsFrom e s a m) ≡ cellsFrom e s (a + i) (m - i)
   unfolding cellsFrom
-  drop-cells zero a m h = let p : a ≡ a + 0 = omega arith in let q : m ≡ m - 0 = omega arith in ap₂ (cellsFrom e s) p q
-  drop-cells (suc i) a zero h = absurd (not-suc-le-zero h)
-  drop-cells (suc i) a (suc m) h =
+  drop_cells zero a m h = let p : a ≡ a + 0 = omega arith in let q : m ≡ m - 0 = omega arith in ap₂ (cellsFrom e s) p q
+  drop_cells (suc i) a zero h = absurd (not-suc-le-zero h)
+  drop_cells (suc i) a (suc m) h =
       let p : suc a + i ≡ a + suc i = omega arith in
       let q : m - i ≡ suc m - suc i = omega arith in
-      drop-cells i (suc a) m (omega arith) ∙ ap₂ (cellsFrom e s) p q
+      drop_cells i (suc a) m (omega arith) ∙ ap₂ (cellsFrom e s) p q
 
   pub later-cells : (i m : ℕ) → i < m → drop (suc i) (sheetCells e s m) ≡ cellsFrom e s (suc i) (m - suc i)
   later-cells i m h = let p : 0 + suc i ≡ suc i = omega arith in
-      drop-cells (suc i) 0 m h ∙ ap (λ (j : ℕ). cellsFrom e s j (m - suc i)) p
+      drop_cells (suc i) 0 m h ∙ ap (λ (j : ℕ). cellsFrom e s j (m - suc i)) p
 
   -- one of the records a, .., a + k - 1 names x
   pub record Names (x a k : ℕ) : Type 0 where
@@ -69,62 +69,62 @@ module _ (e : Edition) (s : List ℕ) where
     pub among : place < recordAt e s reader 0
     pub names : recordAt e s reader (place + 1) ≡ x
 
-  read-names : (x k a : ℕ) → 1 ≤ reads x (cellsFrom e s a k) → Names x a k
-  unfolding cellsFrom cellOf
-  read-names x zero a h = absurd (not-suc-le-zero h)
-  read-names x (suc k) a h = elim (decLt 0 (times x l))
-      [ yes g ↦ here (there x l g) | no g ↦ later (read-names x k (suc a) (omega arith)) ]
+  read_names : (x k a : ℕ) → 1 ≤ reads x (cellsFrom e s a k) → Names x a k
+  unfolding cellsFrom cell_of
+  read_names x zero a h = absurd (not-suc-le-zero h)
+  read_names x (suc k) a h = elim (dec_lt 0 (times x l))
+      [ yes g ↦ here (there x l g) | no g ↦ later (read_names x k (suc a) (omega arith)) ]
     where
       l : List ℕ
-      l = listOf (recordAt e s a 0) (λ j. recordAt e s a (j + 1))
+      l = list_of (recordAt e s a 0) (λ j. recordAt e s a (j + 1))
 
-      here : At x (listOf (recordAt e s a 0) (λ j. recordAt e s a (j + 1))) → Names x a (suc k)
+      here : At x (list_of (recordAt e s a 0) (λ j. recordAt e s a (j + 1))) → Names x a (suc k)
       here w =
           let b = recordAt e s a in
-          let g : w .place < b 0 = omega (arith, w .within, length-list (b 0) (λ j. b (j + 1))) in record {
+          let g : w.place < b 0 = omega (arith, w.within, length-list (b 0) (λ j. b (j + 1))) in record {
             reader = a;
             from = omega arith;
             within = omega arith;
-            place = w .place;
+            place = w.place;
             among = g;
-            names = sym (list-at (b 0) (λ j. b (j + 1)) (w .place) 0 g) ∙ w .is;
+            names = sym (list_at (b 0) (λ j. b (j + 1)) w.place 0 g) ∙ w.is;
           }
 
       later : Names x (suc a) k → Names x a (suc k)
       later w = record {
-        reader = w .reader;
-        from = omega (arith, w .from);
-        within = omega (arith, w .within);
-        place = w .place;
-        among = w .among;
-        names = w .names;
+        reader = w.reader;
+        from = omega (arith, w.from);
+        within = omega (arith, w.within);
+        place = w.place;
+        among = w.among;
+        names = w.names;
       }
 
   names-read : (x k a : ℕ) → Names x a k → 1 ≤ reads x (cellsFrom e s a k)
-  unfolding cellsFrom cellOf
-  names-read x zero a w = absurd (omega (arith, w .from, w .within))
-  names-read x (suc k) a w = elim (decLt a (w .reader)) [
+  unfolding cellsFrom cell_of
+  names-read x zero a w = absurd (omega (arith, w.from, w.within))
+  names-read x (suc k) a w = elim (dec_lt a w.reader) [
     | yes g ↦ omega (
       arith,
       names-read x k (suc a) (record {
-        reader = w .reader;
+        reader = w.reader;
         from = g;
-        within = omega (arith, w .within);
-        place = w .place;
-        among = w .among;
-        names = w .names;
+        within = omega (arith, w.within);
+        place = w.place;
+        among = w.among;
+        names = w.names;
       }),
     )
-    | no g ↦ here (w .reader) (w .place) (omega (arith, w .from)) (w .among) (w .names)
+    | no g ↦ here w.reader w.place (omega (arith, w.from)) w.among w.names
   ]
     where
       here : (r p : ℕ) → r ≡ a → p < recordAt e s r 0 → recordAt e s r (p + 1) ≡ x
-          → 1 ≤ times x (listOf (recordAt e s a 0) (λ j. recordAt e s a (j + 1))) + reads x (cellsFrom e s (suc a) k)
+          → 1 ≤ times x (list_of (recordAt e s a 0) (λ j. recordAt e s a (j + 1))) + reads x (cellsFrom e s (suc a) k)
       here r p q g f =
           let b = recordAt e s a in
-          let l = listOf (b 0) (λ j. b (j + 1)) in
+          let l = list_of (b 0) (λ j. b (j + 1)) in
           let h : p < b 0 = subst (λ (i : ℕ). p < recordAt e s i 0) q g in
-          let v : getD l p 0 ≡ x = list-at (b 0) (λ j. b (j + 1)) p 0 h ∙ ap (λ (i : ℕ). recordAt e s i (p + 1)) (sym q)
+          let v : get_or l p 0 ≡ x = list_at (b 0) (λ j. b (j + 1)) p 0 h ∙ ap (λ (i : ℕ). recordAt e s i (p + 1)) (sym q)
           ∙ f in
           let one = subst (λ (y : ℕ). 1 ≤ times y l) v (times-at l p
           (omega (arith, length-list (b 0) (λ j. b (j + 1))))) in
@@ -134,8 +134,8 @@ module _ (e : Edition) (s : List ℕ) where
   pub none-names : (x m : ℕ) → (noneReads x (sheetCells e s m) ≡ true) ↔ (Names x 0 m → ⊥)
   none-names x m = (
     λ q w. omega (arith, eqb-true (reads x (sheetCells e s m)) 0 q, names-read x m 0 w),
-    λ none. elim (decLt 0 (reads x (sheetCells e s m))) [
-      | yes g ↦ absurd (none (read-names x m 0 g))
+    λ none. elim (dec_lt 0 (reads x (sheetCells e s m))) [
+      | yes g ↦ absurd (none (read_names x m 0 g))
       | no g ↦ eq-eqb (reads x (sheetCells e s m)) 0 (omega arith)
     ],
   )
@@ -147,45 +147,45 @@ module _ (e : Edition) (s : List ℕ) where
 
     pub read-iff : (unread e n s m i ≡ false) ↔ IsRead e n s m i
     read-iff = (
-      λ q. to (read-names (n + i) (m - suc i) (suc i) (some-read (sym unread-is ∙ q))),
+      λ q. to (read_names (n + i) (m - suc i) (suc i) (some_read (sym unread-is ∙ q))),
       λ w. unread-is
           ∙ read (names-read (n + i) (m - suc i) (suc i) (of w)),
     )
       where
-        some-read : {a : ℕ} → eqb a 0 ≡ false → 1 ≤ a
-        some-read {a} q = let z = eqb-false a 0 q in omega arith
+        some_read : {a : ℕ} → eqb a 0 ≡ false → 1 ≤ a
+        some_read {a} q = let z = eqb-false a 0 q in omega arith
 
         read : {a : ℕ} → 1 ≤ a → eqb a 0 ≡ false
-        read {a} q = ne-eqb a 0 (λ z. omega arith)
+        read {a} q = ne_eqb a 0 (λ z. omega arith)
 
         to : Names (n + i) (suc i) (m - suc i) → IsRead e n s m i
         to w = record {
-          reader = w .reader;
-          later = w .from;
-          within = omega (arith, w .within);
-          place = w .place;
-          among = w .among;
-          names = w .names;
+          reader = w.reader;
+          later = w.from;
+          within = omega (arith, w.within);
+          place = w.place;
+          among = w.among;
+          names = w.names;
         }
 
         of : IsRead e n s m i → Names (n + i) (suc i) (m - suc i)
         of w = record {
-          reader = w .reader;
-          from = w .later;
-          within = omega (arith, w .within);
-          place = w .place;
-          among = w .among;
-          names = w .names;
+          reader = w.reader;
+          from = w.later;
+          within = omega (arith, w.within);
+          place = w.place;
+          among = w.among;
+          names = w.names;
         }
 
   -- none is found exactly where each record but the last is read
-  pub each-read : (n m : ℕ) → firstUnread e n s m ≡ m - 1 → EachRead e n s m
-  each-read n m q i h = read-iff n m i (omega arith) .0 (is-least (m - 1) (unread e n s m) .before i (omega arith))
+  pub each_read : (n m : ℕ) → firstUnread e n s m ≡ m - 1 → EachRead e n s m
+  each_read n m q i h = (read-iff n m i (omega arith)).0 ((is-least (m - 1) (unread e n s m)).before i (omega arith))
 
   pub none-unread : (n m : ℕ) → EachRead e n s m → firstUnread e n s m ≡ m - 1
   none-unread n m r = least-of (m - 1) (unread e n s m) (m - 1) (record {
     within = omega arith;
-    before = λ i h. read-iff n m i (omega arith) .1 (r i (omega arith));
+    before = λ i h. (read-iff n m i (omega arith)).1 (r i (omega arith));
     here = λ h. absurd (omega arith);
   })
 
@@ -194,8 +194,8 @@ module _ (e : Edition) (s : List ℕ) where
   first-unread n m h =
       let w = is-least (m - 1) (unread e n s m) in record {
         within = omega arith;
-        alone = λ r. clash (w .here h) (read-iff n m (firstUnread e n s m) (omega arith) .1 r);
-        before = λ j l. read-iff n m j (omega arith) .0 (w .before j l);
+        alone = λ r. clash (w.here h) ((read-iff n m (firstUnread e n s m) (omega arith)).1 r);
+        before = λ j l. (read-iff n m j (omega arith)).0 (w.before j l);
       }
 
   pub not-read : (n m i : ℕ) → i < m → (IsRead e n s m i → ⊥) → unread e n s m i ≡ true
@@ -203,24 +203,24 @@ module _ (e : Edition) (s : List ℕ) where
     where
       go : (t : Bool) → unread e n s m i ≡ t → unread e n s m i ≡ true
       go true q = q
-      go false q = absurd (alone (read-iff n m i h .0 q))
+      go false q = absurd (alone ((read-iff n m i h).0 q))
 
   pub unread-first : (n m i : ℕ) → IsFirstUnread e n s m i → firstUnread e n s m ≡ i
   unread-first n m i w = least-of (m - 1) (unread e n s m) i (record {
-    within = omega (arith, w .within);
-    before = λ j h. read-iff n m j (omega (arith, w .within)) .1 (w .before j h);
-    here = λ h. not-read n m i (omega (arith, w .within)) (w .alone);
+    within = omega (arith, w.within);
+    before = λ j h. (read-iff n m j (omega (arith, w.within))).1 (w.before j h);
+    here = λ h. not-read n m i (omega (arith, w.within)) w.alone;
   })
 
 -- ---- cells
 
 -- a cell that is read isn't unread
 pub cell-read : (n : ℕ) (cs : List Cell) → AllRead n cs → (i : ℕ) → i + 1 < length cs → unreadCell n cs i ≡ false
-cell-read n cs r i h = let a = r i h in ne-eqb (reads (n + i) (drop (suc i) cs)) 0 (λ q. omega arith)
+cell-read n cs r i h = let a = r i h in ne_eqb (reads (n + i) (drop (suc i) cs)) 0 (λ q. omega arith)
 
 -- written as records, each of those but the last is read
-pub written-read : (e : Edition) → IsEdition e → (d n : ℕ) (cs : List Cell) → FitsFrom e n cs → AllRead n cs
+pub written_read : (e : Edition) → IsEdition e → (d n : ℕ) (cs : List Cell) → FitsFrom e n cs → AllRead n cs
     → EachRead e n (sheetBytes e d cs) (length cs)
-written-read e o d n cs fits r i h =
-    read-iff e (sheetBytes e d cs) n (length cs) i (omega arith) .0
+written_read e o d n cs fits r i h =
+    (read-iff e (sheetBytes e d cs) n (length cs) i (omega arith)).0
     (ap (λ (ds : List Cell). unreadCell n ds i) (cells-back e d o n cs fits) ∙ cell-read n cs r i h)

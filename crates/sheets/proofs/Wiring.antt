@@ -1,18 +1,18 @@
 -- A sheet whose records keep the rules is a network: each cell has at most the largest number of signals, each given
 -- before it. Assumes nothing.
-use mathlib.Core.Path.{_≡_, refl, sym, ap, subst}
+use mathlib.Core.Path.{◌≡◌, refl, sym, ap, subst}
 use mathlib.Core.List.{List}
-use Prim.Native.Nat.{ℕ, zero, suc, _+_, _<_, _≤_}
+use Prim.Native.Nat.{ℕ, zero, suc, ◌+◌, ◌<◌, ◌≤◌}
 use native.Mathlib.Nat.{add-zero, add-suc}
 use native.Mathlib.Omega.{arith}
 use lib.ListN.{length}
-use Rattle·bits.proofs.Lists.{length-list, list-at}
-use Rattle·sheets·specs.specs.declared.kinds.Edition.{Edition}
-use Rattle·sheets·specs.specs.Edition.{IsEdition}
-use Rattle·sheets·specs.specs.Network.{Wired}
-use Rattle·sheets·specs.specs.Record.{Keeps, cellOf}
-use Rattle·sheets·specs.specs.Sheet.{recordAt, cellsFrom, sheetCells, firstBad}
-use Rattle·sheets·proofs.proofs.Looks.{record-keeps}
+use Rattle.bits.proofs.Lists.{length-list, list_at}
+use Rattle.sheets.specs.declared.kinds.Edition.{Edition}
+use Rattle.sheets.specs.Edition.{IsEdition}
+use Rattle.sheets.specs.Network.{Wired}
+use Rattle.sheets.specs.Record.{Keeps, cell_of}
+use Rattle.sheets.specs.Sheet.{recordAt, cellsFrom, sheetCells, firstBad}
+use Rattle.sheets.proofs.Looks.{record-keeps}
 
 -- a sheet of m records has m cells
 pub cells-length : (e : Edition) (s : List ℕ) (i m : ℕ) → length (cellsFrom e s i m) ≡ m
@@ -22,22 +22,22 @@ cells-length e s i (suc m) = ap suc (cells-length e s (suc i) m)
 
 module _ (e : Edition) (d n : ℕ) (s : List ℕ) where
   wired-from : (m i : ℕ) → ((j : ℕ) → i ≤ j → j < i + m → Keeps e d (n + j) (recordAt e s j))
-      → Wired (e .most) (n + i) (cellsFrom e s i m)
-  unfolding cellsFrom cellOf
+      → Wired e.most (n + i) (cellsFrom e s i m)
+  unfolding cellsFrom cell_of
   wired-from zero i k = tt
   wired-from (suc m) i k =
       let b = recordAt e s i in
       let r = k i (omega arith) (omega arith) in
       let l = length-list (b 0) (λ j. b (j + 1)) in (
-        subst (λ (h : ℕ). h ≤ e .most) (sym l) (r .most),
+        subst (λ (h : ℕ). h ≤ e.most) (sym l) r.most,
         λ j h.
             let g : j < b 0 = subst (λ (h : ℕ). j < h) l h in
-            subst (λ (v : ℕ). v < n + i) (sym (list-at (b 0) (λ j. b (j + 1)) j 0 g)) (r .known j g),
-        subst (λ (t : ℕ). Wired (e .most) t (cellsFrom e s (suc i) m)) (add-suc n i)
+            subst (λ (v : ℕ). v < n + i) (sym (list_at (b 0) (λ j. b (j + 1)) j 0 g)) (r.known j g),
+        subst (λ (t : ℕ). Wired e.most t (cellsFrom e s (suc i) m)) (add-suc n i)
             (wired-from m (suc i) (λ j p q. k j (omega arith) (omega arith))),
       )
 
-  pub good-wired : IsEdition e → (m : ℕ) → firstBad e d n s m ≡ m → Wired (e .most) n (sheetCells e s m)
+  pub good-wired : IsEdition e → (m : ℕ) → firstBad e d n s m ≡ m → Wired e.most n (sheetCells e s m)
   good-wired ok m none =
-      subst (λ (k : ℕ). Wired (e .most) k (sheetCells e s m)) (add-zero n)
+      subst (λ (k : ℕ). Wired e.most k (sheetCells e s m)) (add-zero n)
       (wired-from m 0 (λ j p q. record-keeps e ok d n s m none j (omega arith)))

@@ -1,18 +1,14 @@
 -- The desk that a sheet is for: 0 for bench use, or 1 to 4. It stands in the byte after the signals, alike in all
 -- records.
-use mathlib.Core.Path.{_≡_}
-use mathlib.Core.Bool.{cond}
-use mathlib.Core.List.{List}
-use Prim.Native.Nat.{ℕ, _+_, _<_, _≤_}
-use lib.Dec.{leb}
-use Rattle·sheets·specs.specs.declared.kinds.Edition.{Edition}
-use Rattle·sheets·specs.specs.Edition.{mostDesk}
-use Rattle·sheets·specs.specs.Record.{Keeps}
-use Rattle·sheets·specs.specs.Sheet.{recordAt}
+use Rattle.std.specs.Prelude.{◌≡◌, cond, List, ℕ, ◌+◌, ◌<◌, ◌≤◌, leb}
+use Rattle.sheets.specs.declared.kinds.Edition.{Edition}
+use Rattle.sheets.specs.Edition.{mostDesk}
+use Rattle.sheets.specs.Record.{Keeps}
+use Rattle.sheets.specs.Sheet.{recordAt}
 
 -- the desk's byte of record i
 abbrev pub deskAt : Edition → List ℕ → ℕ → ℕ
-deskAt e s i = recordAt e s i (e .most + 1)
+deskAt e s i = recordAt e s i (e.most + 1)
 
 -- record i belongs on its sheet: it keeps the record rules (it may read only signals below n + i), and its desk is one,
 -- and the first record's

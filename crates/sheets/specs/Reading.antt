@@ -1,16 +1,11 @@
 -- Which cells of a network, and which records of a sheet, are read by a later one.
-use mathlib.Core.Path.{_≡_}
-use mathlib.Core.Bool.{Bool, cond, _||_}
-use mathlib.Core.List.{List, [], _∷_, _++_, map}
-use Prim.Native.Nat.{ℕ, suc, _+_, _-_, _<_, _≤_}
-use lib.Dec.{ltb, eqb}
-use lib.ListN.{length, take, drop}
-use Rattle·bits.specs.Numbers.{bit, val, number}
-use Rattle·bits.specs.Below.{least}
-use Rattle·bits.specs.Lists.{listOf}
-use Rattle·sheets·specs.specs.declared.kinds.Edition.{Edition}
-use Rattle·sheets·specs.specs.Network.{Cell}
-use Rattle·sheets·specs.specs.Sheet.{recordAt, sheetCells}
+use Rattle.std.specs.Prelude.{◌≡◌, Bool, cond, ◌||◌, List, [], ◌∷◌, ◌++◌, map, ℕ, suc, ◌+◌, ◌-◌, ◌<◌, ◌≤◌, ltb, eqb, length, take, drop}
+use Rattle.bits.specs.Numbers.{bit, val, number}
+use Rattle.bits.specs.Below.{least}
+use Rattle.bits.specs.Lists.{list_of}
+use Rattle.sheets.specs.declared.kinds.Edition.{Edition}
+use Rattle.sheets.specs.Network.{Cell}
+use Rattle.sheets.specs.Sheet.{recordAt, sheetCells}
 
 -- how often a list has signal s
 abbrev pub times : ℕ → List ℕ → ℕ
@@ -20,7 +15,7 @@ times s (x ∷ l) = val (eqb s x) + times s l
 -- how often the cells read signal s
 abbrev pub reads : ℕ → List Cell → ℕ
 reads s [] = 0
-reads s (c ∷ cs) = times s (c .signals) + reads s cs
+reads s (c ∷ cs) = times s c.signals + reads s cs
 
 -- no cell reads signal s
 abbrev pub noneReads : ℕ → List Cell → Bool
@@ -42,7 +37,7 @@ lowered g x = cond (ltb g x) (x - 1) x
 
 -- a cell that reads its signals under those numbers
 abbrev pub renumbered : ℕ → Cell → Cell
-renumbered g c = record { signals = map (lowered g) (c .signals); table = c .table }
+renumbered g c = record { signals = map (lowered g) c.signals; table = c.table }
 
 -- the network without cell i
 abbrev pub without : ℕ → ℕ → List Cell → List Cell
@@ -81,4 +76,4 @@ firstUnread e n s m = least (m - 1) (unread e n s m)
 
 -- a mask, bit x of which says that signal x is read, with the signals of a record besides
 abbrev pub alsoRead : (ℕ → ℕ) → ℕ → ℕ
-alsoRead b w = number 32 (λ x. bit w x || ltb 0 (times x (listOf (b 0) (λ j. b (j + 1)))))
+alsoRead b w = number 32 (λ x. bit w x || ltb 0 (times x (list_of (b 0) (λ j. b (j + 1)))))

@@ -1,18 +1,18 @@
 -- The numbers of columns: those of b are numbered in order of first appearance over a. Assumes nothing.
-use mathlib.Core.Path.{_≡_, refl, sym, ap, _∙_}
-use mathlib.Core.Bool.{Bool, true, false, cond, _||_}
-use mathlib.Core.List.{List, [], _∷_, _++_}
-use Prim.Native.Nat.{ℕ, zero, suc, _+_, _-_, _^_, _<_}
+use mathlib.Core.Path.{◌≡◌, refl, sym, ap, ◌∙◌}
+use mathlib.Core.Bool.{Bool, true, false, cond, ◌||◌}
+use mathlib.Core.List.{List, [], ◌∷◌, ◌++◌}
+use Prim.Native.Nat.{ℕ, zero, suc, ◌+◌, ◌-◌, ◌^◌, ◌<◌}
 use native.Mathlib.Nat.{zero-add, suc-add}
 use native.Mathlib.Omega.{arith}
 use lib.Dec.{eqb}
 use lib.ListN.{length}
 use borrow.Author.Tests.{eq-eqb}
-use Rattle·bits.specs.Sets.{size}
-use Rattle·bits.proofs.Bools.{clash, false-of}
-use Rattle·splits·specs.specs.Columns.{index, member, firsts, column, columns}
-use Rattle·splits·specs.specs.Pair.{code}
-use Rattle·splits·proofs.proofs.Firsts.{firsts-has, firsts-from, firsts-new}
+use Rattle.bits.specs.Sets.{size}
+use Rattle.bits.proofs.Bools.{clash, false_of}
+use Rattle.splits.specs.Columns.{index, member, firsts, column, columns}
+use Rattle.splits.specs.Pair.{code}
+use Rattle.splits.proofs.Firsts.{firsts-has, firsts-from, firsts-new}
 
 -- ---- the place of a member in a longer list, and of a new last one
 
@@ -57,18 +57,18 @@ module _ (f : ℕ → ℕ) (a : ℕ) where
       ∙ ap (index (f a)) (firsts-new f a fresh) ∙ index-last (f a) (firsts f a) fresh
     where
       fresh : member (f a) (firsts f a) ≡ false
-      fresh = false-of (member (f a) (firsts f a)) (λ m. let w = firsts-from f a (f a) m in new (w .0) (w .1) (w .2))
+      fresh = false_of (member (f a) (firsts f a)) (λ m. let w = firsts-from f a (f a) m in new w.0 w.1 w.2)
 
 -- ---- of columns
 
 module _ (n : ℕ) (F : ℕ → Bool) (A B : ℕ → Bool) (b a : ℕ) (h : a < 2 ^ size n A) where
   -- a column that appears first at a has as its number how many different ones come before it
-  pub code-first : ((a′ : ℕ) → a′ < a → column n F A B b a′ ≡ column n F A B b a → ⊥) → code n F A B b a
+  pub code-first : ((a' : ℕ) → a' < a → column n F A B b a' ≡ column n F A B b a → ⊥) → code n F A B b a
       ≡ length (firsts (column n F A B b) a)
   unfolding code columns
   code-first new = appears (column n F A B b) a (2 ^ size n A) h new
 
   -- and equal columns have one number
-  pub code-same : (a′ : ℕ) → column n F A B b a ≡ column n F A B b a′ → code n F A B b a ≡ code n F A B b a′
+  pub code_same : (a' : ℕ) → column n F A B b a ≡ column n F A B b a' → code n F A B b a ≡ code n F A B b a'
   unfolding code
-  code-same a′ e = ap (λ (x : ℕ). index x (columns n F A B b)) e
+  code_same a' e = ap (λ (x : ℕ). index x (columns n F A B b)) e

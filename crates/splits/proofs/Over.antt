@@ -1,17 +1,17 @@
 -- The table over a set that the whole table sees alone has the splits of the whole table, member by member, whatever
 -- lies outside the set: the one is asked at what is gathered, the other at what is spread. Assumes nothing.
-use mathlib.Core.Path.{_≡_, refl, sym, ap, ap₂, _∙_}
-use mathlib.Core.Bool.{Bool, true, false, not, _&&_, _||_}
-use Prim.Native.Nat.{ℕ, _<_}
-use Rattle·bits.specs.Numbers.{bit}
-use Rattle·bits.specs.Sets.{Agree, size, gather, spread}
-use Rattle·bits.proofs.Sizes.{size-lt}
-use Rattle·bits.proofs.Spreading.{gather-lt, bit-spread, spread-lt}
-use Rattle·bits.proofs.Members.{Place, place, gather-place}
-use Rattle·tables.specs.Counting.{Sees, tableOver}
-use Rattle·tables.proofs.Over.{over-at, over-gather}
-use Rattle·splits·specs.specs.Split.{readsD, readsH, Possible}
-use Rattle·splits·proofs.proofs.Through.{possible-through}
+use mathlib.Core.Path.{◌≡◌, refl, sym, ap, ap₂, ◌∙◌}
+use mathlib.Core.Bool.{Bool, true, false, not, ◌&&◌, ◌||◌}
+use Prim.Native.Nat.{ℕ, ◌<◌}
+use Rattle.bits.specs.Numbers.{bit}
+use Rattle.bits.specs.Sets.{Agree, size, gather, spread}
+use Rattle.bits.proofs.Sizes.{size-lt}
+use Rattle.bits.proofs.Spreading.{gather-lt, bit-spread, spread-lt}
+use Rattle.bits.proofs.Members.{Place, place, gather-place}
+use Rattle.tables.specs.Counting.{Sees, tableOver}
+use Rattle.tables.proofs.Over.{over-at, over-gather}
+use Rattle.splits.specs.Split.{readsD, readsH, Possible}
+use Rattle.splits.proofs.Through.{possible-through}
 
 -- at the members of S, s is t by their numbers
 abbrev pub Matches : ℕ → (ℕ → Bool) → (ℕ → Bool) → (ℕ → Bool) → Type 0
@@ -22,7 +22,7 @@ module _ (n : ℕ) (S s t : ℕ → Bool) (m : Matches n S s t) where
   agree-gather x y h k l e = go (place n S k l)
     where
       go : Place n S k → bit (gather n S x) k ≡ bit (gather n S y) k
-      go w = gather-place n S x k w ∙ h (w .at) (w .below) (m (w .at) (w .below) (w .member) ∙ ap t (w .rank) ∙ e)
+      go w = gather-place n S x k w ∙ h w.at w.below (m w.at w.below w.member ∙ ap t w.rank ∙ e)
           ∙ sym (gather-place n S y k w)
 
   agree-spread : (v w : ℕ) → Agree (size n S) t v w → Agree n s (spread n S v) (spread n S w)
@@ -32,22 +32,22 @@ module _ (n : ℕ) (S s t : ℕ → Bool) (m : Matches n S s t) where
       go true q = h (size j S) (size-lt n S j l q) (sym (m j l q) ∙ e)
       go false q = refl
 
-module _ (n : ℕ) (F : ℕ → Bool) (S : ℕ → Bool) (sees : Sees n F S) (A B A′ B′ : ℕ → Bool) (mA : Matches n S A A′)
-    (mB : Matches n S B B′) where
-  mD : Matches n S (readsD A B) (readsD A′ B′)
+module _ (n : ℕ) (F : ℕ → Bool) (S : ℕ → Bool) (sees : Sees n F S) (A B A' B' : ℕ → Bool) (mA : Matches n S A A')
+    (mB : Matches n S B B') where
+  mD : Matches n S (readsD A B) (readsD A' B')
   mD j l e = ap₂ (λ (a b : Bool). a || b) (mA j l e) (mB j l e)
 
-  mH : Matches n S (readsH A B) (readsH A′ B′)
+  mH : Matches n S (readsH A B) (readsH A' B')
   mH j l e = ap₂ (λ (a b : Bool). b || not (a || b)) (mA j l e) (mB j l e)
 
   -- a split of the table over S is one of the whole table
-  pub possible-whole : (r : ℕ) → Possible (size n S) (bit (tableOver n S F)) A′ B′ r → Possible n F A B r
-  possible-whole = possible-through n F A B (size n S) (bit (tableOver n S F)) A′ B′ (gather n S)
-      (agree-gather n S (readsD A B) (readsD A′ B′) mD) (agree-gather n S (readsH A B) (readsH A′ B′) mH)
+  pub possible-whole : (r : ℕ) → Possible (size n S) (bit (tableOver n S F)) A' B' r → Possible n F A B r
+  possible-whole = possible-through n F A B (size n S) (bit (tableOver n S F)) A' B' (gather n S)
+      (agree-gather n S (readsD A B) (readsD A' B') mD) (agree-gather n S (readsH A B) (readsH A' B') mH)
       (λ x h. (gather-lt n S x, sym (over-gather n F S sees x h)))
 
   -- and the other way round
-  pub possible-over : (r : ℕ) → Possible n F A B r → Possible (size n S) (bit (tableOver n S F)) A′ B′ r
-  possible-over = possible-through (size n S) (bit (tableOver n S F)) A′ B′ n F A B (spread n S)
-      (agree-spread n S (readsD A B) (readsD A′ B′) mD) (agree-spread n S (readsH A B) (readsH A′ B′) mH)
+  pub possible-over : (r : ℕ) → Possible n F A B r → Possible (size n S) (bit (tableOver n S F)) A' B' r
+  possible-over = possible-through (size n S) (bit (tableOver n S F)) A' B' n F A B (spread n S)
+      (agree-spread n S (readsD A B) (readsD A' B') mD) (agree-spread n S (readsH A B) (readsH A' B') mH)
       (λ v h. (spread-lt n S v, over-at n S F v h))

@@ -1,21 +1,17 @@
 -- Try a named split with r first cells: their tables as numbers, H into a lent room. Document 01's call has one.
-use mathlib.Core.Bool.{cond}
-use mathlib.Core.List.{List, [], _∷_, _++_}
-use Prim.Native.Nat.{ℕ}
-use lib.Dec.{eqb}
-use lib.ListN.{length}
-use Rattle·bits.specs.Numbers.{bit}
-use Rattle·tables.specs.Table.{tableBit}
-use Rattle·splits.specs.Columns.{columns}
-use Rattle·splits.specs.Pair.{bytesH}
-use Rattle·charts.specs.Cells.{firstCells, noCells}
-use Rattle·sheets.specs.declared.kinds.Edition.{Edition}
-use Rattle·refusals.specs.declared.verdicts.Refusal.{Refusal}
-use Rattle·refusals.specs.declared.verdicts.Verdict.the-variants.{Fine, Refused}
-use Rattle·refusals.specs.Lines.{Line, verdict, reply}
-use Rattle·refusals.specs.Refusals.{gateLines, badSets, shortRoom, notPossible}
-use Rattle·refusals.specs.Lent.{into}
-use Rattle·splitting·specs.specs.declared.try_split.TryAnswer.{TryAnswer}
+use Rattle.std.specs.Prelude.{cond, List, [], ◌∷◌, ◌++◌, ℕ, eqb, length}
+use Rattle.bits.specs.Numbers.{bit}
+use Rattle.tables.specs.Table.{tableBit}
+use Rattle.splits.specs.Columns.{columns}
+use Rattle.splits.specs.Pair.{bytesH}
+use Rattle.charts.specs.Cells.{firstCells, noCells}
+use Rattle.sheets.specs.declared.kinds.Edition.{Edition}
+use Rattle.refusals.specs.declared.verdicts.Refusal.{Refusal}
+use Rattle.refusals.specs.declared.verdicts.Verdict.TheVariants.{Fine, Refused}
+use Rattle.refusals.specs.Lines.{Line, verdict, reply}
+use Rattle.refusals.specs.Refusals.{gateLines, badSets, shortRoom, notPossible}
+use Rattle.refusals.specs.Lent.{into}
+use Rattle.splitting.specs.declared.try_split.TryAnswer.{TryAnswer}
 
 -- form and room: 1 to 6
 abbrev pub tryForm : Edition → ℕ → ℕ → ℕ → ℕ → ℕ → List ℕ → List ℕ → List Line
@@ -33,7 +29,7 @@ pub record TryOutcome : Type 0 where
 -- after 8, how many different columns the named b has
 abbrev pub columnsNamed : ℕ → ℕ → ℕ → List ℕ → Refusal → ℕ
 columnsNamed n A B t why =
-    cond (eqb (why .number) 8) (length (columns n (tableBit t) (bit A) (bit B) (why .place))) 0
+    cond (eqb why.number 8) (length (columns n (tableBit t) (bit A) (bit B) why.place)) 0
 
 -- done: the first cells' tables, and H into the room; its bytes past H's table stay
 abbrev pub tryDone : ℕ → ℕ → ℕ → ℕ → List ℕ → List ℕ → TryOutcome

@@ -1,10 +1,9 @@
 -- Try a named split into cells of a told edition: D in the words of a cell's table, H into a lent room.
-use mathlib.Core.List.{List}
-use Prim.Native.Nat.{ℕ}
-use Rattle·sheets.specs.Edition.{editionOf}
-use Rattle·refusals.specs.Lines.{Line, verdict, reply}
-use Rattle·refusals.specs.Refusals.{toldLines}
-use Rattle·splitting·specs.specs.TrySplit.{TryOutcome, tryLines, tryDone, tryNot}
+use Rattle.std.specs.Prelude.{List, ℕ}
+use Rattle.sheets.specs.Edition.{editionOf}
+use Rattle.refusals.specs.Lines.{Line, verdict, reply}
+use Rattle.refusals.specs.Refusals.{toldLines}
+use Rattle.splitting.specs.TrySplit.{TryOutcome, tryLines, tryDone, tryNot}
 
 -- 1, 2 of the edition, and try's own in that edition, with one first cell
 abbrev pub tryToldLines : ℕ → ℕ → ℕ → ℕ → ℕ → List ℕ → List ℕ → List Line

@@ -1,32 +1,26 @@
 // The fixed answer to a split: the first cells' tables, and H stored into a lent room.
+ghost use Rattle.std.specs.Prelude.{◌≡◌, true, ◌*◌, ◌^◌, ◌≤◌, length};
+ghost use Rattle.bits.specs.Numbers.{bit};
+ghost use Rattle.tables.specs.Table.{mostInputs, tableLength, tableBit};
+ghost use Rattle.splits.specs.Columns.{mostFirst, fewColumns};
+ghost use Rattle.splits.specs.Pair.{inputsH, bytesH};
+ghost use Rattle.charts.specs.Cells.{firstCells};
+ghost use Rattle.columns.specs.Reading.{Held, Chart};
+ghost use Rattle.best.specs.Best.{Candidate};
+ghost use Rattle.sheets.specs.Edition.{largestCell};
+ghost use Rattle.refusals.specs.Lent.{into};
+
 use charts::pair;
 use charts::pair::FirstCells;
 use columns::split::Split;
-ghost use mathlib.Core.Path.{_≡_};
-ghost use mathlib.Core.Bool.{true};
-ghost use Prim.Native.Nat.{_*_, _^_, _≤_};
-ghost use lib.ListN.{length};
-ghost use Rattle·bits.specs.Numbers.{bit};
-ghost use Rattle·tables.specs.Table.{mostInputs, tableLength, tableBit};
-ghost use Rattle·splits.specs.Columns.{mostFirst, fewColumns};
-ghost use Rattle·splits.specs.Pair.{inputsH, bytesH};
-ghost use Rattle·charts.specs.Cells.{firstCells};
-ghost use Rattle·columns.specs.Reading.{Held, Chart};
-ghost use Rattle·best.specs.Best.{Candidate};
-ghost use Rattle·sheets.specs.Edition.{largestCell};
-ghost use Rattle·refusals.specs.Lent.{into};
 
 // The bytes of H's table, from the chart of its columns, into the start of a room.
 fn store_h<'a>(t: &'a [u8], s: Split, r: u32, seen: &'a [u16], end: usize, room: &mut [u8])
-    requires { ⌜
-        Held s × (2 ^ s .n ≤ 8 * length (now t)) × Chart s (tableBit (now t)) (2 ^ r) (now seen) × (r ≤ mostFirst)
-        × (end ≤ length (now room)) × (end ≤ tableLength mostInputs)
-        ⌝ }
-    requires { ⌜ end ≡ tableLength (inputsH (s .n) (tableBit (now t)) (bit (s .own)) (bit (s .shared)) r) ⌝ }
-    ensures { λ _. ⌜
-        now (room .exit)
-        ≡ into (bytesH (s .n) (tableBit (now (t .entry))) (bit (s .own)) (bit (s .shared)) r) (now (room .entry))
-        ⌝ }
+    requires held { Held s × (2 ^ s.n ≤ 8 * length t.now) × Chart s (tableBit t.now) (2 ^ r) seen.now × (r ≤ mostFirst)
+        × (end ≤ length room.old) × (end ≤ tableLength mostInputs) }
+    requires end_value { end ≡ tableLength (inputsH s.n (tableBit t.now) (bit s.own) (bit s.shared) r) }
+    ensures { room.new
+        ≡ into (bytesH s.n (tableBit t.now) (bit s.own) (bit s.shared) r) room.old }
 {
     let limit: usize = 1 << r;
     let mut i = 0;
@@ -39,17 +33,13 @@ fn store_h<'a>(t: &'a [u8], s: Split, r: u32, seen: &'a [u16], end: usize, room:
 // The first cells' tables of a split that is possible with r of them, and H's table into the start of a room; the
 // bytes past it stay.
 pub fn put_pair(t: &[u8], s: Split, r: u32, end: usize, room: &mut [u8]) -> FirstCells
-    requires { ⌜
-        Held s × (2 ^ s .n ≤ 8 * length (now t)) × Candidate (s .n) largestCell r (s .own) (s .shared)
-        × (r ≤ mostFirst) × (end ≤ length (now room)) × (end ≤ tableLength mostInputs)
-        ⌝ }
-    requires { ⌜ end ≡ tableLength (inputsH (s .n) (tableBit (now t)) (bit (s .own)) (bit (s .shared)) r) ⌝ }
-    requires { ⌜ fewColumns (s .n) (tableBit (now t)) (bit (s .own)) (bit (s .shared)) (2 ^ r) ≡ true ⌝ }
-    ensures { λ d. ⌜
-        (d ≡ firstCells (s .n) (tableBit (now (t .entry))) (bit (s .own)) (bit (s .shared)) r)
-        × (now (room .exit)
-        ≡ into (bytesH (s .n) (tableBit (now (t .entry))) (bit (s .own)) (bit (s .shared)) r) (now (room .entry)))
-        ⌝ }
+    requires held { Held s × (2 ^ s.n ≤ 8 * length t.now) × Candidate s.n largestCell r s.own s.shared
+        × (r ≤ mostFirst) × (end ≤ length room.old) × (end ≤ tableLength mostInputs) }
+    requires end_value { end ≡ tableLength (inputsH s.n (tableBit t.now) (bit s.own) (bit s.shared) r) }
+    requires r_value { fewColumns s.n (tableBit t.now) (bit s.own) (bit s.shared) (2 ^ r) ≡ true }
+    ensures { (result ≡ firstCells s.n (tableBit t.now) (bit s.own) (bit s.shared) r)
+        × (room.new
+        ≡ into (bytesH s.n (tableBit t.now) (bit s.own) (bit s.shared) r) room.old) }
 {
     let mut seen = pair::blank();
     pair::chart(t, s, 1 << r, &mut seen);

@@ -1,32 +1,28 @@
 // Trying a named split.
+ghost use Rattle.std.specs.Prelude.{◌≡◌, [], ◌∷◌, ◌+◌, ◌-◌, ◌^◌, ◌<◌, ◌≤◌, length};
+ghost use Rattle.bits.specs.Numbers.{bit};
+ghost use Rattle.bits.specs.Sets.{size};
+ghost use Rattle.tables.specs.Table.{mostInputs, tableLength};
+ghost use Rattle.splits.specs.Columns.{mostFirst};
+ghost use Rattle.columns.specs.Reading.{Held};
+ghost use Rattle.best.specs.Best.{Candidate};
+ghost use Rattle.sheets.specs.Edition.{IsEdition, largestCell, firstEdition};
+ghost use Rattle.refusals.specs.Lines.{verdict, reply};
+ghost use Rattle.refusals.specs.Refusals.{badSets, notPossible};
+ghost use Rattle.splitting.specs.TrySplit.{tryForm, tryDone, tryNot, tryOutcome};
+
 use crate::filling;
 use bits::sets::members;
 use charts::pair::FirstCells;
 use columns::columns::break_of;
 use columns::split::Split;
 use refusals::form;
-use refusals::verdicts::Refusal;
-use refusals::verdicts::Verdict;
-use refusals::verdicts::refuse;
-use refusals::verdicts::refuse_at;
+use refusals::verdicts::{Refusal, Verdict, refuse, refuse_at};
 use sheets::kinds::Edition;
-ghost use mathlib.Core.Path.{_≡_};
-ghost use mathlib.Core.List.{[], _∷_};
-ghost use Prim.Native.Nat.{_+_, _-_, _^_, _<_, _≤_};
-ghost use lib.ListN.{length};
-ghost use Rattle·bits.specs.Numbers.{bit};
-ghost use Rattle·bits.specs.Sets.{size};
-ghost use Rattle·tables.specs.Table.{mostInputs, tableLength};
-ghost use Rattle·splits.specs.Columns.{mostFirst};
-ghost use Rattle·columns.specs.Reading.{Held};
-ghost use Rattle·best.specs.Best.{Candidate};
-ghost use Rattle·sheets.specs.Edition.{IsEdition, largestCell, firstEdition};
-ghost use Rattle·refusals.specs.Lines.{verdict, reply};
-ghost use Rattle·refusals.specs.Refusals.{badSets, notPossible};
-ghost use Rattle·splitting·specs.specs.TrySplit.{tryForm, tryDone, tryNot, tryOutcome};
 
 // The first cells' tables, if nothing is wrong; H is in the lent room. After 8, which names where the split breaks, how
 // many different columns there are.
+#[derive(Drop)]
 pub struct TryAnswer {
     pub verdict: Verdict,
     pub d: FirstCells,
@@ -35,8 +31,8 @@ pub struct TryAnswer {
 
 // Line 5: r outside 1 to 3; A or B names a position from n up; they overlap; A not above r; A and B together above K.
 fn bad_sets(n: u32, k: u32, r: u64, own: u64, shared: u64) -> bool
-    requires { ⌜ n ≤ mostInputs ⌝ }
-    ensures { λ b. ⌜ b ≡ badSets n k r own shared .holds ⌝ }
+    requires { n ≤ mostInputs }
+    ensures { result ≡ (badSets n k r own shared).holds }
 {
     if form::outside(1, r, Split::MOST_FIRST) {
         return true;
@@ -60,8 +56,8 @@ fn bad_sets(n: u32, k: u32, r: u64, own: u64, shared: u64) -> bool
 
 // How many bytes H's table has: H reads all inputs but the own ones, and the first cells' outputs.
 fn bytes_of_h(n: u32, r: u32, own: u16) -> usize
-    requires { ⌜ (n ≤ mostInputs) × (own < 2 ^ n) × (r < size n (bit own)) × (r ≤ mostFirst) ⌝ }
-    ensures { λ len. ⌜ (len ≡ tableLength (n + r - size n (bit own))) × (len ≤ tableLength mostInputs) ⌝ }
+    requires { (n ≤ mostInputs) × (own < 2 ^ n) × (r < size n (bit own)) × (r ≤ mostFirst) }
+    ensures { (result ≡ tableLength (n + r - size n (bit own))) × (result ≤ tableLength mostInputs) }
 {
     tables::length_for(n + r - members(own))
 }
@@ -77,8 +73,8 @@ fn try_form<'a>(
     t: &'a [u8],
     room: &'a [u8],
 ) -> Verdict
-    requires { ⌜ IsEdition e ⌝ }
-    ensures { λ v. ⌜ v ≡ verdict (tryForm e n k r own shared (now (t .entry)) (now (room .entry))) ⌝ }
+    requires { IsEdition e }
+    ensures { result ≡ verdict (tryForm e n k r own shared t.now room.now) }
 {
     let gate = form::gate(e, n, k, t);
     let Verdict::Fine = gate else {
@@ -97,17 +93,13 @@ fn try_form<'a>(
 // A split whose sets are good: the tables of r first cells, and H into a room that is long enough, or that it isn't
 // possible.
 fn pair_of(t: &[u8], s: Split, r: u32, room: &mut [u8]) -> TryAnswer
-    requires { ⌜
-        Held s × Candidate (s .n) largestCell r (s .own) (s .shared) × (length (now t) ≡ tableLength (s .n))
-        × (r ≤ mostFirst)
-        ⌝ }
-    requires { ⌜ tableLength (s .n + r - size (s .n) (bit (s .own))) ≤ length (now room) ⌝ }
-    ensures { λ a. ⌜
-        record { answer = a; room = now (room .exit) }
-        ≡ reply (verdict (notPossible (s .n) r (s .own) (s .shared) (now (t .entry)) ∷ []))
-        (tryDone (s .n) r (s .own) (s .shared) (now (t .entry)) (now (room .entry)))
-        (tryNot (s .n) (s .own) (s .shared) (now (t .entry)) (now (room .entry)))
-        ⌝ }
+    requires held { Held s × Candidate s.n largestCell r s.own s.shared × (length t.now ≡ tableLength s.n)
+        × (r ≤ mostFirst) }
+    requires own_in_bounds { tableLength (s.n + r - size s.n (bit s.own)) ≤ length room.old }
+    ensures { record { answer = result; room = room.new }
+        ≡ reply (verdict (notPossible s.n r s.own s.shared t.now ∷ []))
+        (tryDone s.n r s.own s.shared t.now room.old)
+        (tryNot s.n s.own s.shared t.now room.old) }
 {
     let broken = break_of(t, s, 1 << r);
     if 0 < broken.columns {
@@ -135,11 +127,9 @@ pub fn try_in(
     t: &[u8],
     room: &mut [u8],
 ) -> TryAnswer
-    requires { ⌜ IsEdition e ⌝ }
-    ensures { λ a. ⌜
-        record { answer = a; room = now (room .exit) }
-        ≡ tryOutcome e n k r own shared (now (t .entry)) (now (room .entry))
-        ⌝ }
+    requires { IsEdition e }
+    ensures { record { answer = result; room = room.new }
+        ≡ tryOutcome e n k r own shared t.now room.old }
 {
     let form = try_form(e, n, k, r, own, shared, t, room);
     let Verdict::Fine = form else {
@@ -159,10 +149,8 @@ pub fn try_in(
 
 // Tries the split with the masks own and shared: D, and H into the lent room.
 pub fn try_split(n: u64, k: u64, own: u64, shared: u64, t: &[u8], room: &mut [u8]) -> TryAnswer
-    ensures { λ r. ⌜
-        record { answer = r; room = now (room .exit) }
-        ≡ tryOutcome firstEdition n k 1 own shared (now (t .entry)) (now (room .entry))
-        ⌝ }
+    ensures { record { answer = result; room = room.new }
+        ≡ tryOutcome firstEdition n k 1 own shared t.now room.old }
 {
     try_in(Edition::first(), n, k, 1, own, shared, t, room)
 }

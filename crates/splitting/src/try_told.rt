@@ -1,12 +1,12 @@
 // Trying a named split into cells of a told edition.
-use crate::try_split::TryAnswer;
-use crate::try_split::try_in;
+ghost use Rattle.std.specs.Prelude.{◌≡◌};
+ghost use Rattle.splitting.specs.TryTold.{tryTold};
+
+use crate::try_split::{TryAnswer, try_in};
 use charts::pair::FirstCells;
 use refusals::form;
 use refusals::verdicts::Verdict;
 use sheets::kinds::Edition;
-ghost use mathlib.Core.Path.{_≡_};
-ghost use Rattle·splitting·specs.specs.TryTold.{tryTold};
 
 // Tries the split with the masks own and shared into cells of the edition with the number w: D, and H into the lent
 // room.
@@ -19,10 +19,8 @@ pub fn try_told(
     t: &[u8],
     room: &mut [u8],
 ) -> TryAnswer
-    ensures { λ r. ⌜
-        record { answer = r; room = now (room .exit) }
-        ≡ tryTold w n k own shared (now (t .entry)) (now (room .entry))
-        ⌝ }
+    ensures { record { answer = result; room = room.new }
+        ≡ tryTold w n k own shared t.now room.old }
 {
     let told = form::told(w, n);
     let Verdict::Fine = told else {

@@ -1,48 +1,48 @@
 -- A half holds any gate's table; H's bytes, stored in the second half and taken back to the first, are the table at
 -- hand. Assumes nothing.
-use mathlib.Core.Path.{_≡_, ap, _∙_}
-use mathlib.Core.Bool.{Bool, _&&_}
+use mathlib.Core.Path.{◌≡◌, ap, ◌∙◌}
+use mathlib.Core.Bool.{Bool, ◌&&◌}
 use mathlib.Core.List.{List}
-use Prim.Native.Nat.{ℕ, _+_, _*_, _/_, _%_, _^_, _<_, _≤_}
+use Prim.Native.Nat.{ℕ, ◌+◌, ◌*◌, ◌/◌, ◌%◌, ◌^◌, ◌<◌, ◌≤◌}
 use native.Mathlib.Nat.{mod-lt}
 use native.Mathlib.Omega.{arith}
 use lib.Dec.{ltb, lit<}
-use lib.ListN.{length, getD, take}
-use lib.Seq.{getD-take, length-take-le}
-use lib.Pow.{pow-mono}
+use lib.ListN.{length, get_or, take}
+use lib.Seq.{get_or-take, length-take-le}
+use lib.Pow.{pow_mono}
 use borrow.Author.Tests.{lt-ltb}
-use Rattle·bits.specs.Numbers.{bit, number}
-use Rattle·bits.proofs.Numbers.{bit-number}
-use Rattle·tables.specs.Table.{mostInputs, tableLength, tableBit, byteOf}
-use Rattle·tables.proofs.Bytes.{length-holds}
-use Rattle·tables.proofs.Setting.{take-number}
-use Rattle·columns.specs.declared.split.Split.{Split}
-use Rattle·steps·specs.specs.Area.{atHand, nextBit, nextInputs, NextStored, NextTable}
-use Rattle·tables.specs.Work.{half, workLength}
+use Rattle.bits.specs.Numbers.{bit, number}
+use Rattle.bits.proofs.Numbers.{bit-number}
+use Rattle.tables.specs.Table.{mostInputs, tableLength, tableBit, byte_of}
+use Rattle.tables.proofs.Bytes.{length-holds}
+use Rattle.tables.proofs.Setting.{take-number}
+use Rattle.columns.specs.declared.split.Split.{Split}
+use Rattle.steps.specs.Area.{atHand, nextBit, nextInputs, NextStored, NextTable}
+use Rattle.tables.specs.Work.{half, workLength}
 
 module _ (work : List ℕ) (h : workLength ≤ length work) where
   pub half-whole : length (take half work) ≡ half
   half-whole = length-take-le half work (omega arith)
 
   pub half-bits : (m : ℕ) → m ≤ mostInputs → 2 ^ m ≤ 8 * length (take half work)
-  half-bits m l = omega (arith, half-whole, pow-mono {i = m} {j = mostInputs} l)
+  half-bits m l = omega (arith, half-whole, pow_mono {i = m} {j = mostInputs} l)
 
 -- the table at hand is what stands in front
 pub at-hand : (work : List ℕ) (m : ℕ) → m ≤ mostInputs → number (2 ^ m) (atHand work) ≡ number (2 ^ m) (tableBit work)
-at-hand work m h = take-number work half m (pow-mono {i = m} {j = mostInputs} h)
+at-hand work m h = take-number work half m (pow_mono {i = m} {j = mostInputs} h)
 
 -- a byte of a function's table has its bits
-byte-bit : (m : ℕ) (f : ℕ → Bool) (x : ℕ) → x < 2 ^ m → bit (byteOf m f (x / 8)) (x % 8) ≡ f x
+byte-bit : (m : ℕ) (f : ℕ → Bool) (x : ℕ) → x < 2 ^ m → bit (byte_of m f (x / 8)) (x % 8) ≡ f x
 byte-bit m f x h =
     let e : x / 8 * 8 + x % 8 ≡ x = omega arith in
     bit-number 8 (λ j. ltb (x / 8 * 8 + j) (2 ^ m) && f (x / 8 * 8 + j)) (x % 8) (mod-lt x (lit< tt))
     ∙ ap (λ (y : ℕ). ltb y (2 ^ m) && f y) e ∙ ap (λ (t : Bool). t && f x) (lt-ltb x (2 ^ m) h)
 
-pub taken-back : (s : Split) (r len : ℕ) (before stored after : List ℕ) → len ≡ tableLength (nextInputs s r before)
+pub taken_back : (s : Split) (r len : ℕ) (before stored after : List ℕ) → len ≡ tableLength (nextInputs s r before)
     → len ≤ half → NextStored s r len before stored
-    → ((i : ℕ) → i < len → getD after i 0 ≡ getD stored (half + i) 0) → length after ≡ length stored
+    → ((i : ℕ) → i < len → get_or after i 0 ≡ get_or stored (half + i) 0) → length after ≡ length stored
     → NextTable s r before after
-taken-back s r len before stored after e small w back long = record { long = long ∙ w .long; bits = at }
+taken_back s r len before stored after e small w back long = record { long = long ∙ w.long; bits = at }
   where
     m : ℕ
     m = nextInputs s r before
@@ -50,6 +50,6 @@ taken-back s r len before stored after e small w back long = record { long = lon
     at : (x : ℕ) → x < 2 ^ nextInputs s r before → atHand after x ≡ nextBit s before x
     at x h =
         let l : x / 8 < len = omega (arith, e, length-holds (nextInputs s r before)) in
-        ap (λ (y : ℕ). bit y (x % 8)) (getD-take half after (x / 8) 0 (omega arith) ∙ back (x / 8) l
-        ∙ w .bytes (x / 8) l)
+        ap (λ (y : ℕ). bit y (x % 8)) (get_or-take half after (x / 8) 0 (omega arith) ∙ back (x / 8) l
+        ∙ w.bytes (x / 8) l)
         ∙ byte-bit (nextInputs s r before) (nextBit s before) x h

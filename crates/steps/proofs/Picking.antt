@@ -1,23 +1,23 @@
 -- Signals picked by a mask are those picked by its set, and as many as the set has members. Assumes nothing.
-use mathlib.Core.Path.{_≡_, refl, sym, ap, ap₂, _∙_}
+use mathlib.Core.Path.{◌≡◌, refl, sym, ap, ap₂, ◌∙◌}
 use mathlib.Core.Bool.{Bool, cond}
-use mathlib.Core.List.{List, [], _∷_, _++_}
-use Prim.Native.Nat.{ℕ, zero, suc, _<_}
+use mathlib.Core.List.{List, [], ◌∷◌, ◌++◌}
+use Prim.Native.Nat.{ℕ, zero, suc, ◌<◌}
 use native.Mathlib.Omega.{arith}
-use lib.ListN.{length, getD}
-use Rattle·bits.specs.Numbers.{bit, number}
-use Rattle·bits.specs.Sets.{size}
-use Rattle·bits.proofs.Masks.{mask-bit}
-use Rattle·bits.proofs.Lists.{length-list}
-use Rattle·steps·specs.specs.declared.signals.Signals.{Signals}
-use Rattle·chains.specs.Chain.{pick}
-use Rattle·steps·specs.specs.Stage.{signalsOf}
-use Rattle·chains.proofs.Lists.{pick-length}
+use lib.ListN.{length, get_or}
+use Rattle.bits.specs.Numbers.{bit, number}
+use Rattle.bits.specs.Sets.{size}
+use Rattle.bits.proofs.Masks.{mask-bit}
+use Rattle.bits.proofs.Lists.{length-list}
+use Rattle.steps.specs.declared.signals.Signals.{Signals}
+use Rattle.chains.specs.Chain.{pick}
+use Rattle.steps.specs.Stage.{signalsOf}
+use Rattle.chains.proofs.Lists.{pick-length}
 
 pick-ext : (n : ℕ) (s t : ℕ → Bool) (l : List ℕ) → ((j : ℕ) → j < n → s j ≡ t j) → pick n s l ≡ pick n t l
 unfolding pick
 pick-ext zero s t l h = refl
-pick-ext (suc n) s t l h = ap₂ (λ (b : Bool) (r : List ℕ). cond b (r ++ (getD l n 0 ∷ [])) r) (h n (omega arith))
+pick-ext (suc n) s t l h = ap₂ (λ (b : Bool) (r : List ℕ). cond b (r ++ (get_or l n 0 ∷ [])) r) (h n (omega arith))
     (pick-ext n s t l (λ j g. h j (omega arith)))
 
 module _ (n m : ℕ) (s : ℕ → Bool) (is : m ≡ number n s) (count : ℕ) (inputs : n ≡ count) (l : List ℕ) (r : Signals)
@@ -25,5 +25,5 @@ module _ (n m : ℕ) (s : ℕ → Bool) (is : m ≡ number n s) (count : ℕ) (i
   pub picked-set : signalsOf r ≡ pick n s l
   picked-set = picked ∙ ap (λ (k : ℕ). pick k (bit m) l) (sym inputs) ∙ pick-ext n (bit m) s l (mask-bit n s m is)
 
-  pub picked-count : r .count ≡ size n s
-  picked-count = sym (length-list (r .count) (λ j. getD (r .at) j 0)) ∙ ap length picked-set ∙ pick-length n s l
+  pub picked-count : r.count ≡ size n s
+  picked-count = sym (length-list r.count (λ j. get_or r.at j 0)) ∙ ap length picked-set ∙ pick-length n s l

@@ -1,37 +1,37 @@
 -- A pile that grows, and grows again, holds what was put on it in turn. Assumes nothing.
-use mathlib.Core.Path.{_≡_, refl, sym, ap, ap₂, _∙_, subst}
-use mathlib.Core.List.{List, [], _∷_, _++_, append-assoc}
-use Prim.Native.Nat.{ℕ, _+_, _≤_}
+use mathlib.Core.Path.{◌≡◌, refl, sym, ap, ap₂, ◌∙◌, subst}
+use mathlib.Core.List.{List, [], ◌∷◌, ◌++◌, append_assoc}
+use Prim.Native.Nat.{ℕ, ◌+◌, ◌≤◌}
 use native.Mathlib.Omega.{arith}
-use lib.ListN.{length, getD, length-append}
-use Rattle·bits.specs.Lists.{listOf}
-use Rattle·bits.proofs.Lists.{length-list}
-use Rattle·sheets.specs.declared.kinds.Sheet.{Sheet}
-use Rattle·sheets.specs.declared.kinds.HeldCell.{HeldCell}
-use Rattle·sheets.specs.Network.{Cell}
-use Rattle·sheets.specs.Edition.{mostRecords}
-use Rattle·sheets.specs.Held.{noCell, networkCell, cellsOf, Appended}
-use Rattle·steps·specs.specs.declared.pile.Pile.{Pile}
-use Rattle·steps·specs.specs.Pile.{Piled, Grown}
+use lib.ListN.{length, get_or, length-append}
+use Rattle.bits.specs.Lists.{list_of}
+use Rattle.bits.proofs.Lists.{length-list}
+use Rattle.sheets.specs.declared.kinds.Sheet.{Sheet}
+use Rattle.sheets.specs.declared.kinds.HeldCell.{HeldCell}
+use Rattle.sheets.specs.Network.{Cell}
+use Rattle.sheets.specs.Edition.{mostRecords}
+use Rattle.sheets.specs.Held.{noCell, networkCell, cells_of, Appended}
+use Rattle.steps.specs.declared.pile.Pile.{Pile}
+use Rattle.steps.specs.Pile.{Piled, Grown}
 
 -- a sheet has as many cells as it counts
-pub cells-count : (s : Sheet) → length (cellsOf s) ≡ s .count
-cells-count s = length-list (s .count) (λ i. networkCell (getD (s .cells) i noCell))
+pub cells_count : (s : Sheet) → length (cells_of s) ≡ s.count
+cells_count s = length-list s.count (λ i. networkCell (get_or s.cells i noCell))
 
 -- ---- one cell more
 
 -- the sheet has no room for it
-pub grown-full : (p : Pile) (c : HeldCell) → p .sheet .count ≤ p .count → mostRecords ≤ p .count
-    → Grown p (networkCell c ∷ []) (record { sheet = p .sheet; count = p .count + 1 })
+pub grown-full : (p : Pile) (c : HeldCell) → p.sheet.count ≤ p.count → mostRecords ≤ p.count
+    → Grown p (networkCell c ∷ []) (record { sheet = p.sheet; count = p.count + 1 })
 grown-full p c w h = record { count = refl; within = omega arith; held = λ cs k few. absurd (omega arith) }
 
 -- the sheet has room
-pub grown-one : (p : Pile) (c : HeldCell) (s : Sheet) → p .sheet .count ≤ p .count → Appended (p .sheet) c s
-    → Grown p (networkCell c ∷ []) (record { sheet = s; count = p .count + 1 })
+pub grown-one : (p : Pile) (c : HeldCell) (s : Sheet) → p.sheet.count ≤ p.count → Appended p.sheet c s
+    → Grown p (networkCell c ∷ []) (record { sheet = s; count = p.count + 1 })
 grown-one p c s w a = record {
   count = refl;
-  within = omega (arith, a .count);
-  held = λ cs k few. a .cells ∙ ap (λ (l : List Cell). l ++ (networkCell c ∷ [])) (k .held (omega arith));
+  within = omega (arith, a.count);
+  held = λ cs k few. a.cells ∙ ap (λ (l : List Cell). l ++ (networkCell c ∷ [])) (k.held (omega arith));
 }
 
 -- ---- and more
@@ -39,16 +39,16 @@ grown-one p c s w a = record {
 module _ {p q : Pile} {more : List Cell} (g : Grown p more q) where
   pub grown-piled : {cs : List Cell} → Piled p cs → Piled q (cs ++ more)
   grown-piled {cs} k = record {
-    count = omega (arith, g .count, k .count, length-append cs more);
-    within = g .within;
-    held = g .held cs k;
+    count = omega (arith, g.count, k.count, length-append cs more);
+    within = g.within;
+    held = g.held cs k;
   }
 
   pub grown-then : {r : Pile} {others : List Cell} → Grown q others r → Grown p (more ++ others) r
   grown-then {r} {others} h = record {
-    count = omega (arith, g .count, h .count, length-append more others);
-    within = h .within;
-    held = λ cs k few. h .held (cs ++ more) (grown-piled k) few ∙ append-assoc cs more others;
+    count = omega (arith, g.count, h.count, length-append more others);
+    within = h.within;
+    held = λ cs k few. h.held (cs ++ more) (grown-piled k) few ∙ append_assoc cs more others;
   }
 
 -- the same cells under another name
@@ -57,17 +57,17 @@ grown-same {p} {q} e g = subst (λ (l : List Cell). Grown p l q) e g
 
 -- ---- the first one, two or three values of a function
 module _ {A : Type 0} (f : ℕ → A) (r : ℕ) (x : A) (e : x ≡ f 0) where
-  pub firsts-one : r ≡ 1 → (x ∷ []) ≡ listOf r f
-  unfolding listOf
-  firsts-one h = ap (λ (y : A). y ∷ []) e ∙ ap (λ (k : ℕ). listOf k f) (sym h)
+  pub firsts-one : r ≡ 1 → (x ∷ []) ≡ list_of r f
+  unfolding list_of
+  firsts-one h = ap (λ (y : A). y ∷ []) e ∙ ap (λ (k : ℕ). list_of k f) (sym h)
 
-  module _ (y : A) (e′ : y ≡ f 1) where
-    pub firsts-two : r ≡ 2 → (x ∷ []) ++ (y ∷ []) ≡ listOf r f
-    unfolding listOf
-    firsts-two h = ap₂ (λ (a b : A). a ∷ b ∷ []) e e′ ∙ ap (λ (k : ℕ). listOf k f) (sym h)
+  module _ (y : A) (e' : y ≡ f 1) where
+    pub firsts-two : r ≡ 2 → (x ∷ []) ++ (y ∷ []) ≡ list_of r f
+    unfolding list_of
+    firsts-two h = ap₂ (λ (a b : A). a ∷ b ∷ []) e e' ∙ ap (λ (k : ℕ). list_of k f) (sym h)
 
-    pub firsts-three : (z : A) → z ≡ f 2 → r ≡ 3 → ((x ∷ []) ++ (y ∷ [])) ++ (z ∷ []) ≡ listOf r f
-    unfolding listOf
-    firsts-three z e″ h =
-        ap₂ (λ (a b : A). a ∷ b ∷ z ∷ []) e e′ ∙ ap (λ (c : A). f 0 ∷ f 1 ∷ c ∷ []) e″
-        ∙ ap (λ (k : ℕ). listOf k f) (sym h)
+    pub firsts-three : (z : A) → z ≡ f 2 → r ≡ 3 → ((x ∷ []) ++ (y ∷ [])) ++ (z ∷ []) ≡ list_of r f
+    unfolding list_of
+    firsts-three z e'' h =
+        ap₂ (λ (a b : A). a ∷ b ∷ z ∷ []) e e' ∙ ap (λ (c : A). f 0 ∷ f 1 ∷ c ∷ []) e''
+        ∙ ap (λ (k : ℕ). list_of k f) (sym h)

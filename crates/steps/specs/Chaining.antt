@@ -1,48 +1,44 @@
 -- What the code that makes a sheet holds and promises.
-use mathlib.Core.Path.{_≡_}
-use mathlib.Core.Bool.{Bool, true, false}
-use mathlib.Core.List.{List, [], _++_}
-use Prim.Native.Nat.{ℕ, _+_, _^_, _≤_}
-use lib.ListN.{length, replicate}
-use Rattle·bits.specs.Numbers.{bit, number}
-use Rattle·bits.specs.Lists.{listOf}
-use Rattle·tables.specs.Table.{tableBit}
-use Rattle·columns.specs.declared.split.Split.{Split}
-use Rattle·splits.specs.Split.{readsD, readsH}
-use Rattle·splits.specs.Pair.{tableD}
-use Rattle·sheets.specs.Network.{Cell}
-use Rattle·sheets.specs.Edition.{mostRecords}
-use Rattle·sheets.specs.Held.{cellsOf}
-use Rattle·chains.specs.Chain.{pick, Made, stuck, made}
-use Rattle·chains.specs.Aside.{cellsAside}
-use Rattle·steps·specs.specs.declared.chaining.Stage.{Stage}
-use Rattle·steps·specs.specs.declared.chaining.ChainEnd.{ChainEnd}
-use Rattle·steps·specs.specs.Stage.{signalsOf, Listed}
-use Rattle·steps·specs.specs.Area.{atHand, NextTable}
-use Rattle·steps·specs.specs.Pile.{Grown}
+use Rattle.std.specs.Prelude.{◌≡◌, Bool, true, false, List, [], ◌++◌, ℕ, ◌+◌, ◌^◌, ◌≤◌, length, replicate}
+use Rattle.bits.specs.Numbers.{bit, number}
+use Rattle.bits.specs.Lists.{list_of}
+use Rattle.tables.specs.Table.{tableBit}
+use Rattle.columns.specs.declared.split.Split.{Split}
+use Rattle.splits.specs.Split.{readsD, readsH}
+use Rattle.splits.specs.Pair.{tableD}
+use Rattle.sheets.specs.Network.{Cell}
+use Rattle.sheets.specs.Edition.{mostRecords}
+use Rattle.sheets.specs.Held.{cells_of}
+use Rattle.chains.specs.Chain.{pick, Made, stuck, made}
+use Rattle.chains.specs.Aside.{cellsAside}
+use Rattle.steps.specs.declared.chaining.Stage.{Stage}
+use Rattle.steps.specs.declared.chaining.ChainEnd.{ChainEnd}
+use Rattle.steps.specs.Stage.{signalsOf, Listed}
+use Rattle.steps.specs.Area.{atHand, NextTable}
+use Rattle.steps.specs.Pile.{Grown}
 
 -- first cell t: the signals of A and B, and its table, where s splits the table F over the signals l
 abbrev pub dCell : Split → (ℕ → Bool) → List ℕ → ℕ → Cell
 dCell s F l t = record {
-  signals = pick (s .n) (readsD (bit (s .own)) (bit (s .shared))) l;
-  table = tableD (s .n) F (bit (s .own)) (bit (s .shared)) t;
+  signals = pick s.n (readsD (bit s.own) (bit s.shared)) l;
+  table = tableD s.n F (bit s.own) (bit s.shared) t;
 }
 
 -- one step: the r first cells are on the pile, the signals are those of B and C and then the cells' own, and H is the
 -- table at hand
 pub record Stepped (g : Stage) (next r : ℕ) (s : Split) (before : List ℕ) (q : Stage) (after : List ℕ) : Type 0 where
-  pub cells : Grown (g .pile) (listOf r (dCell s (atHand before) (signalsOf (g .signals)))) (q .pile)
-  pub listed : Listed (q .signals)
-  pub signals : signalsOf (q .signals) ≡ pick (s .n) (readsH (bit (s .own)) (bit (s .shared)))
-      (signalsOf (g .signals)) ++ listOf r (λ t. next + t)
+  pub cells : Grown g.pile (list_of r (dCell s (atHand before) (signalsOf g.signals))) q.pile
+  pub listed : Listed q.signals
+  pub signals : signalsOf q.signals ≡ pick s.n (readsH (bit s.own) (bit s.shared))
+      (signalsOf g.signals) ++ list_of r (λ t. next + t)
   pub table : NextTable s r before after
 
 -- what is told of a chain: that it is stuck; or how many cells it has, and these where a sheet has room for them
 abbrev pub Tells : ChainEnd → Made → Type 0
-Tells r stuck = (r .finished ≡ false) × (r .sheet .count ≡ 0) × (cellsOf (r .sheet) ≡ [])
-Tells r (made cs) = (r .finished ≡ true) × (r .count ≡ length cs) × (length cs ≤ mostRecords → cellsOf (r .sheet) ≡ cs)
+Tells r stuck = (r.finished ≡ false) × (r.sheet.count ≡ 0) × (cells_of r.sheet ≡ [])
+Tells r (made cs) = (r.finished ≡ true) × (r.count ≡ length cs) × (length cs ≤ mostRecords → cells_of r.sheet ≡ cs)
 
 -- the cells of a gate's table, with up to m first cells at each step; the work area is zeros
-pub record ChainedUpTo (m n K : ℕ) (t work : List ℕ) (r : ChainEnd) (work′ : List ℕ) : Type 0 where
+pub record ChainedUpTo (m n K : ℕ) (t work : List ℕ) (r : ChainEnd) (work' : List ℕ) : Type 0 where
   pub told : Tells r (cellsAside m n K (number (2 ^ n) (tableBit t)))
-  pub cleared : work′ ≡ replicate (length work) 0
+  pub cleared : work' ≡ replicate (length work) 0

@@ -1,14 +1,11 @@
 -- The cells of a chain as the code holds them: all are counted, and a sheet holds them as long as it has room for them.
-use mathlib.Core.Path.{_≡_}
-use mathlib.Core.List.{List, _++_}
-use Prim.Native.Nat.{ℕ, _+_, _*_, _≤_}
-use lib.ListN.{length}
-use Rattle·tables.specs.Table.{mostInputs}
-use Rattle·splits.specs.Columns.{mostFirst}
-use Rattle·sheets.specs.Network.{Cell}
-use Rattle·sheets.specs.Edition.{mostRecords}
-use Rattle·sheets.specs.Held.{cellsOf}
-use Rattle·steps·specs.specs.declared.pile.Pile.{Pile}
+use Rattle.std.specs.Prelude.{◌≡◌, List, ◌++◌, ℕ, ◌+◌, ◌*◌, ◌≤◌, length}
+use Rattle.tables.specs.Table.{mostInputs}
+use Rattle.splits.specs.Columns.{mostFirst}
+use Rattle.sheets.specs.Network.{Cell}
+use Rattle.sheets.specs.Edition.{mostRecords}
+use Rattle.sheets.specs.Held.{cells_of}
+use Rattle.steps.specs.declared.pile.Pile.{Pile}
 
 -- no chain has more cells than that: each step drops a signal
 abbrev pub mostPiled : ℕ
@@ -16,12 +13,12 @@ mostPiled = mostInputs * mostFirst
 
 -- the pile of the cells cs
 pub record Piled (p : Pile) (cs : List Cell) : Type 0 where
-  pub count : p .count ≡ length cs
-  pub within : p .sheet .count ≤ p .count
-  pub held : p .count ≤ mostRecords → cellsOf (p .sheet) ≡ cs
+  pub count : p.count ≡ length cs
+  pub within : p.sheet.count ≤ p.count
+  pub held : p.count ≤ mostRecords → cells_of p.sheet ≡ cs
 
 -- q is the pile p with more cells
 pub record Grown (p : Pile) (more : List Cell) (q : Pile) : Type 0 where
-  pub count : q .count ≡ p .count + length more
-  pub within : q .sheet .count ≤ q .count
-  pub held : (cs : List Cell) → Piled p cs → q .count ≤ mostRecords → cellsOf (q .sheet) ≡ cs ++ more
+  pub count : q.count ≡ p.count + length more
+  pub within : q.sheet.count ≤ q.count
+  pub held : (cs : List Cell) → Piled p cs → q.count ≤ mostRecords → cells_of q.sheet ≡ cs ++ more

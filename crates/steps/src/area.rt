@@ -1,29 +1,24 @@
 // The work area: the table at hand in the first half, the next one in the second.
-ghost use mathlib.Core.Path.{_≡_};
-ghost use Prim.Native.Nat.{ℕ, _+_, _^_, _<_, _≤_};
-ghost use lib.ListN.{length, getD};
-ghost use Rattle·bits.specs.Numbers.{bit};
-ghost use Rattle·bits.specs.Sets.{size};
-ghost use Rattle·tables.specs.Table.{mostInputs};
-ghost use Rattle·splits.specs.Columns.{mostFirst};
-ghost use Rattle·columns.specs.Reading.{Held, Chart};
-ghost use Rattle·steps·specs.specs.Area.{atHand, nextInputs, NextStored, NextTable};
-ghost use Rattle·tables.specs.Work.{half, workLength};
+ghost use Rattle.std.specs.Prelude.{◌≡◌, ℕ, ◌+◌, ◌^◌, ◌<◌, ◌≤◌, length, get_or};
+ghost use Rattle.bits.specs.Numbers.{bit};
+ghost use Rattle.bits.specs.Sets.{size};
+ghost use Rattle.tables.specs.Table.{mostInputs};
+ghost use Rattle.splits.specs.Columns.{mostFirst};
+ghost use Rattle.columns.specs.Reading.{Held, Chart};
+ghost use Rattle.steps.specs.Area.{atHand, nextInputs, NextStored, NextTable};
+ghost use Rattle.tables.specs.Work.{half, workLength};
+
 use bits::sets::parts;
-use charts::pair::h_byte;
-use charts::pair::h_word;
+use charts::pair::{h_byte, h_word};
 use columns::split::Split;
-use tables::HALF;
 use tables::fixed::byte_in;
-use tables::length_for;
+use tables::{HALF, length_for};
 
 // The first len bytes of H's table, with r first cells, into the second half: byte by byte.
 fn store_bytes(work: &mut [u8], s: Split, r: u32, seen: &[u16], len: usize)
-    requires { ⌜
-        Held s × (len ≤ half) × (workLength ≤ length (now work)) × Chart s (atHand (now work)) (2 ^ r) (now seen)
-        × (r ≤ mostFirst)
-        ⌝ }
-    ensures { λ _. ⌜ NextStored s r len (now (work .entry)) (now (work .exit)) ⌝ }
+    requires { Held s × (len ≤ half) × (workLength ≤ length work.old) × Chart s (atHand work.old) (2 ^ r) seen.now
+        × (r ≤ mostFirst) }
+    ensures { NextStored s r len work.old work.new }
 {
     let limit: usize = 1 << r;
     let mut i: usize = 0;
@@ -37,12 +32,10 @@ fn store_bytes(work: &mut [u8], s: Split, r: u32, seen: &[u16], len: usize)
 
 // The same by words, where nothing is shared and the free inputs make whole words.
 fn store_words(work: &mut [u8], s: Split, r: u32, seen: &[u16], len: usize)
-    requires { ⌜
-        Held s × (len ≤ half) × (workLength ≤ length (now work)) × Chart s (atHand (now work)) (2 ^ r) (now seen)
-        × (r ≤ mostFirst)
-        ⌝ }
-    requires { ⌜ (s .shared ≡ 0) × (64 ≤ 2 ^ size (s .n) (bit (s .free))) ⌝ }
-    ensures { λ _. ⌜ NextStored s r len (now (work .entry)) (now (work .exit)) ⌝ }
+    requires held { Held s × (len ≤ half) × (workLength ≤ length work.old) × Chart s (atHand work.old) (2 ^ r) seen.now
+        × (r ≤ mostFirst) }
+    requires shared_value { (s.shared ≡ 0) × (64 ≤ 2 ^ size s.n (bit s.free)) }
+    ensures { NextStored s r len work.old work.new }
 {
     let limit: usize = 1 << r;
     let mut w: u64 = 0;
@@ -59,11 +52,9 @@ fn store_words(work: &mut [u8], s: Split, r: u32, seen: &[u16], len: usize)
 
 // The same, by words where it can be.
 fn store_next(work: &mut [u8], s: Split, r: u32, seen: &[u16], len: usize)
-    requires { ⌜
-        Held s × (len ≤ half) × (workLength ≤ length (now work)) × Chart s (atHand (now work)) (2 ^ r) (now seen)
-        × (r ≤ mostFirst)
-        ⌝ }
-    ensures { λ _. ⌜ NextStored s r len (now (work .entry)) (now (work .exit)) ⌝ }
+    requires { Held s × (len ≤ half) × (workLength ≤ length work.old) × Chart s (atHand work.old) (2 ^ r) seen.now
+        × (r ≤ mostFirst) }
+    ensures { NextStored s r len work.old work.new }
 {
     if s.shared == 0 {
         if 64 <= parts(s.n, s.free) {
@@ -76,11 +67,9 @@ fn store_next(work: &mut [u8], s: Split, r: u32, seen: &[u16], len: usize)
 
 // The first len bytes of the second half, back to the first.
 fn take_next(work: &mut [u8], len: usize)
-    requires { ⌜ (len ≤ half) × (workLength ≤ length (now work)) ⌝ }
-    ensures { λ r. ⌜
-        ((i : ℕ) → i < len → getD (now (work .exit)) i 0 ≡ getD (now (work .entry)) (half + i) 0)
-        × (length (now (work .exit)) ≡ length (now (work .entry)))
-        ⌝ }
+    requires { (len ≤ half) × (workLength ≤ length work.old) }
+    ensures { ((i : ℕ) → i < len → get_or work.new i 0 ≡ get_or work.old (half + i) 0)
+        × (length work.new ≡ length work.old) }
 {
     let mut i: usize = 0;
     while i < len {
@@ -92,11 +81,9 @@ fn take_next(work: &mut [u8], len: usize)
 
 // H becomes the table at hand, by the chart of the columns; it has m inputs.
 pub fn next_table(work: &mut [u8], s: Split, r: u32, seen: &[u16], m: u32)
-    requires { ⌜
-        Held s × (workLength ≤ length (now work)) × (m ≤ mostInputs) × (m ≡ nextInputs s r (now work))
-        × Chart s (atHand (now work)) (2 ^ r) (now seen) × (r ≤ mostFirst)
-        ⌝ }
-    ensures { λ _. ⌜ NextTable s r (now (work .entry)) (now (work .exit)) ⌝ }
+    requires { Held s × (workLength ≤ length work.old) × (m ≤ mostInputs) × (m ≡ nextInputs s r work.old)
+        × Chart s (atHand work.old) (2 ^ r) seen.now × (r ≤ mostFirst) }
+    ensures { NextTable s r work.old work.new }
 {
     let len = length_for(m);
     store_next(work, s, r, seen, len);

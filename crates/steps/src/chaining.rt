@@ -1,37 +1,33 @@
 // Making a sheet: best splits while the list of signals is longer than K, and at last what remains as the final cell.
+ghost use Rattle.std.specs.Prelude.{◌≡◌, true, ◌+◌, ◌*◌, ◌^◌, ◌<◌, ◌≤◌, length};
+ghost use Rattle.bits.specs.Numbers.{bit, number};
+ghost use Rattle.bits.specs.Lists.{list_of};
+ghost use Rattle.tables.specs.Table.{mostInputs, tableLength, tableBit};
+ghost use Rattle.splits.specs.Columns.{mostFirst, fewColumns};
+ghost use Rattle.columns.specs.Reading.{Held, Chart};
+ghost use Rattle.best.specs.Best.{Candidate};
+ghost use Rattle.sheets.specs.Edition.{largestCell};
+ghost use Rattle.chains.specs.Chain.{stuck, chain};
+ghost use Rattle.steps.specs.Stage.{signalsOf, Listed};
+ghost use Rattle.steps.specs.Area.{atHand};
+ghost use Rattle.tables.specs.Work.{workLength};
+ghost use Rattle.steps.specs.Pile.{mostPiled, Grown};
+ghost use Rattle.steps.specs.Chaining.{dCell, Stepped, Tells, ChainedUpTo};
+
 use crate::area::next_table;
 use crate::pile::Pile;
 use crate::signals::Signals;
-use charts::pair::blank;
-use charts::pair::chart;
-use charts::pair::first_cells;
+use charts::pair::{blank, chart, first_cells};
 use choices::over::find_upto;
 use columns::split::Split;
 use sheets::kinds::Sheet;
-use tables::HALF;
 use tables::aside::set_aside;
 use tables::cell::CellTable;
-use tables::clear;
 use tables::counting::kept_of;
-ghost use mathlib.Core.Path.{_≡_};
-ghost use mathlib.Core.Bool.{true};
-ghost use Prim.Native.Nat.{_+_, _*_, _^_, _<_, _≤_};
-ghost use lib.ListN.{length};
-ghost use Rattle·bits.specs.Numbers.{bit, number};
-ghost use Rattle·bits.specs.Lists.{listOf};
-ghost use Rattle·tables.specs.Table.{mostInputs, tableLength, tableBit};
-ghost use Rattle·splits.specs.Columns.{mostFirst, fewColumns};
-ghost use Rattle·columns.specs.Reading.{Held, Chart};
-ghost use Rattle·best.specs.Best.{Candidate};
-ghost use Rattle·sheets.specs.Edition.{largestCell};
-ghost use Rattle·chains.specs.Chain.{stuck, chain};
-ghost use Rattle·steps·specs.specs.Stage.{signalsOf, Listed};
-ghost use Rattle·steps·specs.specs.Area.{atHand};
-ghost use Rattle·tables.specs.Work.{workLength};
-ghost use Rattle·steps·specs.specs.Pile.{mostPiled, Grown};
-ghost use Rattle·steps·specs.specs.Chaining.{dCell, Stepped, Tells, ChainedUpTo};
+use tables::{HALF, clear};
 
 // Whether the chain came to its end; how many cells it has, and a sheet of them, if it has room for them.
+#[derive(Drop)]
 pub struct ChainEnd {
     pub finished: bool,
     pub count: usize,
@@ -39,6 +35,7 @@ pub struct ChainEnd {
 }
 
 // The cells so far, and the signals of the table at hand.
+#[derive(Drop)]
 pub struct Stage {
     pub pile: Pile,
     pub signals: Signals,
@@ -53,16 +50,12 @@ fn pile_first<'a>(
     r: u32,
     seen: &'a [u16],
 ) -> Pile
-    requires { ⌜
-        Held s × Listed signals × (s .n ≡ signals .count) × (2 ^ s .n ≤ 8 * length (now t)) × (1 ≤ r) × (r ≤ mostFirst)
-        × Candidate (s .n) largestCell r (s .own) (s .shared)
-        ⌝ }
-    requires { ⌜ Chart s (tableBit (now t)) (2 ^ r) (now seen) ⌝ }
-    requires { ⌜
-        (pile .sheet .count ≤ pile .count) × (pile .count + r ≤ mostPiled)
-        × (fewColumns (s .n) (tableBit (now t)) (bit (s .own)) (bit (s .shared)) (2 ^ r) ≡ true)
-        ⌝ }
-    ensures { λ p. ⌜ Grown pile (listOf r (dCell s (tableBit (now (t .entry))) (signalsOf signals))) p ⌝ }
+    requires held { Held s × Listed signals × (s.n ≡ signals.count) × (2 ^ s.n ≤ 8 * length t.now) × (1 ≤ r) × (r ≤ mostFirst)
+        × Candidate s.n largestCell r s.own s.shared }
+    requires chart { Chart s (tableBit t.now) (2 ^ r) seen.now }
+    requires count_le_count { (pile.sheet.count ≤ pile.count) × (pile.count + r ≤ mostPiled)
+        × (fewColumns s.n (tableBit t.now) (bit s.own) (bit s.shared) (2 ^ r) ≡ true) }
+    ensures { Grown pile (list_of r (dCell s (tableBit t.now) (signalsOf signals))) result }
 {
     let tables = first_cells(t, s, r, seen);
     let read = signals.pick(s.own + s.shared);
@@ -72,15 +65,11 @@ fn pile_first<'a>(
 // One split: its first cells are the next cells, A's signals go, the cells' own signals come last, and H is the table
 // at hand.
 fn step(stage: Stage, next: u8, s: Split, r: u32, work: &mut [u8]) -> Stage
-    requires { ⌜
-        Held s × Listed (stage .signals) × (s .n ≡ stage .signals .count) × (workLength ≤ length (now work))
-        × (1 ≤ r) × (r ≤ mostFirst) × Candidate (s .n) largestCell r (s .own) (s .shared)
-        ⌝ }
-    requires { ⌜
-        (stage .pile .sheet .count ≤ stage .pile .count) × (stage .pile .count + r ≤ mostPiled) × (next + r ≤ 255)
-        × (fewColumns (s .n) (atHand (now work)) (bit (s .own)) (bit (s .shared)) (2 ^ r) ≡ true)
-        ⌝ }
-    ensures { λ q. ⌜ Stepped stage next r s (now (work .entry)) q (now (work .exit)) ⌝ }
+    requires held { Held s × Listed stage.signals × (s.n ≡ stage.signals.count) × (workLength ≤ length work.old)
+        × (1 ≤ r) × (r ≤ mostFirst) × Candidate s.n largestCell r s.own s.shared }
+    requires count_le_count { (stage.pile.sheet.count ≤ stage.pile.count) × (stage.pile.count + r ≤ mostPiled) × (next + r ≤ 255)
+        × (fewColumns s.n (atHand work.old) (bit s.own) (bit s.shared) (2 ^ r) ≡ true) }
+    ensures { Stepped stage next r s work.old result work.new }
 {
     let pile = stage.pile;
     let signals = stage.signals;
@@ -98,7 +87,7 @@ fn step(stage: Stage, next: u8, s: Split, r: u32, work: &mut [u8]) -> Stage
 
 // A chain that is stuck.
 fn no_end() -> ChainEnd
-    ensures { λ e. ⌜ Tells e stuck ⌝ }
+    ensures { Tells result stuck }
 {
     ChainEnd {
         finished: false,
@@ -109,13 +98,9 @@ fn no_end() -> ChainEnd
 
 // The chain of the table in the work area over some of a gate's n signals, with up to `most` first cells at each step.
 fn follow(n: u32, start: Signals, most: u32, k: u32, work: &mut [u8]) -> ChainEnd
-    requires { ⌜
-        (n ≤ mostInputs) × (most ≤ mostFirst) × (2 ≤ k) × (k ≤ largestCell) × (workLength ≤ length (now work))
-        ⌝ }
-    requires { ⌜ Listed start × (1 ≤ start .count) × (start .count ≤ n) ⌝ }
-    ensures { λ e. ⌜
-        Tells e (chain most n k n (signalsOf start) (number (2 ^ start .count) (atHand (now (work .entry)))))
-        ⌝ }
+    requires n_le_most_inputs { (n ≤ mostInputs) × (most ≤ mostFirst) × (2 ≤ k) × (k ≤ largestCell) × (workLength ≤ length work.old) }
+    requires listed { Listed start × (1 ≤ start.count) × (start.count ≤ n) }
+    ensures { Tells result (chain most n k n (signalsOf start) (number (2 ^ start.count) (atHand work.old))) }
 {
     let few = k as usize;
     let mut pile = Pile::empty();
@@ -149,11 +134,9 @@ fn follow(n: u32, start: Signals, most: u32, k: u32, work: &mut [u8]) -> ChainEn
 // The cells of a gate's table, with up to `most` first cells at each step: the inputs that do not count are set aside,
 // once, since every later table counts all of its own.
 pub fn chain_upto(t: &[u8], n: u32, most: u32, k: u32, work: &mut [u8]) -> ChainEnd
-    requires { ⌜
-        (1 ≤ n) × (n ≤ mostInputs) × (most ≤ mostFirst) × (2 ≤ k) × (k ≤ largestCell)
-        × (length (now t) ≡ tableLength n) × (workLength ≤ length (now work))
-        ⌝ }
-    ensures { λ e. ⌜ ChainedUpTo most n k (now (t .entry)) (now (work .entry)) e (now (work .exit)) ⌝ }
+    requires { (1 ≤ n) × (n ≤ mostInputs) × (most ≤ mostFirst) × (2 ≤ k) × (k ≤ largestCell)
+        × (length t.now ≡ tableLength n) × (workLength ≤ length work.old) }
+    ensures { ChainedUpTo most n k t.now work.old result work.new }
 {
     let kept = kept_of(t, n);
     set_aside(t, n, kept, work);

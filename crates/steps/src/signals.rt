@@ -1,20 +1,20 @@
 // The signals of the table at hand.
-ghost use mathlib.Core.Path.{_≡_};
-ghost use mathlib.Core.List.{[], _∷_, _++_};
-ghost use Prim.Native.Nat.{_+_, _<_, _≤_};
-ghost use Rattle·bits.specs.Numbers.{bit};
-ghost use Rattle·bits.specs.Lists.{listOf};
-ghost use Rattle·tables.specs.Table.{mostInputs};
-ghost use Rattle·splits.specs.Columns.{mostFirst};
-ghost use Rattle·tables.specs.Cells.{tableNumber};
-ghost use Rattle·sheets.specs.Edition.{largestCell};
-ghost use Rattle·sheets.specs.Held.{networkCell};
-ghost use Rattle·chains.specs.Chain.{pick, inputs, lastCell};
-ghost use Rattle·steps·specs.specs.Stage.{signalsOf, Listed};
+ghost use Rattle.std.specs.Prelude.{◌≡◌, [], ◌∷◌, ◌++◌, ◌+◌, ◌<◌, ◌≤◌};
+ghost use Rattle.bits.specs.Numbers.{bit};
+ghost use Rattle.bits.specs.Lists.{list_of};
+ghost use Rattle.tables.specs.Table.{mostInputs};
+ghost use Rattle.splits.specs.Columns.{mostFirst};
+ghost use Rattle.tables.specs.Cells.{tableNumber};
+ghost use Rattle.sheets.specs.Edition.{largestCell};
+ghost use Rattle.sheets.specs.Held.{networkCell};
+ghost use Rattle.chains.specs.Chain.{pick, inputs, lastCell};
+ghost use Rattle.steps.specs.Stage.{signalsOf, Listed};
+
 use sheets::kinds::HeldCell;
 use tables::cell::CellTable;
 
 // The first `count` places, in increasing order.
+#[derive(Drop)]
 pub struct Signals {
     pub at: [u8; Signals::MOST],
     pub count: usize,
@@ -26,8 +26,8 @@ impl Signals {
 
     // Those of a gate's inputs.
     pub fn inputs(n: u32) -> Signals
-        requires { ⌜ n ≤ mostInputs ⌝ }
-        ensures { λ r. ⌜ Listed r × (signalsOf r ≡ inputs n) × (r .count ≡ n) ⌝ }
+        requires { n ≤ mostInputs }
+        ensures { Listed result × (signalsOf result ≡ inputs n) × (result.count ≡ n) }
     {
         Signals {
             at: [0, 1, 2, 3, 4, 5, 6, 7, 8, 9, 10, 11, 12, 13, 14, 15],
@@ -37,8 +37,8 @@ impl Signals {
 
     // Those at the positions of a set.
     pub fn pick(self, set: u16) -> Signals
-        requires { ⌜ Listed self ⌝ }
-        ensures { λ r. ⌜ Listed r × (signalsOf r ≡ pick (self .count) (bit set) (signalsOf self)) ⌝ }
+        requires { Listed self }
+        ensures { Listed result × (signalsOf result ≡ pick self.count (bit set) (signalsOf self)) }
     {
         let from = self.at;
         let count = self.count;
@@ -57,8 +57,8 @@ impl Signals {
 
     // One more, appended.
     pub fn with(mut self, signal: u8) -> Signals
-        requires { ⌜ Listed self × (self .count < mostInputs) ⌝ }
-        ensures { λ r. ⌜ Listed r × (signalsOf r ≡ signalsOf self ++ (signal ∷ [])) × (r .count ≡ self .count + 1) ⌝ }
+        requires { Listed self × (self.count < mostInputs) }
+        ensures { Listed result × (signalsOf result ≡ signalsOf self ++ (signal ∷ [])) × (result.count ≡ self.count + 1) }
     {
         let i = self.count;
         self.at[i] = signal;
@@ -68,12 +68,8 @@ impl Signals {
 
     // One, two or three more, from a signal on, appended.
     pub fn with_next(self, from: u8, many: u32) -> Signals
-        requires { ⌜
-            Listed self × (1 ≤ many) × (many ≤ mostFirst) × (self .count + many ≤ mostInputs) × (from + many ≤ 255)
-            ⌝ }
-        ensures { λ r. ⌜
-            Listed r × (signalsOf r ≡ signalsOf self ++ listOf many (λ t. from + t)) × (r .count ≡ self .count + many)
-            ⌝ }
+        requires { Listed self × (1 ≤ many) × (many ≤ mostFirst) × (self.count + many ≤ mostInputs) × (from + many ≤ 255) }
+        ensures { Listed result × (signalsOf result ≡ signalsOf self ++ list_of many (λ t. from + t)) × (result.count ≡ self.count + many) }
     {
         let one = self.with(from);
         if many < 2 {
@@ -88,8 +84,8 @@ impl Signals {
 
     // A cell that reads them all.
     pub fn cell(self, table: CellTable) -> HeldCell
-        requires { ⌜ Listed self × (self .count ≤ largestCell) ⌝ }
-        ensures { λ r. ⌜ (networkCell r ≡ lastCell (signalsOf self) (tableNumber table)) × (r .k ≡ self .count) ⌝ }
+        requires { Listed self × (self.count ≤ largestCell) }
+        ensures { (networkCell result ≡ lastCell (signalsOf self) (tableNumber table)) × (result.k ≡ self.count) }
     {
         let from = self.at;
         let count = self.count;

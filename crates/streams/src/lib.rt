@@ -1,10 +1,9 @@
 // Standard input and standard output as a program uses them: the beginning of the input comes into a room that is
 // lent, and some bytes go out.
-use libc::STDIN_FILENO;
-use libc::STDOUT_FILENO;
-ghost use Prim.Native.Nat.{_≤_};
-ghost use lib.ListN.{length};
-ghost use Rattle·io.specs.Counts.{Counts};
+ghost use Rattle.std.specs.Prelude.{◌≤◌, length};
+ghost use Rattle.io.specs.Counts.{IsPrefixLen};
+
+use libc::{STDIN_FILENO, STDOUT_FILENO};
 
 // Reads some more and forgets it; whether there was any.
 fn pass_over() -> bool {
@@ -23,7 +22,7 @@ fn pass_over_rest() {
 
 // Reads standard input into the first bytes of room; how many they are. What has no room is passed over.
 pub fn read_input(room: &mut [u8]) -> usize
-    ensures { λ r. ⌜ Counts r (now (room .exit)) ⌝ }
+    ensures { IsPrefixLen result room.new }
 {
     let got = io::read_full(STDIN_FILENO, room);
     if got == room.len() {
@@ -34,7 +33,7 @@ pub fn read_input(room: &mut [u8]) -> usize
 
 // Writes the first count bytes of room to standard output. Nobody is told of a write that fails.
 pub fn write_output(room: &[u8], count: usize)
-    requires { ⌜ count ≤ length (now room) ⌝ }
+    requires { count ≤ length room.now }
 {
     io::write_all(STDOUT_FILENO, &room[..count]);
 }

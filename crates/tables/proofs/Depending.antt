@@ -1,23 +1,23 @@
 -- The inputs that count: the test agrees with `DependsOn`, and a table sees those inputs alone, since the others can be
 -- changed one by one. Assumes nothing.
-use mathlib.Core.Path.{_≡_, refl, sym, ap, ap₂, _∙_}
-use mathlib.Core.Logic.{_⊎_, inl, inr}
-use mathlib.Core.Bool.{Bool, true, false, cond, not, _||_, or-true, or-false, Bool·beq}
-use Prim.Native.Nat.{ℕ, zero, suc, _+_, _^_, _<_, _≤_}
-use native.Mathlib.Decide.{decLt}
+use mathlib.Core.Path.{◌≡◌, refl, sym, ap, ap₂, ◌∙◌}
+use mathlib.Core.Logic.{◌⊎◌, inl, inr}
+use mathlib.Core.Bool.{Bool, true, false, cond, not, ◌||◌, or-true, or-false, beq}
+use Prim.Native.Nat.{ℕ, zero, suc, ◌+◌, ◌^◌, ◌<◌, ◌≤◌}
+use native.Mathlib.Decide.{dec_lt}
 use native.Mathlib.Omega.{arith}
 use lib.Dec.{eqb, ltb}
-use borrow.Author.Tests.{ne-eqb, eqb-true, eqb-false, lt-ltb, le-ltb, not-true, not-false}
-use Rattle·bits.specs.Numbers.{bit, number}
-use Rattle·bits.specs.Below.{every}
-use Rattle·bits.proofs.Bools.{clash, beq-same, same-beq}
-use Rattle·bits.proofs.Below.{every-at, every-all, every-ext}
-use Rattle·bits.proofs.Numbers.{number-lt, number-ext, bit-number}
-use Rattle·bits.proofs.Members.{same-bits}
-use Rattle·bits.proofs.Single.{plus-bit, plus-lt}
-use Rattle·tables·specs.specs.Depends.{DependsOn}
-use Rattle·tables·specs.specs.Counting.{Counting, AllCount, AlikeBut, Ignores, Sees, counts, support}
-use Rattle·tables·specs.specs.Words.{Steady}
+use borrow.Author.Tests.{ne_eqb, eqb-true, eqb-false, lt-ltb, le-ltb, not-true, not-false}
+use Rattle.bits.specs.Numbers.{bit, number}
+use Rattle.bits.specs.Below.{every}
+use Rattle.bits.proofs.Bools.{clash, beq_same, same-beq}
+use Rattle.bits.proofs.Below.{every-at, every-all, every-ext}
+use Rattle.bits.proofs.Numbers.{number_lt, number-ext, bit-number}
+use Rattle.bits.proofs.Members.{same_bits}
+use Rattle.bits.proofs.Single.{plus-bit, plus-lt}
+use Rattle.tables.specs.Depends.{DependsOn}
+use Rattle.tables.specs.Counting.{Counting, AllCount, AlikeBut, Ignores, Sees, counts, support}
+use Rattle.tables.specs.Words.{Steady}
 
 -- a test that does not hold everywhere fails somewhere
 every-fails : (n : ℕ) (p : ℕ → Bool) → every n p ≡ false → (j : ℕ) × (j < n) × (p j ≡ false)
@@ -27,13 +27,13 @@ every-fails (suc n) p e = go (p n) refl e (every-fails n p)
     go : (t : Bool) → p n ≡ t → cond t (every n p) false ≡ false
         → (every n p ≡ false → (j : ℕ) × (j < n) × (p j ≡ false))
         → (j : ℕ) × (j < suc n) × (p j ≡ false)
-    go true q e ih = let w = ih e in (w .0, omega arith, w .2)
+    go true q e ih = let w = ih e in (w.0, omega arith, w.2)
     go false q e ih = (n, omega arith, q)
 
 -- ---- one input
 module _ (n : ℕ) (F : ℕ → Bool) (j : ℕ) (l : j < n) where
   test : ℕ → Bool
-  test x = bit x j || Bool·beq (F x) (F (x + 2 ^ j))
+  test x = bit x j || beq (F x) (F (x + 2 ^ j))
 
   -- where the bit changes as input j is set, the table depends on it
   set-depends : (x : ℕ) → x < 2 ^ n → bit x j ≡ false → (F x ≡ F (x + 2 ^ j) → ⊥) → DependsOn n F j
@@ -42,7 +42,7 @@ module _ (n : ℕ) (F : ℕ → Bool) (j : ℕ) (l : j < n) where
     y = x + 2 ^ j;
     belowX = h;
     belowY = plus-lt n x j h l off;
-    alike = λ i g ne. sym (plus-bit n x j h l off i g ∙ ap (λ (t : Bool). bit x i || t) (ne-eqb i j ne)
+    alike = λ i g ne. sym (plus-bit n x j h l off i g ∙ ap (λ (t : Bool). bit x i || t) (ne_eqb i j ne)
         ∙ or-false (bit x i));
     differ = differ;
   }
@@ -52,7 +52,7 @@ module _ (n : ℕ) (F : ℕ → Bool) (j : ℕ) (l : j < n) where
   unset-ignores alike x y p q but = go (bit x j) (bit y j) refl refl
     where
       same : bit x j ≡ bit y j → F x ≡ F y
-      same e = ap F (same-bits n x y p q (λ i g. at i g (eqb i j) refl))
+      same e = ap F (same_bits n x y p q (λ i g. at i g (eqb i j) refl))
         where
           at : (i : ℕ) → i < n → (t : Bool) → eqb i j ≡ t → bit x i ≡ bit y i
           at i g true r = ap (bit x) (eqb-true i j r) ∙ e ∙ ap (bit y) (sym (eqb-true i j r))
@@ -61,7 +61,7 @@ module _ (n : ℕ) (F : ℕ → Bool) (j : ℕ) (l : j < n) where
       -- y is x with input j set
       up : (x y : ℕ) → x < 2 ^ n → y < 2 ^ n → AlikeBut n j x y → bit x j ≡ false → bit y j ≡ true → F x ≡ F y
       up x y p q but off on =
-          alike x p off ∙ ap F (same-bits n (x + 2 ^ j) y (plus-lt n x j p l off) q
+          alike x p off ∙ ap F (same_bits n (x + 2 ^ j) y (plus-lt n x j p l off) q
           (λ i g. plus-bit n x j p l off i g ∙ at i g (eqb i j) refl))
         where
           at : (i : ℕ) → i < n → (t : Bool) → eqb i j ≡ t → (bit x i || t) ≡ bit y i
@@ -80,16 +80,16 @@ module _ (n : ℕ) (F : ℕ → Bool) (j : ℕ) (l : j < n) where
   counts-depends e = go (every-fails (2 ^ n) test (not-true (every (2 ^ n) test) e))
     where
       go : (x : ℕ) × (x < 2 ^ n) × (test x ≡ false) → DependsOn n F j
-      go w = from (bit (w .0) j) refl (w .2)
+      go w = from (bit w.0 j) refl w.2
         where
-          from : (t : Bool) → bit (w .0) j ≡ t → (t || Bool·beq (F (w .0)) (F (w .0 + 2 ^ j))) ≡ false → DependsOn n F j
+          from : (t : Bool) → bit w.0 j ≡ t → (t || beq (F w.0) (F (w.0 + 2 ^ j))) ≡ false → DependsOn n F j
           from true q e = absurd (clash refl e)
-          from false q e = set-depends (w .0) (w .1) q (λ same. clash (same-beq (F (w .0)) (F (w .0 + 2 ^ j)) same) e)
+          from false q e = set-depends w.0 w.1 q (λ same. clash (same-beq (F w.0) (F (w.0 + 2 ^ j)) same) e)
 
   pub idle-steady : counts n F j ≡ false → (x : ℕ) → Steady n F j x
   unfolding counts test
   idle-steady e x h off =
-      beq-same (F x) (F (x + 2 ^ j)) (ap (λ (t : Bool). t || Bool·beq (F x) (F (x + 2 ^ j))) (sym off)
+      beq_same (F x) (F (x + 2 ^ j)) (ap (λ (t : Bool). t || beq (F x) (F (x + 2 ^ j))) (sym off)
       ∙ every-at (2 ^ n) test (not-false (every (2 ^ n) test) e) x h)
 
   pub idle-ignores : counts n F j ≡ false → Ignores n F j
@@ -100,7 +100,7 @@ module _ (n : ℕ) (F : ℕ → Bool) (j : ℕ) (l : j < n) where
   unfolding counts test
   steady-idle steady = ap not (every-all (2 ^ n) test (λ x h. go x h (bit x j) refl))
     where
-      go : (x : ℕ) → x < 2 ^ n → (t : Bool) → bit x j ≡ t → (t || Bool·beq (F x) (F (x + 2 ^ j))) ≡ true
+      go : (x : ℕ) → x < 2 ^ n → (t : Bool) → bit x j ≡ t → (t || beq (F x) (F (x + 2 ^ j))) ≡ true
       go x h true e = refl
       go x h false e = same-beq (F x) (F (x + 2 ^ j)) (steady x h e)
 
@@ -116,13 +116,13 @@ module _ (n : ℕ) (F : ℕ → Bool) (j : ℕ) (l : j < n) where
     where
       go : (t : Bool) → counts n F j ≡ t → t ≡ true
       go true e = refl
-      go false e = absurd (d .differ (idle-ignores e (d .x) (d .y) (d .belowX) (d .belowY) (d .alike)))
+      go false e = absurd (d.differ (idle-ignores e d.x d.y d.belowX d.belowY d.alike))
 
 -- ---- all inputs
 module _ (n : ℕ) (F : ℕ → Bool) where
   pub sees-counts : Sees n F (counts n F)
   sees-counts x y p q agree = upto n (omega arith)
-      ∙ ap F (same-bits n (mixed n) y (number-lt n (mix n)) q (λ i l. at n i l ∙ low n i l))
+      ∙ ap F (same_bits n (mixed n) y (number_lt n (mix n)) q (λ i l. at n i l ∙ low n i l))
     where
       -- y's bits below m, and x's from m up
       mix : ℕ → ℕ → Bool
@@ -144,15 +144,15 @@ module _ (n : ℕ) (F : ℕ → Bool) where
       step m h = go (counts n F m) refl
         where
           other : AlikeBut n m (mixed m) (mixed (suc m))
-          other i l ne = at m i l ∙ elim (decLt i m) [
+          other i l ne = at m i l ∙ elim (dec_lt i m) [
             | yes g ↦ low m i g ∙ sym (low (suc m) i (omega arith))
             | no g ↦ high m i (omega arith) ∙ sym (high (suc m) i (omega arith))
           ] ∙ sym (at (suc m) i l)
 
           go : (t : Bool) → counts n F m ≡ t → F (mixed m) ≡ F (mixed (suc m))
-          go false c = idle-ignores n F m h c (mixed m) (mixed (suc m)) (number-lt n (mix m))
-              (number-lt n (mix (suc m))) other
-          go true c = ap F (same-bits n (mixed m) (mixed (suc m)) (number-lt n (mix m)) (number-lt n (mix (suc m)))
+          go false c = idle-ignores n F m h c (mixed m) (mixed (suc m)) (number_lt n (mix m))
+              (number_lt n (mix (suc m))) other
+          go true c = ap F (same_bits n (mixed m) (mixed (suc m)) (number_lt n (mix m)) (number_lt n (mix (suc m)))
               (λ i l. both i l (eqb i m) refl))
             where
               both : (i : ℕ) → i < n → (t : Bool) → eqb i m ≡ t → bit (mixed m) i ≡ bit (mixed (suc m)) i
@@ -163,7 +163,7 @@ module _ (n : ℕ) (F : ℕ → Bool) where
               both i l false r = other i l (eqb-false i m r)
 
       upto : (m : ℕ) → m ≤ n → F x ≡ F (mixed m)
-      upto zero h = ap F (same-bits n x (mixed 0) p (number-lt n (mix 0))
+      upto zero h = ap F (same_bits n x (mixed 0) p (number_lt n (mix 0))
           (λ i l. sym (at 0 i l ∙ high 0 i (omega arith))))
       upto (suc m) h = upto m (omega arith) ∙ step m (omega arith)
 
@@ -186,12 +186,12 @@ module _ (n : ℕ) (F : ℕ → Bool) where
 
 pub count-ext : (n : ℕ) (F G : ℕ → Bool) → ((x : ℕ) → x < 2 ^ n → F x ≡ G x) → AllCount n F → AllCount n G
 count-ext n F G same all j l = let p = all j l in record {
-  x = p .x;
-  y = p .y;
-  belowX = p .belowX;
-  belowY = p .belowY;
-  alike = p .alike;
-  differ = λ q. p .differ (same (p .x) (p .belowX) ∙ q ∙ sym (same (p .y) (p .belowY)));
+  x = p.x;
+  y = p.y;
+  belowX = p.belowX;
+  belowY = p.belowY;
+  alike = p.alike;
+  differ = λ q. p.differ (same p.x p.belowX ∙ q ∙ sym (same p.y p.belowY));
 }
 
 pub support-ext : (n : ℕ) (F G : ℕ → Bool) → ((x : ℕ) → x < 2 ^ n → F x ≡ G x) → support n F ≡ support n G
@@ -200,9 +200,9 @@ support-ext n F G same = number-ext n (counts n F) (counts n G)
     (λ j l. ap not (every-ext (2 ^ n) (at F j) (at G j) (λ x h. go j l x h (bit x j) refl)))
   where
     at : (ℕ → Bool) → ℕ → ℕ → Bool
-    at F j x = bit x j || Bool·beq (F x) (F (x + 2 ^ j))
+    at F j x = bit x j || beq (F x) (F (x + 2 ^ j))
 
-    go : (j : ℕ) → j < n → (x : ℕ) → x < 2 ^ n → (t : Bool) → bit x j ≡ t → (t || Bool·beq (F x) (F (x + 2 ^ j)))
-        ≡ (t || Bool·beq (G x) (G (x + 2 ^ j)))
+    go : (j : ℕ) → j < n → (x : ℕ) → x < 2 ^ n → (t : Bool) → bit x j ≡ t → (t || beq (F x) (F (x + 2 ^ j)))
+        ≡ (t || beq (G x) (G (x + 2 ^ j)))
     go j l x h true e = refl
-    go j l x h false e = ap₂ Bool·beq (same x h) (same (x + 2 ^ j) (plus-lt n x j h l e))
+    go j l x h false e = ap₂ beq (same x h) (same (x + 2 ^ j) (plus-lt n x j h l e))

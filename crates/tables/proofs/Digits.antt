@@ -1,24 +1,24 @@
 -- The first bits of a number are what a division leaves; the words of a gate's table. Assumes nothing.
-use mathlib.Core.Path.{_≡_, sym, ap, ap₂, _∙_}
-use mathlib.Core.Bool.{Bool, false, _&&_}
-use Prim.Native.Nat.{ℕ, _+_, _-_, _*_, _%_, _^_, _<_, _≤_}
-use native.Mathlib.Nat.{add-mul-mod-self-right, mod-eq-of-lt, zero-add}
-use native.Mathlib.Decide.{decLt}
+use mathlib.Core.Path.{◌≡◌, sym, ap, ap₂, ◌∙◌}
+use mathlib.Core.Bool.{Bool, false, ◌&&◌}
+use Prim.Native.Nat.{ℕ, ◌+◌, ◌-◌, ◌*◌, ◌%◌, ◌^◌, ◌<◌, ◌≤◌}
+use native.Mathlib.Nat.{add-mul-mod_self_right, mod-eq_of_lt, zero-add}
+use native.Mathlib.Decide.{dec_lt}
 use native.Mathlib.Omega.{arith}
 use lib.Dec.{ltb}
-use lib.Pow.{pow-add, pow-mono, pow-pos}
+use lib.Pow.{pow-add, pow_mono, pow_pos}
 use borrow.Author.Tests.{lt-ltb, le-ltb}
-use Rattle·bits.specs.Numbers.{number}
-use Rattle·bits.proofs.Numbers.{number-lt, number-ext, none-zero}
-use Rattle·bits.proofs.Sums.{number-append}
-use Rattle·tables·specs.specs.Words.{gateWord}
+use Rattle.bits.specs.Numbers.{number}
+use Rattle.bits.proofs.Numbers.{number_lt, number-ext, none-zero}
+use Rattle.bits.proofs.Sums.{number_append}
+use Rattle.tables.specs.Words.{gateWord}
 
 -- the first a bits of m
 pub first-bits : (a m : ℕ) (f : ℕ → Bool) → a ≤ m → number m f % 2 ^ a ≡ number a f
 first-bits a m f h =
     let e : m ≡ a + (m - a) = omega arith in
-    ap (λ (k : ℕ). number k f % 2 ^ a) e ∙ ap (λ (x : ℕ). x % 2 ^ a) (number-append a (m - a) f)
-    ∙ add-mul-mod-self-right (number a f) (number (m - a) (λ t. f (a + t))) (2 ^ a) ∙ mod-eq-of-lt (number-lt a f)
+    ap (λ (k : ℕ). number k f % 2 ^ a) e ∙ ap (λ (x : ℕ). x % 2 ^ a) (number_append a (m - a) f)
+    ∙ add-mul-mod_self_right (number a f) (number (m - a) (λ t. f (a + t))) (2 ^ a) ∙ mod-eq_of_lt (number_lt a f)
 
 -- F below a, and 0 from there on
 abbrev cut : ℕ → (ℕ → Bool) → ℕ → Bool
@@ -35,7 +35,7 @@ pub cut-number : (a m : ℕ) (F : ℕ → Bool) → a ≤ m → number m (λ x. 
 cut-number a m F h =
     let k = m - a in
     let e : m ≡ a + k = omega arith in
-    ap (λ (i : ℕ). number i (cut a F)) e ∙ number-append a k (cut a F)
+    ap (λ (i : ℕ). number i (cut a F)) e ∙ number_append a k (cut a F)
     ∙ ap₂ (λ (x y : ℕ). x + y * 2 ^ a) (number-ext a (cut a F) F (λ i l. ap (λ (t : Bool). t && F i) (lt-ltb i a l)))
     (cut-none a a k F (omega arith))
     ∙ omega arith
@@ -46,7 +46,7 @@ cut-number a m F h =
 pub short-word : (n : ℕ) (F : ℕ → Bool) → n ≤ 6 → number (2 ^ n) F ≡ gateWord n F 0
 short-word n F h =
     sym (number-ext 64 (λ i. ltb (0 + i) (2 ^ n) && F (0 + i)) (cut (2 ^ n) F) (λ i l. ap (cut (2 ^ n) F) (zero-add i))
-    ∙ cut-number (2 ^ n) 64 F (pow-mono {i = n} {j = 6} h))
+    ∙ cut-number (2 ^ n) 64 F (pow_mono {i = n} {j = 6} h))
 
 -- with 6 or more all are full
 pub full-word : (n : ℕ) (F : ℕ → Bool) (w : ℕ) → 6 ≤ n → w < 2 ^ (n - 6) → number 64 (λ i. F (64 * w + i))
@@ -59,14 +59,14 @@ full-word n F w h l =
 
 -- all bits of n inputs lie in the words that these make
 pub within-words : (n : ℕ) → 2 ^ n ≤ 64 * 2 ^ (n - 6)
-within-words n = elim (decLt n 6) [
-  | yes l ↦ omega (arith, pow-mono {i = n} {j = 6} (omega arith), pow-pos (n - 6))
+within-words n = elim (dec_lt n 6) [
+  | yes l ↦ omega (arith, pow_mono {i = n} {j = 6} (omega arith), pow_pos (n - 6))
   | no l ↦ let e : n ≡ 6 + (n - 6) = omega arith in omega (arith, ap (λ (m : ℕ). 2 ^ m) e ∙ pow-add 2 6 (n - 6))
 ]
 
 -- and past those there is nothing
-pub past-words : (n w : ℕ) (F : ℕ → Bool) → 2 ^ (n - 6) ≤ w → gateWord n F w ≡ 0
-past-words n w F h = cut-none (2 ^ n) (64 * w) 64 F (omega (arith, within-words n))
+pub past_words : (n w : ℕ) (F : ℕ → Bool) → 2 ^ (n - 6) ≤ w → gateWord n F w ≡ 0
+past_words n w F h = cut-none (2 ^ n) (64 * w) 64 F (omega (arith, within-words n))
 
 -- the bits of one word that lie in the table
 pub part-word : (n w stop : ℕ) (F : ℕ → Bool) → stop ≤ 64 → 64 * w + stop ≤ 2 ^ n → (stop < 64 → 2 ^ n ≤ 64 * w + stop)
@@ -76,7 +76,7 @@ part-word n w stop F most within rest =
     (λ i l. ap (λ (t : Bool). t && F (64 * w + i)) (same i l)) ∙ cut-number stop 64 (λ i. F (64 * w + i)) most)
   where
     same : (i : ℕ) → i < 64 → ltb (64 * w + i) (2 ^ n) ≡ ltb i stop
-    same i l = elim (decLt i stop) [
+    same i l = elim (dec_lt i stop) [
       | yes g ↦ lt-ltb (64 * w + i) (2 ^ n) (omega arith) ∙ sym (lt-ltb i stop g)
       | no g ↦ let r = rest (omega arith) in le-ltb (64 * w + i) (2 ^ n) (omega arith)
           ∙ sym (le-ltb i stop (omega arith))

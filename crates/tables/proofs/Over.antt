@@ -1,15 +1,15 @@
 -- The table over a set that the whole table sees alone: it gives the whole table back, and depends on each of its
 -- inputs where all members count. Assumes nothing.
-use mathlib.Core.Path.{_≡_, sym, ap, _∙_}
+use mathlib.Core.Path.{◌≡◌, sym, ap, ◌∙◌}
 use mathlib.Core.Bool.{Bool, true}
-use Prim.Native.Nat.{ℕ, _^_, _<_}
-use Rattle·bits.specs.Numbers.{bit, number}
-use Rattle·bits.specs.Sets.{size, gather, spread}
-use Rattle·bits.proofs.Numbers.{bit-number, number-lt, number-ext}
-use Rattle·bits.proofs.Spreading.{gather-lt, spread-lt, spread-gather}
-use Rattle·bits.proofs.Members.{Place, place, gather-place, size-full, spread-full}
-use Rattle·tables·specs.specs.Depends.{DependsOn}
-use Rattle·tables·specs.specs.Counting.{Counting, AllCount, Sees, tableOver}
+use Prim.Native.Nat.{ℕ, ◌^◌, ◌<◌}
+use Rattle.bits.specs.Numbers.{bit, number}
+use Rattle.bits.specs.Sets.{size, gather, spread}
+use Rattle.bits.proofs.Numbers.{bit-number, number_lt, number-ext}
+use Rattle.bits.proofs.Spreading.{gather-lt, spread-lt, spread-gather}
+use Rattle.bits.proofs.Members.{Place, place, gather-place, size-full, spread-full}
+use Rattle.tables.specs.Depends.{DependsOn}
+use Rattle.tables.specs.Counting.{Counting, AllCount, Sees, tableOver}
 
 pub over-at : (n : ℕ) (S F : ℕ → Bool) (v : ℕ) → v < 2 ^ size n S → bit (tableOver n S F) v ≡ F (spread n S v)
 unfolding tableOver
@@ -17,7 +17,7 @@ over-at n S F v h = bit-number (2 ^ size n S) (λ v. F (spread n S v)) v h
 
 pub over-lt : (n : ℕ) (S F : ℕ → Bool) → tableOver n S F < 2 ^ (2 ^ size n S)
 unfolding tableOver
-over-lt n S F = number-lt (2 ^ size n S) (λ v. F (spread n S v))
+over-lt n S F = number_lt (2 ^ size n S) (λ v. F (spread n S v))
 
 pub over-ext : (n : ℕ) (S F G : ℕ → Bool) → ((x : ℕ) → x < 2 ^ n → F x ≡ G x) → tableOver n S F ≡ tableOver n S G
 unfolding tableOver
@@ -50,20 +50,20 @@ module _ (n : ℕ) (F : ℕ → Bool) (S : ℕ → Bool) (sees : Sees n F S) whe
   over-counts counting k h = go (place n S k h)
     where
       go : Place n S k → DependsOn c G k
-      go w = from (counting (w .at) (w .below) (w .member))
+      go w = from (counting w.at w.below w.member)
         where
-          from : DependsOn n F (w .at) → DependsOn c G k
+          from : DependsOn n F w.at → DependsOn c G k
           from d = record {
-            x = gather n S (d .x);
-            y = gather n S (d .y);
-            belowX = gather-lt n S (d .x);
-            belowY = gather-lt n S (d .y);
+            x = gather n S d.x;
+            y = gather n S d.y;
+            belowX = gather-lt n S d.x;
+            belowY = gather-lt n S d.y;
             alike = λ i l ne. other i ne (place n S i l);
-            differ = λ q. d .differ (sym (over-gather (d .x) (d .belowX)) ∙ q ∙ over-gather (d .y) (d .belowY));
+            differ = λ q. d.differ (sym (over-gather d.x d.belowX) ∙ q ∙ over-gather d.y d.belowY);
           }
             where
-              other : (i : ℕ) → (i ≡ k → ⊥) → Place n S i → bit (gather n S (d .x)) i ≡ bit (gather n S (d .y)) i
+              other : (i : ℕ) → (i ≡ k → ⊥) → Place n S i → bit (gather n S d.x) i ≡ bit (gather n S d.y) i
               other i ne u =
-                  gather-place n S (d .x) i u
-                  ∙ d .alike (u .at) (u .below) (λ e. ne (sym (u .rank) ∙ ap (λ (j : ℕ). size j S) e ∙ w .rank))
-                  ∙ sym (gather-place n S (d .y) i u)
+                  gather-place n S d.x i u
+                  ∙ d.alike u.at u.below (λ e. ne (sym u.rank ∙ ap (λ (j : ℕ). size j S) e ∙ w.rank))
+                  ∙ sym (gather-place n S d.y i u)

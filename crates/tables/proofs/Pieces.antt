@@ -1,44 +1,44 @@
 -- A table over the members of a mask, in pieces: what the members from position 6 on spread to names a word, and what
 -- those below 6 do a place within it. Assumes nothing.
-use mathlib.Core.Path.{_≡_, refl, sym, ap, ap₂, _∙_}
-use mathlib.Core.Bool.{Bool, true, false, _&&_, _||_}
+use mathlib.Core.Path.{◌≡◌, refl, sym, ap, ap₂, ◌∙◌}
+use mathlib.Core.Bool.{Bool, true, false, ◌&&◌, ◌||◌}
 use mathlib.Core.List.{List}
-use Prim.Native.Nat.{ℕ, zero, suc, _+_, _-_, _*_, _/_, _%_, _^_, _<_, _≤_}
-use native.Mathlib.Nat.{add-zero, add-comm, add-mul, mul-assoc, suc-mul, mul-le-mul-right, mod-lt, mod-eq-of-lt}
-use native.Mathlib.Decide.{decLt}
+use Prim.Native.Nat.{ℕ, zero, suc, ◌+◌, ◌-◌, ◌*◌, ◌/◌, ◌%◌, ◌^◌, ◌<◌, ◌≤◌}
+use native.Mathlib.Nat.{add-zero, add_comm, add-mul, mul_assoc, suc-mul, mul-le-mul_right, mod-lt, mod-eq_of_lt}
+use native.Mathlib.Decide.{dec_lt}
 use native.Mathlib.Omega.{arith}
 use lib.Dec.{lit<}
 use lib.ListN.{length}
-use lib.Pow.{pow-add, pow-mono, shl-shr, high}
-use Rattle·bits.specs.Numbers.{bit, val, number}
-use Rattle·bits.specs.Sets.{wordPositions, Apart, size, spread}
-use Rattle·bits.proofs.Bools.{clash, false-of, and-left}
-use Rattle·bits.proofs.Building.{joined, joined-fits}
-use Rattle·bits.proofs.Members.{spread-low}
-use Rattle·bits.proofs.Numbers.{number-lt, number-ext, number-mod, number-bit, none-zero, bit-number, bit-below}
-use Rattle·bits.proofs.Numbers.{bit-high, bit-mod, bit-shr, top-low, top-high}
-use Rattle·bits.proofs.Sizes.{size-le, size-more, size-ext}
-use Rattle·bits.proofs.Spreading.{bit-spread, spread-lt, spread-more, spread-ext}
-use Rattle·bits.proofs.Sums.{number-append, number-join}
-use Rattle·tables·specs.specs.Table.{tableBit}
-use Rattle·tables·specs.specs.Words.{WordAt}
+use lib.Pow.{pow-add, pow_mono, shl-shr, high}
+use Rattle.bits.specs.Numbers.{bit, val, number}
+use Rattle.bits.specs.Sets.{wordPositions, Apart, size, spread}
+use Rattle.bits.proofs.Bools.{clash, false_of, and_left}
+use Rattle.bits.proofs.Building.{joined, joined-fits}
+use Rattle.bits.proofs.Members.{spread-low}
+use Rattle.bits.proofs.Numbers.{number_lt, number-ext, number-mod, number_bit, none-zero, bit-number, bit_below}
+use Rattle.bits.proofs.Numbers.{bit_high, bit-mod, bit-shr, top-low, top-high}
+use Rattle.bits.proofs.Sizes.{size-le, size-more, size-ext}
+use Rattle.bits.proofs.Spreading.{bit-spread, spread-lt, spread-more, spread-ext}
+use Rattle.bits.proofs.Sums.{number_append, number-join}
+use Rattle.tables.specs.Table.{tableBit}
+use Rattle.tables.specs.Words.{WordAt}
 
 -- a byte of a table, taken from the word that has it
-pub word-byte : (f : ℕ → Bool) (i w : ℕ) → w ≡ number 64 (λ j. f (64 * (i / 8) + j)) → w / 2 ^ (8 * (i % 8)) % 2 ^ 8
+pub word_byte : (f : ℕ → Bool) (i w : ℕ) → w ≡ number 64 (λ j. f (64 * (i / 8) + j)) → w / 2 ^ (8 * (i % 8)) % 2 ^ 8
     ≡ number 8 (λ j. f (i * 8 + j))
-word-byte f i w e =
+word_byte f i w e =
     sym (number-mod 8 (w / 2 ^ (8 * (i % 8)))) ∙ number-ext 8 (bit (w / 2 ^ (8 * (i % 8)))) (λ j. f (i * 8 + j)) (λ j l.
     let at : 64 * (i / 8) + (8 * (i % 8) + j) ≡ i * 8 + j = omega arith in
     bit-shr w (8 * (i % 8)) j ∙ ap (λ (y : ℕ). bit y (8 * (i % 8) + j)) e
     ∙ bit-number 64 (λ j. f (64 * (i / 8) + j)) (8 * (i % 8) + j) (omega arith) ∙ ap f at)
 
 -- an assignment's word lies in the table
-pub word-at : (n : ℕ) (t : List ℕ) (p : ℕ) → 2 ^ n ≤ 8 * length t → p < 2 ^ n → WordAt t p
-word-at n t p room l = record { long = long; short = λ h. omega arith }
+pub word_at : (n : ℕ) (t : List ℕ) (p : ℕ) → 2 ^ n ≤ 8 * length t → p < 2 ^ n → WordAt t p
+word_at n t p room l = record { long = long; short = λ h. omega arith }
   where
     long : 8 ≤ length t → 8 * (p / 64) + 8 ≤ length t
-    long h = elim (decLt n 6) [
-      | yes g ↦ omega (arith, pow-mono {i = n} {j = 6} (omega arith))
+    long h = elim (dec_lt n 6) [
+      | yes g ↦ omega (arith, pow_mono {i = n} {j = 6} (omega arith))
       | no g ↦ let e : n ≡ 6 + (n - 6) = omega arith in omega (arith, ap (λ (m : ℕ). 2 ^ m) e ∙ pow-add 2 6 (n - 6))
     ]
 
@@ -49,10 +49,10 @@ apart-lt n a m v l apart =
     let g : ℕ → Bool = λ j. bit m j && bit v (size j (bit m)) in
     omega (
       arith,
-      number-bit n a l,
+      number_bit n a l,
       number-join n (bit a) g
           (λ j h e. off (bit m j) (bit v (size j (bit m))) (λ q. clash e (apart j h q))),
-      number-lt n
+      number_lt n
           (λ j. bit a j || g j),
     )
   where
@@ -62,9 +62,9 @@ apart-lt n a m v l apart =
 
 -- what is spread over a mask has bits at its members alone
 pub spread-part : (n m v j : ℕ) → bit (spread n (bit m) v) j ≡ true → bit m j ≡ true
-spread-part n m v j e = elim (decLt j n) [
-  | yes l ↦ and-left (bit m j) _ (sym (bit-spread n (bit m) v j l) ∙ e)
-  | no l ↦ absurd (clash e (bit-high (spread n (bit m) v) n j (spread-lt n (bit m) v) (omega arith)))
+spread-part n m v j e = elim (dec_lt j n) [
+  | yes l ↦ and_left (bit m j) _ (sym (bit-spread n (bit m) v j l) ∙ e)
+  | no l ↦ absurd (clash e (bit_high (spread n (bit m) v) n j (spread-lt n (bit m) v) (omega arith)))
 ]
 
 -- the mask's members from position 6 on
@@ -72,7 +72,7 @@ abbrev above : ℕ → ℕ
 above m = m / 2 ^ wordPositions * 2 ^ wordPositions
 
 pub above-part : (m j : ℕ) → bit (above m) j ≡ true → bit m j ≡ true
-above-part m j e = elim (decLt j wordPositions) [
+above-part m j e = elim (dec_lt j wordPositions) [
   | yes l ↦ absurd (clash e (top-low m wordPositions j l))
   | no l ↦ sym (top-high m wordPositions j (omega arith)) ∙ e
 ]
@@ -82,7 +82,7 @@ pub above-whole : (n m v : ℕ) → spread n (bit (above m)) v % 64 ≡ 0
 above-whole n m v =
     sym (number-mod wordPositions (spread n (bit (above m)) v))
     ∙ number-ext wordPositions (bit (spread n (bit (above m)) v)) (λ j. false) (λ j l.
-    false-of _ (λ e. clash (spread-part n (above m) v j e) (top-low m wordPositions j l))) ∙ none-zero wordPositions
+    false_of _ (λ e. clash (spread-part n (above m) v j e) (top-low m wordPositions j l))) ∙ none-zero wordPositions
 
 -- past the mask's own positions nothing is spread
 spread-wide : (n e m v : ℕ) → m < 2 ^ n → spread (n + e) (bit m) v ≡ spread n (bit m) v
@@ -90,7 +90,7 @@ spread-wide n zero m v h = ap (λ (i : ℕ). spread i (bit m) v) (add-zero n)
 spread-wide n (suc e) m v h =
     let i : n + suc e ≡ n + e + 1 = omega arith in
     let none = ap (λ (t : Bool). val (t && bit v (size (n + e) (bit m))) * 2 ^ (n + e))
-    (bit-high m n (n + e) h (omega arith)) in
+    (bit_high m n (n + e) h (omega arith)) in
     ap (λ (i : ℕ). spread i (bit m) v) i ∙ spread-more (n + e) (bit m) v ∙ omega (arith, none, spread-wide n e m v h)
 
 -- c and u, one above the other: c goes to the members from 6 on, u to those below
@@ -119,7 +119,7 @@ module _ (m c u : ℕ) (small : u < 2 ^ size wordPositions (bit m)) where
   unfolding spread number
   parts zero =
       let none = spread-ext 6 (bit (above m)) (λ j. false) c (λ j l. top-low m 6 j l) ∙ none-zero 6 in
-      let low = spread-low 6 (bit m) v u (λ i l. ap (λ (y : ℕ). bit y i) (add-comm (c * 2 ^ k) u) ∙ bit-below u c k i l)
+      let low = spread-low 6 (bit m) v u (λ i l. ap (λ (y : ℕ). bit y i) (add_comm (c * 2 ^ k) u) ∙ bit_below u c k i l)
       in
       omega (arith, none, low)
   parts (suc e) =
@@ -142,8 +142,8 @@ module _ (m c u : ℕ) (small : u < 2 ^ size wordPositions (bit m)) where
         spread-wide n 6 m v below,
         spread-wide n 6 (above m) c (omega arith),
         parts n,
-        ap (λ (i : ℕ). spread i (bit m) v) (add-comm n 6),
-        ap (λ (i : ℕ). spread i (bit (above m)) c) (add-comm n 6),
+        ap (λ (i : ℕ). spread i (bit m) v) (add_comm n 6),
+        ap (λ (i : ℕ). spread i (bit (above m)) c) (add_comm n 6),
       )
 
 -- ---- the pieces of a word: p of them, each of 2 ^ k bits
@@ -166,13 +166,13 @@ module _ (m : ℕ) where
 
   -- piece q ends within the word
   pub piece-within : (p q : ℕ) → p * each ≡ 64 → q < p → q * each + each ≤ 64
-  piece-within p q fill l = omega (arith, mul-le-mul-right {m = suc q} {n = p} each l, suc-mul q each, fill)
+  piece-within p q fill l = omega (arith, mul-le-mul_right {m = suc q} {n = p} each l, suc-mul q each, fill)
 
   -- `q << few`
   pub piece-place : (few p q : ℕ) → few ≡ size wordPositions (bit m) → p * each ≡ 64 → q < p → q * 2 ^ few % 2 ^ 32
       ≡ q * each
   piece-place few p q e fill l = ap (λ (j : ℕ). q * 2 ^ j % 2 ^ 32) e
-      ∙ mod-eq-of-lt (omega (arith, piece-within p q fill l))
+      ∙ mod-eq_of_lt (omega (arith, piece-within p q fill l))
 
 -- word i of the table over the members, the others as a has them; f names the word of its piece q
 module _ (t : List ℕ) (n m a : ℕ) (room : 2 ^ n ≤ 8 * length t) (below : m < 2 ^ n) (under : a < 2 ^ n)
@@ -185,7 +185,7 @@ module _ (t : List ℕ) (n m a : ℕ) (room : 2 ^ n ≤ 8 * length t) (below : m
     piece-lt = omega (arith, at, apart-lt n a (above m) (i * p + q) under (λ j h e. apart j h (above-part m j e)))
 
     pub piece-word : WordAt t (a + f)
-    piece-word = word-at n t (a + f) room piece-lt
+    piece-word = word_at n t (a + f) room piece-lt
 
     -- a place within the word
     inside : (u : ℕ) → (a + f) % 64 + spread 6 (bit m) u < 64
@@ -194,9 +194,9 @@ module _ (t : List ℕ) (n m a : ℕ) (room : 2 ^ n ≤ 8 * length t) (below : m
           arith,
           at,
           above-whole n m (i * p + q),
-          apart-lt 6 (a % 64) m u (mod-lt a (lit< tt)) (λ j h e. bit-mod a 6 j h ∙ elim (decLt j n) [
+          apart-lt 6 (a % 64) m u (mod-lt a (lit< tt)) (λ j h e. bit-mod a 6 j h ∙ elim (dec_lt j n) [
             | yes g ↦ apart j g e
-            | no g ↦ bit-high a n j under (omega arith)
+            | no g ↦ bit_high a n j under (omega arith)
           ]),
         )
 
@@ -204,20 +204,20 @@ module _ (t : List ℕ) (n m a : ℕ) (room : 2 ^ n ≤ 8 * length t) (below : m
     module _ (w : ℕ) {s : ℕ} (read : (k : ℕ) → (a + f) % 64 + k < 64 → bit w k ≡ tableBit t (a + f + k))
         (is : s ≡ number (each m) (λ u. bit w (spread 6 (bit m) u))) where
       small : s < 2 ^ each m
-      small = omega (arith, is, number-lt (each m) (λ u. bit w (spread 6 (bit m) u)))
+      small = omega (arith, is, number_lt (each m) (λ u. bit w (spread 6 (bit m) u)))
 
       piece : s ≡ number (each m) (λ u. over i (q * each m + u))
       piece = is ∙ number-ext (each m) (λ u. bit w (spread 6 (bit m) u)) (λ u. over i (q * each m + u)) (λ u h.
           let v : (i * p + q) * each m + u ≡ 64 * i + (q * each m + u) =
-          omega (arith, add-mul (i * p) q (each m), mul-assoc i p (each m), ap (λ (x : ℕ). i * x) fill) in
+          omega (arith, add-mul (i * p) q (each m), mul_assoc i p (each m), ap (λ (x : ℕ). i * x) fill) in
           let x : a + f + spread 6 (bit m) u ≡ a + spread n (bit m) (64 * i + (q * each m + u)) =
           omega (arith, at, two-parts m (i * p + q) u h n below, ap (spread n (bit m)) v) in
           read (spread 6 (bit m) u) (inside u) ∙ ap (tableBit t) x)
 
       -- one piece more
-      module _ {r : ℕ} (so-far : r ≡ number (q * each m) (over i)) where
+      module _ {r : ℕ} (so_far : r ≡ number (q * each m) (over i)) where
         less : r < 2 ^ (q * each m)
-        less = omega (arith, so-far, number-lt (q * each m) (over i))
+        less = omega (arith, so_far, number_lt (q * each m) (over i))
 
         pub piece-fits : r + s * 2 ^ (q * each m) % 2 ^ 64 < 2 ^ 64
         piece-fits = joined-fits 64 (each m) (q * each m) (piece-within m p q fill l) less small
@@ -226,6 +226,6 @@ module _ (t : List ℕ) (n m a : ℕ) (room : 2 ^ n ≤ 8 * length t) (below : m
         piece-joined =
             let e : q * each m + each m ≡ (q + 1) * each m = omega (arith, add-mul q 1 (each m)) in
             joined 64 (each m) (q * each m) (piece-within m p q fill l) less small
-            ∙ ap₂ (λ (x y : ℕ). x + y * 2 ^ (q * each m)) so-far piece
-            ∙ sym (number-append (q * each m) (each m) (over i))
+            ∙ ap₂ (λ (x y : ℕ). x + y * 2 ^ (q * each m)) so_far piece
+            ∙ sym (number_append (q * each m) (each m) (over i))
             ∙ ap (λ (j : ℕ). number j (over i)) e

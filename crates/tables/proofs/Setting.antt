@@ -1,31 +1,31 @@
 -- A table over some of the inputs in front of a room: packed byte by byte, or the whole table where all inputs are
 -- kept. Assumes nothing.
-use mathlib.Core.Path.{_≡_, sym, ap, _∙_}
+use mathlib.Core.Path.{◌≡◌, sym, ap, ◌∙◌}
 use mathlib.Core.Bool.{Bool, true}
-use mathlib.Core.List.{List, _++_}
-use Prim.Native.Nat.{ℕ, _+_, _*_, _/_, _%_, _^_, _<_, _≤_}
+use mathlib.Core.List.{List, ◌++◌}
+use Prim.Native.Nat.{ℕ, ◌+◌, ◌*◌, ◌/◌, ◌%◌, ◌^◌, ◌<◌, ◌≤◌}
 use native.Mathlib.Omega.{arith}
-use lib.ListN.{length, take, List·getD-append}
-use lib.Seq.{getD-take}
-use Rattle·bits.specs.Numbers.{bit, number}
-use Rattle·bits.specs.Sets.{size, spread}
-use Rattle·bits.proofs.Numbers.{number-ext, bit-number}
-use Rattle·bits.proofs.Sums.{all-ones}
-use Rattle·bits.proofs.Members.{size-full}
-use Rattle·tables·specs.specs.Table.{tableLength, tableBit, bytesOf}
-use Rattle·tables·specs.specs.Counting.{tableOver}
-use Rattle·tables·proofs.proofs.Bytes.{length-bytes, length-holds, table-bytes}
-use Rattle·tables·proofs.proofs.Over.{over-full}
+use lib.ListN.{length, take, get_or-append}
+use lib.Seq.{get_or-take}
+use Rattle.bits.specs.Numbers.{bit, number}
+use Rattle.bits.specs.Sets.{size, spread}
+use Rattle.bits.proofs.Numbers.{number-ext, bit-number}
+use Rattle.bits.proofs.Sums.{all_ones}
+use Rattle.bits.proofs.Members.{size-full}
+use Rattle.tables.specs.Table.{tableLength, tableBit, bytes_of}
+use Rattle.tables.specs.Counting.{tableOver}
+use Rattle.tables.proofs.Bytes.{length-bytes, length-holds, table-bytes}
+use Rattle.tables.proofs.Over.{over-full}
 
 -- the bits of what stands in front
 pub front-bit : (l m : List ℕ) (x : ℕ) → x / 8 < length l → tableBit (l ++ m) x ≡ tableBit l x
-front-bit l m x h = ap (λ (b : ℕ). bit b (x % 8)) (List·getD-append l m 0 (x / 8) h)
+front-bit l m x h = ap (λ (b : ℕ). bit b (x % 8)) (get_or-append l m 0 (x / 8) h)
 
 -- the first bytes have the first bits
 pub take-number : (l : List ℕ) (k c : ℕ) → 2 ^ c ≤ 8 * k → number (2 ^ c) (tableBit (take k l))
     ≡ number (2 ^ c) (tableBit l)
 take-number l k c h = number-ext (2 ^ c) (tableBit (take k l)) (tableBit l)
-    (λ x g. ap (λ (b : ℕ). bit b (x % 8)) (getD-take k l (x / 8) 0 (omega arith)))
+    (λ x g. ap (λ (b : ℕ). bit b (x % 8)) (get_or-take k l (x / 8) 0 (omega arith)))
 
 module _ (n mask : ℕ) (t rest : List ℕ) where
   abbrev S : ℕ → Bool
@@ -34,14 +34,14 @@ module _ (n mask : ℕ) (t rest : List ℕ) where
   abbrev F : ℕ → Bool
   F = tableBit t
 
-  pub packed-over : number (2 ^ size n S) (tableBit (bytesOf (tableLength (size n S)) (λ v. F (spread n S v)) ++ rest))
+  pub packed-over : number (2 ^ size n S) (tableBit (bytes_of (tableLength (size n S)) (λ v. F (spread n S v)) ++ rest))
       ≡ tableOver n S F
   unfolding tableOver
   packed-over =
       let c = size n S in
       let f : ℕ → Bool = λ v. F (spread n S v) in
-      number-ext (2 ^ c) (tableBit (bytesOf (tableLength c) f ++ rest)) f (λ x h.
-      front-bit (bytesOf (tableLength c) f) rest x (omega (arith, length-bytes (tableLength c) f, length-holds c))
+      number-ext (2 ^ c) (tableBit (bytes_of (tableLength c) f ++ rest)) f (λ x h.
+      front-bit (bytes_of (tableLength c) f) rest x (omega (arith, length-bytes (tableLength c) f, length-holds c))
       ∙ table-bytes (tableLength c) f x (omega (arith, length-holds c)))
 
   pub whole-over : mask + 1 ≡ 2 ^ n → length t ≡ tableLength n → number (2 ^ size n S) (tableBit (t ++ rest))
@@ -52,5 +52,5 @@ module _ (n mask : ℕ) (t rest : List ℕ) where
       ∙ sym (over-full n S F all)
     where
       all : (j : ℕ) → j < n → bit mask j ≡ true
-      all j h = let e : mask ≡ number n (λ j. true) = omega (arith, all-ones n) in ap (λ (m : ℕ). bit m j) e
+      all j h = let e : mask ≡ number n (λ j. true) = omega (arith, all_ones n) in ap (λ (m : ℕ). bit m j) e
           ∙ bit-number n (λ j. true) j h

@@ -1,12 +1,9 @@
 -- The table of a cell as words: the first edition's cells need one, those of eight inputs four.
-use mathlib.Core.Bool.{Bool}
-use mathlib.Core.List.{List}
-use Prim.Native.Nat.{ℕ, _*_, _/_, _%_}
-use lib.ListN.{getD, replicate}
-use Rattle·bits.specs.Numbers.{bit, number}
-use Rattle·bits.specs.Lists.{listOf}
-use Rattle·tables·specs.specs.declared.cell.CellTable.{CellTable}
-use Rattle·tables·specs.specs.Words.{gateWord}
+use Rattle.std.specs.Prelude.{Bool, List, ℕ, ◌*◌, ◌/◌, ◌%◌, get_or, replicate}
+use Rattle.bits.specs.Numbers.{bit, number}
+use Rattle.bits.specs.Lists.{list_of}
+use Rattle.tables.specs.declared.cell.CellTable.{CellTable}
+use Rattle.tables.specs.Words.{gateWord}
 
 -- room for the table of a cell of 8 inputs, 2 ^ 8 bits
 abbrev pub cellWords : ℕ
@@ -14,19 +11,19 @@ cellWords = 4
 
 -- the number that c words make, the first as its lowest 64 bits
 unfoldable pub joined : ℕ → List ℕ → ℕ
-joined c ws = number (64 * c) (λ x. bit (getD ws (x / 64) 0) (x % 64))
+joined c ws = number (64 * c) (λ x. bit (get_or ws (x / 64) 0) (x % 64))
 
 -- the first c words of the table of k inputs, 0 from 2 ^ k on
-abbrev pub wordsOf : ℕ → ℕ → (ℕ → Bool) → List ℕ
-wordsOf c k F = listOf c (gateWord k F)
+abbrev pub words_of : ℕ → ℕ → (ℕ → Bool) → List ℕ
+words_of c k F = list_of c (gateWord k F)
 
 -- the table of F of k inputs as the code holds it
 abbrev pub heldTable : ℕ → (ℕ → Bool) → CellTable
-heldTable k F = record { words = wordsOf cellWords k F }
+heldTable k F = record { words = words_of cellWords k F }
 
 -- a table so held, as a number
 abbrev pub tableNumber : CellTable → ℕ
-tableNumber c = joined cellWords (c .words)
+tableNumber c = joined cellWords c.words
 
 -- no bit is set
 abbrev pub noTable : CellTable

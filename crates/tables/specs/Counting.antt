@@ -1,13 +1,11 @@
 -- The inputs that count, and the table over some of the inputs.
-use mathlib.Core.Path.{_≡_}
-use mathlib.Core.Bool.{Bool, true, cond, not, _||_, Bool·beq}
-use Prim.Native.Nat.{ℕ, _+_, _^_, _<_, _≤_}
-use lib.Dec.{eqb}
-use Rattle·bits.specs.Numbers.{bit, number}
-use Rattle·bits.specs.Sets.{Agree, size, spread}
-use Rattle·bits.specs.Below.{every}
-use Rattle·tables·specs.specs.declared.counting.CountingInputs.{CountingInputs}
-use Rattle·tables·specs.specs.Depends.{DependsOn}
+use Rattle.std.specs.Prelude.{◌≡◌, Bool, true, cond, not, ◌||◌, ℕ, ◌+◌, ◌^◌, ◌<◌, ◌≤◌, eqb}
+use Rattle.std.specs.Bool.{beq}
+use Rattle.bits.specs.Numbers.{bit, number}
+use Rattle.bits.specs.Sets.{Agree, size, spread}
+use Rattle.bits.specs.Below.{every}
+use Rattle.tables.specs.declared.counting.CountingInputs.{CountingInputs}
+use Rattle.tables.specs.Depends.{DependsOn}
 
 -- ---- what counts, said by `DependsOn`
 
@@ -35,7 +33,7 @@ Sees n F s = (x y : ℕ) → x < 2 ^ n → y < 2 ^ n → Agree n s x y → F x �
 
 -- whether input j counts: at some assignment the bit changes when input j is set
 unfoldable pub counts : ℕ → (ℕ → Bool) → ℕ → Bool
-counts n F j = not (every (2 ^ n) (λ x. bit x j || Bool·beq (F x) (F (x + 2 ^ j))))
+counts n F j = not (every (2 ^ n) (λ x. bit x j || beq (F x) (F (x + 2 ^ j))))
 
 -- the inputs that count
 unfoldable pub support : ℕ → (ℕ → Bool) → ℕ
@@ -43,10 +41,10 @@ support n F = number n (counts n F)
 
 -- that mask, and how many inputs count, as the code holds them
 pub record CountingIn (n : ℕ) (F : ℕ → Bool) (c : CountingInputs) : Type 0 where
-  pub is : c .mask ≡ support n F
-  pub below : c .mask < 2 ^ n
-  pub count : c .many ≡ size n (bit (support n F))
-  pub few : c .many ≤ n
+  pub is : c.mask ≡ support n F
+  pub below : c.mask < 2 ^ n
+  pub count : c.many ≡ size n (bit (support n F))
+  pub few : c.many ≤ n
 
 -- the inputs that are kept when the others are set aside: those that count, and input 0 where none does
 unfoldable pub kept : ℕ → (ℕ → Bool) → ℕ

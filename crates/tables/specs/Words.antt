@@ -1,13 +1,8 @@
 -- Tables 64 assignments at a time.
-use mathlib.Core.Path.{_≡_}
-use mathlib.Core.Bool.{Bool, true, false, not, _&&_}
-use mathlib.Core.List.{List}
-use Prim.Native.Nat.{ℕ, _+_, _-_, _*_, _/_, _^_, _<_, _≤_}
-use lib.Dec.{ltb}
-use lib.ListN.{length}
-use Rattle·bits.specs.Numbers.{bit, number}
-use Rattle·tables·specs.specs.Table.{tableBit}
-use Rattle·tables·specs.specs.Counting.{Sees, counts}
+use Rattle.std.specs.Prelude.{◌≡◌, Bool, true, false, not, ◌&&◌, List, ℕ, ◌+◌, ◌-◌, ◌*◌, ◌/◌, ◌^◌, ◌<◌, ◌≤◌, ltb, length}
+use Rattle.bits.specs.Numbers.{bit, number}
+use Rattle.tables.specs.Table.{tableBit}
+use Rattle.tables.specs.Counting.{Sees, counts}
 
 -- word w of a table: its bits at the 64 assignments from 64 w on, 0 past its end
 abbrev pub tableWord : List ℕ → ℕ → ℕ

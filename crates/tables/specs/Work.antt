@@ -1,6 +1,6 @@
 -- The work area that is lent to a search.
-use Prim.Native.Nat.{ℕ, _*_}
-use Rattle·tables·specs.specs.Table.{mostInputs, tableLength}
+use Rattle.std.specs.Prelude.{ℕ, ◌*◌}
+use Rattle.tables.specs.Table.{mostInputs, tableLength}
 
 -- a half holds the table of as many inputs as a gate can have
 abbrev pub half : ℕ

@@ -1,22 +1,18 @@
 // Setting inputs aside: the table over some of the inputs, the others at 0.
-use crate::fixed::byte_in;
-use crate::fixed::word_over;
+ghost use Rattle.std.specs.Prelude.{◌≡◌, ◌++◌, ◌*◌, ◌^◌, ◌<◌, ◌≤◌, length, drop};
+ghost use Rattle.bits.specs.Numbers.{bit, number};
+ghost use Rattle.bits.specs.Sets.{size, spread};
+ghost use Rattle.tables.specs.Table.{mostInputs, tableLength, tableBit, bytes_of};
+ghost use Rattle.tables.specs.Counting.{tableOver};
+
+use crate::fixed::{byte_in, word_over};
 use crate::length_for;
-use bits::sets::members;
-use bits::sets::spread_out;
-ghost use mathlib.Core.Path.{_≡_};
-ghost use mathlib.Core.List.{_++_};
-ghost use Prim.Native.Nat.{_*_, _^_, _<_, _≤_};
-ghost use lib.ListN.{length, drop};
-ghost use Rattle·bits.specs.Numbers.{bit, number};
-ghost use Rattle·bits.specs.Sets.{size, spread};
-ghost use Rattle·tables·specs.specs.Table.{mostInputs, tableLength, tableBit, bytesOf};
-ghost use Rattle·tables·specs.specs.Counting.{tableOver};
+use bits::sets::{members, spread_out};
 
 // A table, into the front of a lent room.
 fn copy(t: &[u8], room: &mut [u8])
-    requires { ⌜ length (now t) ≤ length (now room) ⌝ }
-    ensures { λ r. ⌜ now (room .exit) ≡ now (t .entry) ++ drop (length (now (t .entry))) (now (room .entry)) ⌝ }
+    requires { length t.now ≤ length room.old }
+    ensures { room.new ≡ t.now ++ drop (length t.now) room.old }
 {
     let mut i: usize = 0;
     while i < t.len() {
@@ -27,14 +23,10 @@ fn copy(t: &[u8], room: &mut [u8])
 
 // The first len bytes of the table over the mask's inputs, into the front of a lent room.
 fn pack(t: &[u8], n: u32, mask: u16, len: usize, room: &mut [u8])
-    requires { ⌜
-        (2 ^ n ≤ 8 * length (now t)) × (n ≤ mostInputs) × (mask < 2 ^ n) × (len ≤ 2 ^ mostInputs)
-        × (len ≤ length (now room))
-        ⌝ }
-    ensures { λ r. ⌜
-        now (room .exit)
-        ≡ bytesOf len (λ v. tableBit (now (t .entry)) (spread n (bit mask) v)) ++ drop len (now (room .entry))
-        ⌝ }
+    requires { (2 ^ n ≤ 8 * length t.now) × (n ≤ mostInputs) × (mask < 2 ^ n) × (len ≤ 2 ^ mostInputs)
+        × (len ≤ length room.old) }
+    ensures { room.new
+        ≡ bytes_of len (λ v. tableBit t.now (spread n (bit mask) v)) ++ drop len room.old }
 {
     let mut w: u64 = 0;
     let mut i: usize = 0;
@@ -50,13 +42,9 @@ fn pack(t: &[u8], n: u32, mask: u16, len: usize, room: &mut [u8])
 // The table over the mask's inputs, into the front of a lent room; where the mask has them all, that is the table
 // itself.
 pub fn set_aside(t: &[u8], n: u32, mask: u16, room: &mut [u8])
-    requires { ⌜
-        (length (now t) ≡ tableLength n) × (n ≤ mostInputs) × (mask < 2 ^ n) × (length (now t) ≤ length (now room))
-        ⌝ }
-    ensures { λ r. ⌜
-        number (2 ^ size n (bit mask)) (tableBit (now (room .exit)))
-        ≡ tableOver n (bit mask) (tableBit (now (t .entry)))
-        ⌝ }
+    requires { (length t.now ≡ tableLength n) × (n ≤ mostInputs) × (mask < 2 ^ n) × (length t.now ≤ length room.old) }
+    ensures { number (2 ^ size n (bit mask)) (tableBit room.new)
+        ≡ tableOver n (bit mask) (tableBit t.now) }
 {
     let all: u32 = (1 << n) - 1;
     if mask as u32 == all {
@@ -68,8 +56,8 @@ pub fn set_aside(t: &[u8], n: u32, mask: u16, room: &mut [u8])
 
 // A mask over the inputs that were not set aside, in the positions of all.
 pub fn spread_mask(n: u32, mask: u16, part: u16) -> u16
-    requires { ⌜ n ≤ mostInputs ⌝ }
-    ensures { λ r. ⌜ r ≡ spread n (bit mask) part ⌝ }
+    requires { n ≤ mostInputs }
+    ensures { result ≡ spread n (bit mask) part }
 {
     spread_out(n, mask, part as u32) as u16
 }

@@ -1,15 +1,14 @@
 // The table of a cell of up to 8 inputs, in words.
-use crate::counting::above_words;
-use crate::counting::word_of;
-ghost use mathlib.Core.Path.{_≡_};
-ghost use Prim.Native.Nat.{_+_, _*_, _^_, _<_, _≤_};
-ghost use lib.ListN.{length};
-ghost use Rattle·bits.specs.Numbers.{bit, number};
-ghost use Rattle·tables·specs.specs.Table.{mostInputs, tableBit};
-ghost use Rattle·tables·specs.specs.Words.{gateWord};
-ghost use Rattle·tables·specs.specs.Cells.{cellWords, tableNumber, noTable, heldTable};
+ghost use Rattle.std.specs.Prelude.{◌≡◌, ◌+◌, ◌*◌, ◌^◌, ◌<◌, ◌≤◌, length};
+ghost use Rattle.bits.specs.Numbers.{bit, number};
+ghost use Rattle.tables.specs.Table.{mostInputs, tableBit};
+ghost use Rattle.tables.specs.Words.{gateWord};
+ghost use Rattle.tables.specs.Cells.{cellWords, tableNumber, noTable, heldTable};
+
+use crate::counting::{above_words, word_of};
 
 // Bit x is bit x mod 64 of word x div 64. A cell of up to 6 inputs uses the first word alone; the others are then 0.
+#[derive(Drop)]
 pub struct CellTable {
     pub words: [u64; CellTable::WORDS],
 }
@@ -20,7 +19,7 @@ impl CellTable {
 
     // No bit is set.
     pub fn zero() -> CellTable
-        ensures { λ r. ⌜ r ≡ noTable ⌝ }
+        ensures { result ≡ noTable }
     {
         CellTable {
             words: [0; CellTable::WORDS],
@@ -29,8 +28,8 @@ impl CellTable {
 
     // Byte i.
     pub fn byte(self, i: usize) -> u8
-        requires { ⌜ i < 8 * cellWords ⌝ }
-        ensures { λ r. ⌜ r ≡ number 8 (λ j. bit (tableNumber self) (8 * i + j)) ⌝ }
+        requires { i < 8 * cellWords }
+        ensures { result ≡ number 8 (λ j. bit (tableNumber self) (8 * i + j)) }
     {
         let at = i / 8;
         ((self.words[at] >> (8 * (i % 8))) % 256) as u8
@@ -38,8 +37,8 @@ impl CellTable {
 
     // The first 2 ^ k bits of a table.
     pub fn first_of(t: &[u8], k: u32) -> CellTable
-        requires { ⌜ (k ≤ mostInputs) × (2 ^ k ≤ 8 * length (now t)) ⌝ }
-        ensures { λ r. ⌜ r ≡ heldTable k (tableBit (now (t .entry))) ⌝ }
+        requires { (k ≤ mostInputs) × (2 ^ k ≤ 8 * length t.now) }
+        ensures { result ≡ heldTable k (tableBit t.now) }
     {
         CellTable {
             words: [
@@ -54,8 +53,8 @@ impl CellTable {
 
 // Word w of the table of n inputs; 0 past its end.
 fn word_or_zero(t: &[u8], n: u32, w: usize) -> u64
-    requires { ⌜ (n ≤ mostInputs) × (2 ^ n ≤ 8 * length (now t)) ⌝ }
-    ensures { λ r. ⌜ r ≡ gateWord n (tableBit (now (t .entry))) w ⌝ }
+    requires { (n ≤ mostInputs) × (2 ^ n ≤ 8 * length t.now) }
+    ensures { result ≡ gateWord n (tableBit t.now) w }
 {
     let many: usize = 1 << above_words(n);
     if many <= w {

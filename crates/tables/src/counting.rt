@@ -1,21 +1,17 @@
 // The inputs that count, tested on whole words.
-use crate::words::short_word;
-use crate::words::table_word;
+ghost use Rattle.std.specs.Prelude.{◌≡◌, ◌-◌, ◌*◌, ◌^◌, ◌<◌, ◌≤◌, length};
+ghost use Rattle.tables.specs.Table.{mostInputs, tableLength, tableBit};
+ghost use Rattle.tables.specs.Counting.{counts, support, kept, CountingIn};
+ghost use Rattle.tables.specs.Words.{gateWord, LowerHalf, WordWithout, Compared, Live};
+
+use crate::words::{short_word, table_word};
 use bits::patterns::of_input;
-use bits::sets::members;
-use bits::sets::next;
-use bits::sets::parts;
-ghost use mathlib.Core.Path.{_≡_};
-ghost use Prim.Native.Nat.{_-_, _*_, _^_, _<_, _≤_};
-ghost use lib.ListN.{length};
-ghost use Rattle·tables·specs.specs.Table.{mostInputs, tableLength, tableBit};
-ghost use Rattle·tables·specs.specs.Counting.{counts, support, kept, CountingIn};
-ghost use Rattle·tables·specs.specs.Words.{gateWord, LowerHalf, WordWithout, Compared, Live};
+use bits::sets::{members, next, parts};
 
 // Word w of the table of n inputs, spare bits zero; with fewer than 6 inputs there is one word, and it is not full.
 pub fn word_of(t: &[u8], n: u32, w: usize) -> u64
-    requires { ⌜ (2 ^ n ≤ 8 * length (now t)) × (w < 2 ^ (n - 6)) ⌝ }
-    ensures { λ r. ⌜ r ≡ gateWord n (tableBit (now (t .entry))) w ⌝ }
+    requires { (2 ^ n ≤ 8 * length t.now) × (w < 2 ^ (n - 6)) }
+    ensures { result ≡ gateWord n (tableBit t.now) w }
 {
     if n < 6 {
         return short_word(t, n as usize);
@@ -25,7 +21,7 @@ pub fn word_of(t: &[u8], n: u32, w: usize) -> u64
 
 // The half of a word where input j is 0, for an input that changes within a word; from input 6 on it is not asked for.
 fn lower_half(j: u32) -> u64
-    ensures { λ r. ⌜ LowerHalf j r ⌝ }
+    ensures { LowerHalf j result }
 {
     if j < 6 {
         return !of_input(j);
@@ -35,10 +31,8 @@ fn lower_half(j: u32) -> u64
 
 // Whether the bit changes, in word w, as input j is set: by comparing the word's own halves, or the word with another.
 fn changes(t: &[u8], n: u32, j: u32, half: u64, w: usize) -> bool
-    requires { ⌜
-        (length (now t) ≡ tableLength n) × (n ≤ mostInputs) × (j < n) × LowerHalf j half × WordWithout n j w
-        ⌝ }
-    ensures { λ r. ⌜ Compared n (tableBit (now (t .entry))) j w r ⌝ }
+    requires { (length t.now ≡ tableLength n) × (n ≤ mostInputs) × (j < n) × LowerHalf j half × WordWithout n j w }
+    ensures { Compared n (tableBit t.now) j w result }
 {
     let here = word_of(t, n, w);
     if j < 6 {
@@ -51,7 +45,7 @@ fn changes(t: &[u8], n: u32, j: u32, half: u64, w: usize) -> bool
 
 // How many of n inputs number the words of a table.
 pub fn above_words(n: u32) -> u32
-    ensures { λ r. ⌜ r ≡ n - 6 ⌝ }
+    ensures { result ≡ n - 6 }
 {
     if n < 6 {
         return 0;
@@ -61,8 +55,8 @@ pub fn above_words(n: u32) -> u32
 
 // Whether input j counts, where the table sees the inputs of `live` alone: the other inputs of a word's number stay 0.
 fn counts_in(t: &[u8], n: u32, live: u16, j: u32) -> bool
-    requires { ⌜ (length (now t) ≡ tableLength n) × (n ≤ mostInputs) × (j < n) × Live n (tableBit (now t)) live j ⌝ }
-    ensures { λ r. ⌜ r ≡ counts n (tableBit (now (t .entry))) j ⌝ }
+    requires { (length t.now ≡ tableLength n) × (n ≤ mostInputs) × (j < n) × Live n (tableBit t.now) live j }
+    ensures { result ≡ counts n (tableBit t.now) j }
 {
     let half = lower_half(j);
     let top = above_words(n);
@@ -83,8 +77,8 @@ fn counts_in(t: &[u8], n: u32, live: u16, j: u32) -> bool
 // The mask of the inputs that count: from the highest down, one that does not is set aside before the next is looked
 // at.
 pub fn support_of(t: &[u8], n: u32) -> u16
-    requires { ⌜ (length (now t) ≡ tableLength n) × (n ≤ mostInputs) ⌝ }
-    ensures { λ r. ⌜ r ≡ support n (tableBit (now (t .entry))) ⌝ }
+    requires { (length t.now ≡ tableLength n) × (n ≤ mostInputs) }
+    ensures { result ≡ support n (tableBit t.now) }
 {
     let all: u32 = (1 << n) - 1;
     let mut live = all as u16;
@@ -99,6 +93,7 @@ pub fn support_of(t: &[u8], n: u32) -> u16
 }
 
 // The inputs that count: their mask, and how many they are.
+#[derive(Drop)]
 pub struct CountingInputs {
     pub mask: u16,
     pub many: u32,
@@ -106,8 +101,8 @@ pub struct CountingInputs {
 
 // The inputs of a table that count.
 pub fn counting_inputs(t: &[u8], n: u32) -> CountingInputs
-    requires { ⌜ (length (now t) ≡ tableLength n) × (n ≤ mostInputs) ⌝ }
-    ensures { λ c. ⌜ CountingIn n (tableBit (now (t .entry))) c ⌝ }
+    requires { (length t.now ≡ tableLength n) × (n ≤ mostInputs) }
+    ensures { CountingIn n (tableBit t.now) result }
 {
     let mask = support_of(t, n);
     let many = members(mask);
@@ -119,8 +114,8 @@ pub fn counting_inputs(t: &[u8], n: u32) -> CountingInputs
 
 // The mask of the inputs that are kept: those that count, and of a constant the first, since a table has one.
 pub fn kept_of(t: &[u8], n: u32) -> u16
-    requires { ⌜ (length (now t) ≡ tableLength n) × (n ≤ mostInputs) ⌝ }
-    ensures { λ r. ⌜ r ≡ kept n (tableBit (now (t .entry))) ⌝ }
+    requires { (length t.now ≡ tableLength n) × (n ≤ mostInputs) }
+    ensures { result ≡ kept n (tableBit t.now) }
 {
     let support = support_of(t, n);
     if support == 0 {

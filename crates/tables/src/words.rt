@@ -1,16 +1,15 @@
 // A table's bits 64 at a time: a word, and the one short word of a table of fewer bits.
+ghost use Rattle.std.specs.Prelude.{◌≡◌, ℕ, ◌+◌, ◌*◌, ◌%◌, ◌^◌, ◌<◌, ◌≤◌, length};
+ghost use Rattle.bits.specs.Numbers.{bit, number};
+ghost use Rattle.tables.specs.Table.{tableBit};
+ghost use Rattle.tables.specs.Words.{tableWord, WordAt};
+
 use crate::length_for;
-ghost use mathlib.Core.Path.{_≡_};
-ghost use Prim.Native.Nat.{ℕ, _+_, _*_, _%_, _^_, _<_, _≤_};
-ghost use lib.ListN.{length};
-ghost use Rattle·bits.specs.Numbers.{bit, number};
-ghost use Rattle·tables·specs.specs.Table.{tableBit};
-ghost use Rattle·tables·specs.specs.Words.{tableWord, WordAt};
 
 // The number that some bytes make, the first as its lowest. With eight bytes this is one load.
 fn joined(t: &[u8], from: usize, count: usize) -> u64
-    requires { ⌜ (from + count ≤ length (now t)) × (count ≤ 8) ⌝ }
-    ensures { λ r. ⌜ r ≡ number (8 * count) (λ k. tableBit (now (t .entry)) (8 * from + k)) ⌝ }
+    requires { (from + count ≤ length t.now) × (count ≤ 8) }
+    ensures { result ≡ number (8 * count) (λ k. tableBit t.now (8 * from + k)) }
 {
     let mut r: u64 = 0;
     let mut i: usize = 0;
@@ -24,16 +23,16 @@ fn joined(t: &[u8], from: usize, count: usize) -> u64
 
 // Word w.
 pub fn table_word(t: &[u8], w: usize) -> u64
-    requires { ⌜ 8 * w + 8 ≤ length (now t) ⌝ }
-    ensures { λ r. ⌜ r ≡ tableWord (now (t .entry)) w ⌝ }
+    requires { 8 * w + 8 ≤ length t.now }
+    ensures { result ≡ tableWord t.now w }
 {
     joined(t, 8 * w, 8)
 }
 
 // The first 2 ^ k bits of a table, fewer than a word has.
 pub fn short_word(t: &[u8], k: usize) -> u64
-    requires { ⌜ (k < 6) × (2 ^ k ≤ 8 * length (now t)) ⌝ }
-    ensures { λ r. ⌜ r ≡ number (2 ^ k) (tableBit (now (t .entry))) ⌝ }
+    requires { (k < 6) × (2 ^ k ≤ 8 * length t.now) }
+    ensures { result ≡ number (2 ^ k) (tableBit t.now) }
 {
     let word = joined(t, 0, length_for(k as u32));
     let bits: u64 = 1 << k;
@@ -43,8 +42,8 @@ pub fn short_word(t: &[u8], k: usize) -> u64
 
 // The bits from the assignment p on, as far as p's word goes. A table of fewer than eight bytes is one short word.
 pub fn bits_from(t: &[u8], p: u32) -> u64
-    requires { ⌜ WordAt (now t) p ⌝ }
-    ensures { λ r. ⌜ ((k : ℕ) → p % 64 + k < 64 → bit r k ≡ tableBit (now (t .entry)) (p + k)) ⌝ }
+    requires { WordAt t.now p }
+    ensures { (k : ℕ) → p % 64 + k < 64 → bit result k ≡ tableBit t.now (p + k) }
 {
     let many = t.len();
     if many < 8 {

@@ -1,62 +1,54 @@
 -- In sixteenths nothing is rounded: the output's times as f64 are those over whole numbers. Each step of one reckoning
 -- goes with the same step of the other, and after k cells a number is at most k + 1 times 65,536, far below where sums
 -- are rounded. Assumes nothing.
-use mathlib.Core.Path.{_≡_, sym, ap, subst, _∙_}
-use mathlib.Core.Bool.{Bool, true, false, cond}
-use mathlib.Core.List.{List, [], _∷_}
-use Prim.Native.Nat.{ℕ, zero, suc, _+_, _-_, _*_, _<_, _≤_}
-use native.Mathlib.Nat.{mul-assoc, mul-comm, mul-right-comm, mul-pos, mul-lt-mul-of-pos-right, lt-of-le-of-lt}
-use native.Mathlib.Decide.{decLt}
-use native.Mathlib.Omega.{arith}
-use lib.Dec.{T, eqb, ltb, lit<}
+use Rattle.std.proofs.Common.{◌≡◌, ℕ, zero, suc, ◌+◌, ◌-◌, ◌*◌, ◌<◌, ◌≤◌, Bool, true, false, cond, T, eqb, ltb, List, [], ◌∷◌, length, get_or, sym, ap, ◌∙◌, subst, lt_of_le_of_lt, mul_assoc, mul_comm, mul-lt-mul_of_pos_right, mul-pos, mul_right_comm, arith, lit<, le-ltb, lt-ltb}
+use native.Mathlib.Decide.{dec_lt}
 use lib.Ieee.{Float, nan, inf, fin, lt, round, binary64, up, down}
 use lib.Ieee.Exact.{HasValue}
-use lib.Ieee.Fits.{down-pos}
+use lib.Ieee.Fits.{down_pos}
 use lib.Ieee.Order.{transfer}
-use lib.ListN.{length, getD}
-use borrow.Author.Tests.{lt-ltb, le-ltb}
-use Rattle·sheets.specs.Network.{Cell}
-use Rattle·times·specs.specs.Signals.{keptTime, cellTime, outputTime, keepBy, keeping, delayed}
-use Rattle·times·specs.specs.Whole.{keepingWhole}
-use Rattle·times·proofs.proofs.Sums.{value, add-at}
+use Rattle.sheets.specs.Network.{Cell}
+use Rattle.times.specs.Signals.{keptTime, cellTime, outputTime, keepBy, keeping, delayed}
+use Rattle.times.specs.Whole.{keepingWhole}
+use Rattle.times.proofs.Sums.{value, add_at}
 
 -- ---- two reckonings, step by step; R k relates what at most k cells gave
 
-module _ {A B : Type 0} (R : ℕ → A → B → Type 0) (K : ℕ) (pick : A → A → A) (pick′ : B → B → B) (after : A → A)
-    (after′ : B → B)
+module _ {A B : Type 0} (R : ℕ → A → B → Type 0) (K : ℕ) (pick : A → A → A) (pick' : B → B → B) (after : A → A)
+    (after' : B → B)
     (more : (k : ℕ) (x : A) (i : B) → R k x i → R (suc k) x i)
-    (picks : (k : ℕ) (x y : A) (i j : B) → k ≤ K → R k x i → R k y j → R k (pick x y) (pick′ i j))
-    (afters : (k : ℕ) (x : A) (i : B) → k < K → R k x i → R (suc k) (after x) (after′ i)) where
+    (picks : (k : ℕ) (x y : A) (i j : B) → k ≤ K → R k x i → R k y j → R k (pick x y) (pick' i j))
+    (afters : (k : ℕ) (x : A) (i : B) → k < K → R k x i → R (suc k) (after x) (after' i)) where
   kept-related : (k j : ℕ) (v : ℕ → A) (w : ℕ → B) → k ≤ K → ((t : ℕ) → R k (v t) (w t))
-      → R k (keptTime pick v j) (keptTime pick′ w j)
+      → R k (keptTime pick v j) (keptTime pick' w j)
   unfolding keptTime
   kept-related k zero v w h r = r 0
-  kept-related k (suc j) v w h r = picks k (keptTime pick v j) (v (suc j)) (keptTime pick′ w j) (w (suc j)) h
+  kept-related k (suc j) v w h r = picks k (keptTime pick v j) (v (suc j)) (keptTime pick' w j) (w (suc j)) h
       (kept-related k j v w h r) (r (suc j))
 
   cell-related : (k : ℕ) (c : Cell) (v : ℕ → A) (w : ℕ → B) → k < K → ((t : ℕ) → R k (v t) (w t))
-      → R (suc k) (cellTime pick after c v) (cellTime pick′ after′ c w)
+      → R (suc k) (cellTime pick after c v) (cellTime pick' after' c w)
   unfolding cellTime
-  cell-related k c v w h r = afters k _ _ h (kept-related k (length (c .signals) - 1) (λ j. v (getD (c .signals) j 0))
-      (λ j. w (getD (c .signals) j 0)) (omega arith) (λ t. r (getD (c .signals) t 0)))
+  cell-related k c v w h r = afters k _ _ h (kept-related k (length c.signals - 1) (λ j. v (get_or c.signals j 0))
+      (λ j. w (get_or c.signals j 0)) (omega arith) (λ t. r (get_or c.signals t 0)))
 
-  pub output-related : (cs : List Cell) (k i : ℕ) (o : A) (o′ : B) (v : ℕ → A) (w : ℕ → B) → k + length cs ≤ K
-      → R k o o′ → ((t : ℕ) → R k (v t) (w t))
-      → R (k + length cs) (outputTime pick after o i cs v) (outputTime pick′ after′ o′ i cs w)
+  pub output-related : (cs : List Cell) (k i : ℕ) (o : A) (o' : B) (v : ℕ → A) (w : ℕ → B) → k + length cs ≤ K
+      → R k o o' → ((t : ℕ) → R k (v t) (w t))
+      → R (k + length cs) (outputTime pick after o i cs v) (outputTime pick' after' o' i cs w)
   unfolding outputTime
-  output-related [] k i o o′ v w h q r = let z : k ≡ k + 0 = omega arith in subst (λ (m : ℕ). R m o o′) z q
-  output-related (c ∷ cs) k i o o′ v w h q r =
+  output-related [] k i o o' v w h q r = let z : k ≡ k + 0 = omega arith in subst (λ (m : ℕ). R m o o') z q
+  output-related (c ∷ cs) k i o o' v w h q r =
       let p = cell-related k c v w (omega arith) r in
       let z : suc k + length cs ≡ k + suc (length cs) = omega arith in
       subst (λ (m : ℕ). R m (outputTime pick after (cellTime pick after c v) (suc i) cs
       (λ t. cond (eqb t i) (cellTime pick after c v) (v t)))
-      (outputTime pick′ after′ (cellTime pick′ after′ c w) (suc i) cs
-      (λ t. cond (eqb t i) (cellTime pick′ after′ c w) (w t)))) z
+      (outputTime pick' after' (cellTime pick' after' c w) (suc i) cs
+      (λ t. cond (eqb t i) (cellTime pick' after' c w) (w t)))) z
       (output-related cs (suc k) (suc i) _ _ _ _ (omega arith) p
       (λ t. one (eqb t i) (v t) (w t) p (more k (v t) (w t) (r t))))
     where
-      one : (b : Bool) (x : A) (y : B) → R (suc k) (cellTime pick after c v) (cellTime pick′ after′ c w) → R (suc k) x y
-          → R (suc k) (cond b (cellTime pick after c v) x) (cond b (cellTime pick′ after′ c w) y)
+      one : (b : Bool) (x : A) (y : B) → R (suc k) (cellTime pick after c v) (cellTime pick' after' c w) → R (suc k) x y
+          → R (suc k) (cond b (cellTime pick after c v) x) (cond b (cellTime pick' after' c w) y)
       one true x y p q = p
       one false x y p q = q
 
@@ -76,23 +68,23 @@ same-order nan y i j h k = absurd h
 same-order (inf s) y i j h k = absurd h
 same-order (fin s m e) nan i j h k = absurd k
 same-order (fin s m e) (inf t) i j h k = absurd k
-same-order (fin true m e) (fin t n d) i j h k = absurd (never (h .0))
-same-order (fin false m e) (fin true n d) i j h k = absurd (never (k .0))
-same-order (fin false m e) (fin false n d) i j h k = elim (decLt i j) [
+same-order (fin true m e) (fin t n d) i j h k = absurd (never h.0)
+same-order (fin false m e) (fin true n d) i j h k = absurd (never k.0)
+same-order (fin false m e) (fin false n d) i j h k = elim (dec_lt i j) [
   | yes l ↦ lt-ltb (m * up e * down d) (n * up d * down e)
-      (strictly (m * up e) (n * up d) (down e) (down d) i j (down-pos e) (down-pos d) (h .1) (k .1) l)
+      (strictly (m * up e) (n * up d) (down e) (down d) i j (down_pos e) (down_pos d) h.1 k.1 l)
       ∙ sym (lt-ltb i j l)
   | no l ↦ le-ltb (m * up e * down d) (n * up d * down e)
-      (transfer (n * up d) (m * up e) (down d) (down e) j i 16 16 (lit< tt) (lit< tt) (k .1) (h .1) (omega arith))
+      (transfer (n * up d) (m * up e) (down d) (down e) j i 16 16 (lit< tt) (lit< tt) k.1 h.1 (omega arith))
       ∙ sym (le-ltb i j (omega arith))
 ]
   where
     strictly : (x y p q i j : ℕ) → 0 < p → 0 < q → x * 16 ≡ i * p → y * 16 ≡ j * q → i < j → x * q < y * p
     strictly x y p q i j P Q h k l =
-        let a : x * q * 16 ≡ i * (p * q) = mul-right-comm x q 16 ∙ ap (λ (n : ℕ). n * q) h ∙ mul-assoc i p q in
-        let b : y * p * 16 ≡ j * (p * q) = mul-right-comm y p 16 ∙ ap (λ (n : ℕ). n * p) k ∙ mul-assoc j q p
-        ∙ ap (λ (n : ℕ). j * n) (mul-comm q p) in
-        let c : i * (p * q) < j * (p * q) = mul-lt-mul-of-pos-right l (mul-pos P Q) in
+        let a : x * q * 16 ≡ i * (p * q) = mul_right_comm x q 16 ∙ ap (λ (n : ℕ). n * q) h ∙ mul_assoc i p q in
+        let b : y * p * 16 ≡ j * (p * q) = mul_right_comm y p 16 ∙ ap (λ (n : ℕ). n * p) k ∙ mul_assoc j q p
+        ∙ ap (λ (n : ℕ). j * n) (mul_comm q p) in
+        let c : i * (p * q) < j * (p * q) = mul-lt-mul_of_pos_right l (mul-pos P Q) in
         omega (arith, a, b, c)
 
 picks : (late : Bool) (k : ℕ) (x y : Float) (i j : ℕ) → k ≤ 15 → Exactly k x i → Exactly k y j
@@ -106,29 +98,29 @@ picks late k x y i j h p q = go late
     one b false e = subst (λ (b : Bool). Exactly k (cond b y x) i) (sym e) p
 
     go : (late : Bool) → Exactly k (keepBy lt late x y) (keepBy ltb late i j)
-    go true = one (lt x y) (ltb i j) (same-order x y i j (p .0) (q .0))
-    go false = one (lt y x) (ltb j i) (same-order y x j i (q .0) (p .0))
+    go true = one (lt x y) (ltb i j) (same-order x y i j p.0 q.0)
+    go false = one (lt y x) (ltb j i) (same-order y x j i q.0 p.0)
 
 afters : (delay : Float) (d : ℕ) → Exactly 0 delay d → (k : ℕ) (x : Float) (i : ℕ) → k < 15 → Exactly k x i
     → Exactly (suc k) (delayed delay x) (i + d)
 afters delay d e k x i h p = (
-  subst (λ (y : Float). HasValue y false (i + d) 16) (sym (add-at x delay i d 16 (lit< tt) (p .0) (e .0)))
-      (small (i + d) (omega (arith, p .1, e .1))),
-  omega (arith, p .1, e .1),
+  subst (λ (y : Float). HasValue y false (i + d) 16) (sym (add_at x delay i d 16 (lit< tt) p.0 e.0))
+      (small (i + d) (omega (arith, p.1, e.1))),
+  omega (arith, p.1, e.1),
 )
   where
     small : (n : ℕ) → n ≤ 1048576 → HasValue (round binary64 false n 16) false n 16
-    small n l = value n (lt-of-le-of-lt l (lit< tt))
+    small n l = value n (lt_of_le_of_lt l (lit< tt))
 
 -- the output's time is exactly that over whole numbers
-pub exact : (late : Bool) (cs : List Cell) (n : ℕ) (delay : Float) (d : ℕ) (o : Float) (o′ : ℕ) (v : ℕ → Float)
+pub exact : (late : Bool) (cs : List Cell) (n : ℕ) (delay : Float) (d : ℕ) (o : Float) (o' : ℕ) (v : ℕ → Float)
     (w : ℕ → ℕ) → length cs ≤ 15
-    → Exactly 0 delay d → Exactly 0 o o′ → ((t : ℕ) → Exactly 0 (v t) (w t))
+    → Exactly 0 delay d → Exactly 0 o o' → ((t : ℕ) → Exactly 0 (v t) (w t))
     → Exactly (length cs) (outputTime (keeping late) (delayed delay) o n cs v)
-    (outputTime (keepingWhole late) (λ i. i + d) o′ n cs w)
-exact late cs n delay d o o′ v w l e q r =
+    (outputTime (keepingWhole late) (λ i. i + d) o' n cs w)
+exact late cs n delay d o o' v w l e q r =
     let z : 0 + length cs ≡ length cs = omega arith in
     subst (λ (m : ℕ). Exactly m (outputTime (keeping late) (delayed delay) o n cs v)
-    (outputTime (keepingWhole late) (λ i. i + d) o′ n cs w)) z
+    (outputTime (keepingWhole late) (λ i. i + d) o' n cs w)) z
     (output-related Exactly 15 (keeping late) (keepingWhole late) (delayed delay) (λ i. i + d)
-    (λ k x i p. (p .0, omega (arith, p .1))) (picks late) (afters delay d e) cs 0 n o o′ v w (omega arith) q r)
+    (λ k x i p. (p.0, omega (arith, p.1))) (picks late) (afters delay d e) cs 0 n o o' v w (omega arith) q r)

@@ -1,62 +1,55 @@
 -- The times of signals, one after another: one input more, one place of a cell more, one cell more. Assumes nothing.
-use mathlib.Core.Path.{_≡_, refl, sym, ap, ap₂, _∙_, fun-ext}
-use mathlib.Core.Bool.{Bool, true, false, cond}
-use mathlib.Core.List.{List}
-use Prim.Native.Nat.{ℕ, zero, suc, _+_, _-_, _<_, _≤_}
-use native.Mathlib.Numerals.{add-one}
-use native.Mathlib.Omega.{arith}
-use native.Mathlib.Decide.{decLt}
-use lib.Dec.{eqb, ltb}
+use Rattle.std.proofs.Common.{◌≡◌, ℕ, zero, suc, ◌+◌, ◌-◌, ◌<◌, ◌≤◌, Bool, true, false, cond, eqb, ltb, List, length, get_or, set, replicate, sym, refl, ap, ◌∙◌, ap₂, add-one, arith, get_or-set_other, get_or-set_same, le-ltb, lt-ltb, eqb-true}
+use mathlib.Core.Path.{fun_ext}
+use native.Mathlib.Decide.{dec_lt}
 use lib.Ieee.{Float}
-use lib.ListN.{length, getD, set, replicate}
-use lib.Seq.{getD-set-same, getD-set-other}
-use borrow.Author.Tests.{eqb-true, eqb-false, lt-ltb, le-ltb}
-use Rattle·bits.specs.Lists.{listOf}
-use Rattle·bits.proofs.Lists.{length-list, list-at}
-use Rattle·sheets.specs.declared.kinds.Edition.{Edition}
-use Rattle·sheets.specs.Record.{cellOf}
-use Rattle·sheets.specs.Sheet.{recordAt, cellsFrom, sheetCells}
-use Rattle·times·specs.specs.declared.input_time.InputTime.{InputTime}
-use Rattle·times·specs.specs.InputTimes.{zeroTime, timeOf, timeAt, inputTimes}
-use Rattle·times·specs.specs.Signals.{keptTime, cellTime, outputTime}
+use borrow.Author.Tests.{eqb-false}
+use Rattle.bits.specs.Lists.{list_of}
+use Rattle.bits.proofs.Lists.{length-list, list_at}
+use Rattle.sheets.specs.declared.kinds.Edition.{Edition}
+use Rattle.sheets.specs.Record.{cell_of}
+use Rattle.sheets.specs.Sheet.{recordAt, cellsFrom, sheetCells}
+use Rattle.times.specs.declared.input_time.InputTime.{InputTime}
+use Rattle.times.specs.InputTimes.{zeroTime, timeOf, timeAt, inputTimes}
+use Rattle.times.specs.Signals.{keptTime, cellTime, outputTime}
 
 -- ---- a list of times
 
 module _ {A : Type 0} where
-  pub zeros-at : (k h : ℕ) (z : A) → getD (replicate k z) h z ≡ z
+  pub zeros-at : (k h : ℕ) (z : A) → get_or (replicate k z) h z ≡ z
   zeros-at zero h z = refl
   zeros-at (suc k) zero z = refl
   zeros-at (suc k) (suc h) z = zeros-at k h z
 
   -- one place written
-  pub written-at : (l : List A) (t : ℕ) (o z : A) (h : ℕ) → t < length l → getD (set l t o) h z
-      ≡ cond (eqb h t) o (getD l h z)
-  written-at l t o z h k = go (eqb h t) refl
+  pub written_at : (l : List A) (t : ℕ) (o z : A) (h : ℕ) → t < length l → get_or (set l t o) h z
+      ≡ cond (eqb h t) o (get_or l h z)
+  written_at l t o z h k = go (eqb h t) refl
     where
-      go : (r : Bool) → eqb h t ≡ r → getD (set l t o) h z ≡ cond r o (getD l h z)
-      go true q = ap (λ (j : ℕ). getD (set l t o) j z) (eqb-true h t q) ∙ getD-set-same l t o z k
-      go false q = getD-set-other l t h o z (eqb-false h t q)
+      go : (r : Bool) → eqb h t ≡ r → get_or (set l t o) h z ≡ cond r o (get_or l h z)
+      go true q = ap (λ (j : ℕ). get_or (set l t o) j z) (eqb-true h t q) ∙ get_or-set_same l t o z k
+      go false q = get_or-set_other l t h o z (eqb-false h t q)
 
 -- ---- the inputs
 
 pub no-inputs : (late : Bool) (ts : List InputTime) (l : List Float) (k h : ℕ) → l ≡ replicate k zeroTime
-    → getD l h zeroTime ≡ inputTimes late 0 ts h
-no-inputs late ts l k h q = ap (λ (m : List Float). getD m h zeroTime) q ∙ zeros-at k h zeroTime
+    → get_or l h zeroTime ≡ inputTimes late 0 ts h
+no-inputs late ts l k h q = ap (λ (m : List Float). get_or m h zeroTime) q ∙ zeros-at k h zeroTime
     ∙ sym (ap (λ (t : Bool). cond t (timeOf late (timeAt ts h)) zeroTime) (le-ltb h 0 (omega arith)))
 
-pub one-input : (late : Bool) (ts : List InputTime) (l : List Float) (j : ℕ) (o : Float) → j < length l → o
+pub one_input : (late : Bool) (ts : List InputTime) (l : List Float) (j : ℕ) (o : Float) → j < length l → o
     ≡ timeOf late (timeAt ts j)
-    → ((h : ℕ) → getD l h zeroTime ≡ inputTimes late j ts h) → (h : ℕ) → getD (set l j o) h zeroTime
+    → ((h : ℕ) → get_or l h zeroTime ≡ inputTimes late j ts h) → (h : ℕ) → get_or (set l j o) h zeroTime
     ≡ inputTimes late (j + 1) ts h
-one-input late ts l j o k q f h = written-at l j o zeroTime h k ∙ go (eqb h j) refl
+one_input late ts l j o k q f h = written_at l j o zeroTime h k ∙ go (eqb h j) refl
   where
-    go : (r : Bool) → eqb h j ≡ r → cond r o (getD l h zeroTime) ≡ inputTimes late (j + 1) ts h
+    go : (r : Bool) → eqb h j ≡ r → cond r o (get_or l h zeroTime) ≡ inputTimes late (j + 1) ts h
     go true e =
         let p = eqb-true h j e in
         q ∙ ap (λ (i : ℕ). timeOf late (timeAt ts i)) (sym p)
         ∙ sym (ap (λ (t : Bool). cond t (timeOf late (timeAt ts h)) zeroTime) (lt-ltb h (j + 1) (omega (arith, p))))
     go false e = f h ∙ ap (λ (t : Bool). cond t (timeOf late (timeAt ts h)) zeroTime)
-        (same (decLt h j) (eqb-false h j e))
+        (same (dec_lt h j) (eqb-false h j e))
       where
         same : Dec (h < j) → (h ≡ j → ⊥) → ltb h j ≡ ltb h (j + 1)
         same (yes l) d = lt-ltb h j l ∙ sym (lt-ltb h (j + 1) (omega arith))
@@ -70,23 +63,23 @@ module _ {A : Type 0} (pick : A → A → A) where
   kept-ext zero v w h = h 0 (omega arith)
   kept-ext (suc k) v w h = ap₂ pick (kept-ext k v w (λ j l. h j (omega arith))) (h (suc k) (omega arith))
 
-  pub kept-more : (k : ℕ) (v : ℕ → A) → 1 ≤ k → pick (keptTime pick v (k - 1)) (v k) ≡ keptTime pick v (k + 1 - 1)
+  pub kept_more : (k : ℕ) (v : ℕ → A) → 1 ≤ k → pick (keptTime pick v (k - 1)) (v k) ≡ keptTime pick v (k + 1 - 1)
   unfolding keptTime
-  kept-more zero v h = absurd (omega arith)
-  kept-more (suc k) v h =
+  kept_more zero v h = absurd (omega arith)
+  kept_more (suc k) v h =
       let p : suc k - 1 ≡ k = omega arith in
       let q : suc k + 1 - 1 ≡ suc k = omega arith in
       ap (λ (i : ℕ). pick (keptTime pick v i) (v (suc k))) p ∙ sym (ap (keptTime pick v) q)
 
   -- a record's cell, by its bytes
-  pub cell-at : (after : A → A) (e : Edition) (b : ℕ → ℕ) (v : ℕ → A) → 1 ≤ b 0 → cellTime pick after (cellOf e b) v
+  pub cell-at : (after : A → A) (e : Edition) (b : ℕ → ℕ) (v : ℕ → A) → 1 ≤ b 0 → cellTime pick after (cell_of e b) v
       ≡ after (keptTime pick (λ j. v (b (j + 1))) (b 0 - 1))
-  unfolding cellTime cellOf
+  unfolding cellTime cell_of
   cell-at after e b v h =
-      let l = listOf (b 0) (λ j. b (j + 1)) in
-      ap after (ap (λ (k : ℕ). keptTime pick (λ j. v (getD l j 0)) (k - 1)) (length-list (b 0) (λ j. b (j + 1)))
-      ∙ kept-ext (b 0 - 1) (λ j. v (getD l j 0)) (λ j. v (b (j + 1)))
-      (λ j g. ap v (list-at (b 0) (λ j. b (j + 1)) j 0 (omega arith))))
+      let l = list_of (b 0) (λ j. b (j + 1)) in
+      ap after (ap (λ (k : ℕ). keptTime pick (λ j. v (get_or l j 0)) (k - 1)) (length-list (b 0) (λ j. b (j + 1)))
+      ∙ kept-ext (b 0 - 1) (λ j. v (get_or l j 0)) (λ j. v (b (j + 1)))
+      (λ j g. ap v (list_at (b 0) (λ j. b (j + 1)) j 0 (omega arith))))
 
 -- ---- the cells: i of m records are passed, the last of them at o; signal h settles at v h, and what is left gives X
 
@@ -94,25 +87,25 @@ module _ {A : Type 0} (pick : A → A → A) (after : A → A) (e : Edition) (s 
   abbrev pub Passed : A → (n i : ℕ) → A → (ℕ → A) → Type 0
   Passed X n i o v = X ≡ outputTime pick after o (n + i) (cellsFrom e s i (m - i)) v
 
-  pub passed-none : (n : ℕ) (o : A) (v : ℕ → A) → Passed (outputTime pick after o n (sheetCells e s m) v) n 0 o v
-  passed-none n o v =
+  pub passed_none : (n : ℕ) (o : A) (v : ℕ → A) → Passed (outputTime pick after o n (sheetCells e s m) v) n 0 o v
+  passed_none n o v =
       let p : m ≡ m - 0 = omega arith in
       let q : n ≡ n + 0 = omega arith in
       ap₂ (λ (r i : ℕ). outputTime pick after o i (cellsFrom e s 0 r) v) p q
 
-  pub passed-more : (X : A) (n i : ℕ) (o o′ : A) (v v′ : ℕ → A) → i < m → o′
-      ≡ cellTime pick after (cellOf e (recordAt e s i)) v
-      → ((h : ℕ) → v′ h ≡ cond (eqb h (n + i)) o′ (v h)) → Passed X n i o v → Passed X n (i + 1) o′ v′
+  pub passed-more : (X : A) (n i : ℕ) (o o' : A) (v v' : ℕ → A) → i < m → o'
+      ≡ cellTime pick after (cell_of e (recordAt e s i)) v
+      → ((h : ℕ) → v' h ≡ cond (eqb h (n + i)) o' (v h)) → Passed X n i o v → Passed X n (i + 1) o' v'
   unfolding outputTime cellsFrom
-  passed-more X n i o o′ v v′ l q f g =
+  passed-more X n i o o' v v' l q f g =
       let r = m - (i + 1) in
       let p : m - i ≡ suc r = omega arith in
       let t : suc (n + i) ≡ n + (i + 1) = omega arith in
       g ∙ ap (λ (k : ℕ). outputTime pick after o (n + i) (cellsFrom e s i k) v) p
       ∙ ap (λ (b : A). outputTime pick after b (suc (n + i)) (cellsFrom e s (suc i) r)
       (λ h. cond (eqb h (n + i)) b (v h))) (sym q)
-      ∙ ap (outputTime pick after o′ (suc (n + i)) (cellsFrom e s (suc i) r)) (sym (fun-ext f))
-      ∙ ap₂ (λ (u j : ℕ). outputTime pick after o′ u (cellsFrom e s j r) v′) t (sym (add-one i))
+      ∙ ap (outputTime pick after o' (suc (n + i)) (cellsFrom e s (suc i) r)) (sym (fun_ext f))
+      ∙ ap₂ (λ (u j : ℕ). outputTime pick after o' u (cellsFrom e s j r) v') t (sym (add-one i))
 
   pub passed-all : (X : A) (n i : ℕ) (o : A) (v : ℕ → A) → m ≤ i → Passed X n i o v → X ≡ o
   unfolding outputTime cellsFrom

@@ -1,13 +1,9 @@
 -- The times of a gate's inputs, in nanoseconds.
-use mathlib.Core.Bool.{Bool, true, false, cond, _&&_}
-use mathlib.Core.List.{List}
-use Prim.Native.Nat.{ℕ, zero, suc}
-use lib.Dec.{ltb}
-use lib.IntN.{pos}
-use lib.Ieee.{Float, nan, inf, fin, le}
-use lib.ListN.{getD}
-use Rattle·times·specs.specs.declared.input_time.InputTime.{InputTime}
-use Rattle·times·specs.specs.declared.input_time.InputTime.the-variants.{NotRead, Arrival, Between}
+use Rattle.std.specs.Prelude.{ℕ, zero, suc, Bool, true, false, cond, ◌&&◌, List, pos, nat_lt, slice_index_or, Float}
+use Rattle.std.specs.Float.{nan, inf, fin}
+use Rattle.std.specs.Float.Ieee.{le}
+use Rattle.times.specs.declared.input_time.InputTime.{InputTime}
+use Rattle.times.specs.declared.input_time.InputTime.TheVariants.{NotRead, Arrival, Between}
 
 -- zero
 abbrev pub zeroTime : Float
@@ -18,8 +14,8 @@ abbrev pub mostTime : Float
 mostTime = fin false 1 (pos 12)
 
 -- in range: a number from 0 to 4,096; a negative zero is one
-unfoldable pub inRange : Float → Bool
-inRange x = le zeroTime x && le x mostTime
+unfoldable pub in_range : Float → Bool
+in_range x = le zeroTime x && le x mostTime
 
 -- a negative zero is taken as zero
 unfoldable pub plainZero : Float → Float
@@ -31,8 +27,8 @@ plainZero (fin s (suc m) e) = fin s (suc m) e
 -- what is said of an input is sound: its times are in range, and not crossed
 abbrev pub soundTime : InputTime → Bool
 soundTime NotRead = true
-soundTime (Arrival t) = inRange t
-soundTime (Between a b) = inRange a && (inRange b && le a b)
+soundTime (Arrival t) = in_range t
+soundTime (Between a b) = in_range a && (in_range b && le a b)
 
 -- a time is given
 abbrev pub given : InputTime → Bool
@@ -48,8 +44,8 @@ timeOf late (Between a b) = plainZero (cond late b a)
 
 -- what is said of input j
 abbrev pub timeAt : List InputTime → ℕ → InputTime
-timeAt ts j = getD ts j NotRead
+timeAt ts j = slice_index_or ts j NotRead
 
 -- the times of n inputs; what is said past them isn't looked at
 abbrev pub inputTimes : Bool → ℕ → List InputTime → ℕ → Float
-inputTimes late n ts j = cond (ltb j n) (timeOf late (timeAt ts j)) zeroTime
+inputTimes late n ts j = cond (nat_lt j n) (timeOf late (timeAt ts j)) zeroTime

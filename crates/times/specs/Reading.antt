@@ -1,12 +1,9 @@
 -- What the record rules leave for times: which signals a sheet's cells read.
-use mathlib.Core.Path.{_≡_}
-use mathlib.Core.List.{List}
-use Prim.Native.Nat.{ℕ, _+_, _*_, _<_, _≤_}
-use lib.ListN.{length}
-use Rattle·sheets.specs.declared.kinds.Edition.{Edition}
-use Rattle·sheets.specs.Edition.{IsEdition, mostRecords}
-use Rattle·sheets.specs.Record.{byteAt}
-use Rattle·sheets.specs.Sheet.{recordBytes}
+use Rattle.std.specs.Prelude.{◌≡◌, ℕ, ◌+◌, ◌*◌, ◌<◌, ◌≤◌, List, length}
+use Rattle.sheets.specs.declared.kinds.Edition.{Edition}
+use Rattle.sheets.specs.Edition.{IsEdition, mostRecords}
+use Rattle.sheets.specs.Record.{byte_at}
+use Rattle.sheets.specs.Sheet.{recordBytes}
 
 -- 16 inputs and 15 cells
 abbrev pub mostSignals : ℕ
@@ -15,14 +12,14 @@ mostSignals = 31
 -- the bytes r of a record whose cell reads some signals, few, each of a gate's
 pub record Timeable (e : Edition) (r : List ℕ) : Type 0 where
   pub sound : IsEdition e
-  pub long : length r ≡ e .size
-  pub some : 1 ≤ byteAt r 0
-  pub few : byteAt r 0 ≤ e .most
-  pub known : (j : ℕ) → j < byteAt r 0 → byteAt r (j + 1) < mostSignals
+  pub long : length r ≡ e.size
+  pub some : 1 ≤ byte_at r 0
+  pub few : byte_at r 0 ≤ e.most
+  pub known : (j : ℕ) → j < byte_at r 0 → byte_at r (j + 1) < mostSignals
 
 -- a sheet of m such records
 pub record Timed (e : Edition) (s : List ℕ) (m : ℕ) : Type 0 where
   pub sound : IsEdition e
   pub most : m ≤ mostRecords
-  pub long : e .size * m ≤ length s
+  pub long : e.size * m ≤ length s
   pub reads : (i : ℕ) → i < m → Timeable e (recordBytes e s i)

@@ -1,15 +1,12 @@
 -- When the cells of a network settle. Said of any kind of time: f64, where a sum is rounded, and whole numbers.
-use mathlib.Core.Bool.{Bool, true, false, cond}
-use mathlib.Core.List.{List, [], _∷_}
-use Prim.Native.Nat.{ℕ, zero, suc, _-_}
-use lib.Dec.{eqb}
-use lib.Ieee.{Float, add, lt, binary64}
-use lib.ListN.{length, getD}
-use Rattle·sheets.specs.declared.kinds.Edition.{Edition}
-use Rattle·sheets.specs.Network.{Cell}
-use Rattle·sheets.specs.Sheet.{records, sheetCells}
-use Rattle·times·specs.specs.declared.input_time.InputTime.{InputTime}
-use Rattle·times·specs.specs.InputTimes.{zeroTime, plainZero, inputTimes}
+use Rattle.std.specs.Prelude.{ℕ, zero, suc, ◌-◌, Bool, true, false, cond, List, [], ◌∷◌, length, ◌==◌, slice_index, Float}
+use Rattle.std.specs.Float.Ieee.{add, lt}
+use Rattle.std.specs.Float.{binary64}
+use Rattle.sheets.specs.declared.kinds.Edition.{Edition}
+use Rattle.sheets.specs.Network.{Cell}
+use Rattle.sheets.specs.Sheet.{records, sheetCells}
+use Rattle.times.specs.declared.input_time.InputTime.{InputTime}
+use Rattle.times.specs.InputTimes.{zeroTime, plainZero, inputTimes}
 
 -- the one that `pick` keeps of the first k + 1 times
 unfoldable pub keptTime : {A : Type 0} → (A → A → A) → (ℕ → A) → ℕ → A
@@ -18,13 +15,13 @@ keptTime pick v (suc k) = pick (keptTime pick v k) (v (suc k))
 
 -- a cell settles the delay after the time that is kept of those of its inputs, where signal s settles at v s
 unfoldable pub cellTime : {A : Type 0} → (A → A → A) → (A → A) → Cell → (ℕ → A) → A
-cellTime pick after c v = after (keptTime pick (λ j. v (getD (c .signals) j 0)) (length (c .signals) - 1))
+cellTime pick after c v = after (keptTime pick (λ j. v (slice_index c.signals j)) (length c.signals - 1))
 
 -- the cells in turn, the first of them giving signal i; the last cell's time is the output's
 unfoldable pub outputTime : {A : Type 0} → (A → A → A) → (A → A) → A → ℕ → List Cell → (ℕ → A) → A
 outputTime pick after o i [] v = o
 outputTime pick after o i (c ∷ cs) v =
-    outputTime pick after (cellTime pick after c v) (suc i) cs (λ s. cond (eqb s i) (cellTime pick after c v) (v s))
+    outputTime pick after (cellTime pick after c v) (suc i) cs (λ s. cond (s == i) (cellTime pick after c v) (v s))
 
 -- of two the greater (late), or the lesser
 abbrev pub keepBy : {A : Type 0} → (A → A → Bool) → Bool → A → A → A

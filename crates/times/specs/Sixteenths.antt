@@ -1,12 +1,9 @@
 -- Times as whole numbers of sixteenths.
-use mathlib.Core.Bool.{Bool, true, false, _&&_}
-use Prim.Native.Nat.{ℕ, _*_, _/_, _%_}
-use lib.Dec.{eqb}
-use lib.IntN.{ℤ, pos, negsuc}
-use lib.Ieee.{Float, nan, inf, fin, up, down}
-use lib.Signed.{leZ}
-use Rattle·times·specs.specs.declared.input_time.InputTime.{InputTime}
-use Rattle·times·specs.specs.declared.input_time.InputTime.the-variants.{NotRead, Arrival, Between}
+use Rattle.std.specs.Prelude.{ℕ, ◌*◌, ◌/◌, ◌%◌, Bool, true, false, ◌&&◌, ℤ, pos, negsuc, ◌==◌, int_le, Float}
+use Rattle.std.specs.Float.{nan, inf, fin}
+use Rattle.std.specs.Float.Ieee.{up, down}
+use Rattle.times.specs.declared.input_time.InputTime.{InputTime}
+use Rattle.times.specs.declared.input_time.InputTime.TheVariants.{NotRead, Arrival, Between}
 
 -- how many sixteenths a time has
 unfoldable pub sixteenthsOf : Float → ℕ
@@ -18,7 +15,7 @@ sixteenthsOf (fin s m e) = m * up e * 16 / down e
 unfoldable pub inSixteenths : Float → Bool
 inSixteenths nan = false
 inSixteenths (inf s) = false
-inSixteenths (fin s m e) = eqb (m * up e * 16 % down e) 0
+inSixteenths (fin s m e) = m * up e * 16 % down e == 0
 
 -- those that are said of an input are
 abbrev pub timeInSixteenths : InputTime → Bool
@@ -28,4 +25,4 @@ timeInSixteenths (Between a b) = inSixteenths a && inSixteenths b
 
 -- a deadline from -1,048,576 to 1,048,576
 abbrev pub deadlineOk : ℤ → Bool
-deadlineOk z = leZ (negsuc 1048575) z && leZ z (pos 1048576)
+deadlineOk z = int_le (negsuc 1048575) z && int_le z (pos 1048576)

@@ -1,19 +1,15 @@
 -- The output's times over whole numbers of sixteenths, without any rounding.
-use mathlib.Core.Bool.{Bool}
-use mathlib.Core.List.{List}
-use Prim.Native.Nat.{ℕ, _+_}
-use lib.Dec.{ltb}
-use lib.Ieee.{Float}
-use Rattle·sheets.specs.declared.kinds.Edition.{Edition}
-use Rattle·sheets.specs.Sheet.{records, sheetCells}
-use Rattle·times·specs.specs.declared.input_time.InputTime.{InputTime}
-use Rattle·times·specs.specs.InputTimes.{inputTimes}
-use Rattle·times·specs.specs.Signals.{outputTime, keepBy}
-use Rattle·times·specs.specs.Sixteenths.{sixteenthsOf}
+use Rattle.std.specs.Prelude.{ℕ, ◌+◌, Bool, List, nat_lt, Float}
+use Rattle.sheets.specs.declared.kinds.Edition.{Edition}
+use Rattle.sheets.specs.Sheet.{records, sheetCells}
+use Rattle.times.specs.declared.input_time.InputTime.{InputTime}
+use Rattle.times.specs.InputTimes.{inputTimes}
+use Rattle.times.specs.Signals.{outputTime, keepBy}
+use Rattle.times.specs.Sixteenths.{sixteenthsOf}
 
 -- the greater of two numbers (late), or the lesser
 abbrev pub keepingWhole : Bool → ℕ → ℕ → ℕ
-keepingWhole = keepBy ltb
+keepingWhole = keepBy nat_lt
 
 -- the output's latest time (late), or its earliest
 unfoldable pub settledWhole : Bool → Edition → ℕ → List ℕ → Float → List InputTime → ℕ

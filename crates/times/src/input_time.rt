@@ -1,8 +1,9 @@
 // An input's time, in nanoseconds.
-ghost use mathlib.Core.Path.{_≡_};
-ghost use Rattle·times·specs.specs.InputTimes.{inRange, plainZero, soundTime, given, timeOf};
+ghost use Rattle.std.specs.Prelude.{◌≡◌};
+ghost use Rattle.times.specs.InputTimes.{in_range, plainZero, soundTime, given, timeOf};
 
 // Not read; one arrival; an earliest and a latest.
+#[derive(Drop)]
 pub enum InputTime {
     NotRead,
     Arrival(f64),
@@ -11,7 +12,7 @@ pub enum InputTime {
 
 // A negative zero is taken as zero.
 pub fn plain_zero(x: f64) -> f64
-    ensures { λ r. ⌜ r ≡ plainZero x ⌝ }
+    ensures { result ≡ plainZero x }
 {
     if x == 0.0 {
         return 0.0;
@@ -21,7 +22,7 @@ pub fn plain_zero(x: f64) -> f64
 
 // A number from 0 to 4,096.
 pub fn in_range(x: f64) -> bool
-    ensures { λ r. ⌜ r ≡ inRange x ⌝ }
+    ensures { result ≡ in_range x }
 {
     if 0.0 <= x {
         return x <= 4096.0;
@@ -31,7 +32,7 @@ pub fn in_range(x: f64) -> bool
 
 // In range, and not crossed.
 pub fn sound_time(t: InputTime) -> bool
-    ensures { λ r. ⌜ r ≡ soundTime t ⌝ }
+    ensures { result ≡ soundTime t }
 {
     match t {
         InputTime::NotRead => true,
@@ -49,7 +50,7 @@ pub fn sound_time(t: InputTime) -> bool
 }
 
 pub fn is_given(t: InputTime) -> bool
-    ensures { λ r. ⌜ r ≡ given t ⌝ }
+    ensures { result ≡ given t }
 {
     match t {
         InputTime::NotRead => false,
@@ -60,7 +61,7 @@ pub fn is_given(t: InputTime) -> bool
 
 // The latest time (late), or the earliest; zero where there is none.
 pub fn time_of(late: bool, t: InputTime) -> f64
-    ensures { λ r. ⌜ r ≡ timeOf late t ⌝ }
+    ensures { result ≡ timeOf late t }
 {
     match t {
         InputTime::NotRead => 0.0,

@@ -1,19 +1,18 @@
 // The times of the signals of a sheet, cell by cell.
-use crate::input_time::InputTime;
-use crate::input_time::time_of;
+ghost use Rattle.std.specs.Prelude.{◌≡◌, ℕ, ◌≤◌, length, get_or, replicate, slice_index_or};
+ghost use Rattle.tables.specs.Table.{mostInputs};
+ghost use Rattle.sheets.specs.Record.{byte_at, cell_of};
+ghost use Rattle.sheets.specs.Sheet.{sheetCells};
+ghost use Rattle.times.specs.InputTimes.{zeroTime, inputTimes};
+ghost use Rattle.times.specs.Reading.{Timeable, Timed, mostSignals};
+ghost use Rattle.times.specs.Signals.{keeping, delayed, cellTime, outputTime};
+
+use crate::input_time::{InputTime, time_of};
 use records::rules::record_of;
 use sheets::kinds::Edition;
-ghost use mathlib.Core.Path.{_≡_};
-ghost use Prim.Native.Nat.{ℕ, _≤_};
-ghost use lib.ListN.{length, getD, replicate};
-ghost use Rattle·tables.specs.Table.{mostInputs};
-ghost use Rattle·sheets.specs.Record.{byteAt, cellOf};
-ghost use Rattle·sheets.specs.Sheet.{sheetCells};
-ghost use Rattle·times·specs.specs.InputTimes.{zeroTime, inputTimes};
-ghost use Rattle·times·specs.specs.Reading.{Timeable, Timed, mostSignals};
-ghost use Rattle·times·specs.specs.Signals.{keeping, delayed, cellTime, outputTime};
 
 // Signal j settles at the time at place j.
+#[derive(Drop)]
 pub struct SignalTimes {
     pub times: [f64; SignalTimes::MOST],
 }
@@ -23,7 +22,7 @@ impl SignalTimes {
     pub const MOST: usize = 31;
 
     pub fn zeros() -> SignalTimes
-        ensures { λ r. ⌜ r .times ≡ replicate mostSignals zeroTime ⌝ }
+        ensures { result.times ≡ replicate mostSignals zeroTime }
     {
         SignalTimes {
             times: [0.0; SignalTimes::MOST],
@@ -33,7 +32,7 @@ impl SignalTimes {
 
 // The greater (late), or the lesser.
 fn keep(late: bool, x: f64, y: f64) -> f64
-    ensures { λ r. ⌜ r ≡ keeping late x y ⌝ }
+    ensures { result ≡ keeping late x y }
 {
     if late {
         if x < y {
@@ -49,10 +48,8 @@ fn keep(late: bool, x: f64, y: f64) -> f64
 
 // The times of n inputs; zero for every other signal.
 pub fn times_of_inputs(late: bool, n: u32, said: [InputTime; 16]) -> SignalTimes
-    requires { ⌜ n ≤ mostInputs ⌝ }
-    ensures { λ r. ⌜
-        (length (r .times) ≡ mostSignals) × ((j : ℕ) → getD (r .times) j zeroTime ≡ inputTimes late n said j)
-        ⌝ }
+    requires { n ≤ mostInputs }
+    ensures { (length result.times ≡ mostSignals) × ((j : ℕ) → slice_index_or result.times j zeroTime ≡ inputTimes late n said j) }
 {
     let inputs = n as usize;
     let mut signals = SignalTimes::zeros();
@@ -66,11 +63,9 @@ pub fn times_of_inputs(late: bool, n: u32, said: [InputTime; 16]) -> SignalTimes
 
 // When the cell of a record settles.
 fn cell_time(e: Edition, b: &[u8], late: bool, delay: f64, signals: SignalTimes) -> f64
-    requires { ⌜ Timeable e (now b) × (length (signals .times) ≡ mostSignals) ⌝ }
-    ensures { λ r. ⌜
-        r ≡ cellTime (keeping late) (delayed delay) (cellOf e (byteAt (now (b .entry))))
-        (λ t. getD (signals .times) t zeroTime)
-        ⌝ }
+    requires { Timeable e b.now × (length signals.times ≡ mostSignals) }
+    ensures { result ≡ cellTime (keeping late) (delayed delay) (cell_of e (byte_at b.now))
+        (λ t. get_or signals.times t zeroTime) }
 {
     let k = b[0] as usize;
     let first = b[1] as usize;
@@ -95,11 +90,9 @@ pub fn output_time(
     delay: f64,
     inputs: SignalTimes,
 ) -> f64
-    requires { ⌜ Timed e (now s) m × (n ≤ mostInputs) × (length (inputs .times) ≡ mostSignals) ⌝ }
-    ensures { λ r. ⌜
-        r ≡ outputTime (keeping late) (delayed delay) zeroTime n (sheetCells e (now (s .entry)) m)
-        (λ t. getD (inputs .times) t zeroTime)
-        ⌝ }
+    requires { Timed e s.now m × (n ≤ mostInputs) × (length inputs.times ≡ mostSignals) }
+    ensures { result ≡ outputTime (keeping late) (delayed delay) zeroTime n (sheetCells e s.now m)
+        (λ t. get_or inputs.times t zeroTime) }
 {
     let mut signals = inputs;
     let mut time = 0.0;

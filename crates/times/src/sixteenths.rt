@@ -1,27 +1,25 @@
 // Times as whole numbers of sixteenths.
-use crate::input_time::InputTime;
-use crate::input_time::plain_zero;
-ghost use mathlib.Core.Path.{_≡_};
-ghost use Prim.Native.Nat.{_≤_};
-ghost use lib.Ieee.Exact.{HasValue};
-ghost use mathlib.Core.Bool.{true, false};
-ghost use Rattle·bits.specs.Below.{every};
-ghost use Rattle·tables.specs.Table.{mostInputs};
-ghost use Rattle·times·specs.specs.InputTimes.{inRange, soundTime, timeAt};
-ghost use Rattle·times·specs.specs.Sixteenths.{sixteenthsOf, inSixteenths, timeInSixteenths, deadlineOk};
+ghost use Rattle.std.specs.Prelude.{◌≡◌, ◌≤◌, true, false};
+ghost use Rattle.std.specs.Float.Ieee.Exact.{HasValue};
+ghost use Rattle.bits.specs.Below.{every};
+ghost use Rattle.tables.specs.Table.{mostInputs};
+ghost use Rattle.times.specs.InputTimes.{in_range, soundTime, timeAt};
+ghost use Rattle.times.specs.Sixteenths.{sixteenthsOf, inSixteenths, timeInSixteenths, deadlineOk};
+
+use crate::input_time::{InputTime, plain_zero};
 
 // How many sixteenths a time in sixteenths has.
 pub fn count_of(x: f64) -> u64
-    requires { ⌜ HasValue x false (sixteenthsOf x) 16 × (sixteenthsOf x ≤ 1048576) ⌝ }
-    ensures { λ r. ⌜ r ≡ sixteenthsOf x ⌝ }
+    requires { HasValue x false (sixteenthsOf x) 16 × (sixteenthsOf x ≤ 1048576) }
+    ensures { result ≡ sixteenthsOf x }
 {
     std::num::truncating_f64_to_u64(x * 16.0)
 }
 
 // Whether a time is a whole number of sixteenths: nothing is lost on the way to a whole number and back.
 pub fn in_sixteenths(x: f64) -> bool
-    requires { ⌜ inRange x ≡ true ⌝ }
-    ensures { λ r. ⌜ r ≡ inSixteenths x ⌝ }
+    requires { in_range x ≡ true }
+    ensures { result ≡ inSixteenths x }
 {
     let y = plain_zero(x) * 16.0;
     std::num::nearest_u64_to_f64(std::num::truncating_f64_to_u64(y)) == y
@@ -29,8 +27,8 @@ pub fn in_sixteenths(x: f64) -> bool
 
 // Whether those that are said of an input are.
 fn time_in_sixteenths(t: InputTime) -> bool
-    requires { ⌜ soundTime t ≡ true ⌝ }
-    ensures { λ r. ⌜ r ≡ timeInSixteenths t ⌝ }
+    requires { soundTime t ≡ true }
+    ensures { result ≡ timeInSixteenths t }
 {
     match t {
         InputTime::NotRead => true,
@@ -46,8 +44,8 @@ fn time_in_sixteenths(t: InputTime) -> bool
 
 // Whether that holds of each of the n inputs.
 pub fn inputs_in_sixteenths(n: u32, times: [InputTime; 16]) -> bool
-    requires { ⌜ (n ≤ mostInputs) × (every n (λ j. soundTime (timeAt times j)) ≡ true) ⌝ }
-    ensures { λ r. ⌜ r ≡ every n (λ j. timeInSixteenths (timeAt times j)) ⌝ }
+    requires { (n ≤ mostInputs) × (every n (λ j. soundTime (timeAt times j)) ≡ true) }
+    ensures { result ≡ every n (λ j. timeInSixteenths (timeAt times j)) }
 {
     let inputs = n as usize;
     let mut j = 0;
@@ -62,7 +60,7 @@ pub fn inputs_in_sixteenths(n: u32, times: [InputTime; 16]) -> bool
 
 // Whether a deadline is from -1,048,576 to 1,048,576.
 pub fn deadline_ok(deadline: i64) -> bool
-    ensures { λ r. ⌜ r ≡ deadlineOk deadline ⌝ }
+    ensures { result ≡ deadlineOk deadline }
 {
     if -1048576 <= deadline {
         return deadline <= 1048576;

@@ -1,27 +1,27 @@
 -- A tree of F makes a tree of H: one of the split's two own inputs is fixed so that the first cell is the other, plain
 -- or flipped. So no split loses a tree. Assumes nothing.
-use mathlib.Core.Path.{_≡_, refl, sym, ap, ap₂, _∙_}
-use mathlib.Core.Logic.{⊎-elim}
+use mathlib.Core.Path.{◌≡◌, refl, sym, ap, ap₂, ◌∙◌}
+use mathlib.Core.Logic.{⊎_elim}
 use mathlib.Core.Bool.{Bool, true, false, cond, not}
-use Prim.Native.Nat.{ℕ, _+_, _^_, _<_, _≤_}
+use Prim.Native.Nat.{ℕ, ◌+◌, ◌^◌, ◌<◌, ◌≤◌}
 use native.Mathlib.Omega.{arith}
 use lib.Dec.{eqb}
-use borrow.Author.Tests.{eq-eqb, ne-eqb, eqb-true, eqb-false}
-use Rattle·bits.specs.Numbers.{bit, val, number}
-use Rattle·bits.specs.Sets.{size}
-use Rattle·bits.proofs.Below.{below-suc}
-use Rattle·bits.proofs.Numbers.{number-lt, bit-number}
-use Rattle·bits.proofs.Sizes.{size-lt}
-use Rattle·bits.proofs.Members.{Place, place, same-bits}
-use Rattle·tables.specs.Depends.{DependsOn}
-use Rattle·splits.specs.Split.{readsH, Possible}
-use Rattle·splits.specs.Pair.{tableH}
-use Rattle·best.specs.Best.{Candidate}
-use Rattle·trees·specs.specs.Tree.{Tree, constant, input, flipped, value, uses}
-use Rattle·trees·proofs.proofs.Graft.{graft, Computes, computes-graft}
-use Rattle·trees·proofs.proofs.Members.{val-le, nth, nth-rank}
-use Rattle·trees·proofs.proofs.Pairs as pairs
-use Rattle·trees·proofs.proofs.Pairs.{Pair, pair-of}
+use borrow.Author.Tests.{eq-eqb, ne_eqb, eqb-true, eqb-false}
+use Rattle.bits.specs.Numbers.{bit, val, number}
+use Rattle.bits.specs.Sets.{size}
+use Rattle.bits.proofs.Below.{below_suc}
+use Rattle.bits.proofs.Numbers.{number_lt, bit-number}
+use Rattle.bits.proofs.Sizes.{size-lt}
+use Rattle.bits.proofs.Members.{Place, place, same_bits}
+use Rattle.tables.specs.Depends.{DependsOn}
+use Rattle.splits.specs.Split.{readsH, Possible}
+use Rattle.splits.specs.Pair.{tableH}
+use Rattle.best.specs.Best.{Candidate}
+use Rattle.trees.specs.Tree.{Tree, constant, input, flipped, value, uses}
+use Rattle.trees.proofs.Graft.{graft, Computes, computes-graft}
+use Rattle.trees.proofs.Members.{val-le, nth, nth-rank}
+use Rattle.trees.proofs.Pairs as pairs
+use Rattle.trees.proofs.Pairs.{Pair, pair_of}
 
 -- a function of one bit that is not constant is the bit, plain or flipped
 pub undone : (h : Bool → Bool) (u v : Bool) → (h u ≡ h v → ⊥) → (f : Bool) × ((y : Bool) → h (flipped f y) ≡ y)
@@ -58,13 +58,13 @@ module _ (n : ℕ) (F : ℕ → Bool) (A B : ℕ) (c : Candidate n 2 1 A B) (Q :
   H = bit (tableH n F (bit A) (bit B) 1)
 
   abbrev a : ℕ
-  a = pair-of n A B c .a
+  a = (pair_of n A B c).a
 
   abbrev b : ℕ
-  b = pair-of n A B c .b
+  b = (pair_of n A B c).b
 
   abbrev P : Pair n A B
-  P = pair-of n A B c
+  P = pair_of n A B c
 
   abbrev gives : ℕ → Bool
   gives = pairs.gives n F A B c Q
@@ -83,35 +83,35 @@ module _ (n : ℕ) (F : ℕ → Bool) (A B : ℕ) (c : Candidate n 2 1 A B) (Q :
 
   fixing : DependsOn n F a → Fixed
   fixing e =
-      let w = undone (λ y. D y (bit (e .x) b)) (bit (e .x) a) (bit (e .y) a) differ in
-      record { v = bit (e .x) b; f = w .0; undo = w .1 }
+      let w = undone (λ y. D y (bit e.x b)) (bit e.x a) (bit e.y a) differ in
+      record { v = bit e.x b; f = w.0; undo = w.1 }
     where
-      b-same : bit (e .x) b ≡ bit (e .y) b
-      b-same = e .alike b (P .belowB) (λ r. P .differ (sym r))
+      b-same : bit e.x b ≡ bit e.y b
+      b-same = e.alike b P.belowB (λ r. P.differ (sym r))
 
-      differ : D (bit (e .x) a) (bit (e .x) b) ≡ D (bit (e .y) a) (bit (e .x) b) → ⊥
+      differ : D (bit e.x a) (bit e.x b) ≡ D (bit e.y a) (bit e.x b) → ⊥
       differ q =
-          let o : gives (e .x) ≡ gives (e .y) =
-          sym (pairs.first-cell n F A B c Q (e .x)) ∙ q ∙ ap (D (bit (e .y) a)) b-same
-          ∙ pairs.first-cell n F A B c Q (e .y) in
-          e .differ (
-          pairs.asked-gives n F A B c Q (e .x) (e .belowX)
-          ∙ ap H (pairs.ask-sees n F A B c Q (gives (e .x)) (e .x) (e .y)
-          (λ j l m. e .alike j l (pairs.not-a n F A B c Q j m))
-          ∙ ap (ask (e .y)) o)
-          ∙ sym (pairs.asked-gives n F A B c Q (e .y) (e .belowY)))
+          let o : gives e.x ≡ gives e.y =
+          sym (pairs.first_cell n F A B c Q e.x) ∙ q ∙ ap (D (bit e.y a)) b-same
+          ∙ pairs.first_cell n F A B c Q e.y in
+          e.differ (
+          pairs.asked-gives n F A B c Q e.x e.belowX
+          ∙ ap H (pairs.ask-sees n F A B c Q (gives e.x) e.x e.y
+          (λ j l m. e.alike j l (pairs.not_a n F A B c Q j m))
+          ∙ ap (ask e.y) o)
+          ∙ sym (pairs.asked-gives n F A B c Q e.y e.belowY))
 
   module _ (w : Fixed) where
     -- in place of a H's last input, of b the constant, of another input its number in H
     by : Bool → Bool → ℕ → Tree
-    by is-a is-b p = cond is-a (input (w .f) k) (cond is-b (constant (w .v)) (input false (size p sH)))
+    by is-a is_b p = cond is-a (input w.f k) (cond is_b (constant w.v) (input false (size p sH)))
 
     fixed : ℕ → Tree
     fixed p = by (eqb p a) (eqb p b) p
 
     -- the assignment that H's input y stands for
     bitBy : Bool → Bool → ℕ → ℕ → Bool
-    bitBy is-a is-b y p = cond is-a (flipped (w .f) (bit y k)) (cond is-b (w .v) (bit y (size p sH)))
+    bitBy is-a is_b y p = cond is-a (flipped w.f (bit y k)) (cond is_b w.v (bit y (size p sH)))
 
     point : ℕ → ℕ
     point y = number n (λ p. bitBy (eqb p a) (eqb p b) y p)
@@ -120,37 +120,37 @@ module _ (n : ℕ) (F : ℕ → Bool) (A B : ℕ) (c : Candidate n 2 1 A B) (Q :
     unfolding point
     point-bit y p l = bit-number n (λ p. bitBy (eqb p a) (eqb p b) y p) p l
 
-    at-a : (y : ℕ) → bit (point y) a ≡ flipped (w .f) (bit y k)
+    at_a : (y : ℕ) → bit (point y) a ≡ flipped w.f (bit y k)
     unfolding bitBy
-    at-a y = point-bit y a (P .belowA) ∙ ap (λ (t : Bool). bitBy t (eqb a b) y a) (eq-eqb a a refl)
+    at_a y = point-bit y a P.belowA ∙ ap (λ (t : Bool). bitBy t (eqb a b) y a) (eq-eqb a a refl)
 
-    at-b : (y : ℕ) → bit (point y) b ≡ w .v
+    at_b : (y : ℕ) → bit (point y) b ≡ w.v
     unfolding bitBy
-    at-b y = point-bit y b (P .belowB) ∙ ap₂ (λ (s t : Bool). bitBy s t y b) (ne-eqb b a (λ z. P .differ (sym z)))
+    at_b y = point-bit y b P.belowB ∙ ap₂ (λ (s t : Bool). bitBy s t y b) (ne_eqb b a (λ z. P.differ (sym z)))
         (eq-eqb b b refl)
 
-    at-other : (y p : ℕ) → p < n → sH p ≡ true → bit (point y) p ≡ bit y (size p sH)
+    at_other : (y p : ℕ) → p < n → sH p ≡ true → bit (point y) p ≡ bit y (size p sH)
     unfolding bitBy
-    at-other y p l e =
+    at_other y p l e =
         point-bit y p l
-        ∙ ap₂ (λ (s t : Bool). bitBy s t y p) (ne-eqb p a (pairs.not-a n F A B c Q p e))
-        (ne-eqb p b (pairs.not-b n F A B c Q p e))
+        ∙ ap₂ (λ (s t : Bool). bitBy s t y p) (ne_eqb p a (pairs.not_a n F A B c Q p e))
+        (ne_eqb p b (pairs.not-b n F A B c Q p e))
 
     -- H is asked there at y
     point-asked : (y : ℕ) → y < 2 ^ (k + 1) → ask (point y) (gives (point y)) ≡ y
     point-asked y h =
-        same-bits (k + 1) (ask (point y) (gives (point y))) y (pairs.ask-lt n F A B c Q (point y) (gives (point y))) h
-        (λ q l. ⊎-elim (λ g. old q g (place n sH q g)) (new q) (below-suc {j = q} {n = k} (omega arith)))
+        same_bits (k + 1) (ask (point y) (gives (point y))) y (pairs.ask-lt n F A B c Q (point y) (gives (point y))) h
+        (λ q l. ⊎_elim (λ g. old q g (place n sH q g)) (new q) (below_suc {j = q} {n = k} (omega arith)))
       where
         old : (q : ℕ) → q < k → Place n sH q → bit (ask (point y) (gives (point y))) q ≡ bit y q
         old q g u =
-            pairs.ask-low n F A B c Q (point y) (gives (point y)) q g u ∙ at-other y (u .at) (u .below) (u .member)
-            ∙ ap (bit y) (u .rank)
+            pairs.ask-low n F A B c Q (point y) (gives (point y)) q g u ∙ at_other y u.at u.below u.member
+            ∙ ap (bit y) u.rank
 
         new : (q : ℕ) → q ≡ k → bit (ask (point y) (gives (point y))) q ≡ bit y q
         new q r =
             ap (bit (ask (point y) (gives (point y)))) r ∙ pairs.ask-top n F A B c Q (point y) (gives (point y))
-            ∙ sym (pairs.first-cell n F A B c Q (point y)) ∙ ap₂ D (at-a y) (at-b y) ∙ w .undo (bit y k)
+            ∙ sym (pairs.first_cell n F A B c Q (point y)) ∙ ap₂ D (at_a y) (at_b y) ∙ w.undo (bit y k)
             ∙ ap (bit y) (sym r)
 
     value-at : (y p : ℕ) (s t : Bool) → value (by s t p) (bit y) ≡ bitBy s t y p
@@ -179,20 +179,20 @@ module _ (n : ℕ) (F : ℕ → Bool) (A B : ℕ) (c : Candidate n 2 1 A B) (Q :
 
     none : (q p : ℕ) → k + 1 ≤ q → p < n → (s t : Bool) → eqb p a ≡ s → eqb p b ≡ t → uses q (by s t p) ≡ 0
     unfolding by
-    none q p h l true t e g = ap val (ne-eqb k q (λ z. omega arith))
+    none q p h l true t e g = ap val (ne_eqb k q (λ z. omega arith))
     none q p h l false true e g = refl
-    none q p h l false false e g = ap val (ne-eqb (size p sH) q (λ z. omega (arith, size-lt n sH p l (in-H p l e g))))
+    none q p h l false false e g = ap val (ne_eqb (size p sH) q (λ z. omega (arith, size-lt n sH p l (in-H p l e g))))
 
     tree-fixed : (t : Tree) → Computes n F t → Computes (k + 1) H (graft fixed t)
     unfolding fixed point
     tree-fixed t W =
         computes-graft n F t W (k + 1) H fixed point (λ q. cond (eqb q k) a (nth n sH q))
         (λ y p l. value-at y p (eqb p a) (eqb p b) ∙ sym (point-bit y p l))
-        (λ y. number-lt n (λ p. bitBy (eqb p a) (eqb p b) y p))
-        (λ y h. pairs.asked-gives n F A B c Q (point y) (number-lt n (λ p. bitBy (eqb p a) (eqb p b) y p))
+        (λ y. number_lt n (λ p. bitBy (eqb p a) (eqb p b) y p))
+        (λ y h. pairs.asked-gives n F A B c Q (point y) (number_lt n (λ p. bitBy (eqb p a) (eqb p b) y p))
         ∙ ap H (point-asked y h))
         (λ q p h l. once q p l (eqb p a) (eqb p b) refl refl (eqb q k) refl)
         (λ q p h l. none q p h l (eqb p a) (eqb p b) refl refl)
 
-  pub tree-fore : (t : Tree) → Computes n F t → DependsOn n F (pair-of n A B c .a) → (u : Tree) × Computes (k + 1) H u
+  pub tree-fore : (t : Tree) → Computes n F t → DependsOn n F (pair_of n A B c).a → (u : Tree) × Computes (k + 1) H u
   tree-fore t W e = let w = fixing e in (graft (fixed w) t, tree-fixed w t W)

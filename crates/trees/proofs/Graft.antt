@@ -1,15 +1,15 @@
 -- Trees put in place of a tree's inputs: what the new tree gives, and how often it reads. Every law by which a tree of
 -- one table makes a tree of another is an instance of `computes-graft`. Assumes nothing.
-use mathlib.Core.Path.{_≡_, refl, sym, ap, ap₂, _∙_}
+use mathlib.Core.Path.{◌≡◌, refl, sym, ap, ap₂, ◌∙◌}
 use mathlib.Core.Bool.{Bool, true, false}
-use Prim.Native.Nat.{ℕ, _+_, _^_, _<_, _≤_}
-use native.Mathlib.Decide.{decLt}
+use Prim.Native.Nat.{ℕ, ◌+◌, ◌^◌, ◌<◌, ◌≤◌}
+use native.Mathlib.Decide.{dec_lt}
 use native.Mathlib.Omega.{arith}
 use lib.Dec.{eqb}
 use borrow.Author.Tests.{eq-eqb}
-use Rattle·bits.specs.Numbers.{bit, val}
-use Rattle·tables.specs.Depends.{DependsOn}
-use Rattle·trees·specs.specs.Tree.{Tree, constant, input, node, flipped, value, uses}
+use Rattle.bits.specs.Numbers.{bit, val}
+use Rattle.tables.specs.Depends.{DependsOn}
+use Rattle.trees.specs.Tree.{Tree, constant, input, node, flipped, value, uses}
 
 -- a tree flipped or not
 flip : Bool → Tree → Tree
@@ -70,7 +70,7 @@ module _ (σ : ℕ → Tree) where
   unfolding graft
   uses-none (constant b) q h = refl
   uses-none (input f j) q h = uses-flip f (σ j) q ∙ h j (here j)
-  uses-none (node g s t) q h = ap₂ _+_ (uses-none s q (λ j l. h j (omega arith)))
+  uses-none (node g s t) q h = ap₂ ◌+◌ (uses-none s q (λ j l. h j (omega arith)))
       (uses-none t q (λ j l. h j (omega arith)))
 
 -- a tree sees what it reads alone
@@ -86,17 +86,17 @@ pub record Computes (n : ℕ) (F : ℕ → Bool) (t : Tree) : Type 0 where
   pub within : (j : ℕ) → n ≤ j → uses j t ≡ 0
   pub computes : (x : ℕ) → x < 2 ^ n → value t (bit x) ≡ F x
 
-pub read-below : {n : ℕ} {F : ℕ → Bool} {t : Tree} → Computes n F t → (j : ℕ) → 1 ≤ uses j t → j < n
-read-below {n} W j h = elim (decLt j n) [ yes l ↦ l | no l ↦ absurd (omega (arith, W .within j (omega arith))) ]
+pub read_below : {n : ℕ} {F : ℕ → Bool} {t : Tree} → Computes n F t → (j : ℕ) → 1 ≤ uses j t → j < n
+read_below {n} W j h = elim (dec_lt j n) [ yes l ↦ l | no l ↦ absurd (omega (arith, W.within j (omega arith))) ]
 
 -- an input that counts is read
 pub counted-read : {n : ℕ} {F : ℕ → Bool} {t : Tree} → Computes n F t → (j : ℕ) → DependsOn n F j → uses j t ≡ 1
-counted-read {n} {F} {t} W j c = elim (decLt 0 (uses j t)) [
-  | yes l ↦ omega (arith, W .most j)
-  | no l ↦ absurd (c .differ (
-      sym (W .computes (c .x) (c .belowX))
-      ∙ value-reads t (bit (c .x)) (bit (c .y)) (λ i r. c .alike i (read-below W i r) (λ e. l (subst-uses e r)))
-      ∙ W .computes (c .y) (c .belowY)))
+counted-read {n} {F} {t} W j c = elim (dec_lt 0 (uses j t)) [
+  | yes l ↦ omega (arith, W.most j)
+  | no l ↦ absurd (c.differ (
+      sym (W.computes c.x c.belowX)
+      ∙ value-reads t (bit c.x) (bit c.y) (λ i r. c.alike i (read_below W i r) (λ e. l (subst-uses e r)))
+      ∙ W.computes c.y c.belowY))
 ]
   where
     subst-uses : {i : ℕ} → i ≡ j → 1 ≤ uses i t → 0 < uses j t
@@ -113,14 +113,14 @@ module _ (m : ℕ) (G : ℕ → Bool) (t : Tree) (W : Computes m G t) (n : ℕ) 
     (none : (q j : ℕ) → n ≤ q → j < m → uses q (σ j) ≡ 0) where
   pub computes-graft : Computes n F (graft σ t)
   computes-graft = record {
-    most = λ q. elim (decLt q n) [
-      | yes l ↦ omega (arith, W .most (from q), uses-graft σ t q (from q) (λ j r. once q j l (read-below W j r)))
+    most = λ q. elim (dec_lt q n) [
+      | yes l ↦ omega (arith, W.most (from q), uses-graft σ t q (from q) (λ j r. once q j l (read_below W j r)))
       | no l ↦ omega (arith, unread q (omega arith))
     ];
     within = unread;
-    computes = λ x l. value-graft σ t (bit x) (bit (point x)) (λ j r. stands x j (read-below W j r))
-        ∙ W .computes (point x) (below x) ∙ same x l;
+    computes = λ x l. value-graft σ t (bit x) (bit (point x)) (λ j r. stands x j (read_below W j r))
+        ∙ W.computes (point x) (below x) ∙ same x l;
   }
     where
       unread : (q : ℕ) → n ≤ q → uses q (graft σ t) ≡ 0
-      unread q h = uses-none σ t q (λ j r. none q j h (read-below W j r))
+      unread q h = uses-none σ t q (λ j r. none q j h (read_below W j r))

@@ -1,15 +1,15 @@
 -- The members of a set by their numbers, lowest first. Assumes nothing.
-use mathlib.Core.Path.{_≡_, refl, sym, ap, _∙_}
+use mathlib.Core.Path.{◌≡◌, refl, sym, ap, ◌∙◌}
 use mathlib.Core.Bool.{Bool, true, false}
-use Prim.Native.Nat.{ℕ, _<_, _≤_}
+use Prim.Native.Nat.{ℕ, ◌<◌, ◌≤◌}
 use native.Mathlib.Omega.{arith}
-use lib.ListN.{getD}
-use Rattle·bits.specs.Numbers.{val}
-use Rattle·bits.specs.Sets.{size}
-use Rattle·bits.proofs.Members.{Place, place}
-use Rattle·chains.specs.Chain.{pick, inputs}
-use Rattle·chains.proofs.Lists.{inputs-at}
-use Rattle·chains.proofs.Picked.{pick-at}
+use lib.ListN.{get_or}
+use Rattle.bits.specs.Numbers.{val}
+use Rattle.bits.specs.Sets.{size}
+use Rattle.bits.proofs.Members.{Place, place}
+use Rattle.chains.specs.Chain.{pick, inputs}
+use Rattle.chains.proofs.Lists.{inputs-at}
+use Rattle.chains.proofs.Picked.{pick_at}
 
 -- two tests, the first of which implies the second
 pub val-le : (s t : Bool) → (s ≡ true → t ≡ true) → val s ≤ val t
@@ -19,24 +19,24 @@ val-le false t h = omega arith
 module _ (n : ℕ) (s : ℕ → Bool) where
   -- the position of member number q
   pub nth : ℕ → ℕ
-  nth q = getD (pick n s (inputs n)) q 0
+  nth q = get_or (pick n s (inputs n)) q 0
 
   pub nth-rank : (p : ℕ) → p < n → s p ≡ true → nth (size p s) ≡ p
   unfolding nth
-  nth-rank p h e = pick-at n s (inputs n) p h e ∙ inputs-at n p h
+  nth-rank p h e = pick_at n s (inputs n) p h e ∙ inputs-at n p h
 
-  nth-is : (q : ℕ) (w : Place n s q) → w .at ≡ nth q
-  nth-is q w = sym (nth-rank (w .at) (w .below) (w .member)) ∙ ap nth (w .rank)
+  nth-is : (q : ℕ) (w : Place n s q) → w.at ≡ nth q
+  nth-is q w = sym (nth-rank w.at w.below w.member) ∙ ap nth w.rank
 
   pub nth-below : (q : ℕ) → q < size n s → nth q < n
-  nth-below q h = let w = place n s q h in omega (arith, nth-is q w, w .below)
+  nth-below q h = let w = place n s q h in omega (arith, nth-is q w, w.below)
 
   pub nth-member : (q : ℕ) → q < size n s → s (nth q) ≡ true
-  nth-member q h = let w = place n s q h in ap s (sym (nth-is q w)) ∙ w .member
+  nth-member q h = let w = place n s q h in ap s (sym (nth-is q w)) ∙ w.member
 
   pub rank-nth : (q : ℕ) → q < size n s → size (nth q) s ≡ q
-  rank-nth q h = let w = place n s q h in ap (λ (p : ℕ). size p s) (sym (nth-is q w)) ∙ w .rank
+  rank-nth q h = let w = place n s q h in ap (λ (p : ℕ). size p s) (sym (nth-is q w)) ∙ w.rank
 
   -- two members with the same number are one
-  pub rank-same : (i j : ℕ) → i < n → j < n → s i ≡ true → s j ≡ true → size i s ≡ size j s → i ≡ j
-  rank-same i j h l p q e = sym (nth-rank i h p) ∙ ap nth e ∙ nth-rank j l q
+  pub rank_same : (i j : ℕ) → i < n → j < n → s i ≡ true → s j ≡ true → size i s ≡ size j s → i ≡ j
+  rank_same i j h l p q e = sym (nth-rank i h p) ∙ ap nth e ∙ nth-rank j l q

@@ -1,20 +1,20 @@
 -- A table and the table over a set that it sees alone have the same trees: members are read by their numbers, and back.
 -- Assumes nothing.
-use mathlib.Core.Path.{_≡_, refl, sym, ap, _∙_}
-use mathlib.Core.Bool.{Bool, true, false, cond, _&&_}
-use Prim.Native.Nat.{ℕ, _<_, _≤_}
+use mathlib.Core.Path.{◌≡◌, refl, sym, ap, ◌∙◌}
+use mathlib.Core.Bool.{Bool, true, false, cond, ◌&&◌}
+use Prim.Native.Nat.{ℕ, ◌<◌, ◌≤◌}
 use native.Mathlib.Omega.{arith}
 use lib.Dec.{eqb}
-use borrow.Author.Tests.{eq-eqb, ne-eqb, eqb-true}
-use Rattle·bits.specs.Numbers.{bit, val}
-use Rattle·bits.specs.Sets.{size, gather, spread}
-use Rattle·bits.proofs.Sizes.{size-lt}
-use Rattle·bits.proofs.Spreading.{gather-lt, gather-bit, bit-spread, spread-lt}
-use Rattle·tables.specs.Counting.{Sees, tableOver}
-use Rattle·tables.proofs.Over.{over-at, over-gather}
-use Rattle·trees·specs.specs.Tree.{Tree, constant, input, value, uses}
-use Rattle·trees·proofs.proofs.Graft.{graft, Computes, computes-graft}
-use Rattle·trees·proofs.proofs.Members.{val-le, nth, nth-rank, nth-below, nth-member, rank-nth}
+use borrow.Author.Tests.{eq-eqb, ne_eqb, eqb-true}
+use Rattle.bits.specs.Numbers.{bit, val}
+use Rattle.bits.specs.Sets.{size, gather, spread}
+use Rattle.bits.proofs.Sizes.{size-lt}
+use Rattle.bits.proofs.Spreading.{gather-lt, gather-bit, bit-spread, spread-lt}
+use Rattle.tables.specs.Counting.{Sees, tableOver}
+use Rattle.tables.proofs.Over.{over-at, over-gather}
+use Rattle.trees.specs.Tree.{Tree, constant, input, value, uses}
+use Rattle.trees.proofs.Graft.{graft, Computes, computes-graft}
+use Rattle.trees.proofs.Members.{val-le, nth, nth-rank, nth-below, nth-member, rank-nth}
 
 module _ (n : ℕ) (F : ℕ → Bool) (S : ℕ → Bool) (sees : Sees n F S) where
   abbrev c : ℕ
@@ -27,9 +27,9 @@ module _ (n : ℕ) (F : ℕ → Bool) (S : ℕ → Bool) (sees : Sees n F S) whe
   pub narrow : ℕ → Tree
   narrow p = cond (S p) (input false (size p S)) (constant false)
 
-  pub tree-over : (t : Tree) → Computes n F t → Computes c G (graft narrow t)
+  pub tree_over : (t : Tree) → Computes n F t → Computes c G (graft narrow t)
   unfolding narrow
-  tree-over t W =
+  tree_over t W =
       computes-graft n F t W c G narrow (spread n S) (nth n S)
       (λ v p l. go v p (S p) ∙ sym (bit-spread n S v p l)) (spread-lt n S) (λ v h. sym (over-at n S F v h))
       (λ q p h l. once q p h l (S p) refl) (λ q p h l. none q p h l (S p) refl)
@@ -48,7 +48,7 @@ module _ (n : ℕ) (F : ℕ → Bool) (S : ℕ → Bool) (sees : Sees n F S) whe
 
       none : (q p : ℕ) → c ≤ q → p < n → (t : Bool) → S p ≡ t
           → uses q (cond t (input false (size p S)) (constant false)) ≡ 0
-      none q p h l true e = ap val (ne-eqb (size p S) q (λ r. omega (arith, size-lt n S p l e)))
+      none q p h l true e = ap val (ne_eqb (size p S) q (λ r. omega (arith, size-lt n S p l e)))
       none q p h l false e = refl
 
   -- a number is read as its member
@@ -62,7 +62,7 @@ module _ (n : ℕ) (F : ℕ → Bool) (S : ℕ → Bool) (sees : Sees n F S) whe
       at (gather-lt n S) (over-gather n F S sees)
       (λ p q h l. val-le (eqb (nth n S q) p) (eqb q (size p S)) (λ r.
       eq-eqb q (size p S) (sym (rank-nth n S q l) ∙ ap (λ (i : ℕ). size i S) (eqb-true (nth n S q) p r))))
-      (λ p q h l. ap val (ne-eqb (nth n S q) p (λ r. omega (arith, nth-below n S q l))))
+      (λ p q h l. ap val (ne_eqb (nth n S q) p (λ r. omega (arith, nth-below n S q l))))
     where
       at : (x q : ℕ) → q < c → bit x (nth n S q) ≡ bit (gather n S x) q
       at x q l = sym (ap (bit (gather n S x)) (sym (rank-nth n S q l))

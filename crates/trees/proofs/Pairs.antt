@@ -1,24 +1,24 @@
 -- A split of cells of two inputs has two own inputs and shares none. So its first cell is a function of two bits, and H
 -- is asked at the other inputs and, behind them, at what the first cell gives. Assumes nothing.
-use mathlib.Core.Path.{_≡_, refl, sym, ap, ap₂, _∙_}
-use mathlib.Core.Logic.{_⊎_, inl, inr, ⊎-elim}
-use mathlib.Core.Bool.{Bool, true, false, cond, not, _||_}
-use Prim.Native.Nat.{ℕ, zero, suc, _+_, _*_, _^_, _<_}
+use mathlib.Core.Path.{◌≡◌, refl, sym, ap, ap₂, ◌∙◌}
+use mathlib.Core.Logic.{◌⊎◌, inl, inr, ⊎_elim}
+use mathlib.Core.Bool.{Bool, true, false, cond, not, ◌||◌}
+use Prim.Native.Nat.{ℕ, zero, suc, ◌+◌, ◌*◌, ◌^◌, ◌<◌}
 use native.Mathlib.Omega.{arith}
 use lib.Dec.{eqb}
-use borrow.Author.Tests.{eq-eqb, ne-eqb}
-use Rattle·bits.specs.Numbers.{bit, val, number}
-use Rattle·bits.specs.Sets.{Agree, size, gather}
-use Rattle·bits.proofs.Bools.{clash}
-use Rattle·bits.proofs.Numbers.{val-lt, bit-number, bit-top, number-bit}
-use Rattle·bits.proofs.Sizes.{size-lt}
-use Rattle·bits.proofs.Spreading.{gather-lt, gather-ext}
-use Rattle·bits.proofs.Members.{Place, place}
-use Rattle·splits.specs.Split.{readsD, readsH, inputH, Possible}
-use Rattle·splits.specs.Pair.{bitH, tableH}
-use Rattle·splits.proofs.Asked as asked
-use Rattle·best.specs.Best.{Candidate}
-use Rattle·trees·proofs.proofs.Members.{rank-same}
+use borrow.Author.Tests.{eq-eqb, ne_eqb}
+use Rattle.bits.specs.Numbers.{bit, val, number}
+use Rattle.bits.specs.Sets.{Agree, size, gather}
+use Rattle.bits.proofs.Bools.{clash}
+use Rattle.bits.proofs.Numbers.{val-lt, bit-number, bit-top, number_bit}
+use Rattle.bits.proofs.Sizes.{size-lt}
+use Rattle.bits.proofs.Spreading.{gather-lt, gather_ext}
+use Rattle.bits.proofs.Members.{Place, place}
+use Rattle.splits.specs.Split.{readsD, readsH, inputH, Possible}
+use Rattle.splits.specs.Pair.{bitH, tableH}
+use Rattle.splits.proofs.Asked as asked
+use Rattle.best.specs.Best.{Candidate}
+use Rattle.trees.proofs.Members.{rank_same}
 
 -- the two own inputs
 pub record Pair (n A B : ℕ) : Type 0 where
@@ -31,13 +31,13 @@ pub record Pair (n A B : ℕ) : Type 0 where
   pub differ : a ≡ b → ⊥
   pub only : (j : ℕ) → j < n → readsD (bit A) (bit B) j ≡ true → (j ≡ a) ⊎ (j ≡ b)
 
-pub pair-of : (n A B : ℕ) → Candidate n 2 1 A B → Pair n A B
-pair-of n A B k = go (place n (bit A) 0 (omega (arith, k .more))) (place n (bit A) 1 (omega (arith, k .more)))
+pub pair_of : (n A B : ℕ) → Candidate n 2 1 A B → Pair n A B
+pair_of n A B k = go (place n (bit A) 0 (omega (arith, k.more))) (place n (bit A) 1 (omega (arith, k.more)))
   where
-    zero-one : (m : ℕ) → m < 2 → (m ≡ 0) ⊎ (m ≡ 1)
-    zero-one zero h = inl refl
-    zero-one (suc zero) h = inr refl
-    zero-one (suc (suc m)) h = absurd (omega arith)
+    zero_one : (m : ℕ) → m < 2 → (m ≡ 0) ⊎ (m ≡ 1)
+    zero_one zero h = inl refl
+    zero_one (suc zero) h = inr refl
+    zero_one (suc (suc m)) h = absurd (omega arith)
 
     own : (s t : Bool) → (t ≡ true → ⊥) → (s || t) ≡ true → s ≡ true
     own true t f e = refl
@@ -45,26 +45,26 @@ pair-of n A B k = go (place n (bit A) 0 (omega (arith, k .more))) (place n (bit 
 
     go : Place n (bit A) 0 → Place n (bit A) 1 → Pair n A B
     go p q = record {
-      a = p .at;
-      b = q .at;
-      belowA = p .below;
-      belowB = q .below;
-      ownA = p .member;
-      ownB = q .member;
-      differ = λ e. omega (arith, ap (λ (i : ℕ). size i (bit A)) e, p .rank, q .rank);
+      a = p.at;
+      b = q.at;
+      belowA = p.below;
+      belowB = q.below;
+      ownA = p.member;
+      ownB = q.member;
+      differ = λ e. omega (arith, ap (λ (i : ℕ). size i (bit A)) e, p.rank, q.rank);
       only = λ j l e. each j l (own (bit A j) (bit B j) (shared j l) e);
     }
       where
         shared : (j : ℕ) → j < n → bit B j ≡ true → ⊥
-        shared j l t = omega (arith, k .more, k .most, size-lt n (bit B) j l t)
+        shared j l t = omega (arith, k.more, k.most, size-lt n (bit B) j l t)
 
-        is : (j m : ℕ) (w : Place n (bit A) m) → j < n → bit A j ≡ true → size j (bit A) ≡ m → j ≡ w .at
-        is j m w l t e = rank-same n (bit A) j (w .at) l (w .below) t (w .member) (e ∙ sym (w .rank))
+        is : (j m : ℕ) (w : Place n (bit A) m) → j < n → bit A j ≡ true → size j (bit A) ≡ m → j ≡ w.at
+        is j m w l t e = rank_same n (bit A) j w.at l w.below t w.member (e ∙ sym w.rank)
 
-        each : (j : ℕ) → j < n → bit A j ≡ true → (j ≡ p .at) ⊎ (j ≡ q .at)
+        each : (j : ℕ) → j < n → bit A j ≡ true → (j ≡ p.at) ⊎ (j ≡ q.at)
         each j l t =
-            ⊎-elim (λ e. inl (is j 0 p l t e)) (λ e. inr (is j 1 q l t e))
-            (zero-one (size j (bit A)) (omega (arith, k .more, k .most, size-lt n (bit A) j l t)))
+            ⊎_elim (λ e. inl (is j 0 p l t e)) (λ e. inr (is j 1 q l t e))
+            (zero_one (size j (bit A)) (omega (arith, k.more, k.most, size-lt n (bit A) j l t)))
 
 module _ (n : ℕ) (F : ℕ → Bool) (A B : ℕ) (c : Candidate n 2 1 A B) (Q : Possible n F (bit A) (bit B) 1) where
   abbrev sH : ℕ → Bool
@@ -77,28 +77,28 @@ module _ (n : ℕ) (F : ℕ → Bool) (A B : ℕ) (c : Candidate n 2 1 A B) (Q :
   H = bit (tableH n F (bit A) (bit B) 1)
 
   abbrev P : Pair n A B
-  P = pair-of n A B c
+  P = pair_of n A B c
 
   -- ---- what the first cell gives at x, and H's input there
 
   pub gives : ℕ → Bool
-  gives x = bit (asked.code n F (bit A) (bit B) (c .apart) 1 Q x) 0
+  gives x = bit (asked.code n F (bit A) (bit B) c.apart 1 Q x) 0
 
   abbrev pub ask : ℕ → Bool → ℕ
   ask x d = inputH n (bit A) (bit B) x (val d)
 
   pub gives-sees : (x y : ℕ) → Agree n (readsD (bit A) (bit B)) x y → gives x ≡ gives y
   unfolding gives
-  gives-sees x y h = ap (λ (m : ℕ). bit m 0) (asked.code-sees n F (bit A) (bit B) (c .apart) 1 Q x y h)
+  gives-sees x y h = ap (λ (m : ℕ). bit m 0) (asked.code-sees n F (bit A) (bit B) c.apart 1 Q x y h)
 
   pub ask-sees : (d : Bool) (x y : ℕ) → Agree n sH x y → ask x d ≡ ask y d
-  ask-sees d x y h = ap (λ (g : ℕ). g + val d * 2 ^ k) (gather-ext n sH x y h)
+  ask-sees d x y h = ap (λ (g : ℕ). g + val d * 2 ^ k) (gather_ext n sH x y h)
 
   pub ask-lt : (x : ℕ) (d : Bool) → ask x d < 2 ^ (k + 1)
-  ask-lt x d = asked.input-lt n F (bit A) (bit B) (c .apart) 1 Q x (val d) (val-lt d)
+  ask-lt x d = asked.input-lt n F (bit A) (bit B) c.apart 1 Q x (val d) (val-lt d)
 
-  pub ask-low : (x : ℕ) (d : Bool) (q : ℕ) → q < k → (w : Place n sH q) → bit (ask x d) q ≡ bit x (w .at)
-  ask-low x d = asked.input-low n F (bit A) (bit B) (c .apart) 1 Q x (val d)
+  pub ask-low : (x : ℕ) (d : Bool) (q : ℕ) → q < k → (w : Place n sH q) → bit (ask x d) q ≡ bit x w.at
+  ask-low x d = asked.input-low n F (bit A) (bit B) c.apart 1 Q x (val d)
 
   pub ask-top : (x : ℕ) (d : Bool) → bit (ask x d) k ≡ d
   ask-top x d = bit-top (gather n sH x) d k (gather-lt n sH x)
@@ -106,31 +106,31 @@ module _ (n : ℕ) (F : ℕ → Bool) (A B : ℕ) (c : Candidate n 2 1 A B) (Q :
   pub asked-gives : (x : ℕ) → x < 2 ^ n → F x ≡ H (ask x (gives x))
   unfolding gives number tableH
   asked-gives x h =
-      let m = asked.code n F (bit A) (bit B) (c .apart) 1 Q x in
-      let e : m ≡ val (bit m 0) = omega (arith, number-bit 1 m (asked.code-small n F (bit A) (bit B) (c .apart) 1 Q x))
+      let m = asked.code n F (bit A) (bit B) c.apart 1 Q x in
+      let e : m ≡ val (bit m 0) = omega (arith, number_bit 1 m (asked.code-small n F (bit A) (bit B) c.apart 1 Q x))
       in
-      asked.gives n F (bit A) (bit B) (c .apart) 1 Q x h
+      asked.gives n F (bit A) (bit B) c.apart 1 Q x h
       ∙ ap (λ (d : ℕ). bitH n F (bit A) (bit B) (inputH n (bit A) (bit B) x d)) e
       ∙ sym (bit-number (2 ^ (k + 1)) (bitH n F (bit A) (bit B)) (ask x (gives x)) (ask-lt x (gives x)))
 
   -- ---- H reads every input but the two
 
-  own-out : (p : ℕ) → p < n → bit A p ≡ true → sH p ≡ false
-  own-out p l e = go (bit A p) (bit B p) (c .apart p l) e
+  own_out : (p : ℕ) → p < n → bit A p ≡ true → sH p ≡ false
+  own_out p l e = go (bit A p) (bit B p) (c.apart p l) e
     where
       go : (s t : Bool) → (t ≡ true → s ≡ false) → s ≡ true → (t || not (s || t)) ≡ false
       go s true f e = sym e ∙ f refl
       go true false f e = refl
       go false false f e = sym e
 
-  pub not-a : (p : ℕ) → sH p ≡ true → p ≡ P .a → ⊥
-  not-a p e r = clash e (ap sH r ∙ own-out (P .a) (P .belowA) (P .ownA))
+  pub not_a : (p : ℕ) → sH p ≡ true → p ≡ P.a → ⊥
+  not_a p e r = clash e (ap sH r ∙ own_out P.a P.belowA P.ownA)
 
-  pub not-b : (p : ℕ) → sH p ≡ true → p ≡ P .b → ⊥
-  not-b p e r = clash e (ap sH r ∙ own-out (P .b) (P .belowB) (P .ownB))
+  pub not-b : (p : ℕ) → sH p ≡ true → p ≡ P.b → ⊥
+  not-b p e r = clash e (ap sH r ∙ own_out P.b P.belowB P.ownB)
 
-  pub others : (p : ℕ) → p < n → (p ≡ P .a → ⊥) → (p ≡ P .b → ⊥) → sH p ≡ true
-  others p l f g = go (bit A p) (bit B p) (λ e. ⊎-elim f g (P .only p l e))
+  pub others : (p : ℕ) → p < n → (p ≡ P.a → ⊥) → (p ≡ P.b → ⊥) → sH p ≡ true
+  others p l f g = go (bit A p) (bit B p) (λ e. ⊎_elim f g (P.only p l e))
     where
       go : (s t : Bool) → ((s || t) ≡ true → ⊥) → (t || not (s || t)) ≡ true
       go true t h = absurd (h refl)
@@ -140,27 +140,27 @@ module _ (n : ℕ) (F : ℕ → Bool) (A B : ℕ) (c : Candidate n 2 1 A B) (Q :
   -- ---- the first cell as a function of its two inputs
 
   two : Bool → Bool → ℕ → Bool
-  two p q j = cond (eqb j (P .a)) p (cond (eqb j (P .b)) q false)
+  two p q j = cond (eqb j P.a) p (cond (eqb j P.b) q false)
 
   pub D : Bool → Bool → Bool
   D p q = gives (number n (two p q))
 
-  pub first-cell : (x : ℕ) → D (bit x (P .a)) (bit x (P .b)) ≡ gives x
+  pub first_cell : (x : ℕ) → D (bit x P.a) (bit x P.b) ≡ gives x
   unfolding D two
-  first-cell x =
-      gives-sees (number n (two p q)) x (λ j l e. bit-number n (two p q) j l ∙ ⊎-elim (at-a j) (at-b j) (P .only j l e))
+  first_cell x =
+      gives-sees (number n (two p q)) x (λ j l e. bit-number n (two p q) j l ∙ ⊎_elim (at_a j) (at_b j) (P.only j l e))
     where
       p : Bool
-      p = bit x (P .a)
+      p = bit x P.a
 
       q : Bool
-      q = bit x (P .b)
+      q = bit x P.b
 
-      at-a : (j : ℕ) → j ≡ P .a → cond (eqb j (P .a)) p (cond (eqb j (P .b)) q false) ≡ bit x j
-      at-a j e = ap (λ (t : Bool). cond t p (cond (eqb j (P .b)) q false)) (eq-eqb j (P .a) e) ∙ ap (bit x) (sym e)
+      at_a : (j : ℕ) → j ≡ P.a → cond (eqb j P.a) p (cond (eqb j P.b) q false) ≡ bit x j
+      at_a j e = ap (λ (t : Bool). cond t p (cond (eqb j P.b) q false)) (eq-eqb j P.a e) ∙ ap (bit x) (sym e)
 
-      at-b : (j : ℕ) → j ≡ P .b → cond (eqb j (P .a)) p (cond (eqb j (P .b)) q false) ≡ bit x j
-      at-b j e =
-          ap₂ (λ (t u : Bool). cond t p (cond u q false)) (ne-eqb j (P .a) (λ r. P .differ (sym r ∙ e)))
-          (eq-eqb j (P .b) e)
+      at_b : (j : ℕ) → j ≡ P.b → cond (eqb j P.a) p (cond (eqb j P.b) q false) ≡ bit x j
+      at_b j e =
+          ap₂ (λ (t u : Bool). cond t p (cond u q false)) (ne_eqb j P.a (λ r. P.differ (sym r ∙ e)))
+          (eq-eqb j P.b e)
           ∙ ap (bit x) (sym e)

@@ -1,22 +1,22 @@
 -- A tree of H makes a tree of F: the first cell's node is put in place of its output, and the other inputs are read by
 -- their positions. Assumes nothing.
-use mathlib.Core.Path.{_≡_, refl, sym, ap, ap₂, _∙_}
+use mathlib.Core.Path.{◌≡◌, refl, sym, ap, ap₂, ◌∙◌}
 use mathlib.Core.Bool.{Bool, true, false, cond}
-use Prim.Native.Nat.{ℕ, _+_, _<_, _≤_}
+use Prim.Native.Nat.{ℕ, ◌+◌, ◌<◌, ◌≤◌}
 use native.Mathlib.Omega.{arith}
 use lib.Dec.{eqb}
-use borrow.Author.Tests.{eq-eqb, ne-eqb, eqb-true, eqb-false}
-use Rattle·bits.specs.Numbers.{bit, val}
-use Rattle·bits.specs.Sets.{size}
-use Rattle·bits.proofs.Bools.{clash}
-use Rattle·splits.specs.Split.{readsH, Possible}
-use Rattle·splits.specs.Pair.{tableH}
-use Rattle·best.specs.Best.{Candidate}
-use Rattle·trees·specs.specs.Tree.{Tree, input, node, value, uses}
-use Rattle·trees·proofs.proofs.Graft.{graft, Computes, computes-graft}
-use Rattle·trees·proofs.proofs.Members.{val-le, nth, nth-below, nth-member, rank-nth}
-use Rattle·trees·proofs.proofs.Pairs as pairs
-use Rattle·trees·proofs.proofs.Pairs.{Pair, pair-of}
+use borrow.Author.Tests.{eq-eqb, ne_eqb, eqb-true, eqb-false}
+use Rattle.bits.specs.Numbers.{bit, val}
+use Rattle.bits.specs.Sets.{size}
+use Rattle.bits.proofs.Bools.{clash}
+use Rattle.splits.specs.Split.{readsH, Possible}
+use Rattle.splits.specs.Pair.{tableH}
+use Rattle.best.specs.Best.{Candidate}
+use Rattle.trees.specs.Tree.{Tree, input, node, value, uses}
+use Rattle.trees.proofs.Graft.{graft, Computes, computes-graft}
+use Rattle.trees.proofs.Members.{val-le, nth, nth-below, nth-member, rank-nth}
+use Rattle.trees.proofs.Pairs as pairs
+use Rattle.trees.proofs.Pairs.{Pair, pair_of}
 
 module _ (n : ℕ) (F : ℕ → Bool) (A B : ℕ) (c : Candidate n 2 1 A B) (Q : Possible n F (bit A) (bit B) 1) where
   abbrev sH : ℕ → Bool
@@ -29,7 +29,7 @@ module _ (n : ℕ) (F : ℕ → Bool) (A B : ℕ) (c : Candidate n 2 1 A B) (Q :
   H = bit (tableH n F (bit A) (bit B) 1)
 
   abbrev P : Pair n A B
-  P = pair-of n A B c
+  P = pair_of n A B c
 
   abbrev gives : ℕ → Bool
   gives = pairs.gives n F A B c Q
@@ -39,7 +39,7 @@ module _ (n : ℕ) (F : ℕ → Bool) (A B : ℕ) (c : Candidate n 2 1 A B) (Q :
 
   -- in place of H's last input the first cell's node, of another the input that it stands for
   by : Bool → ℕ → Tree
-  by last q = cond last (node (pairs.D n F A B c Q) (input false (P .a)) (input false (P .b)))
+  by last q = cond last (node (pairs.D n F A B c Q) (input false P.a) (input false P.b))
       (input false (nth n sH q))
 
   put : ℕ → Tree
@@ -52,7 +52,7 @@ module _ (n : ℕ) (F : ℕ → Bool) (A B : ℕ) (c : Candidate n 2 1 A B) (Q :
       ≡ bit (ask x (gives x)) q
   unfolding by
   value-at x q l true r =
-      pairs.first-cell n F A B c Q x
+      pairs.first_cell n F A B c Q x
       ∙ sym (ap (bit (ask x (gives x))) (eqb-true q k r) ∙ pairs.ask-top n F A B c Q x (gives x))
   value-at x q l false r =
       let g = less q l r in
@@ -60,11 +60,11 @@ module _ (n : ℕ) (F : ℕ → Bool) (A B : ℕ) (c : Candidate n 2 1 A B) (Q :
       (record { at = nth n sH q; below = nth-below n sH q g; member = nth-member n sH q g; rank = rank-nth n sH q g }))
 
   -- the node reads either of its two inputs once
-  pair-once : (p : ℕ) → val (eqb (P .a) p) + val (eqb (P .b) p) ≤ 1
-  pair-once p = go (eqb (P .a) p) (eqb (P .b) p) refl refl
+  pair-once : (p : ℕ) → val (eqb P.a p) + val (eqb P.b p) ≤ 1
+  pair-once p = go (eqb P.a p) (eqb P.b p) refl refl
     where
-      go : (s t : Bool) → eqb (P .a) p ≡ s → eqb (P .b) p ≡ t → val s + val t ≤ 1
-      go true true e f = absurd (P .differ (eqb-true (P .a) p e ∙ sym (eqb-true (P .b) p f)))
+      go : (s t : Bool) → eqb P.a p ≡ s → eqb P.b p ≡ t → val s + val t ≤ 1
+      go true true e f = absurd (P.differ (eqb-true P.a p e ∙ sym (eqb-true P.b p f)))
       go true false e f = omega arith
       go false t e f = omega (arith, val-le t true (λ _. refl))
 
@@ -75,8 +75,8 @@ module _ (n : ℕ) (F : ℕ → Bool) (A B : ℕ) (c : Candidate n 2 1 A B) (Q :
   once p q l true true e r =
       omega (
         arith,
-        ap val (ne-eqb (P .a) p (λ z. pairs.not-a n F A B c Q p e (sym z))),
-        ap val (ne-eqb (P .b) p (λ z. pairs.not-b n F A B c Q p e (sym z))),
+        ap val (ne_eqb P.a p (λ z. pairs.not_a n F A B c Q p e (sym z))),
+        ap val (ne_eqb P.b p (λ z. pairs.not-b n F A B c Q p e (sym z))),
       )
   once p q l false true e r = omega (arith, pair-once p, ap val r)
   once p q l true false e r =
@@ -89,9 +89,9 @@ module _ (n : ℕ) (F : ℕ → Bool) (A B : ℕ) (c : Candidate n 2 1 A B) (Q :
   none : (p q : ℕ) → n ≤ p → q < k + 1 → (last : Bool) → eqb q k ≡ last → uses p (by last q) ≡ 0
   unfolding by
   none p q h l true r =
-      ap₂ _+_ (ap val (ne-eqb (P .a) p (λ z. omega (arith, P .belowA))))
-      (ap val (ne-eqb (P .b) p (λ z. omega (arith, P .belowB))))
-  none p q h l false r = ap val (ne-eqb (nth n sH q) p (λ z. omega (arith, nth-below n sH q (less q l r))))
+      ap₂ ◌+◌ (ap val (ne_eqb P.a p (λ z. omega (arith, P.belowA))))
+      (ap val (ne_eqb P.b p (λ z. omega (arith, P.belowB))))
+  none p q h l false r = ap val (ne_eqb (nth n sH q) p (λ z. omega (arith, nth-below n sH q (less q l r))))
 
   pub tree-back : (t : Tree) → Computes (k + 1) H t → (u : Tree) × Computes n F u
   unfolding put

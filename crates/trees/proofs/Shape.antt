@@ -1,20 +1,20 @@
 -- A tree that reads each input at most once is constant, or a function of one input, or has two inputs that a single
 -- node joins. Assumes nothing.
-use mathlib.Core.Path.{_≡_, refl, ap, ap₂, _∙_}
+use mathlib.Core.Path.{◌≡◌, refl, ap, ap₂, ◌∙◌}
 use mathlib.Core.Bool.{Bool}
-use Prim.Native.Nat.{ℕ, _+_, _≤_}
+use Prim.Native.Nat.{ℕ, ◌+◌, ◌≤◌}
 use native.Mathlib.Omega.{arith}
 use borrow.Author.Tests.{eq-eqb}
-use Rattle·bits.specs.Numbers.{val}
-use Rattle·trees·specs.specs.Tree.{Tree, constant, input, node, flipped, value, uses}
-use Rattle·trees·proofs.proofs.Graft.{value-reads}
+use Rattle.bits.specs.Numbers.{val}
+use Rattle.trees.specs.Tree.{Tree, constant, input, node, flipped, value, uses}
+use Rattle.trees.proofs.Graft.{value-reads}
 
 -- two inputs of a tree that a single function joins
 pub record Joined (t : Tree) : Type 0 where
   pub a : ℕ
   pub b : ℕ
   pub differ : a ≡ b → ⊥
-  pub readA : 1 ≤ uses a t
+  pub read_a : 1 ≤ uses a t
   pub readB : 1 ≤ uses b t
   pub D : Bool → Bool → Bool
   pub H : Bool → (ℕ → Bool) → Bool
@@ -30,18 +30,18 @@ pub data Shape (t : Tree) : Type 0 where
 -- what a tree joins is joined in every tree that is a function of it and of inputs beside the two
 module _ (s u : Tree) (J : Joined s) (K : Bool → (ℕ → Bool) → Bool) where
   inside : ((j : ℕ) → uses j s ≤ uses j u)
-      → ((z : Bool) (v w : ℕ → Bool) → ((j : ℕ) → (j ≡ J .a → ⊥) → (j ≡ J .b → ⊥) → v j ≡ w j) → K z v ≡ K z w)
+      → ((z : Bool) (v w : ℕ → Bool) → ((j : ℕ) → (j ≡ J.a → ⊥) → (j ≡ J.b → ⊥) → v j ≡ w j) → K z v ≡ K z w)
       → ((v : ℕ → Bool) → value u v ≡ K (value s v) v) → Joined u
   inside reads blind gives = record {
-    a = J .a;
-    b = J .b;
-    differ = J .differ;
-    readA = omega (arith, J .readA, reads (J .a));
-    readB = omega (arith, J .readB, reads (J .b));
-    D = J .D;
-    H = λ e v. K (J .H e v) v;
-    others = λ e v w h. ap (λ (z : Bool). K z v) (J .others e v w h) ∙ blind (J .H e w) v w h;
-    gives = λ v. gives v ∙ ap (λ (z : Bool). K z v) (J .gives v);
+    a = J.a;
+    b = J.b;
+    differ = J.differ;
+    read_a = omega (arith, J.read_a, reads J.a);
+    readB = omega (arith, J.readB, reads J.b);
+    D = J.D;
+    H = λ e v. K (J.H e v) v;
+    others = λ e v w h. ap (λ (z : Bool). K z v) (J.others e v w h) ∙ blind (J.H e w) v w h;
+    gives = λ v. gives v ∙ ap (λ (z : Bool). K z v) (J.gives v);
   }
 
 -- an input that one tree reads is none that the other reads
@@ -52,13 +52,13 @@ module _ (g : Bool → Bool → Bool) (s t : Tree) (most : (j : ℕ) → uses j 
   -- what a child joins the node joins, since the other child reads neither
   left : Joined s → Joined (node g s t)
   left J = inside s (node g s t) J (λ z v. g z (value t v)) (λ j. omega arith)
-      (λ z v w h. ap (g z) (value-reads t v w (λ j r. h j (out s t most (J .a) (J .readA) j r)
-      (out s t most (J .b) (J .readB) j r)))) (λ v. refl)
+      (λ z v w h. ap (g z) (value-reads t v w (λ j r. h j (out s t most J.a J.read_a j r)
+      (out s t most J.b J.readB j r)))) (λ v. refl)
 
   right : Joined t → Joined (node g s t)
   right J = inside t (node g s t) J (λ z v. g (value s v) z) (λ j. omega arith)
-      (λ z v w h. ap (λ (y : Bool). g y z) (value-reads s v w (λ j r. h j (off (J .a) (J .readA) j r)
-      (off (J .b) (J .readB) j r)))) (λ v. refl)
+      (λ z v w h. ap (λ (y : Bool). g y z) (value-reads s v w (λ j r. h j (off J.a J.read_a j r)
+      (off J.b J.readB j r)))) (λ v. refl)
     where
       off : (a : ℕ) → 1 ≤ uses a t → (j : ℕ) → 1 ≤ uses j s → j ≡ a → ⊥
       off = out t s (λ j. omega (arith, most j))
@@ -70,7 +70,7 @@ module _ (g : Bool → Bool → Bool) (s t : Tree) (most : (j : ℕ) → uses j 
     a = i;
     b = j;
     differ = λ e. apart e;
-    readA = omega arith;
+    read_a = omega arith;
     readB = omega arith;
     D = λ x y. g (value s (λ k. x)) (value t (λ k. y));
     H = λ e v. e;
@@ -90,7 +90,7 @@ module _ (g : Bool → Bool → Bool) (s t : Tree) (most : (j : ℕ) → uses j 
   both (single i p f) (joined J) = joined (right J)
   both (joined J) (flat h) = joined (left J)
   both (joined J) (single j q h) = joined (left J)
-  both (joined J) (joined J′) = joined (left J)
+  both (joined J) (joined J') = joined (left J)
 
 pub shape : (t : Tree) → ((j : ℕ) → uses j t ≤ 1) → Shape t
 shape (constant b) h = flat (λ v w. refl)

@@ -1,23 +1,23 @@
 -- The smallest trees: a constant is the tree of a constant table, an input of a table that has its bits, plain or
 -- flipped; and every table of at most two inputs has a tree. Assumes nothing.
-use mathlib.Core.Path.{_≡_, refl, sym, ap, _∙_, subst}
+use mathlib.Core.Path.{◌≡◌, refl, sym, ap, ◌∙◌, subst}
 use mathlib.Core.Bool.{Bool, true, false}
-use Prim.Native.Nat.{ℕ, zero, suc, _+_, _*_, _^_, _<_, _≤_}
+use Prim.Native.Nat.{ℕ, zero, suc, ◌+◌, ◌*◌, ◌^◌, ◌<◌, ◌≤◌}
 use native.Mathlib.Omega.{arith}
 use lib.Dec.{eqb}
-use lib.Pow.{pow-pos}
-use borrow.Author.Tests.{eq-eqb, ne-eqb, eqb-false}
-use Rattle·bits.specs.Numbers.{bit, val, number}
-use Rattle·bits.proofs.Bools.{clash}
-use Rattle·bits.proofs.Numbers.{number-lt, number-bit, bit-number, bit-zero}
-use Rattle·tables.specs.Depends.{DependsOn}
-use Rattle·trees·specs.specs.Tree.{Tree, constant, input, node, flipped, TreeOf}
-use Rattle·trees·proofs.proofs.Graft.{Computes}
-use Rattle·trees·proofs.proofs.Members.{val-le}
+use lib.Pow.{pow_pos}
+use borrow.Author.Tests.{eq-eqb, ne_eqb, eqb-false}
+use Rattle.bits.specs.Numbers.{bit, val, number}
+use Rattle.bits.proofs.Bools.{clash}
+use Rattle.bits.proofs.Numbers.{number_lt, number_bit, bit-number, bit-zero}
+use Rattle.tables.specs.Depends.{DependsOn}
+use Rattle.trees.specs.Tree.{Tree, constant, input, node, flipped, TreeOf}
+use Rattle.trees.proofs.Graft.{Computes}
+use Rattle.trees.proofs.Members.{val-le}
 
 pub constant-tree : (n : ℕ) (F : ℕ → Bool) (b : Bool) → ((x : ℕ) → x < 2 ^ n → F x ≡ b) → TreeOf n F (constant b)
 constant-tree n F b is = record {
-  once = λ j l c. absurd (c .differ (is (c .x) (c .belowX) ∙ sym (is (c .y) (c .belowY))));
+  once = λ j l c. absurd (c.differ (is c.x c.belowX ∙ sym (is c.y c.belowY)));
   only = λ j f. refl;
   computes = λ x h. sym (is x h);
 }
@@ -29,11 +29,11 @@ module _ (n : ℕ) (F : ℕ → Bool) (j : ℕ) (l : j < n) (f : Bool) (is : (x 
     input-counts = record {
       x = 0;
       y = alone;
-      belowX = pow-pos n;
-      belowY = number-lt n (λ i. eqb i j);
-      alike = λ i h ne. bit-zero i ∙ sym (bit-number n (λ i. eqb i j) i h ∙ ne-eqb i j ne);
+      belowX = pow_pos n;
+      belowY = number_lt n (λ i. eqb i j);
+      alike = λ i h ne. bit-zero i ∙ sym (bit-number n (λ i. eqb i j) i h ∙ ne_eqb i j ne);
       differ = λ e. differ f (
-          sym (ap (flipped f) (bit-zero j)) ∙ sym (is 0 (pow-pos n)) ∙ e ∙ is alone (number-lt n (λ i. eqb i j))
+          sym (ap (flipped f) (bit-zero j)) ∙ sym (is 0 (pow_pos n)) ∙ e ∙ is alone (number_lt n (λ i. eqb i j))
           ∙ ap (flipped f) (bit-number n (λ i. eqb i j) j l ∙ eq-eqb j j refl));
     }
       where
@@ -47,15 +47,15 @@ module _ (n : ℕ) (F : ℕ → Bool) (j : ℕ) (l : j < n) (f : Bool) (is : (x 
     pub input-tree : TreeOf n F (input f j)
     input-tree = record {
       once = λ i h c. once i c (eqb j i) refl;
-      only = λ i out. ap val (ne-eqb j i (λ e. out (omega arith) (subst (DependsOn n F) e input-counts)));
+      only = λ i out. ap val (ne_eqb j i (λ e. out (omega arith) (subst (DependsOn n F) e input-counts)));
       computes = λ x h. sym (is x h);
     }
       where
         once : (i : ℕ) → DependsOn n F i → (t : Bool) → eqb j i ≡ t → val t ≡ 1
         once i c true e = refl
         once i c false e =
-            absurd (c .differ (is (c .x) (c .belowX) ∙ ap (flipped f) (c .alike j l (eqb-false j i e))
-            ∙ sym (is (c .y) (c .belowY))))
+            absurd (c.differ (is c.x c.belowX ∙ ap (flipped f) (c.alike j l (eqb-false j i e))
+            ∙ sym (is c.y c.belowY)))
 
 -- at most two inputs: a constant or one node
 pub small-tree : (n : ℕ) (F : ℕ → Bool) → n ≤ 2 → (t : Tree) × Computes n F t
@@ -73,16 +73,16 @@ small-tree (suc zero) F h = (
   node (λ p q. F (0 + val p * 2 ^ 0)) (input false 0) (constant false),
   record {
     most = λ j. omega (arith, val-le (eqb 0 j) true (λ _. refl));
-    within = λ j l. omega (arith, ap val (ne-eqb 0 j (λ e. omega arith)));
-    computes = λ x l. ap F (number-bit 1 x l);
+    within = λ j l. omega (arith, ap val (ne_eqb 0 j (λ e. omega arith)));
+    computes = λ x l. ap F (number_bit 1 x l);
   },
 )
 small-tree (suc (suc zero)) F h = (
   node (λ p q. F (0 + val p * 2 ^ 0 + val q * 2 ^ 1)) (input false 0) (input false 1),
   record {
     most = most;
-    within = λ j l. omega (arith, ap val (ne-eqb 0 j (λ e. omega arith)), ap val (ne-eqb 1 j (λ e. omega arith)));
-    computes = λ x l. ap F (number-bit 2 x l);
+    within = λ j l. omega (arith, ap val (ne_eqb 0 j (λ e. omega arith)), ap val (ne_eqb 1 j (λ e. omega arith)));
+    computes = λ x l. ap F (number_bit 2 x l);
   },
 )
   where
@@ -92,8 +92,8 @@ small-tree (suc (suc zero)) F h = (
     most (suc (suc j)) =
         omega (
           arith,
-          ap val (ne-eqb 0 (suc (suc j)) (λ e. omega arith)),
+          ap val (ne_eqb 0 (suc (suc j)) (λ e. omega arith)),
           ap val
-              (ne-eqb 1 (suc (suc j)) (λ e. omega arith)),
+              (ne_eqb 1 (suc (suc j)) (λ e. omega arith)),
         )
 small-tree (suc (suc (suc n))) F h = absurd (omega arith)

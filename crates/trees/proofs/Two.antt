@@ -1,17 +1,17 @@
 -- Two inputs as a mask: its members, its size, and what it gathers. Assumes nothing.
-use mathlib.Core.Path.{_≡_, refl, sym, ap, ap₂, _∙_}
-use mathlib.Core.Logic.{_⊎_, inl, inr, ⊎-elim}
-use mathlib.Core.Bool.{Bool, true, false, _||_, or-false}
-use Prim.Native.Nat.{ℕ, _+_, _*_, _^_, _<_}
+use mathlib.Core.Path.{◌≡◌, refl, sym, ap, ap₂, ◌∙◌}
+use mathlib.Core.Logic.{◌⊎◌, inl, inr, ⊎_elim}
+use mathlib.Core.Bool.{Bool, true, false, ◌||◌, or-false}
+use Prim.Native.Nat.{ℕ, ◌+◌, ◌*◌, ◌^◌, ◌<◌}
 use native.Mathlib.Omega.{arith}
 use lib.Dec.{eqb}
-use borrow.Author.Tests.{eq-eqb, ne-eqb, eqb-true}
-use Rattle·bits.specs.Numbers.{bit, val}
-use Rattle·bits.specs.Sets.{size, gather}
-use Rattle·bits.proofs.Bools.{clash, or-left, or-right}
-use Rattle·bits.proofs.Sizes.{size-lt, size-ext, size-sum}
-use Rattle·bits.proofs.Counting.{size-none, size-one}
-use Rattle·bits.proofs.Spreading.{gather-of}
+use borrow.Author.Tests.{eq-eqb, ne_eqb, eqb-true}
+use Rattle.bits.specs.Numbers.{bit, val}
+use Rattle.bits.specs.Sets.{size, gather}
+use Rattle.bits.proofs.Bools.{clash, or_left, or_right}
+use Rattle.bits.proofs.Sizes.{size-lt, size-ext, size-sum}
+use Rattle.bits.proofs.Counting.{size_none, size-one}
+use Rattle.bits.proofs.Spreading.{gather-of}
 
 -- the number of an assignment of two inputs, the lower first
 abbrev pub two : Bool → Bool → ℕ
@@ -38,10 +38,10 @@ two-lt false false = omega arith
 -- ---- a mask of two inputs
 module _ (n i j own : ℕ) (li : i < n) (lj : j < n) (is : (p : ℕ) → p < n → bit own p ≡ (eqb p j || eqb p i)) where
   pub own-i : bit own i ≡ true
-  own-i = is i li ∙ or-right (eqb i j) (eqb i i) (eq-eqb i i refl)
+  own-i = is i li ∙ or_right (eqb i j) (eqb i i) (eq-eqb i i refl)
 
   pub own-j : bit own j ≡ true
-  own-j = is j lj ∙ or-left (eqb j j) (eqb j i) (eq-eqb j j refl)
+  own-j = is j lj ∙ or_left (eqb j j) (eqb j i) (eq-eqb j j refl)
 
   pub own-only : (p : ℕ) → p < n → bit own p ≡ true → (p ≡ j) ⊎ (p ≡ i)
   own-only p l e = go (eqb p j) (eqb p i) refl refl (sym (is p l) ∙ e)
@@ -55,7 +55,7 @@ module _ (n i j own : ℕ) (li : i < n) (lj : j < n) (is : (p : ℕ) → p < n �
   own-size ne =
       sym (size-sum n (λ p. eqb p j) (λ p. eqb p i) (bit own)
       (λ p l. go p (eqb p j) (eqb p i) refl refl ∙ ap val (sym (is p l))))
-      ∙ ap₂ _+_ (one j lj) (one i li)
+      ∙ ap₂ ◌+◌ (one j lj) (one i li)
     where
       one : (k : ℕ) → k < n → size n (λ p. eqb p k) ≡ 1
       one k l = omega (arith, size-one n k, size-lt n (λ p. eqb p k) k l (eq-eqb k k refl))
@@ -70,19 +70,19 @@ module _ (n i j own : ℕ) (li : i < n) (lj : j < n) (is : (p : ℕ) → p < n �
     size-j : size j (bit own) ≡ 0
     size-j =
         size-ext j (bit own) (λ p. false) (λ p l. is p (omega arith)
-        ∙ ap₂ _||_ (ne-eqb p j (λ e. omega arith)) (ne-eqb p i (λ e. omega arith)))
-        ∙ size-none j
+        ∙ ap₂ ◌||◌ (ne_eqb p j (λ e. omega arith)) (ne_eqb p i (λ e. omega arith)))
+        ∙ size_none j
 
     size-i : size i (bit own) ≡ 1
     size-i =
         let low : size i (bit own) ≡ size i (λ p. eqb p j) = size-ext i (bit own) (λ p. eqb p j) (λ p l.
-        is p (omega arith) ∙ ap (λ (t : Bool). eqb p j || t) (ne-eqb p i (λ e. omega arith)) ∙ or-false (eqb p j)) in
+        is p (omega arith) ∙ ap (λ (t : Bool). eqb p j || t) (ne_eqb p i (λ e. omega arith)) ∙ or-false (eqb p j)) in
         omega (arith, low, size-one i j, size-lt i (λ p. eqb p j) j lt (eq-eqb j j refl))
 
     pub gather-two : (x : ℕ) → gather n (bit own) x ≡ two (bit x j) (bit x i)
     gather-two x =
         gather-of n (bit own) x (two (bit x j) (bit x i)) (omega (arith, two-lt (bit x j) (bit x i), four)) (λ p l e.
-        ⊎-elim (λ z. ap (bit x) z ∙ sym (at p 0 (ap (λ (m : ℕ). size m (bit own)) z ∙ size-j)
+        ⊎_elim (λ z. ap (bit x) z ∙ sym (at p 0 (ap (λ (m : ℕ). size m (bit own)) z ∙ size-j)
         ∙ two-low (bit x j) (bit x i)))
         (λ z. ap (bit x) z ∙ sym (at p 1 (ap (λ (m : ℕ). size m (bit own)) z ∙ size-i)
         ∙ two-high (bit x j) (bit x i))) (own-only p l e))

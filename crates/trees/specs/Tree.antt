@@ -1,11 +1,8 @@
 -- Trees of two-input nodes, said without splits, cells or the search.
-use mathlib.Core.Path.{_≡_}
-use mathlib.Core.Bool.{Bool}
-use Prim.Native.Nat.{ℕ, _+_, _^_, _<_}
-use lib.Dec.{eqb}
-use Rattle·bits.specs.Numbers.{bit, val}
-pub use Rattle·bits.specs.Numbers.{flipped}
-use Rattle·tables.specs.Depends.{DependsOn}
+use Rattle.std.specs.Prelude.{◌≡◌, Bool, ℕ, ◌+◌, ◌^◌, ◌<◌, eqb}
+use Rattle.bits.specs.Numbers.{bit, val}
+pub use Rattle.bits.specs.Numbers.{flipped}
+use Rattle.tables.specs.Depends.{DependsOn}
 
 -- a tree is a constant, an input plain or flipped, or a node: any function of two trees
 pub data Tree : Type 0 where

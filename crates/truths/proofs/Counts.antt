@@ -1,34 +1,34 @@
 -- Kinds 1 to 4: how many signals a cell reads. Assumes nothing.
-use mathlib.Core.Path.{_≡_, ap}
+use mathlib.Core.Path.{◌≡◌, ap}
 use mathlib.Core.Bool.{Bool}
-use mathlib.Core.List.{List, [], _∷_}
-use Prim.Native.Nat.{ℕ, _+_, _<_, _≤_}
+use mathlib.Core.List.{List, [], ◌∷◌}
+use Prim.Native.Nat.{ℕ, ◌+◌, ◌<◌, ◌≤◌}
 use native.Mathlib.Omega.{arith}
 use lib.ListN.{length}
 use borrow.Author.Tests.{leb-true, le-leb, lt-leb}
-use Rattle·bits.specs.Numbers.{val}
-use Rattle·bits.specs.Sets.{size}
-use Rattle·bits.proofs.Sizes.{size-more}
-use Rattle·sheets.specs.Network.{Cell, Wired}
-use Rattle·networks.specs.Signals.{cellAt, doesRead}
-use Rattle·networks.proofs.Values.{size-member, reads-most}
-use Rattle·clauses.specs.declared.variables.Size.{Size}
-use Rattle·clauses.specs.declared.variables.Variable.{Variable}
-use Rattle·clauses.specs.declared.variables.Variable.the-variants.{Reads, Many}
-use Rattle·clauses.specs.declared.variables.Literal.the-variants.{Said, Denied}
-use Rattle·truths·specs.specs.Meaning.{means}
-use Rattle·truths·proofs.proofs.OneTrue.{OneTrue, next, either, said, denied}
+use Rattle.bits.specs.Numbers.{val}
+use Rattle.bits.specs.Sets.{size}
+use Rattle.bits.proofs.Sizes.{size-more}
+use Rattle.sheets.specs.Network.{Cell, Wired}
+use Rattle.networks.specs.Signals.{cell_at, doesRead}
+use Rattle.networks.proofs.Values.{size-member, reads-most}
+use Rattle.clauses.specs.declared.variables.Size.{Size}
+use Rattle.clauses.specs.declared.variables.Variable.{Variable}
+use Rattle.clauses.specs.declared.variables.Variable.TheVariants.{Reads, Many}
+use Rattle.clauses.specs.declared.variables.Literal.TheVariants.{Said, Denied}
+use Rattle.truths.specs.Meaning.{means}
+use Rattle.truths.proofs.OneTrue.{OneTrue, next, either, said, denied}
 
-module _ (z : Size) (F : ℕ → Bool) (row : ℕ → ℕ) (cs : List Cell) (i : ℕ) (cell : i < z .cells) where
+module _ (z : Size) (F : ℕ → Bool) (row : ℕ → ℕ) (cs : List Cell) (i : ℕ) (cell : i < z.cells) where
   abbrev n : ℕ
-  n = z .inputs
+  n = z.inputs
 
   abbrev h : Variable → Bool
-  h = means (z .inputs) F row cs
+  h = means z.inputs F row cs
 
-  pub one-more : (p t : ℕ) → p < n + i → t ≤ z .cell
+  pub one_more : (p t : ℕ) → p < n + i → t ≤ z.cell
       → OneTrue z h (Denied (Reads i p) ∷ Denied (Many i p t) ∷ Said (Many i (p + 1) (t + 1)) ∷ [])
-  one-more p t a b =
+  one_more p t a b =
       either z h (Reads i p)
       (λ r. either z h (Many i p t)
       (λ c. next (next (said z h (cell, omega arith, omega arith)
@@ -41,9 +41,9 @@ module _ (z : Size) (F : ℕ → Bool) (row : ℕ → ℕ) (cs : List Cell) (i :
       (λ c. next (denied z h (cell, omega arith, omega arith) c)))
       (λ r. denied z h (cell, omega arith) r)
 
-  pub as-many : (p t : ℕ) → p < n + i → t ≤ z .cell + 1
+  pub as_many : (p t : ℕ) → p < n + i → t ≤ z.cell + 1
       → OneTrue z h (Denied (Many i p t) ∷ Said (Many i (p + 1) t) ∷ [])
-  as-many p t a b =
+  as_many p t a b =
       either z h (Many i p t)
       (λ c. next (said z h (cell, omega arith, omega arith)
       (le-leb t (size (p + 1) (doesRead cs i)) (omega (
@@ -56,12 +56,12 @@ module _ (z : Size) (F : ℕ → Bool) (row : ℕ → ℕ) (cs : List Cell) (i :
   pub at-least-none : OneTrue z h (Said (Many i 0 0) ∷ [])
   at-least-none = said z h (cell, omega arith, omega arith) (le-leb 0 (size 0 (doesRead cs i)) (omega arith))
 
-  pub at-most : Wired (z .cell) (z .inputs) cs → length cs ≡ z .cells
-      → OneTrue z h (Denied (Many i (n + i) (z .cell + 1)) ∷ [])
-  at-most w all =
+  pub at_most : Wired z.cell z.inputs cs → length cs ≡ z.cells
+      → OneTrue z h (Denied (Many i (n + i) (z.cell + 1)) ∷ [])
+  at_most w all =
       denied z h (cell, omega arith, omega arith)
-      (lt-leb (z .cell + 1) (size (n + i) (doesRead cs i)) (omega (
+      (lt-leb (z.cell + 1) (size (n + i) (doesRead cs i)) (omega (
         arith,
-        size-member (n + i) (cellAt cs i .signals),
-        reads-most (z .cell) n cs w i (omega arith),
+        size-member (n + i) (cell_at cs i).signals,
+        reads-most z.cell n cs w i (omega arith),
       )))

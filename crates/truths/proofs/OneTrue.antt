@@ -1,20 +1,20 @@
 -- A clause with a true literal. Assumes nothing.
-use mathlib.Core.Path.{_≡_, refl, sym, ap, _∙_, subst}
+use mathlib.Core.Path.{◌≡◌, refl, sym, ap, ◌∙◌, subst}
 use mathlib.Core.Bool.{Bool, true, false, cond, not}
-use mathlib.Core.List.{List, [], _∷_, _++_}
-use Prim.Native.Nat.{ℕ, zero, suc, _<_}
+use mathlib.Core.List.{List, [], ◌∷◌, ◌++◌}
+use Prim.Native.Nat.{ℕ, zero, suc, ◌<◌}
 use native.Mathlib.Nat.{not-suc-le-zero}
 use native.Mathlib.Omega.{arith}
-use native.Mathlib.Decide.{decLt}
-use Rattle·bits.specs.Lists.{listOf}
-use Rattle·bits.proofs.Bools.{clash}
-use Rattle·clauses.specs.declared.variables.Size.{Size}
-use Rattle·clauses.specs.declared.variables.Variable.{Variable}
-use Rattle·clauses.specs.declared.variables.Literal.{Literal}
-use Rattle·clauses.specs.declared.variables.Literal.the-variants.{Said, Denied}
-use Rattle·clauses.specs.Variables.{Named, variableOf}
-use Rattle·clauses.specs.Clause.{those}
-use Rattle·truths·specs.specs.Meaning.{isTrue}
+use native.Mathlib.Decide.{dec_lt}
+use Rattle.bits.specs.Lists.{list_of}
+use Rattle.bits.proofs.Bools.{clash}
+use Rattle.clauses.specs.declared.variables.Size.{Size}
+use Rattle.clauses.specs.declared.variables.Variable.{Variable}
+use Rattle.clauses.specs.declared.variables.Literal.{Literal}
+use Rattle.clauses.specs.declared.variables.Literal.TheVariants.{Said, Denied}
+use Rattle.clauses.specs.Variables.{Named, variableOf}
+use Rattle.clauses.specs.Clause.{those}
+use Rattle.truths.specs.Meaning.{isTrue}
 
 module _ (z : Size) (h : Variable → Bool) where
   -- one literal at least is true, and what it names exists
@@ -32,20 +32,20 @@ module _ (z : Size) (h : Variable → Bool) where
 
   -- one of the values of f below n
   pub true-list : (n : ℕ) (f : ℕ → Literal) (j : ℕ) → j < n → Named z (variableOf (f j)) → isTrue h (f j) ≡ true
-      → OneTrue (listOf n f)
-  unfolding listOf
+      → OneTrue (list_of n f)
+  unfolding list_of
   true-list zero f j l a b = absurd (not-suc-le-zero l)
-  true-list (suc n) f j l a b = elim (decLt j n) [
-    | yes g ↦ true-left (listOf n f) (f n ∷ []) (true-list n f j g a b)
+  true-list (suc n) f j l a b = elim (dec_lt j n) [
+    | yes g ↦ true-left (list_of n f) (f n ∷ []) (true-list n f j g a b)
     | no g ↦ let e : j ≡ n = omega arith in
-        subst (λ (k : ℕ). OneTrue (listOf n f ++ (f k ∷ []))) e (true-right (listOf n f) (f j ∷ []) (here a b))
+        subst (λ (k : ℕ). OneTrue (list_of n f ++ (f k ∷ []))) e (true-right (list_of n f) (f j ∷ []) (here a b))
   ]
 
   pub true-those : (n : ℕ) (s : ℕ → Bool) (f : ℕ → Literal) (j : ℕ) → j < n → s j ≡ true → Named z (variableOf (f j))
       → isTrue h (f j) ≡ true → OneTrue (those n s f)
   unfolding those
   true-those zero s f j l m a b = absurd (not-suc-le-zero l)
-  true-those (suc n) s f j l m a b = elim (decLt j n) [
+  true-those (suc n) s f j l m a b = elim (dec_lt j n) [
     | yes g ↦ old (s n) (true-those n s f j g m a b)
     | no g ↦ let e : j ≡ n = omega arith in new (s n) (ap s (sym e) ∙ m) e
   ]

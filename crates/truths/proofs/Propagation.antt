@@ -1,24 +1,24 @@
 -- What follows from true clauses is true: were a step's literals all false, each variable that is set on the way would
 -- be set as it is, and there would be no conflict. Assumes nothing.
-use mathlib.Core.Path.{_≡_, refl, sym, ap, ap₂, _∙_, subst}
-use mathlib.Core.Bool.{Bool, true, false, cond, not, _||_, or-false, or-assoc}
-use mathlib.Core.List.{List, [], _∷_, _++_}
-use Prim.Native.Nat.{ℕ, zero, suc, _+_, _-_, _/_, _%_, _<_}
-use native.Mathlib.Decide.{decLt}
+use mathlib.Core.Path.{◌≡◌, refl, sym, ap, ap₂, ◌∙◌, subst}
+use mathlib.Core.Bool.{Bool, true, false, cond, not, ◌||◌, or-false, or_assoc}
+use mathlib.Core.List.{List, [], ◌∷◌, ◌++◌}
+use Prim.Native.Nat.{ℕ, zero, suc, ◌+◌, ◌-◌, ◌/◌, ◌%◌, ◌<◌}
+use native.Mathlib.Decide.{dec_lt}
 use native.Mathlib.Omega.{arith}
 use lib.Dec.{eqb}
 use borrow.Author.Tests.{eqb-true}
-use Rattle·bits.specs.Numbers.{flipped}
-use Rattle·bits.specs.Lists.{listOf}
-use Rattle·bits.proofs.Bools.{clash, or-none}
-use Rattle·clauses.specs.Clause.{Question}
-use Rattle·clauses.specs.Step.{literalsAt, literalAt, hintsAt, hintAt, clauseAt}
-use Rattle·following.specs.declared.open.Open.{Open}
-use Rattle·following.specs.declared.open.Open.the-variants.{Nothing, One, Several}
-use Rattle·following.specs.Values.{isTrue, isFalse, isOpen, opposite, made, oneMore, seen, openAfter, openIn}
-use Rattle·following.specs.Following.{Following, conflict, going, denying, byOpen, hinting, denied, used, isConflict}
-use Rattle·following.specs.Following.{follows}
-use Rattle·truths·specs.specs.Meaning.{says, someTrue}
+use Rattle.bits.specs.Numbers.{flipped}
+use Rattle.bits.specs.Lists.{list_of}
+use Rattle.bits.proofs.Bools.{clash, or-none}
+use Rattle.clauses.specs.Clause.{Question}
+use Rattle.clauses.specs.Step.{literalsAt, literalAt, hintsAt, hintAt, clauseAt}
+use Rattle.following.specs.declared.open.Open.{Open}
+use Rattle.following.specs.declared.open.Open.TheVariants.{Nothing, One, Several}
+use Rattle.following.specs.Values.{isTrue, isFalse, isOpen, opposite, made, oneMore, seen, openAfter, open_in}
+use Rattle.following.specs.Following.{Following, conflict, going, denying, byOpen, hinting, denied, used, isConflict}
+use Rattle.following.specs.Following.{follows}
+use Rattle.truths.specs.Meaning.{says, someTrue}
 
 -- the opposite literal
 opposite-half : (l : ℕ) → opposite l / 2 ≡ l / 2
@@ -32,17 +32,17 @@ module _ (τ : ℕ → Bool) where
   some-append : (ls ks : List ℕ) → someTrue τ (ls ++ ks) ≡ (someTrue τ ls || someTrue τ ks)
   some-append [] ks = refl
   some-append (l ∷ ls) ks = ap (λ (t : Bool). says τ l || t) (some-append ls ks)
-      ∙ sym (or-assoc (says τ l) (someTrue τ ls) (someTrue τ ks))
+      ∙ sym (or_assoc (says τ l) (someTrue τ ls) (someTrue τ ks))
 
   -- where none of them is true, each is false
-  none-true : (n : ℕ) (f : ℕ → ℕ) → someTrue τ (listOf n f) ≡ false → (j : ℕ) → j < n → says τ (f j) ≡ false
-  unfolding listOf
-  none-true zero f e j l = absurd (omega arith)
-  none-true (suc n) f e j l =
-      let (a, b) = or-none (someTrue τ (listOf n f)) (says τ (f n) || false)
-      (sym (some-append (listOf n f) (f n ∷ [])) ∙ e) in
-      elim (decLt j n) [
-        | yes g ↦ none-true n f a j g
+  none_true : (n : ℕ) (f : ℕ → ℕ) → someTrue τ (list_of n f) ≡ false → (j : ℕ) → j < n → says τ (f j) ≡ false
+  unfolding list_of
+  none_true zero f e j l = absurd (omega arith)
+  none_true (suc n) f e j l =
+      let (a, b) = or-none (someTrue τ (list_of n f)) (says τ (f n) || false)
+      (sym (some-append (list_of n f) (f n ∷ [])) ∙ e) in
+      elim (dec_lt j n) [
+        | yes g ↦ none_true n f a j g
         | no g ↦ let k : j ≡ n = omega arith in ap (λ (i : ℕ). says τ (f i)) k ∙ sym (or-false (says τ (f n))) ∙ b
       ]
 
@@ -109,7 +109,7 @@ module _ (τ : ℕ → Bool) where
     unfolding openAfter
     tells-after [] o b t = subst (Tells o) (sym (or-false b)) t
     tells-after (l ∷ ls) o b t =
-        subst (Tells (openAfter σ (seen σ l o) ls)) (or-assoc b (says τ l) (someTrue τ ls))
+        subst (Tells (openAfter σ (seen σ l o) ls)) (or_assoc b (says τ l) (someTrue τ ls))
         (tells-after ls (seen σ l o) (b || says τ l) (tells-seen l o b t))
 
   -- ---- how far it has come: no conflict, and what is set is true
@@ -128,7 +128,7 @@ module _ (τ : ℕ → Bool) where
 
   hinting-sound : (ls : List ℕ) (f : Following) → someTrue τ ls ≡ true → Sound f → Sound (hinting ls f)
   hinting-sound ls conflict e s = s
-  hinting-sound ls (going σ) e s = go (openIn σ ls) (tells-after σ s ls Nothing false refl)
+  hinting-sound ls (going σ) e s = go (open_in σ ls) (tells-after σ s ls Nothing false refl)
     where
       go : (o : Open) → Tells o (someTrue τ ls) → Sound (byOpen σ o)
       go Nothing t = clash e t
@@ -146,13 +146,13 @@ module _ (τ : ℕ → Bool) where
       denying-sound (literal k) (denied literal k) (h k (omega arith))
       (denied-sound literal k (λ j l. h j (omega arith)))
 
-  used-sound : (hinted : ℕ → List ℕ) (f : Following) (k : ℕ) → ((j : ℕ) → j < k → someTrue τ (hinted j) ≡ true)
+  used_sound : (hinted : ℕ → List ℕ) (f : Following) (k : ℕ) → ((j : ℕ) → j < k → someTrue τ (hinted j) ≡ true)
       → Sound f → Sound (used hinted f k)
   unfolding used
-  used-sound hinted f zero h s = s
-  used-sound hinted f (suc k) h s =
+  used_sound hinted f zero h s = s
+  used_sound hinted f (suc k) h s =
       hinting-sound (hinted k) (used hinted f k) (h k (omega arith))
-      (used-sound hinted f k (λ j l. h j (omega arith)) s)
+      (used_sound hinted f k (λ j l. h j (omega arith)) s)
 
   no-conflict : (f : Following) → Sound f → isConflict f ≡ true → ⊥
   no-conflict conflict s e = s
@@ -161,14 +161,14 @@ module _ (τ : ℕ → Bool) where
   -- ---- so a step that follows is true
   pub follows-true : (q : Question) (c : List ℕ) (at : ℕ)
       → ((k : ℕ) → k < hintsAt c at → someTrue τ (clauseAt q c (hintAt c at k)) ≡ true) → follows q c at ≡ true
-      → someTrue τ (listOf (literalsAt c at) (literalAt c at)) ≡ true
+      → someTrue τ (list_of (literalsAt c at) (literalAt c at)) ≡ true
   unfolding follows
-  follows-true q c at hints e = go (someTrue τ (listOf (literalsAt c at) (literalAt c at))) refl
+  follows-true q c at hints e = go (someTrue τ (list_of (literalsAt c at) (literalAt c at))) refl
     where
-      go : (t : Bool) → someTrue τ (listOf (literalsAt c at) (literalAt c at)) ≡ t → t ≡ true
+      go : (t : Bool) → someTrue τ (list_of (literalsAt c at) (literalAt c at)) ≡ t → t ≡ true
       go true r = refl
       go false r =
           let hinted : ℕ → List ℕ = λ k. clauseAt q c (hintAt c at k) in
           let start = denied (literalAt c at) (literalsAt c at) in
-          absurd (no-conflict (used hinted start (hintsAt c at)) (used-sound hinted start (hintsAt c at) hints
-          (denied-sound (literalAt c at) (literalsAt c at) (none-true τ (literalsAt c at) (literalAt c at) r))) e)
+          absurd (no-conflict (used hinted start (hintsAt c at)) (used_sound hinted start (hintsAt c at) hints
+          (denied-sound (literalAt c at) (literalsAt c at) (none_true τ (literalsAt c at) (literalAt c at) r))) e)

@@ -1,26 +1,24 @@
 -- What the variables of a certificate mean in a network, and when a clause is true.
-use mathlib.Core.Bool.{Bool, false, not, _&&_, _||_, Bool·beq}
-use mathlib.Core.List.{List, [], _∷_}
-use Prim.Native.Nat.{ℕ, _+_, _/_, _%_}
-use lib.Dec.{leb, eqb}
-use Rattle·bits.specs.Numbers.{bit, flipped}
-use Rattle·bits.specs.Below.{every}
-use Rattle·bits.specs.Sets.{size}
-use Rattle·sheets.specs.Network.{Cell}
-use Rattle·networks.specs.Signals.{doesRead, values}
-use Rattle·networks.specs.Swapping.{swappable}
-use Rattle·clauses.specs.declared.variables.Variable.{Variable}
-use Rattle·clauses.specs.declared.variables.Variable.the-variants.{Reads, Many, Differ, Apart, Same}
-use Rattle·clauses.specs.declared.variables.Literal.{Literal}
-use Rattle·clauses.specs.declared.variables.Literal.the-variants.{Said, Denied}
+use Rattle.std.specs.Prelude.{Bool, false, not, ◌&&◌, ◌||◌, List, [], ◌∷◌, ℕ, ◌+◌, ◌/◌, ◌%◌, leb, eqb}
+use Rattle.std.specs.Bool.{beq}
+use Rattle.bits.specs.Numbers.{bit, flipped}
+use Rattle.bits.specs.Below.{every}
+use Rattle.bits.specs.Sets.{size}
+use Rattle.sheets.specs.Network.{Cell}
+use Rattle.networks.specs.Signals.{doesRead, values}
+use Rattle.networks.specs.Swapping.{swappable}
+use Rattle.clauses.specs.declared.variables.Variable.{Variable}
+use Rattle.clauses.specs.declared.variables.Variable.TheVariants.{Reads, Many, Differ, Apart, Same}
+use Rattle.clauses.specs.declared.variables.Literal.{Literal}
+use Rattle.clauses.specs.declared.variables.Literal.TheVariants.{Said, Denied}
 
 -- cell i gives different bits at the rows a and b
 abbrev pub differs : ℕ → (ℕ → ℕ) → List Cell → ℕ → ℕ → ℕ → Bool
-differs n row cs i a b = not (Bool·beq (values n cs (bit (row a)) (n + i)) (values n cs (bit (row b)) (n + i)))
+differs n row cs i a b = not (beq (values n cs (bit (row a)) (n + i)) (values n cs (bit (row b)) (n + i)))
 
 -- each cell below i reads both or neither of p and q
 abbrev pub readAlike : List Cell → ℕ → ℕ → ℕ → Bool
-readAlike cs p q i = every i (λ j. Bool·beq (doesRead cs j p) (doesRead cs j q))
+readAlike cs p q i = every i (λ j. beq (doesRead cs j p) (doesRead cs j q))
 
 -- the variables, where F is the table
 abbrev pub means : ℕ → (ℕ → Bool) → (ℕ → ℕ) → List Cell → Variable → Bool

@@ -1,13 +1,10 @@
 -- All ways in their order, and the first that turns one table into another.
-use mathlib.Core.Bool.{Bool, Bool·beq}
-use mathlib.Core.List.{List, [], _∷_}
-use Prim.Native.Nat.{ℕ, _/_, _%_}
-use lib.Dec.{eqb}
-use lib.ListN.{getD}
-use Rattle·bits.specs.Numbers.{bit}
-use Rattle·bits.specs.Below.{every, least}
-use Rattle·turning·specs.specs.declared.ways.Way.{Way}
-use Rattle·turning·specs.specs.Ways.{flipped, moved, wayCount}
+use Rattle.std.specs.Prelude.{Bool, List, [], ◌∷◌, ℕ, ◌/◌, ◌%◌, eqb, get_or}
+use Rattle.std.specs.Bool.{beq}
+use Rattle.bits.specs.Numbers.{bit}
+use Rattle.bits.specs.Below.{every, least}
+use Rattle.turning.specs.declared.ways.Way.{Way}
+use Rattle.turning.specs.Ways.{flipped, moved, wayCount}
 
 -- the orders of the inputs as numbers p0 p1 p2, from the least on
 abbrev pub orders : List ℕ
@@ -19,11 +16,11 @@ ordered flip mask o = record { flip = flip; mask = mask; p0 = o / 100; p1 = o / 
 
 -- way i
 unfoldable pub wayAt : ℕ → Way
-wayAt i = ordered (eqb (i / 48) 1) (i / 6 % 8) (getD orders (i % 6) 0)
+wayAt i = ordered (eqb (i / 48) 1) (i / 6 % 8) (get_or orders (i % 6) 0)
 
 -- whether g at x is f at y, flipped if so said
 abbrev pub agrees : Way → ℕ → ℕ → ℕ → Bool
-agrees w f g x = Bool·beq (bit g x) (flipped (w .flip) (bit f (moved w x)))
+agrees w f g x = beq (bit g x) (flipped w.flip (bit f (moved w x)))
 
 -- whether the way turns f into g
 unfoldable pub turns : Way → ℕ → ℕ → Bool

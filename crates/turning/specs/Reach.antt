@@ -1,9 +1,7 @@
 -- Whether one table can be turned into another.
-use mathlib.Core.Bool.{Bool}
-use Prim.Native.Nat.{ℕ}
-use lib.Dec.{ltb}
-use Rattle·turning·specs.specs.Ways.{wayCount}
-use Rattle·turning·specs.specs.Listing.{firstWay}
+use Rattle.std.specs.Prelude.{Bool, ℕ, ltb}
+use Rattle.turning.specs.Ways.{wayCount}
+use Rattle.turning.specs.Listing.{firstWay}
 
 -- whether some way turns f into g
 abbrev pub reaches : ℕ → ℕ → Bool

@@ -1,14 +1,12 @@
 // Turn one three-input table into another.
-use crate::ways::Way;
-use crate::ways::first_way;
-use crate::ways::way_at;
-use refusals::verdicts::Refusal;
-use refusals::verdicts::Verdict;
-use refusals::verdicts::refuse;
-ghost use mathlib.Core.Path.{_≡_};
-ghost use Rattle·turning·specs.specs.Turn.{turnOutcome};
+ghost use Rattle.std.specs.Prelude.{◌≡◌};
+ghost use Rattle.turning.specs.Turn.{turnOutcome};
+
+use crate::ways::{Way, first_way, way_at};
+use refusals::verdicts::{Refusal, Verdict, refuse};
 
 // The first way, if there is one.
+#[derive(Drop)]
 pub struct TurnAnswer {
     pub verdict: Verdict,
     pub way: Way,
@@ -16,7 +14,7 @@ pub struct TurnAnswer {
 
 // The first way that turns the one table into the other.
 pub fn turn(first: u8, second: u8) -> TurnAnswer
-    ensures { λ r. ⌜ r ≡ turnOutcome first second ⌝ }
+    ensures { result ≡ turnOutcome first second }
 {
     let i = first_way(first, second);
     if i < 96 {

@@ -1,13 +1,13 @@
 // The 96 ways to turn one three-input table into another: inputs swapped, inputs flipped, the output flipped.
-ghost use mathlib.Core.Path.{_≡_};
-ghost use mathlib.Core.Bool.{Bool·beq};
-ghost use Prim.Native.Nat.{_<_};
-ghost use Rattle·bits.specs.Numbers.{bit, val};
-ghost use Rattle·turning·specs.specs.Ways.{flipped, moved, IsWay, wayCount};
-ghost use Rattle·turning·specs.specs.Listing.{wayAt, turns, firstWay};
+ghost use Rattle.std.specs.Prelude.{◌≡◌, ◌<◌};
+ghost use Rattle.std.specs.Bool.{beq};
+ghost use Rattle.bits.specs.Numbers.{bit, val};
+ghost use Rattle.turning.specs.Ways.{flipped, moved, IsWay, wayCount};
+ghost use Rattle.turning.specs.Listing.{wayAt, turns, firstWay};
 
 // The second table at x is the first at y, flipped if so said. Bit j of y is bit pj of x, flipped if bit j of the mask
 // is set.
+#[derive(Drop)]
 pub struct Way {
     pub flip: bool,
     pub mask: u8,
@@ -21,8 +21,8 @@ const ORDERS: [u8; 6] = [12, 21, 102, 120, 201, 210];
 
 // Way i: by the output flip, then the mask, then the order of the inputs.
 pub fn way_at(i: u8) -> Way
-    requires { ⌜ i < wayCount ⌝ }
-    ensures { λ r. ⌜ r ≡ wayAt i ⌝ }
+    requires { i < wayCount }
+    ensures { result ≡ wayAt i }
 {
     let order = ORDERS[(i % 6) as usize];
     Way {
@@ -35,14 +35,14 @@ pub fn way_at(i: u8) -> Way
 }
 
 fn bit_of(x: u8, j: u8) -> bool
-    requires { ⌜ j < 8 ⌝ }
-    ensures { λ r. ⌜ r ≡ bit x j ⌝ }
+    requires { j < 8 }
+    ensures { result ≡ bit x j }
 {
     (x >> j) & 1 == 1
 }
 
 fn flip_if(flip: bool, b: bool) -> bool
-    ensures { λ r. ⌜ r ≡ flipped flip b ⌝ }
+    ensures { result ≡ flipped flip b }
 {
     if flip {
         return !b;
@@ -51,7 +51,7 @@ fn flip_if(flip: bool, b: bool) -> bool
 }
 
 fn same(a: bool, b: bool) -> bool
-    ensures { λ r. ⌜ r ≡ Bool·beq a b ⌝ }
+    ensures { result ≡ beq a b }
 {
     if a {
         return b;
@@ -61,16 +61,16 @@ fn same(a: bool, b: bool) -> bool
 
 // A bit of y, as a number.
 fn digit(flip: bool, x: u8, p: u8) -> u8
-    requires { ⌜ p < 8 ⌝ }
-    ensures { λ r. ⌜ (r ≡ val (flipped flip (bit x p))) × (r < 2) ⌝ }
+    requires { p < 8 }
+    ensures { (result ≡ val (flipped flip (bit x p))) × (result < 2) }
 {
     flip_if(flip, bit_of(x, p)) as u8
 }
 
 // The assignment y of x.
 fn moved_to(w: Way, x: u8) -> u8
-    requires { ⌜ IsWay w ⌝ }
-    ensures { λ r. ⌜ r ≡ moved w x ⌝ }
+    requires { IsWay w }
+    ensures { result ≡ moved w x }
 {
     let low = digit(bit_of(w.mask, 0), x, w.p0);
     let middle = digit(bit_of(w.mask, 1), x, w.p1);
@@ -80,8 +80,8 @@ fn moved_to(w: Way, x: u8) -> u8
 
 // Whether the way turns table f into table g.
 fn does_turn(w: Way, f: u8, g: u8) -> bool
-    requires { ⌜ IsWay w ⌝ }
-    ensures { λ r. ⌜ r ≡ turns w f g ⌝ }
+    requires { IsWay w }
+    ensures { result ≡ turns w f g }
 {
     let mut x = 0;
     while x < 8 {
@@ -96,7 +96,7 @@ fn does_turn(w: Way, f: u8, g: u8) -> bool
 
 // The place of the first way that does, or how many ways there are if none does.
 pub fn first_way(f: u8, g: u8) -> u8
-    ensures { λ r. ⌜ r ≡ firstWay f g ⌝ }
+    ensures { result ≡ firstWay f g }
 {
     let mut i = 0;
     while i < 96 {

@@ -1,38 +1,38 @@
 -- Sheets made with cells of two inputs: a cell of two signals depends on both, and each signal is read at most once.
 -- Assumes nothing.
-use mathlib.Core.Path.{_≡_, refl, sym, ap, ap₂, _∙_, subst}
-use mathlib.Core.Logic.{⊎-elim}
+use mathlib.Core.Path.{◌≡◌, refl, sym, ap, ap₂, ◌∙◌, subst}
+use mathlib.Core.Logic.{⊎_elim}
 use mathlib.Core.Bool.{Bool, true, false, cond}
-use mathlib.Core.List.{List, [], _∷_, _++_}
-use Prim.Native.Nat.{ℕ, zero, suc, _+_, _*_, _/_, _%_, _^_, _<_, _≤_}
+use mathlib.Core.List.{List, [], ◌∷◌, ◌++◌}
+use Prim.Native.Nat.{ℕ, zero, suc, ◌+◌, ◌*◌, ◌/◌, ◌%◌, ◌^◌, ◌<◌, ◌≤◌}
 use native.Mathlib.Omega.{arith}
-use native.Mathlib.Decide.{decLt}
+use native.Mathlib.Decide.{dec_lt}
 use lib.Dec.{eqb}
-use lib.ListN.{length, getD, take}
+use lib.ListN.{length, get_or, take}
 use lib.Seq.{take-suc, take-length}
-use borrow.Author.Tests.{eq-eqb, ne-eqb}
-use Rattle·bits.specs.Numbers.{bit, val}
-use Rattle·bits.specs.Sets.{Agree, size, gather}
-use Rattle·bits.proofs.Numbers.{val-bit, bit-number}
-use Rattle·bits.proofs.Spreading.{gather-lt, gather-ext}
-use Rattle·bits.proofs.Members.{Place, place, gather-place}
-use Rattle·tables.specs.Depends.{DependsOn}
-use Rattle·tables.specs.Counting.{AllCount}
-use Rattle·splits.specs.Split.{readsD, readsH, Possible}
-use Rattle·splits.specs.Pair.{codeAt, tableD, bitH}
-use Rattle·splits.proofs.Few.{column-there, codeAt-gather, pair-gives}
-use Rattle·splits.proofs.Possible.{possible-few}
-use Rattle·best.specs.Best.{Candidate}
-use Rattle·best.proofs.Next.{next-counts}
-use Rattle·sheets.specs.Network.{Cell}
-use Rattle·sheets.specs.Reading.{times, reads}
-use Rattle·chains.specs.Chain.{pick, firstCell, nextSignals, nextTable}
-use Rattle·chains.specs.Words.{Makes, ends, goes}
-use Rattle·chains.proofs.Lists.{AllBelow, pick-length}
-use Rattle·chains.proofs.Right.{first-count}
-use Rattle·chains.proofs.One.{next-inputs, next-below}
-use Rattle·trees.proofs.Pairs.{pair-of, not-a, not-b}
-use Rattle·printing.proofs.Lengths.{times-none}
+use borrow.Author.Tests.{eq-eqb, ne_eqb}
+use Rattle.bits.specs.Numbers.{bit, val}
+use Rattle.bits.specs.Sets.{Agree, size, gather}
+use Rattle.bits.proofs.Numbers.{val-bit, bit-number}
+use Rattle.bits.proofs.Spreading.{gather-lt, gather_ext}
+use Rattle.bits.proofs.Members.{Place, place, gather-place}
+use Rattle.tables.specs.Depends.{DependsOn}
+use Rattle.tables.specs.Counting.{AllCount}
+use Rattle.splits.specs.Split.{readsD, readsH, Possible}
+use Rattle.splits.specs.Pair.{code_at, tableD, bitH}
+use Rattle.splits.proofs.Few.{column-there, codeAt-gather, pair-gives}
+use Rattle.splits.proofs.Possible.{possible-few}
+use Rattle.best.specs.Best.{Candidate}
+use Rattle.best.proofs.Next.{next-counts}
+use Rattle.sheets.specs.Network.{Cell}
+use Rattle.sheets.specs.Reading.{times, reads}
+use Rattle.chains.specs.Chain.{pick, firstCell, nextSignals, nextTable}
+use Rattle.chains.specs.Words.{Makes, ends, goes}
+use Rattle.chains.proofs.Lists.{AllBelow, pick-length}
+use Rattle.chains.proofs.Right.{first_count}
+use Rattle.chains.proofs.One.{next-inputs, next-below}
+use Rattle.trees.proofs.Pairs.{pair_of, not_a, not-b}
+use Rattle.printing.proofs.Lengths.{times_none}
 
 -- ---- the first cell depends on both of its inputs
 
@@ -44,88 +44,88 @@ module _ (n : ℕ) (F : ℕ → Bool) (A B : ℕ) (c : Candidate n 2 1 A B) (Q :
   D = tableD n F (bit A) (bit B) 0
 
   abbrev code : ℕ → ℕ
-  code x = codeAt n F (bit A) (bit B) (gather n (readsD (bit A) (bit B)) x)
+  code x = code_at n F (bit A) (bit B) (gather n (readsD (bit A) (bit B)) x)
 
   -- one bit, which is D's
-  code-is : (x : ℕ) → code x ≡ val (bit D (gather n sD x))
+  code_is : (x : ℕ) → code x ≡ val (bit D (gather n sD x))
   unfolding tableD
-  code-is x =
+  code_is x =
       let small : code x < 2 = omega (
         arith,
         codeAt-gather n F (bit A) (bit B) x,
         column-there n F (bit A) (bit B) (gather n (bit B) x) (gather n (bit A) x) (gather-lt n (bit A) x),
-        possible-few n F (bit A) (bit B) (c .apart) 1 Q (gather n (bit B) x),
+        possible-few n F (bit A) (bit B) c.apart 1 Q (gather n (bit B) x),
       ) in
       let whole : code x ≡ code x / 2 ^ 0 % 2 = omega (arith, small) in
       whole ∙ sym (val-bit (code x) 0)
-      ∙ ap val (sym (bit-number (2 ^ size n sD) (λ v. bit (codeAt n F (bit A) (bit B) v) 0) (gather n sD x)
+      ∙ ap val (sym (bit-number (2 ^ size n sD) (λ v. bit (code_at n F (bit A) (bit B) v) 0) (gather n sD x)
       (gather-lt n sD x)))
 
   own-counts : AllCount n F → (j : ℕ) → j < size n sD → DependsOn (size n sD) (bit D) j
   own-counts all j h = go (place n sD j h)
     where
       go : Place n sD j → DependsOn (size n sD) (bit D) j
-      go w = from (all (w .at) (w .below))
+      go w = from (all w.at w.below)
         where
-          from : DependsOn n F (w .at) → DependsOn (size n sD) (bit D) j
+          from : DependsOn n F w.at → DependsOn (size n sD) (bit D) j
           from d = record {
-            x = gather n sD (d .x);
-            y = gather n sD (d .y);
-            belowX = gather-lt n sD (d .x);
-            belowY = gather-lt n sD (d .y);
+            x = gather n sD d.x;
+            y = gather n sD d.y;
+            belowX = gather-lt n sD d.x;
+            belowY = gather-lt n sD d.y;
             alike = λ i l ne. let v = place n sD i l in
-                gather-place n sD (d .x) i v
-                ∙ d .alike (v .at) (v .below) (λ e. ne (sym (v .rank) ∙ ap (λ (q : ℕ). size q sD) e ∙ w .rank))
-                ∙ sym (gather-place n sD (d .y) i v);
-            differ = λ e. d .differ (same (code-is (d .x) ∙ ap val e ∙ sym (code-is (d .y))));
+                gather-place n sD d.x i v
+                ∙ d.alike v.at v.below (λ e. ne (sym v.rank ∙ ap (λ (q : ℕ). size q sD) e ∙ w.rank))
+                ∙ sym (gather-place n sD d.y i v);
+            differ = λ e. d.differ (same (code_is d.x ∙ ap val e ∙ sym (code_is d.y)));
           }
             where
-              agree : Agree n (readsH (bit A) (bit B)) (d .x) (d .y)
-              agree p l e = d .alike p l (λ q. ⊎-elim (λ r. not-a n F A B c Q p e (q ∙ r))
-                  (λ r. not-b n F A B c Q p e (q ∙ r)) (pair-of n A B c .only (w .at) (w .below) (w .member)))
+              agree : Agree n (readsH (bit A) (bit B)) d.x d.y
+              agree p l e = d.alike p l (λ q. ⊎_elim (λ r. not_a n F A B c Q p e (q ∙ r))
+                  (λ r. not-b n F A B c Q p e (q ∙ r)) ((pair_of n A B c).only w.at w.below w.member))
 
-              same : code (d .x) ≡ code (d .y) → F (d .x) ≡ F (d .y)
+              same : code d.x ≡ code d.y → F d.x ≡ F d.y
               same e =
                   let k = size n (readsH (bit A) (bit B)) in
-                  pair-gives n F (bit A) (bit B) (d .x) (d .belowX)
+                  pair-gives n F (bit A) (bit B) d.x d.belowX
                   ∙ ap₂ (λ (g i : ℕ). bitH n F (bit A) (bit B) (g + i * 2 ^ k))
-                  (gather-ext n (readsH (bit A) (bit B)) (d .x) (d .y) agree) e
-                  ∙ sym (pair-gives n F (bit A) (bit B) (d .y) (d .belowY))
+                  (gather_ext n (readsH (bit A) (bit B)) d.x d.y agree) e
+                  ∙ sym (pair-gives n F (bit A) (bit B) d.y d.belowY)
 
 -- ---- each cell of two signals does
 
 abbrev pub Both : Cell → Type 0
-Both c = length (c .signals) ≡ 2 → (j : ℕ) → j < 2 → DependsOn 2 (bit (c .table)) j
+Both c = length c.signals ≡ 2 → (j : ℕ) → j < 2 → DependsOn 2 (bit c.table) j
 
 abbrev pub AllBoth : List Cell → Type 0
 AllBoth [] = Unit {0}
 AllBoth (c ∷ cs) = Both c × AllBoth cs
 
-pub makes-both : {i : ℕ} {l : List ℕ} {T : ℕ} {cs : List Cell} → Makes 2 i l T cs
+pub makes_both : {i : ℕ} {l : List ℕ} {T : ℕ} {cs : List Cell} → Makes 2 i l T cs
     → (2 ≤ length l → AllCount (length l) (bit T)) → AllBoth cs
-makes-both (ends {l = l} {T = T} h) all =
+makes_both (ends {l = l} {T = T} h) all =
     (λ q j g. subst (λ (m : ℕ). DependsOn m (bit T) j) q (all (omega arith) j (omega arith)), tt)
-makes-both (goes {i = i} {l = l} {T = T} {A = A} {B = B} h b m) all =
+makes_both (goes {i = i} {l = l} {T = T} {A = A} {B = B} h b m) all =
     let every = all (omega arith) in
     let two : size (length l) (readsD (bit A) (bit B)) ≡ 2 =
     omega (
       arith,
-      first-count l (b .candidate),
+      first_count l b.candidate,
       pick-length (length l) (readsD (bit A) (bit B)) l,
-      b .candidate .more,
-      b .candidate .most,
+      b.candidate.more,
+      b.candidate.most,
     ) in (
       λ q j g. subst (λ (k : ℕ). DependsOn k (bit (tableD (length l) (bit T) (bit A) (bit B) 0)) j) two
-          (own-counts (length l) (bit T) A B (b .candidate) (b .possible) every j (omega arith)),
-      makes-both m (λ _. subst (λ (k : ℕ). AllCount k (bit (nextTable l T A B))) (sym (next-inputs l A B i))
+          (own-counts (length l) (bit T) A B b.candidate b.possible every j (omega arith)),
+      makes_both m (λ _. subst (λ (k : ℕ). AllCount k (bit (nextTable l T A B))) (sym (next-inputs l A B i))
           (next-counts (length l) 2 (bit T) A B b every)),
     )
 
 -- ---- each signal is read at most once
 
-pub times-snoc : (x : ℕ) (l : List ℕ) (a : ℕ) → times x (l ++ (a ∷ [])) ≡ times x l + val (eqb x a)
-times-snoc x [] a = omega arith
-times-snoc x (b ∷ l) a = omega (arith, times-snoc x l a)
+pub times_snoc : (x : ℕ) (l : List ℕ) (a : ℕ) → times x (l ++ (a ∷ [])) ≡ times x l + val (eqb x a)
+times_snoc x [] a = omega arith
+times_snoc x (b ∷ l) a = omega (arith, times_snoc x l a)
 
 module _ (s t : ℕ → Bool) (l : List ℕ) (x : ℕ) where
   -- what two sets without a common member pick is among the whole
@@ -134,21 +134,21 @@ module _ (s t : ℕ → Bool) (l : List ℕ) (x : ℕ) where
   unfolding pick
   picked zero h apart = omega arith
   picked (suc n) h apart =
-      let a = getD l n 0 in
+      let a = get_or l n 0 in
       omega (
         arith,
         go (s n) (t n) (apart n (omega arith)),
         picked n (omega arith) (λ j g. apart j (omega arith)),
         ap (times x) (take-suc l n 0 (omega arith)),
-        times-snoc x (take n l) a,
+        times_snoc x (take n l) a,
       )
     where
-      go : (p q : Bool) → (p ≡ true → q ≡ true → ⊥) → times x (cond p (pick n s l ++ (getD l n 0 ∷ [])) (pick n s l))
-          + times x (cond q (pick n t l ++ (getD l n 0 ∷ [])) (pick n t l))
-          ≤ times x (pick n s l) + times x (pick n t l) + val (eqb x (getD l n 0))
+      go : (p q : Bool) → (p ≡ true → q ≡ true → ⊥) → times x (cond p (pick n s l ++ (get_or l n 0 ∷ [])) (pick n s l))
+          + times x (cond q (pick n t l ++ (get_or l n 0 ∷ [])) (pick n t l))
+          ≤ times x (pick n s l) + times x (pick n t l) + val (eqb x (get_or l n 0))
       go true true f = absurd (f refl refl)
-      go true false f = omega (arith, times-snoc x (pick n s l) (getD l n 0))
-      go false true f = omega (arith, times-snoc x (pick n t l) (getD l n 0))
+      go true false f = omega (arith, times_snoc x (pick n s l) (get_or l n 0))
+      go false true f = omega (arith, times_snoc x (pick n t l) (get_or l n 0))
       go false false f = omega arith
 
 pub record ReadOnce (i : ℕ) (l : List ℕ) (cs : List Cell) (x : ℕ) : Type 0 where
@@ -159,15 +159,15 @@ pub record ReadOnce (i : ℕ) (l : List ℕ) (cs : List Cell) (x : ℕ) : Type 0
 pub makes-once : {i : ℕ} {l : List ℕ} {T : ℕ} {cs : List Cell} → Makes 2 i l T cs → AllBelow i l → (x : ℕ)
     → ReadOnce i l cs x
 makes-once (ends {i = i} {l = l} {T = T} h) low x = record
-    { listed = λ g. omega arith; given = λ g. omega (arith, times-none l i x low g) }
+    { listed = λ g. omega arith; given = λ g. omega (arith, times_none l i x low g) }
 makes-once (goes {i = i} {l = l} {T = T} {A = A} {B = B} {cs = cs} h b m) low x =
     step (makes-once m (next-below A B i l low) x)
   where
     apart : (j : ℕ) → j < length l → readsD (bit A) (bit B) j ≡ true → readsH (bit A) (bit B) j ≡ true → ⊥
     apart j g d e =
-        ⊎-elim (λ r. not-a (length l) (bit T) A B (b .candidate) (b .possible) j e r)
-        (λ r. not-b (length l) (bit T) A B (b .candidate) (b .possible) j e r)
-        (pair-of (length l) A B (b .candidate) .only j g d)
+        ⊎_elim (λ r. not_a (length l) (bit T) A B b.candidate b.possible j e r)
+        (λ r. not-b (length l) (bit T) A B b.candidate b.possible j e r)
+        ((pair_of (length l) A B b.candidate).only j g d)
 
     among : times x (pick (length l) (readsD (bit A) (bit B)) l) + times x (pick (length l) (readsH (bit A) (bit B)) l)
         ≤ times x l
@@ -178,14 +178,14 @@ makes-once (goes {i = i} {l = l} {T = T} {A = A} {B = B} {cs = cs} h b m) low x 
     )
 
     next : times x (nextSignals l A B i) ≡ times x (pick (length l) (readsH (bit A) (bit B)) l) + val (eqb x i)
-    next = times-snoc x (pick (length l) (readsH (bit A) (bit B)) l) i
+    next = times_snoc x (pick (length l) (readsH (bit A) (bit B)) l) i
 
     step : ReadOnce (suc i) (nextSignals l A B i) cs x → ReadOnce i l (firstCell l T A B ∷ cs) x
     step r = record {
-      listed = λ g. omega (arith, r .listed (omega arith), next, among, ap val (ne-eqb x i (λ q. omega arith)));
-      given = λ g. elim (decLt i x) [
-        | yes k ↦ omega (arith, r .given k, among, times-none l i x low g)
+      listed = λ g. omega (arith, r.listed (omega arith), next, among, ap val (ne_eqb x i (λ q. omega arith)));
+      given = λ g. elim (dec_lt i x) [
+        | yes k ↦ omega (arith, r.given k, among, times_none l i x low g)
         | no k ↦ let q : x ≡ i = omega arith in omega
-            (arith, r .listed (omega arith), next, among, times-none l i x low g, ap val (eq-eqb x i q))
+            (arith, r.listed (omega arith), next, among, times_none l i x low g, ap val (eq-eqb x i q))
       ];
     }

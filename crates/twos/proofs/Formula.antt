@@ -1,46 +1,46 @@
 -- The formula that is printed of a sheet made with cells of two inputs is a tree: it reads each of the inputs that
 -- count once. Assumes nothing.
-use mathlib.Core.Path.{_≡_, refl, sym, ap, ap₂, _∙_}
+use mathlib.Core.Path.{◌≡◌, refl, sym, ap, ap₂, ◌∙◌}
 use mathlib.Core.Bool.{Bool, true, false, cond, not}
-use mathlib.Core.List.{List, [], _∷_, _++_}
-use Prim.Native.Nat.{ℕ, zero, suc, _+_, _-_, _^_, _<_, _≤_}
+use mathlib.Core.List.{List, [], ◌∷◌, ◌++◌}
+use Prim.Native.Nat.{ℕ, zero, suc, ◌+◌, ◌-◌, ◌^◌, ◌<◌, ◌≤◌}
 use native.Mathlib.Omega.{arith}
-use native.Mathlib.Decide.{decLt}
+use native.Mathlib.Decide.{dec_lt}
 use lib.Dec.{eqb}
-use lib.ListN.{length, getD}
-use borrow.Author.Tests.{eq-eqb, ne-eqb, eqb-true}
-use Rattle·bits.specs.Numbers.{bit, val, number}
-use Rattle·bits.specs.Sets.{size}
-use Rattle·bits.proofs.Bools.{clash}
-use Rattle·bits.proofs.Numbers.{val-lt}
-use Rattle·tables.specs.Depends.{DependsOn}
-use Rattle·tables.specs.Counting.{support, kept}
-use Rattle·tables.proofs.Depending.{support-counting}
-use Rattle·tables.proofs.Keeping.{some-kept}
-use Rattle·sheets.specs.declared.kinds.Edition.{Edition}
-use Rattle·sheets.specs.Edition.{firstEdition}
-use Rattle·sheets.specs.Network.{Cell, Wired, Gives}
-use Rattle·sheets.specs.Writing.{FitsFrom}
-use Rattle·sheets.specs.Reading.{times, reads}
-use Rattle·chains.specs.Chain.{pick, inputs, lastCell, made}
-use Rattle·chains.specs.Aside.{sheetAside}
-use Rattle·chains.proofs.Lists.{inputs-at}
-use Rattle·chains.proofs.Aside.{table-gives, table-fits}
-use Rattle·chains.proofs.FirstReads.{sheet-constant}
-use Rattle·values.specs.Formula.{Formula, letter, constant, negated, joined, counted, join}
-use Rattle·values.specs.Formula as formula
-use Rattle·printing.specs.Forms.{flipsLow, flipsHigh}
-use Rattle·printing.specs.Print.{inTurn, bySides, negatedIf, oneFormula, twoFormula, cellFormula, formulaOf}
-use Rattle·printing.proofs.Lengths.{weighed, weighedIn, measured}
-use Rattle·printing.specs.Printable.{AllPlain, Printable}
-use Rattle·printing.proofs.Spelling.{Formed, formula-runs}
-use Rattle·printing.proofs.Turns.{Each, each-signal}
-use Rattle·trees.specs.Tree as tree
-use Rattle·trees.specs.Tree.{Tree, uses, TreeOf}
-use Rattle·trees.proofs.Graft.{Computes, counted-read}
-use Rattle·twos·specs.specs.TreeOf.{flip, treeOf}
-use Rattle·twos·proofs.proofs.Cells.{times-snoc}
-use Rattle·twos·proofs.proofs.Printed.{read-once, made-printable}
+use lib.ListN.{length, get_or}
+use borrow.Author.Tests.{eq-eqb, ne_eqb, eqb-true}
+use Rattle.bits.specs.Numbers.{bit, val, number}
+use Rattle.bits.specs.Sets.{size}
+use Rattle.bits.proofs.Bools.{clash}
+use Rattle.bits.proofs.Numbers.{val-lt}
+use Rattle.tables.specs.Depends.{DependsOn}
+use Rattle.tables.specs.Counting.{support, kept}
+use Rattle.tables.proofs.Depending.{support-counting}
+use Rattle.tables.proofs.Keeping.{some-kept}
+use Rattle.sheets.specs.declared.kinds.Edition.{Edition}
+use Rattle.sheets.specs.Edition.{firstEdition}
+use Rattle.sheets.specs.Network.{Cell, Wired, Gives}
+use Rattle.sheets.specs.Writing.{FitsFrom}
+use Rattle.sheets.specs.Reading.{times, reads}
+use Rattle.chains.specs.Chain.{pick, inputs, lastCell, made}
+use Rattle.chains.specs.Aside.{sheetAside}
+use Rattle.chains.proofs.Lists.{inputs-at}
+use Rattle.chains.proofs.Aside.{table-gives, table_fits}
+use Rattle.chains.proofs.FirstReads.{sheet-constant}
+use Rattle.values.specs.Formula.{Formula, letter, constant, negated, joined, counted, join}
+use Rattle.values.specs.Formula as formula
+use Rattle.printing.specs.Forms.{flipsLow, flipsHigh}
+use Rattle.printing.specs.Print.{in_turn, bySides, negated_if, oneFormula, twoFormula, cellFormula, formulaOf}
+use Rattle.printing.proofs.Lengths.{weighed, weighedIn, measured}
+use Rattle.printing.specs.Printable.{AllPlain, Printable}
+use Rattle.printing.proofs.Spelling.{Formed, formula-runs}
+use Rattle.printing.proofs.Turns.{Each, each-signal}
+use Rattle.trees.specs.Tree as tree
+use Rattle.trees.specs.Tree.{Tree, uses, TreeOf}
+use Rattle.trees.proofs.Graft.{Computes, counted-read}
+use Rattle.twos.specs.TreeOf.{flip, tree_of}
+use Rattle.twos.proofs.Cells.{times_snoc}
+use Rattle.twos.proofs.Printed.{read-once, made-printable}
 
 -- ---- a formula's tree
 
@@ -54,11 +54,11 @@ value-flip (tree.input true j) v = twice (v j)
 value-flip (tree.input false j) v = refl
 value-flip (tree.node g s t) v = refl
 
-value-tree : (F : Formula) (x : ℕ) → tree.value (treeOf F) (bit x) ≡ formula.value F x
+value-tree : (F : Formula) (x : ℕ) → tree.value (tree_of F) (bit x) ≡ formula.value F x
 unfolding formula.value
 value-tree (letter j) x = refl
 value-tree (constant b) x = refl
-value-tree (negated F) x = value-flip (treeOf F) (bit x) ∙ ap not (value-tree F x)
+value-tree (negated F) x = value-flip (tree_of F) (bit x) ∙ ap not (value-tree F x)
 value-tree (joined k F G) x = ap₂ (join k) (value-tree F x) (value-tree G x)
 value-tree (counted a t F) x = absurd a
 
@@ -67,18 +67,18 @@ value-tree (counted a t F) x = absurd a
 module _ (j : ℕ) where
   -- letters j of a formula
   abbrev letters : Formula → ℕ
-  letters F = uses j (treeOf F)
+  letters F = uses j (tree_of F)
 
   uses-flip : (t : Tree) → uses j (flip t) ≡ uses j t
   uses-flip (tree.constant b) = refl
   uses-flip (tree.input f i) = refl
   uses-flip (tree.node g s t) = refl
 
-  flipped-reads : (f : Bool) (F : Formula) → letters (negatedIf f F) ≡ letters F
-  flipped-reads true F = uses-flip (treeOf F)
+  flipped-reads : (f : Bool) (F : Formula) → letters (negated_if f F) ≡ letters F
+  flipped-reads true F = uses-flip (tree_of F)
   flipped-reads false F = refl
 
-  one-reads : (a b f : Bool) (F : Formula) → letters (cond a (constant false) (cond b (constant true) (negatedIf f F)))
+  one-reads : (a b f : Bool) (F : Formula) → letters (cond a (constant false) (cond b (constant true) (negated_if f F)))
       ≤ letters F
   one-reads true b f F = omega arith
   one-reads false true f F = omega arith
@@ -97,13 +97,13 @@ module _ (j : ℕ) where
     where
       other : (b : Bool) → eqb s j ≡ b → b ≡ eqb j s
       other true q = sym (eq-eqb j s (sym (eqb-true s j q)))
-      other false q = sym (ne-eqb j s (λ e. clash (eq-eqb s j (sym e)) q))
+      other false q = sym (ne_eqb j s (λ e. clash (eq-eqb s j (sym e)) q))
 
   all-reads : (cs : List Cell) → weighedIn (λ s. val (eqb s j)) cs ≡ reads j cs
   all-reads [] = refl
-  all-reads (c ∷ cs) = ap₂ (λ (a b : ℕ). a + b) (list-reads (c .signals)) (all-reads cs)
+  all-reads (c ∷ cs) = ap₂ (λ (a b : ℕ). a + b) (list-reads c.signals) (all-reads cs)
 
-weighs-none : (m : ℕ → ℕ) (l : List ℕ) → ((i : ℕ) → i < length l → m (getD l i 0) ≡ 0) → weighed m l ≡ 0
+weighs-none : (m : ℕ → ℕ) (l : List ℕ) → ((i : ℕ) → i < length l → m (get_or l i 0) ≡ 0) → weighed m l ≡ 0
 weighs-none m [] h = refl
 weighs-none m (s ∷ l) h = omega (arith, h 0 (omega arith), weighs-none m l (λ i g. h (suc i) (omega arith)))
 
@@ -117,24 +117,24 @@ module _ (n : ℕ) (s : ℕ → Bool) (j : ℕ) where
     where
       go : (b : Bool) → s k ≡ b → (times j (pick k s (inputs n)) ≤ val (s j))
           × (k ≤ j → times j (pick k s (inputs n)) ≡ 0)
-          → (times j (cond b (pick k s (inputs n) ++ (getD (inputs n) k 0 ∷ [])) (pick k s (inputs n))) ≤ val (s j))
-          × (suc k ≤ j → times j (cond b (pick k s (inputs n) ++ (getD (inputs n) k 0 ∷ [])) (pick k s (inputs n))) ≡ 0)
-      go false q w = (w .0, λ g. w .1 (omega arith))
+          → (times j (cond b (pick k s (inputs n) ++ (get_or (inputs n) k 0 ∷ [])) (pick k s (inputs n))) ≤ val (s j))
+          × (suc k ≤ j → times j (cond b (pick k s (inputs n) ++ (get_or (inputs n) k 0 ∷ [])) (pick k s (inputs n))) ≡ 0)
+      go false q w = (w.0, λ g. w.1 (omega arith))
       go true q w = at (eqb j k) refl
         where
-          all : times j (pick k s (inputs n) ++ (getD (inputs n) k 0 ∷ [])) ≡ times j (pick k s (inputs n))
+          all : times j (pick k s (inputs n) ++ (get_or (inputs n) k 0 ∷ [])) ≡ times j (pick k s (inputs n))
               + val (eqb j k)
-          all = times-snoc j (pick k s (inputs n)) (getD (inputs n) k 0)
+          all = times_snoc j (pick k s (inputs n)) (get_or (inputs n) k 0)
               ∙ ap (λ (a : ℕ). times j (pick k s (inputs n)) + val (eqb j a)) (inputs-at n k (omega arith))
 
-          at : (b : Bool) → eqb j k ≡ b → (times j (pick k s (inputs n) ++ (getD (inputs n) k 0 ∷ [])) ≤ val (s j))
-              × (suc k ≤ j → times j (pick k s (inputs n) ++ (getD (inputs n) k 0 ∷ [])) ≡ 0)
+          at : (b : Bool) → eqb j k ≡ b → (times j (pick k s (inputs n) ++ (get_or (inputs n) k 0 ∷ [])) ≤ val (s j))
+              × (suc k ≤ j → times j (pick k s (inputs n) ++ (get_or (inputs n) k 0 ∷ [])) ≡ 0)
           at true e =
               let r = eqb-true j k e in (
-                omega (arith, all, ap val e, w .1 (omega arith), ap val (ap s r ∙ q)),
+                omega (arith, all, ap val e, w.1 (omega arith), ap val (ap s r ∙ q)),
                 λ g. absurd (omega arith),
               )
-          at false e = (omega (arith, all, ap val e, w .0), λ g. omega (arith, all, ap val e, w .1 (omega arith)))
+          at false e = (omega (arith, all, ap val e, w.0), λ g. omega (arith, all, ap val e, w.1 (omega arith)))
 
 -- ---- the formula of a sheet
 
@@ -147,98 +147,98 @@ any (c ∷ cs) = (tt, any cs)
 
 formed : (e : Edition) (i : ℕ) (cs : List Cell) → FitsFrom e i cs → AllPlain cs → Each Formed cs
 formed e i [] f p = tt
-formed e i (c ∷ cs) f p = (record { plain = p .0; table = f .0 .table }, formed e (suc i) cs (f .1) (p .1))
+formed e i (c ∷ cs) f p = (record { plain = p.0; table = f.0.table }, formed e (suc i) cs f.1 p.1)
 
 -- no letter beyond n
 letters-below : (j n K : ℕ) → n ≤ j → (cs : List Cell) → Wired K n cs → (s : ℕ) → s < n + length cs
-    → uses j (treeOf (formulaOf n cs s)) ≡ 0
+    → uses j (tree_of (formulaOf n cs s)) ≡ 0
 unfolding formulaOf
 letters-below j n K h cs w =
-    each-signal cellFormula (λ c u. false) (λ s F b. uses j (treeOf F) ≡ 0) Any n step K cs n letter (λ s. false)
+    each-signal cellFormula (λ c u. false) (λ s F b. uses j (tree_of F) ≡ 0) Any n step K cs n letter (λ s. false)
     (omega arith) (any cs) w
-    (λ s g. ap val (ne-eqb s j (λ q. omega arith)))
+    (λ s g. ap val (ne_eqb s j (λ q. omega arith)))
   where
     step : (c : Cell) (i : ℕ) (v : ℕ → Formula) (u : ℕ → Bool) → n ≤ i → Any c
-        → ((k : ℕ) → k < length (c .signals) → getD (c .signals) k 0 < i)
-        → ((s : ℕ) → s < i → uses j (treeOf (v s)) ≡ 0) → uses j (treeOf (cellFormula c v)) ≡ 0
+        → ((k : ℕ) → k < length c.signals → get_or c.signals k 0 < i)
+        → ((s : ℕ) → s < i → uses j (tree_of (v s)) ≡ 0) → uses j (tree_of (cellFormula c v)) ≡ 0
     step c i v u low a known free =
         omega (
           arith,
-          cell-reads j (c .signals) (c .table) v,
-          weighs-none (λ s. uses j (treeOf (v s))) (c .signals)
-              (λ k g. free (getD (c .signals) k 0) (known k g)),
+          cell-reads j c.signals c.table v,
+          weighs-none (λ s. uses j (tree_of (v s))) c.signals
+              (λ k g. free (get_or c.signals k 0) (known k g)),
         )
 
 -- as many letters j as input j is read
 letters-read : (j n : ℕ) → j < n → (cs : List Cell) → 1 ≤ length cs → Wired 2 n cs → Printable n cs
-    → uses j (treeOf (formulaOf n cs (n + (length cs - 1)))) ≤ reads j cs
+    → uses j (tree_of (formulaOf n cs (n + (length cs - 1)))) ≤ reads j cs
 unfolding formulaOf
 letters-read j n h [] some w p = absurd (omega arith)
 letters-read j n h (c ∷ cs) some w p =
     let q : n + length cs ≡ n + (suc (length cs) - 1) = omega arith in
     omega (
       arith,
-      measured 2 cellFormula (λ F. uses j (treeOf F)) 0 (λ c v. cell-reads j (c .signals) (c .table) v) cs c n letter w
-          (p .once)
-          (λ s g. ap val (ne-eqb s j (λ q. omega arith))),
+      measured 2 cellFormula (λ F. uses j (tree_of F)) 0 (λ c v. cell-reads j c.signals c.table v) cs c n letter w
+          p.once
+          (λ s g. ap val (ne_eqb s j (λ q. omega arith))),
       all-reads j (c ∷ cs),
-      ap (λ (x : ℕ). uses j (treeOf (inTurn cellFormula n (c ∷ cs) letter x))) q,
+      ap (λ (x : ℕ). uses j (tree_of (in_turn cellFormula n (c ∷ cs) letter x))) q,
     )
 
 -- a constant reads nothing
 constant-reads : (j n : ℕ) (b : Bool) → uses j
-    (treeOf (formulaOf n (lastCell (0 ∷ []) (cond b 3 0) ∷ []) (n + (1 - 1)))) ≡ 0
-unfolding formulaOf inTurn
+    (tree_of (formulaOf n (lastCell (0 ∷ []) (cond b 3 0) ∷ []) (n + (1 - 1)))) ≡ 0
+unfolding formulaOf in_turn
 constant-reads j n b =
     let q : n + (1 - 1) ≡ n = omega arith in
-    ap (λ (t : Bool). uses j (treeOf (cond t (oneFormula (cond b 3 0) (letter 0)) (letter (n + (1 - 1))))))
+    ap (λ (t : Bool). uses j (tree_of (cond t (oneFormula (cond b 3 0) (letter 0)) (letter (n + (1 - 1))))))
     (eq-eqb (n + (1 - 1)) n q) ∙ go b
   where
-    go : (b : Bool) → uses j (treeOf (oneFormula (cond b 3 0) (letter 0))) ≡ 0
+    go : (b : Bool) → uses j (tree_of (oneFormula (cond b 3 0) (letter 0))) ≡ 0
     go true = refl
     go false = refl
 
 module _ (n : ℕ) (F : ℕ → Bool) (p : 1 ≤ n) (cs : List Cell) (is : sheetAside n 2 (number (2 ^ n) F) ≡ made cs) where
   abbrev t : Tree
-  t = treeOf (formulaOf n cs (n + (length cs - 1)))
+  t = tree_of (formulaOf n cs (n + (length cs - 1)))
 
   network : Gives n 2 F cs
   network = table-gives n 2 F p (omega arith) cs is
 
-  some-read : (j : ℕ) → j < n → uses j t ≤ val (bit (kept n F) j)
-  some-read j h =
+  some_read : (j : ℕ) → j < n → uses j t ≤ val (bit (kept n F) j)
+  some_read j h =
       omega (
         arith,
-        letters-read j n h cs (network .some) (network .wired) (made-printable n F p cs is),
-        read-once n F p
-            cs is j .listed h,
-        kept-times n (bit (kept n F)) j n (omega arith) .0,
+        letters-read j n h cs network.some network.wired (made-printable n F p cs is),
+        (read-once n F p
+            cs is j).listed h,
+        (kept-times n (bit (kept n F)) j n (omega arith)).0,
       )
 
-  none-read : (j : ℕ) → n ≤ j → uses j t ≡ 0
-  none-read j h = letters-below j n 2 h cs (network .wired) (n + (length cs - 1)) (omega (arith, network .some))
+  none_read : (j : ℕ) → n ≤ j → uses j t ≡ 0
+  none_read j h = letters-below j n 2 h cs network.wired (n + (length cs - 1)) (omega (arith, network.some))
 
   computes : Computes n F t
   computes = record {
-    most = λ j. elim (decLt j n) [
-      | yes h ↦ omega (arith, some-read j h, val-lt (bit (kept n F) j))
+    most = λ j. elim (dec_lt j n) [
+      | yes h ↦ omega (arith, some_read j h, val-lt (bit (kept n F) j))
       | no h ↦ omega
-          (arith, none-read j (omega arith))
+          (arith, none_read j (omega arith))
     ];
-    within = none-read;
+    within = none_read;
     computes = λ x h.
         value-tree (formulaOf n cs (n + (length cs - 1))) x
-        ∙ formula-runs n 2 cs (network .wired)
-        (formed firstEdition n cs (table-fits n 2 F p (omega arith) cs is firstEdition (omega arith))
-        (made-printable n F p cs is .plain)) (network .some) x
-        ∙ network .gives x h;
+        ∙ formula-runs n 2 cs network.wired
+        (formed firstEdition n cs (table_fits n 2 F p (omega arith) cs is firstEdition (omega arith))
+        (made-printable n F p cs is).plain) network.some x
+        ∙ network.gives x h;
   }
 
   -- what doesn't count isn't read
   not-read : (j : ℕ) → (j < n → DependsOn n F j → ⊥) → uses j t ≡ 0
-  not-read j never = elim (decLt j n) [
-    | no h ↦ none-read j (omega arith)
-    | yes h ↦ elim (decLt 0 (size n (bit (support n F)))) [
+  not-read j never = elim (dec_lt j n) [
+    | no h ↦ none_read j (omega arith)
+    | yes h ↦ elim (dec_lt 0 (size n (bit (support n F)))) [
       | yes g ↦ by-kept h (bit (kept n F) j) refl g
       | no g ↦ flatly (sheet-constant n 2 F p (omega arith) (omega arith))
     ]
@@ -247,12 +247,12 @@ module _ (n : ℕ) (F : ℕ → Bool) (p : 1 ≤ n) (cs : List Cell) (is : sheet
       by-kept : j < n → (b : Bool) → bit (kept n F) j ≡ b → 0 < size n (bit (support n F)) → uses j t ≡ 0
       by-kept h true q g = absurd (never h (support-counting n F j h
           (ap (λ (m : ℕ). bit m j) (sym (some-kept n F g)) ∙ q)))
-      by-kept h false q g = omega (arith, some-read j h, ap val q)
+      by-kept h false q g = omega (arith, some_read j h, ap val q)
 
       flatly : sheetAside n 2 (number (2 ^ n) F) ≡ made (lastCell (0 ∷ []) (cond (F 0) 3 0) ∷ []) → uses j t ≡ 0
       flatly r =
           let e : cs ≡ lastCell (0 ∷ []) (cond (F 0) 3 0) ∷ [] = cc (is, r) in
-          ap (λ (ds : List Cell). uses j (treeOf (formulaOf n ds (n + (length ds - 1))))) e ∙ constant-reads j n (F 0)
+          ap (λ (ds : List Cell). uses j (tree_of (formulaOf n ds (n + (length ds - 1))))) e ∙ constant-reads j n (F 0)
 
-  pub formula-tree : TreeOf n F (treeOf (formulaOf n cs (n + (length cs - 1))))
-  formula-tree = record { once = λ j l c. counted-read computes j c; only = not-read; computes = computes .computes }
+  pub formula-tree : TreeOf n F (tree_of (formulaOf n cs (n + (length cs - 1))))
+  formula-tree = record { once = λ j l c. counted-read computes j c; only = not-read; computes = computes.computes }

@@ -1,37 +1,37 @@
 -- Every sheet made with cells of two inputs is one that is printed. Assumes nothing.
-use mathlib.Core.Path.{_≡_, sym, subst}
+use mathlib.Core.Path.{◌≡◌, sym, subst}
 use mathlib.Core.Bool.{Bool}
-use mathlib.Core.List.{List, [], _∷_}
-use Prim.Native.Nat.{ℕ, zero, suc, _+_, _^_, _≤_}
+use mathlib.Core.List.{List, [], ◌∷◌}
+use Prim.Native.Nat.{ℕ, zero, suc, ◌+◌, ◌^◌, ◌≤◌}
 use native.Mathlib.Omega.{arith}
 use lib.ListN.{length, drop}
-use Rattle·bits.specs.Numbers.{bit, number}
-use Rattle·bits.specs.Sets.{size}
-use Rattle·tables.specs.Counting.{Counting, AllCount, kept, tableOver}
-use Rattle·tables.proofs.Depending.{support-counting}
-use Rattle·tables.proofs.Keeping.{kept-sees, two-kept}
-use Rattle·tables.proofs.Over.{over-counts}
-use Rattle·sheets.specs.declared.kinds.Edition.{Edition}
-use Rattle·sheets.specs.Edition.{firstEdition}
-use Rattle·sheets.specs.Network.{Cell}
-use Rattle·sheets.specs.Reading.{reads}
-use Rattle·sheets.specs.Writing.{FitsFrom, AtMost}
-use Rattle·chains.specs.Chain.{pick, inputs, made}
-use Rattle·chains.specs.Aside.{sheetAside}
-use Rattle·chains.specs.Words.{Makes}
-use Rattle·chains.proofs.Lists.{AllBelow, pick-length, pick-below, inputs-length, inputs-below}
-use Rattle·chains.proofs.Aside.{sheet-made, table-few, table-fits}
-use Rattle·chains.proofs.Aside.{table-read}
-use Rattle·printing.specs.Printable.{AllPlain, Printable}
-use Rattle·twos·proofs.proofs.Cells.{AllBoth, makes-both, ReadOnce, makes-once}
+use Rattle.bits.specs.Numbers.{bit, number}
+use Rattle.bits.specs.Sets.{size}
+use Rattle.tables.specs.Counting.{Counting, AllCount, kept, tableOver}
+use Rattle.tables.proofs.Depending.{support-counting}
+use Rattle.tables.proofs.Keeping.{kept-sees, two-kept}
+use Rattle.tables.proofs.Over.{over-counts}
+use Rattle.sheets.specs.declared.kinds.Edition.{Edition}
+use Rattle.sheets.specs.Edition.{firstEdition}
+use Rattle.sheets.specs.Network.{Cell}
+use Rattle.sheets.specs.Reading.{reads}
+use Rattle.sheets.specs.Writing.{FitsFrom, AtMost}
+use Rattle.chains.specs.Chain.{pick, inputs, made}
+use Rattle.chains.specs.Aside.{sheetAside}
+use Rattle.chains.specs.Words.{Makes}
+use Rattle.chains.proofs.Lists.{AllBelow, pick-length, pick-below, inputs-length, inputs-below}
+use Rattle.chains.proofs.Aside.{sheet-made, table-few, table_fits}
+use Rattle.chains.proofs.Aside.{table-read}
+use Rattle.printing.specs.Printable.{AllPlain, Printable}
+use Rattle.twos.proofs.Cells.{AllBoth, makes_both, ReadOnce, makes-once}
 
 -- cells that fit records, read at most two signals, and depend on both of two, are plain
-all-plain : (e : Edition) (i : ℕ) (cs : List Cell) → FitsFrom e i cs → AtMost 2 cs → AllBoth cs → AllPlain cs
-all-plain e i [] f a b = tt
-all-plain e i (c ∷ cs) f a b = (
-  record { some = f .0 .some; few = a .0; both = b .0 },
-  all-plain e (suc i) cs (f .1)
-      (a .1) (b .1),
+all_plain : (e : Edition) (i : ℕ) (cs : List Cell) → FitsFrom e i cs → AtMost 2 cs → AllBoth cs → AllPlain cs
+all_plain e i [] f a b = tt
+all_plain e i (c ∷ cs) f a b = (
+  record { some = f.0.some; few = a.0; both = b.0 },
+  all_plain e (suc i) cs f.1
+      a.1 b.1,
 )
 
 reads-later : (x k : ℕ) (cs : List Cell) → reads x (drop k cs) ≤ reads x cs
@@ -50,17 +50,17 @@ module _ (n : ℕ) (F : ℕ → Bool) (p : 1 ≤ n) (cs : List Cell) (is : sheet
   abbrev U : ℕ
   U = tableOver n (bit (kept n F)) F
 
-  size-is : length l ≡ size n S
-  size-is = pick-length n S (inputs n)
+  size_is : length l ≡ size n S
+  size_is = pick-length n S (inputs n)
 
   makes : Makes 2 n l U cs
-  makes = sheet-made n 2 F p (omega arith) cs .0 is
+  makes = (sheet-made n 2 F p (omega arith) cs).0 is
 
   all : 2 ≤ length l → AllCount (length l) (bit U)
   all g =
-      subst (λ (m : ℕ). AllCount m (bit U)) (sym size-is)
+      subst (λ (m : ℕ). AllCount m (bit U)) (sym size_is)
       (over-counts n F S (kept-sees n F) (subst (λ (m : ℕ). Counting n F (bit m))
-      (sym (two-kept n F (omega (arith, size-is)))) (support-counting n F)))
+      (sym (two-kept n F (omega (arith, size_is)))) (support-counting n F)))
 
   low : AllBelow n l
   low = pick-below n S (inputs n) n (λ j h. inputs-below n j (omega (arith, inputs-length n)))
@@ -71,13 +71,13 @@ module _ (n : ℕ) (F : ℕ → Bool) (p : 1 ≤ n) (cs : List Cell) (is : sheet
   pub made-printable : Printable n cs
   made-printable = record {
     plain =
-        all-plain firstEdition n cs (table-fits n 2 F p (omega arith) cs is firstEdition (omega arith))
+        all_plain firstEdition n cs (table_fits n 2 F p (omega arith) cs is firstEdition (omega arith))
         (table-few n 2 F p (omega arith) cs is 2 (omega arith))
-        (makes-both makes all);
+        (makes_both makes all);
     once = λ i h.
         omega (
           arith,
-          read-once (n + i) .given (omega arith),
+          (read-once (n + i)).given (omega arith),
           table-read n 2 F p (omega arith) cs is i h,
           reads-later
               (n + i) (suc i) cs,

@@ -1,31 +1,31 @@
 -- The mask that the code keeps: from the last record back, it holds what the later records read, so that a record's
 -- bit tells whether it is read. Assumes nothing.
-use mathlib.Core.Path.{_≡_, refl, sym, ap, ap₂, _∙_, subst}
-use mathlib.Core.Bool.{Bool, true, false, not, _||_}
-use mathlib.Core.List.{List, [], _∷_, _++_}
-use Prim.Native.Nat.{ℕ, zero, suc, _+_, _-_, _*_, _/_, _^_, _<_, _≤_}
+use mathlib.Core.Path.{◌≡◌, refl, sym, ap, ap₂, ◌∙◌, subst}
+use mathlib.Core.Bool.{Bool, true, false, not, ◌||◌}
+use mathlib.Core.List.{List, [], ◌∷◌, ◌++◌}
+use Prim.Native.Nat.{ℕ, zero, suc, ◌+◌, ◌-◌, ◌*◌, ◌/◌, ◌^◌, ◌<◌, ◌≤◌}
 use native.Mathlib.Omega.{arith}
 use lib.Dec.{ltb, eqb}
 use lib.ListN.{length}
-use lib.Bits.{bitAnd, bitOr, and-mask, or-lt}
+use lib.Bits.{bit_and, bit_or, and_mask, or_lt}
 use lib.Pow.{pow-lt}
-use borrow.Author.Tests.{ne-eqb, lt-ltb}
-use Rattle·bits.specs.Numbers.{bit, val, number}
-use Rattle·bits.specs.Lists.{listOf}
-use Rattle·bits.proofs.Numbers.{number-bit, number-ext, number-lt, bit-number, none-zero}
-use Rattle·bits.proofs.Lists.{list-more}
-use Rattle·bits.proofs.Least.{LeastFrom, from-here, from-pass}
-use Rattle·bits.proofs.Machine.{bit-or, bit-set, bit-clear}
-use Rattle·bits.proofs.Single.{single}
-use Rattle·sheets.specs.declared.kinds.Edition.{Edition}
-use Rattle·sheets.specs.Network.{Cell}
-use Rattle·sheets.specs.Edition.{IsEdition}
-use Rattle·sheets.specs.Record.{byteAt, cellOf, Readable}
-use Rattle·sheets.specs.Sheet.{recordBytes, recordAt, cellsFrom, AllReadable}
-use Rattle·sheets.specs.Reading.{times, reads, noneReads, unread, alsoRead}
-use Rattle·unread·specs.specs.ReadMasks.{readMask}
-use Rattle·sheets.proofs.Places.{record-within, record-length}
-use Rattle·sheets.proofs.Unread.{later-cells}
+use borrow.Author.Tests.{ne_eqb, lt-ltb}
+use Rattle.bits.specs.Numbers.{bit, val, number}
+use Rattle.bits.specs.Lists.{list_of}
+use Rattle.bits.proofs.Numbers.{number_bit, number-ext, number_lt, bit-number, none-zero}
+use Rattle.bits.proofs.Lists.{list-more}
+use Rattle.bits.proofs.Least.{LeastFrom, from-here, from-pass}
+use Rattle.bits.proofs.Machine.{bit-or, bit-set, bit-clear}
+use Rattle.bits.proofs.Single.{single}
+use Rattle.sheets.specs.declared.kinds.Edition.{Edition}
+use Rattle.sheets.specs.Network.{Cell}
+use Rattle.sheets.specs.Edition.{IsEdition}
+use Rattle.sheets.specs.Record.{byte_at, cell_of, Readable}
+use Rattle.sheets.specs.Sheet.{recordBytes, recordAt, cellsFrom, AllReadable}
+use Rattle.sheets.specs.Reading.{times, reads, noneReads, unread, alsoRead}
+use Rattle.unread.specs.ReadMasks.{readMask}
+use Rattle.sheets.proofs.Places.{record-within, record-length}
+use Rattle.sheets.proofs.Unread.{later-cells}
 
 times-append : (x : ℕ) (l m : List ℕ) → times x (l ++ m) ≡ times x l + times x m
 times-append x [] m = omega arith
@@ -39,9 +39,9 @@ some zero b = let q : 0 + b ≡ b = omega arith in ap (ltb 0) q
 some (suc a) b = lt-ltb 0 (suc a + b) (omega arith)
     ∙ ap (λ (t : Bool). t || ltb 0 b) (sym (lt-ltb 0 (suc a) (omega arith)))
 
-or-assoc : (s t u : Bool) → ((s || t) || u) ≡ (s || (t || u))
-or-assoc true t u = refl
-or-assoc false t u = refl
+or_assoc : (s t u : Bool) → ((s || t) || u) ≡ (s || (t || u))
+or_assoc true t u = refl
+or_assoc false t u = refl
 
 some-digit : (t : Bool) → ltb 0 (val t + 0) ≡ t
 some-digit true = refl
@@ -52,28 +52,28 @@ bit-power y x h g = ap (λ (m : ℕ). bit m x) (sym (single 32 y h)) ∙ bit-num
 
 -- the mask of w and the first j of a record's signals
 abbrev pub Named : (ℕ → ℕ) → ℕ → ℕ → ℕ
-Named b w j = number 32 (λ x. bit w x || ltb 0 (times x (listOf j (λ t. b (t + 1)))))
+Named b w j = number 32 (λ x. bit w x || ltb 0 (times x (list_of j (λ t. b (t + 1)))))
 
 module _ (b : ℕ → ℕ) (w : ℕ) where
-  pub named-none : w < 2 ^ 32 → w ≡ Named b w 0
-  unfolding listOf
-  named-none h = sym (number-bit 32 w h) ∙ number-ext 32 (bit w) (λ x. bit w x || false) (λ x l. or-no (bit w x))
+  pub named_none : w < 2 ^ 32 → w ≡ Named b w 0
+  unfolding list_of
+  named_none h = sym (number_bit 32 w h) ∙ number-ext 32 (bit w) (λ x. bit w x || false) (λ x l. or_no (bit w x))
     where
-      or-no : (t : Bool) → t ≡ (t || false)
-      or-no true = refl
-      or-no false = refl
+      or_no : (t : Bool) → t ≡ (t || false)
+      or_no true = refl
+      or_no false = refl
 
-  pub named-more : (j : ℕ) → b (j + 1) < 32 → bitOr (Named b w j) (2 ^ b (j + 1)) ≡ Named b w (j + 1)
-  named-more j h =
-      let l = listOf j (λ t. b (t + 1)) in
+  pub named_more : (j : ℕ) → b (j + 1) < 32 → bit_or (Named b w j) (2 ^ b (j + 1)) ≡ Named b w (j + 1)
+  named_more j h =
+      let l = list_of j (λ t. b (t + 1)) in
       let y = b (j + 1) in
-      sym (number-bit 32 (bitOr (Named b w j) (2 ^ y))
-      (or-lt 32 (Named b w j) (2 ^ y) (number-lt 32 (λ x. bit w x || ltb 0 (times x l))) (pow-lt h)))
-      ∙ number-ext 32 (bit (bitOr (Named b w j) (2 ^ y)))
-      (λ x. bit w x || ltb 0 (times x (listOf (j + 1) (λ t. b (t + 1))))) (λ x g.
+      sym (number_bit 32 (bit_or (Named b w j) (2 ^ y))
+      (or_lt 32 (Named b w j) (2 ^ y) (number_lt 32 (λ x. bit w x || ltb 0 (times x l))) (pow-lt h)))
+      ∙ number-ext 32 (bit (bit_or (Named b w j) (2 ^ y)))
+      (λ x. bit w x || ltb 0 (times x (list_of (j + 1) (λ t. b (t + 1))))) (λ x g.
       bit-or (Named b w j) (2 ^ y) x
       ∙ ap₂ (λ (s t : Bool). s || t) (bit-number 32 (λ x. bit w x || ltb 0 (times x l)) x g) (bit-power y x h g)
-      ∙ or-assoc (bit w x) (ltb 0 (times x l)) (eqb x y)
+      ∙ or_assoc (bit w x) (ltb 0 (times x l)) (eqb x y)
       ∙ ap (λ (t : Bool). bit w x || t) (ap (λ (t : Bool). ltb 0 (times x l) || t) (sym (some-digit (eqb x y)))
       ∙ sym (some (times x l) (times x (y ∷ [])))
       ∙ ap (ltb 0) (sym (times-append x l (y ∷ [])) ∙ ap (times x) (sym (list-more j (λ t. b (t + 1)))))))
@@ -87,26 +87,26 @@ mask-none cs x w l q = ap (λ (v : ℕ). not (bit v x)) q ∙ ap not (bit-number
   where
     none : (a : ℕ) → not (ltb 0 a) ≡ eqb a 0
     none zero = refl
-    none (suc a) = ap not (lt-ltb 0 (suc a) (omega arith)) ∙ sym (ne-eqb (suc a) 0 (λ q. omega arith))
+    none (suc a) = ap not (lt-ltb 0 (suc a) (omega arith)) ∙ sym (ne_eqb (suc a) 0 (λ q. omega arith))
 
-or-swap : (s t : Bool) → (s || t) ≡ (t || s)
-or-swap true true = refl
-or-swap true false = refl
-or-swap false true = refl
-or-swap false false = refl
+or_swap : (s t : Bool) → (s || t) ≡ (t || s)
+or_swap true true = refl
+or_swap true false = refl
+or_swap false true = refl
+or_swap false false = refl
 
 module _ (e : Edition) (s : List ℕ) where
   mask-record : (i k w : ℕ) → w ≡ readMask (cellsFrom e s (suc i) k) → alsoRead (recordAt e s i) w
       ≡ readMask (cellsFrom e s i (suc k))
-  unfolding cellsFrom cellOf
+  unfolding cellsFrom cell_of
   mask-record i k w q =
       let b = recordAt e s i in
       let cs = cellsFrom e s (suc i) k in
-      let l = listOf (b 0) (λ j. b (j + 1)) in
+      let l = list_of (b 0) (λ j. b (j + 1)) in
       number-ext 32 (λ x. bit w x || ltb 0 (times x l)) (λ x. ltb 0 (times x l + reads x cs)) (λ x h.
       ap (λ (t : Bool). t || ltb 0 (times x l)) (ap (λ (m : ℕ). bit m x) q
       ∙ bit-number 32 (λ x. ltb 0 (reads x cs)) x h)
-      ∙ or-swap (ltb 0 (reads x cs)) (ltb 0 (times x l)) ∙ sym (some (times x l) (reads x cs)))
+      ∙ or_swap (ltb 0 (reads x cs)) (ltb 0 (times x l)) ∙ sym (some (times x l) (reads x cs)))
 
   -- the last record's
   pub mask-last : (m : ℕ) → 1 ≤ m → alsoRead (recordAt e s (m - 1)) 0 ≡ readMask (cellsFrom e s (m - 1) (m - (m - 1)))
@@ -136,34 +136,34 @@ module _ (e : Edition) (s : List ℕ) where
   -- so, looking back from record i to the one before it, the first unread one is found
   module _ (n m i w f : ℕ) (some : 0 < i) (most : i < m) (low : n + (i - 1) < 32)
       (is : w ≡ readMask (cellsFrom e s i (m - i))) where
-    pub found-here : bitAnd (w / 2 ^ (n + (i - 1))) 1 ≡ 0 → LeastFrom (i - 1) (m - 1) (unread e n s m) (i - 1)
-    found-here h =
+    pub found_here : bit_and (w / 2 ^ (n + (i - 1))) 1 ≡ 0 → LeastFrom (i - 1) (m - 1) (unread e n s m) (i - 1)
+    found_here h =
         from-here (m - 1) (unread e n s m) (i - 1) (omega arith)
         (mask-tells n m i w some (omega arith) low is ∙ ap not (bit-clear w (n + (i - 1)) (λ q. omega arith)))
 
-    pub found-later : (bitAnd (w / 2 ^ (n + (i - 1))) 1 ≡ 0 → ⊥) → LeastFrom i (m - 1) (unread e n s m) f
+    pub found-later : (bit_and (w / 2 ^ (n + (i - 1))) 1 ≡ 0 → ⊥) → LeastFrom i (m - 1) (unread e n s m) f
         → LeastFrom (i - 1) (m - 1) (unread e n s m) f
     found-later h g =
         let x = n + (i - 1) in
         let a : i ≡ suc (i - 1) = omega arith in
-        let one : bitAnd (w / 2 ^ x) 1 ≡ 1 = omega (arith, and-mask (w / 2 ^ x) 1) in
+        let one : bit_and (w / 2 ^ x) 1 ≡ 1 = omega (arith, and_mask (w / 2 ^ x) 1) in
         from-pass (m - 1) (unread e n s m) (i - 1) f (mask-tells n m i w some (omega arith) low is
         ∙ ap not (bit-set w x one))
         (subst (λ (j : ℕ). LeastFrom j (m - 1) (unread e n s m) f) a g)
 
 -- a record that can be run has its signals within it, each a bit of a mask
-pub record-named : (e : Edition) → IsEdition e → (s : List ℕ) (m i : ℕ) (r : List ℕ) → i < m → e .size * m ≤ length s
+pub record-named : (e : Edition) → IsEdition e → (s : List ℕ) (m i : ℕ) (r : List ℕ) → i < m → e.size * m ≤ length s
     → AllReadable e s m
-    → r ≡ recordBytes e s i → (byteAt r 0 < length r) × ((j : ℕ) → j < byteAt r 0 → byteAt r (j + 1) < 32)
+    → r ≡ recordBytes e s i → (byte_at r 0 < length r) × ((j : ℕ) → j < byte_at r 0 → byte_at r (j + 1) < 32)
 record-named e o s m i r l h a q =
-    let w = subst (λ (b : List ℕ). Readable e (byteAt b)) (sym q) (a i l) in (
+    let w = subst (λ (b : List ℕ). Readable e (byte_at b)) (sym q) (a i l) in (
       omega (
         arith,
-        w .few,
+        w.few,
         ap length q,
-        record-length e s i (record-within (e .size) i m (length s) l h),
-        o .order,
-        o .ends,
+        record-length e s i (record-within e.size i m (length s) l h),
+        o.order,
+        o.ends,
       ),
-      w .below,
+      w.below,
     )

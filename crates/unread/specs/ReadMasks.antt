@@ -1,10 +1,8 @@
 -- Which signals are read, as a mask.
-use mathlib.Core.List.{List}
-use Prim.Native.Nat.{ℕ}
-use lib.Dec.{ltb}
-use Rattle·bits.specs.Numbers.{number}
-use Rattle·sheets.specs.Network.{Cell}
-use Rattle·sheets.specs.Reading.{reads}
+use Rattle.std.specs.Prelude.{List, ℕ, ltb}
+use Rattle.bits.specs.Numbers.{number}
+use Rattle.sheets.specs.Network.{Cell}
+use Rattle.sheets.specs.Reading.{reads}
 
 -- bit x says that the cells read signal x
 abbrev pub readMask : List Cell → ℕ

@@ -1,20 +1,20 @@
 -- A tally that is raised counts one more where the added stretch is 1: the carry goes up bit by bit. Assumes nothing.
-use mathlib.Core.Path.{_≡_, refl, sym, ap, ap₂, _∙_, fun-ext}
-use mathlib.Core.Bool.{Bool, true, false, _&&_, _||_}
-use Prim.Native.Nat.{ℕ, zero, suc, _+_, _-_, _*_, _/_, _%_, _^_, _<_, _≤_}
+use mathlib.Core.Path.{◌≡◌, refl, sym, ap, ap₂, ◌∙◌, fun_ext}
+use mathlib.Core.Bool.{Bool, true, false, ◌&&◌, ◌||◌}
+use Prim.Native.Nat.{ℕ, zero, suc, ◌+◌, ◌-◌, ◌*◌, ◌/◌, ◌%◌, ◌^◌, ◌<◌, ◌≤◌}
 use native.Mathlib.Nat.{pow-suc, div-div-eq-div-mul}
 use native.Mathlib.Omega.{arith}
-use lib.Bits.{bitAnd, bitOr, bitXor}
+use lib.Bits.{bit_and, bit_or, bit_xor}
 use lib.Dec.{eqb, leb}
-use borrow.Author.Tests.{eqb-true, eqb-false, eq-eqb, ne-eqb, leb-true, leb-false, le-leb, lt-leb}
-use Rattle·bits.specs.Numbers.{bit, val, number}
-use Rattle·bits.proofs.Numbers.{none-zero}
-use Rattle·values·specs.specs.declared.stretches.Stretch.{Stretch}
-use Rattle·values·specs.specs.declared.tallies.Tally.{Tally}
-use Rattle·values·specs.specs.Formula.{oneOf}
-use Rattle·values·specs.specs.Stretches.{stretchOf, inBoth}
-use Rattle·values·specs.specs.Tallies.{Tallies, fixed, raised}
-use Rattle·values·proofs.proofs.Bitwise.{number-and, number-or, number-xor, both-stretch, same-stretch}
+use borrow.Author.Tests.{eqb-true, eqb-false, eq-eqb, ne_eqb, leb-true, leb-false, le-leb, lt-leb}
+use Rattle.bits.specs.Numbers.{bit, val, number}
+use Rattle.bits.proofs.Numbers.{none-zero}
+use Rattle.values.specs.declared.stretches.Stretch.{Stretch}
+use Rattle.values.specs.declared.tallies.Tally.{Tally}
+use Rattle.values.specs.Formula.{one_of}
+use Rattle.values.specs.Stretches.{stretchOf, inBoth}
+use Rattle.values.specs.Tallies.{Tallies, fixed, raised}
+use Rattle.values.proofs.Bitwise.{number-and, number-or, number-xor, both-stretch, same-stretch}
 
 -- ---- a number and one more, bit by bit
 
@@ -32,14 +32,14 @@ half M c = go (eqb (M % 2) 1) refl c
     go false e true = omega (arith, eqb-false (M % 2) 1 e)
     go false e false = omega arith
 
-low : (M : ℕ) (c : Bool) → eqb ((M + val c) % 2) 1 ≡ oneOf (eqb (M % 2) 1) c
+low : (M : ℕ) (c : Bool) → eqb ((M + val c) % 2) 1 ≡ one_of (eqb (M % 2) 1) c
 low M c = go (eqb (M % 2) 1) refl c
   where
-    go : (t : Bool) → eqb (M % 2) 1 ≡ t → (c : Bool) → eqb ((M + val c) % 2) 1 ≡ oneOf t c
-    go true e true = ne-eqb ((M + 1) % 2) 1 (λ h. omega (arith, eqb-true (M % 2) 1 e))
+    go : (t : Bool) → eqb (M % 2) 1 ≡ t → (c : Bool) → eqb ((M + val c) % 2) 1 ≡ one_of t c
+    go true e true = ne_eqb ((M + 1) % 2) 1 (λ h. omega (arith, eqb-true (M % 2) 1 e))
     go true e false = eq-eqb ((M + 0) % 2) 1 (omega (arith, eqb-true (M % 2) 1 e))
     go false e true = eq-eqb ((M + 1) % 2) 1 (omega (arith, eqb-false (M % 2) 1 e))
-    go false e false = ne-eqb ((M + 0) % 2) 1 (λ h. omega (arith, eqb-false (M % 2) 1 e))
+    go false e false = ne_eqb ((M + 0) % 2) 1 (λ h. omega (arith, eqb-false (M % 2) 1 e))
 
 above : (j N : ℕ) (f : Bool) → (N + val f) / 2 ^ j ≡ N / 2 ^ j + val (carry j N f)
 unfolding carry
@@ -49,7 +49,7 @@ above (suc j) N f =
     ∙ ap (λ (k : ℕ). k / 2) (above j N f) ∙ half (N / 2 ^ j) (carry j N f)
     ∙ ap (λ (k : ℕ). k + val (bit N j && carry j N f)) (div-div-eq-div-mul N (2 ^ j) 2 ∙ ap (λ (k : ℕ). N / k) (sym (pow-suc 2 j)))
 
-more-bit : (j N : ℕ) (f : Bool) → bit (N + val f) j ≡ oneOf (bit N j) (carry j N f)
+more-bit : (j N : ℕ) (f : Bool) → bit (N + val f) j ≡ one_of (bit N j) (carry j N f)
 more-bit j N f = ap (λ (k : ℕ). eqb (k % 2) 1) (above j N f) ∙ low (N / 2 ^ j) (carry j N f)
 
 more-over : (N : ℕ) (f : Bool) → leb 16 (N + val f) ≡ leb 16 N || carry 4 N f
@@ -66,35 +66,35 @@ module _ (N : ℕ → ℕ) (F : ℕ → Bool) (w : ℕ) (t : Tally) (v : Stretch
   where
     -- a stretch of carries
     carried : (j : ℕ) {x y : Stretch} → x ≡ stretchOf (λ z. bit (N z) j) w → y ≡ stretchOf (λ z. carry j (N z) (F z)) w
-        → inBoth bitAnd x y ≡ stretchOf (λ z. carry (suc j) (N z) (F z)) w
+        → inBoth bit_and x y ≡ stretchOf (λ z. carry (suc j) (N z) (F z)) w
     unfolding carry
     carried j p q =
-        ap₂ (inBoth bitAnd) p q
-        ∙ both-stretch bitAnd (λ a b. a && b) (number-and 64) (λ z. bit (N z) j) (λ z. carry j (N z) (F z)) w
+        ap₂ (inBoth bit_and) p q
+        ∙ both-stretch bit_and (λ a b. a && b) (number-and 64) (λ z. bit (N z) j) (λ z. carry j (N z) (F z)) w
 
     -- a stretch of bits
     turned : (j : ℕ) {x y : Stretch} → x ≡ stretchOf (λ z. bit (N z) j) w → y ≡ stretchOf (λ z. carry j (N z) (F z)) w
-        → inBoth bitXor x y ≡ stretchOf (λ z. bit (N z + val (F z)) j) w
+        → inBoth bit_xor x y ≡ stretchOf (λ z. bit (N z + val (F z)) j) w
     turned j p q =
-        ap₂ (inBoth bitXor) p q
-        ∙ both-stretch bitXor oneOf (number-xor 64) (λ z. bit (N z) j) (λ z. carry j (N z) (F z)) w
-        ∙ ap (λ (G : ℕ → Bool). stretchOf G w) (sym (fun-ext (λ z. more-bit j (N z) (F z))))
+        ap₂ (inBoth bit_xor) p q
+        ∙ both-stretch bit_xor one_of (number-xor 64) (λ z. bit (N z) j) (λ z. carry j (N z) (F z)) w
+        ∙ ap (λ (G : ℕ → Bool). stretchOf G w) (sym (fun_ext (λ z. more-bit j (N z) (F z))))
 
-    pub raised-is : Tallies (λ x. N x + val (F x)) w (raised t v)
+    pub raised_is : Tallies (λ x. N x + val (F x)) w (raised t v)
     unfolding carry
-    raised-is =
-        let a = carried 0 (is .ones) added in
-        let b = carried 1 (is .twos) a in
-        let c = carried 2 (is .fours) b in
-        let d = carried 3 (is .eights) c in
+    raised_is =
+        let a = carried 0 is.ones added in
+        let b = carried 1 is.twos a in
+        let c = carried 2 is.fours b in
+        let d = carried 3 is.eights c in
         record {
-          ones = turned 0 (is .ones) added;
-          twos = turned 1 (is .twos) a;
-          fours = turned 2 (is .fours) b;
-          eights = turned 3 (is .eights) c;
-          over = ap₂ (inBoth bitOr) (is .over) d
-              ∙ both-stretch bitOr (λ a b. a || b) (number-or 64) (λ z. leb 16 (N z)) (λ z. carry 4 (N z) (F z)) w
-              ∙ ap (λ (G : ℕ → Bool). stretchOf G w) (sym (fun-ext (λ z. more-over (N z) (F z))));
+          ones = turned 0 is.ones added;
+          twos = turned 1 is.twos a;
+          fours = turned 2 is.fours b;
+          eights = turned 3 is.eights c;
+          over = ap₂ (inBoth bit_or) is.over d
+              ∙ both-stretch bit_or (λ a b. a || b) (number-or 64) (λ z. leb 16 (N z)) (λ z. carry 4 (N z) (F z)) w
+              ∙ ap (λ (G : ℕ → Bool). stretchOf G w) (sym (fun_ext (λ z. more-over (N z) (F z))));
         }
 
 -- the same number everywhere

@@ -1,8 +1,6 @@
 -- Formulas and their values.
-use mathlib.Core.Bool.{Bool, true, false, cond, not, _&&_, _||_}
-use Prim.Native.Nat.{ℕ, zero, suc, _+_}
-use lib.Dec.{leb}
-use Rattle·bits.specs.Numbers.{bit, val}
+use Rattle.std.specs.Prelude.{Bool, true, false, cond, not, ◌&&◌, ◌||◌, ℕ, zero, suc, ◌+◌, leb}
+use Rattle.bits.specs.Numbers.{bit, val}
 
 -- with counts, one may stand; without, none
 abbrev pub Allowed : Bool → Type 0
@@ -23,14 +21,14 @@ abbrev pub Formula : Type 0
 Formula = FormulaIn false
 
 -- one of the two is 1, and not both
-abbrev pub oneOf : Bool → Bool → Bool
-oneOf true q = not q
-oneOf false q = q
+abbrev pub one_of : Bool → Bool → Bool
+one_of true q = not q
+one_of false q = q
 
 -- what the mark of a level makes of two values
 abbrev pub join : ℕ → Bool → Bool → Bool
 join zero p q = p && q
-join (suc zero) p q = oneOf p q
+join (suc zero) p q = one_of p q
 join (suc (suc k)) p q = p || q
 
 -- what a formula is worth: its value, and how many of its list are 1 (what is no list is a list of itself)
@@ -44,23 +42,23 @@ alone b = record { value = b; ones = val b }
 -- two joined at level k: at 3 one more stands before a list
 abbrev pub together : ℕ → Worth → Worth → Worth
 together k F G =
-    let v = join k (F .value) (G .value) in
-    record { value = v; ones = cond (leb 3 k) (val (F .value) + G .ones) (val v) }
+    let v = join k F.value G.value in
+    record { value = v; ones = cond (leb 3 k) (val F.value + G.ones) (val v) }
 
 -- at the assignment x: letter j is input j, which is bit j of x
 unfoldable pub worth : {counts : Bool} → FormulaIn counts → ℕ → Worth
 worth (letter j) x = alone (bit x j)
 worth (constant t) x = alone t
-worth (negated F) x = alone (not (worth F x .value))
+worth (negated F) x = alone (not (worth F x).value)
 worth (joined k F G) x = together k (worth F x) (worth G x)
-worth (counted e t F) x = alone (leb t (worth F x .ones))
+worth (counted e t F) x = alone (leb t (worth F x).ones)
 
 -- the value at the assignment x
 unfoldable pub value : {counts : Bool} → FormulaIn counts → ℕ → Bool
 unfolding worth
-value F x = worth F x .value
+value F x = (worth F x).value
 
 -- how many of a list are 1 at x
 unfoldable pub ones : {counts : Bool} → FormulaIn counts → ℕ → ℕ
 unfolding worth
-ones F x = worth F x .ones
+ones F x = (worth F x).ones

@@ -1,12 +1,11 @@
 -- A formula's values 256 assignments at a time.
-use mathlib.Core.Bool.{Bool}
-use Prim.Native.Nat.{ℕ, zero, suc, _+_, _*_}
-use Rattle·bits.specs.Numbers.{number}
-use Rattle·values·specs.specs.declared.stretches.Stretch.{Stretch}
+use Rattle.std.specs.Prelude.{Bool, ℕ, zero, suc, ◌+◌, ◌*◌}
+use Rattle.bits.specs.Numbers.{number}
+use Rattle.values.specs.declared.stretches.Stretch.{Stretch}
 
 -- word w of the values F has: those at the 64 assignments from 64 w on
-abbrev pub wordOf : (ℕ → Bool) → ℕ → ℕ
-wordOf F w = number 64 (λ i. F (64 * w + i))
+abbrev pub word_of : (ℕ → Bool) → ℕ → ℕ
+word_of F w = number 64 (λ i. F (64 * w + i))
 
 -- the words from 4 w on, of words f 0, f 1, ..
 abbrev pub four : (ℕ → ℕ) → ℕ → Stretch
@@ -14,7 +13,7 @@ four f w = record { a = f (4 * w + 0); b = f (4 * w + 1); c = f (4 * w + 2); d =
 
 -- stretch w of the values F has: those at the 256 assignments from 256 w on
 unfoldable pub stretchOf : (ℕ → Bool) → ℕ → Stretch
-stretchOf F w = four (wordOf F) w
+stretchOf F w = four (word_of F) w
 
 -- a stretch of four words alike
 abbrev pub alike : ℕ → Stretch
@@ -22,15 +21,15 @@ alike x = record { a = x; b = x; c = x; d = x }
 
 -- f of each word of a stretch
 abbrev pub inEach : (ℕ → ℕ) → Stretch → Stretch
-inEach f v = record { a = f (v .a); b = f (v .b); c = f (v .c); d = f (v .d) }
+inEach f v = record { a = f v.a; b = f v.b; c = f v.c; d = f v.d }
 
 -- f of each word of a stretch and the one at its place in another
 abbrev pub inBoth : (ℕ → ℕ → ℕ) → Stretch → Stretch → Stretch
-inBoth f v x = record { a = f (v .a) (x .a); b = f (v .b) (x .b); c = f (v .c) (x .c); d = f (v .d) (x .d) }
+inBoth f v x = record { a = f v.a x.a; b = f v.b x.b; c = f v.c x.c; d = f v.d x.d }
 
 -- word k of a stretch
-abbrev pub wordIn : Stretch → ℕ → ℕ
-wordIn v zero = v .a
-wordIn v (suc zero) = v .b
-wordIn v (suc (suc zero)) = v .c
-wordIn v (suc (suc (suc k))) = v .d
+abbrev pub word_in : Stretch → ℕ → ℕ
+word_in v zero = v.a
+word_in v (suc zero) = v.b
+word_in v (suc (suc zero)) = v.c
+word_in v (suc (suc (suc k))) = v.d

@@ -1,13 +1,10 @@
 -- Counting 256 assignments at a time: at each of them a number, in words.
-use mathlib.Core.Path.{_≡_}
-use mathlib.Core.Bool.{Bool}
-use Prim.Native.Nat.{ℕ}
-use lib.Bits.{bitAnd, bitOr, bitXor}
-use lib.Dec.{leb}
-use Rattle·bits.specs.Numbers.{bit, number}
-use Rattle·values·specs.specs.declared.tallies.Tally.{Tally}
-use Rattle·values·specs.specs.Stretches.{stretchOf, alike, inBoth}
-use Rattle·values·specs.specs.declared.stretches.Stretch.{Stretch}
+use Rattle.std.specs.Prelude.{◌≡◌, Bool, ℕ, leb}
+use Rattle.std.specs.Int.Bits.{bit_and, bit_or, bit_xor}
+use Rattle.bits.specs.Numbers.{bit, number}
+use Rattle.values.specs.declared.tallies.Tally.{Tally}
+use Rattle.values.specs.Stretches.{stretchOf, alike, inBoth}
+use Rattle.values.specs.declared.stretches.Stretch.{Stretch}
 
 -- a stretch of one value
 abbrev pub always : Bool → Stretch
@@ -15,11 +12,11 @@ always b = alike (number 64 (λ i. b))
 
 -- stretch w of the numbers N: their four low bits, and whether they are 16 or more
 pub record Tallies (N : ℕ → ℕ) (w : ℕ) (t : Tally) : Type 0 where
-  pub ones : t .ones ≡ stretchOf (λ x. bit (N x) 0) w
-  pub twos : t .twos ≡ stretchOf (λ x. bit (N x) 1) w
-  pub fours : t .fours ≡ stretchOf (λ x. bit (N x) 2) w
-  pub eights : t .eights ≡ stretchOf (λ x. bit (N x) 3) w
-  pub over : t .over ≡ stretchOf (λ x. leb 16 (N x)) w
+  pub ones : t.ones ≡ stretchOf (λ x. bit (N x) 0) w
+  pub twos : t.twos ≡ stretchOf (λ x. bit (N x) 1) w
+  pub fours : t.fours ≡ stretchOf (λ x. bit (N x) 2) w
+  pub eights : t.eights ≡ stretchOf (λ x. bit (N x) 3) w
+  pub over : t.over ≡ stretchOf (λ x. leb 16 (N x)) w
 
 -- the same number everywhere, below 16
 abbrev pub fixed : ℕ → Tally
@@ -34,14 +31,14 @@ fixed m = record {
 -- one more where v is 1: a carry goes from each bit to the next, and what leaves the highest stays
 abbrev pub raised : Tally → Stretch → Tally
 raised t v =
-    let a = inBoth bitAnd (t .ones) v in
-    let b = inBoth bitAnd (t .twos) a in
-    let c = inBoth bitAnd (t .fours) b in
-    let d = inBoth bitAnd (t .eights) c in
+    let a = inBoth bit_and t.ones v in
+    let b = inBoth bit_and t.twos a in
+    let c = inBoth bit_and t.fours b in
+    let d = inBoth bit_and t.eights c in
     record {
-      ones = inBoth bitXor (t .ones) v;
-      twos = inBoth bitXor (t .twos) a;
-      fours = inBoth bitXor (t .fours) b;
-      eights = inBoth bitXor (t .eights) c;
-      over = inBoth bitOr (t .over) d;
+      ones = inBoth bit_xor t.ones v;
+      twos = inBoth bit_xor t.twos a;
+      fours = inBoth bit_xor t.fours b;
+      eights = inBoth bit_xor t.eights c;
+      over = inBoth bit_or t.over d;
     }

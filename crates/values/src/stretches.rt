@@ -1,12 +1,13 @@
 // Stretches of 256 assignments: four words in a row, whose bits are the values of one formula.
-use runs::words::input_word;
-ghost use mathlib.Core.Path.{_≡_};
-ghost use Prim.Native.Nat.{_-_, _^_, _<_};
-ghost use lib.Bits.{bitAnd, bitOr, bitXor};
-ghost use Rattle·tables.specs.Table.{mostInputs};
-ghost use Rattle·runs.specs.Words.{inputWord};
-ghost use Rattle·values·specs.specs.Stretches.{alike, four, inEach, inBoth, wordIn};
+ghost use Rattle.std.specs.Prelude.{◌≡◌, ◌-◌, ◌^◌, ◌<◌};
+ghost use Rattle.std.specs.Int.Bits.{bit_and, bit_or, bit_xor};
+ghost use Rattle.tables.specs.Table.{mostInputs};
+ghost use Rattle.runs.specs.Words.{inputWord};
+ghost use Rattle.values.specs.Stretches.{alike, four, inEach, inBoth, word_in};
 
+use runs::words::input_word;
+
+#[derive(Drop)]
 pub struct Stretch {
     pub a: u64,
     pub b: u64,
@@ -16,7 +17,7 @@ pub struct Stretch {
 
 // The same word four times.
 pub fn same(x: u64) -> Stretch
-    ensures { λ r. ⌜ r ≡ alike x ⌝ }
+    ensures { result ≡ alike x }
 {
     Stretch {
         a: x,
@@ -28,8 +29,8 @@ pub fn same(x: u64) -> Stretch
 
 // Stretch w of input j: inputs below 8 change within a stretch, alike in all; the others number stretches.
 pub fn of_input(j: u32, w: u32) -> Stretch
-    requires { ⌜ j < mostInputs ⌝ }
-    ensures { λ r. ⌜ r ≡ four (inputWord j) w ⌝ }
+    requires { j < mostInputs }
+    ensures { result ≡ four (inputWord j) w }
 {
     if j < 8 {
         return Stretch {
@@ -44,7 +45,7 @@ pub fn of_input(j: u32, w: u32) -> Stretch
 
 // `!`
 pub fn turned(v: Stretch) -> Stretch
-    ensures { λ r. ⌜ r ≡ inEach (λ x. 2 ^ 64 - 1 - x) v ⌝ }
+    ensures { result ≡ inEach (λ x. 2 ^ 64 - 1 - x) v }
 {
     Stretch {
         a: !v.a,
@@ -56,7 +57,7 @@ pub fn turned(v: Stretch) -> Stretch
 
 // `&`
 pub fn both(v: Stretch, x: Stretch) -> Stretch
-    ensures { λ r. ⌜ r ≡ inBoth bitAnd v x ⌝ }
+    ensures { result ≡ inBoth bit_and v x }
 {
     Stretch {
         a: v.a & x.a,
@@ -68,7 +69,7 @@ pub fn both(v: Stretch, x: Stretch) -> Stretch
 
 // `^`
 pub fn one_of(v: Stretch, x: Stretch) -> Stretch
-    ensures { λ r. ⌜ r ≡ inBoth bitXor v x ⌝ }
+    ensures { result ≡ inBoth bit_xor v x }
 {
     Stretch {
         a: v.a ^ x.a,
@@ -80,7 +81,7 @@ pub fn one_of(v: Stretch, x: Stretch) -> Stretch
 
 // `|`
 pub fn either(v: Stretch, x: Stretch) -> Stretch
-    ensures { λ r. ⌜ r ≡ inBoth bitOr v x ⌝ }
+    ensures { result ≡ inBoth bit_or v x }
 {
     Stretch {
         a: v.a | x.a,
@@ -92,7 +93,7 @@ pub fn either(v: Stretch, x: Stretch) -> Stretch
 
 // Word k of a stretch, from 3 on the last.
 pub fn word_in(v: Stretch, k: usize) -> u64
-    ensures { λ r. ⌜ r ≡ wordIn v k ⌝ }
+    ensures { result ≡ word_in v k }
 {
     if k == 0 {
         return v.a;

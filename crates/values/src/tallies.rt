@@ -1,15 +1,12 @@
 // Counting by stretches: at each of 256 assignments a number, its bits in words. A carry goes through all of them at
 // once, so that a step costs nine operations on stretches however many assignments are counted.
-use crate::stretches::Stretch;
-use crate::stretches::both;
-use crate::stretches::either;
-use crate::stretches::one_of;
-use crate::stretches::same;
-ghost use mathlib.Core.Path.{_≡_};
-ghost use Prim.Native.Nat.{_-_, _≤_};
-ghost use Rattle·values·specs.specs.Tallies.{always, fixed, raised};
+ghost use Rattle.std.specs.Prelude.{◌≡◌, ◌-◌, ◌≤◌};
+ghost use Rattle.values.specs.Tallies.{always, fixed, raised};
+
+use crate::stretches::{Stretch, both, either, one_of, same};
 
 // The four low bits of the numbers, and where they are 16 or more.
+#[derive(Drop)]
 pub struct Tally {
     pub ones: Stretch,
     pub twos: Stretch,
@@ -20,7 +17,7 @@ pub struct Tally {
 
 // The same value everywhere.
 fn always_if(b: bool) -> Stretch
-    ensures { λ r. ⌜ r ≡ always b ⌝ }
+    ensures { result ≡ always b }
 {
     if b {
         return same(!0);
@@ -30,8 +27,8 @@ fn always_if(b: bool) -> Stretch
 
 // 16 less t at each assignment: t more, and it is over.
 pub fn short_by(t: u32) -> Tally
-    requires { ⌜ t ≤ 16 ⌝ }
-    ensures { λ r. ⌜ r ≡ fixed (16 - t) ⌝ }
+    requires { t ≤ 16 }
+    ensures { result ≡ fixed (16 - t) }
 {
     let m = 16 - t;
     let ones = always_if(m % 2 == 1);
@@ -50,7 +47,7 @@ pub fn short_by(t: u32) -> Tally
 
 // One more where v is 1.
 pub fn raise(t: Tally, v: Stretch) -> Tally
-    ensures { λ r. ⌜ r ≡ raised t v ⌝ }
+    ensures { result ≡ raised t v }
 {
     let ones = t.ones;
     let twos = t.twos;

@@ -1,32 +1,32 @@
 -- What was learned stays true of the table, and rules out the pair of masks that it meets. Assumes nothing.
-use mathlib.Core.Path.{_≡_, subst}
+use mathlib.Core.Path.{◌≡◌, subst}
 use mathlib.Core.Bool.{Bool, true, false}
 use mathlib.Core.List.{List}
-use Prim.Native.Nat.{ℕ, _^_}
-use lib.Bits.{bitOr}
-use Rattle·bits.specs.Numbers.{bit}
-use Rattle·bits.specs.Sets.{Apart}
-use Rattle·tables.specs.Table.{tableBit}
-use Rattle·splits.specs.Columns.{fewColumns}
-use Rattle·witness.specs.Witness.{RulesOut}
-use Rattle·known.specs.Notes.{Learned, StaysLearned, Meets}
-use Rattle·known.proofs.Keeping.{meets-fails}
-use Rattle·walks·specs.specs.Known.{Known}
+use Prim.Native.Nat.{ℕ, ◌^◌}
+use lib.Bits.{bit_or}
+use Rattle.bits.specs.Numbers.{bit}
+use Rattle.bits.specs.Sets.{Apart}
+use Rattle.tables.specs.Table.{tableBit}
+use Rattle.splits.specs.Columns.{fewColumns}
+use Rattle.witness.specs.Witness.{RulesOut}
+use Rattle.known.specs.Notes.{Learned, StaysLearned, Meets}
+use Rattle.known.proofs.Keeping.{meets-fails}
+use Rattle.walks.specs.Known.{Known}
 
 module _ {n r : ℕ} {t notes left : List ℕ} (w : Known n r t notes) where
   -- only the notes have changed, and they say what is true
   known-left : Learned n (tableBit t) (2 ^ r) left → Known n r t left
-  known-left l = record { most = w .most; first = w .first; long = w .long; learned = l }
+  known-left l = record { most = w.most; first = w.first; long = w.long; learned = l }
 
   pub still-known : StaysLearned notes left → Known n r t left
-  still-known keeps = known-left (keeps n (2 ^ r) (tableBit t) (w .learned))
+  still-known keeps = known-left (keeps n (2 ^ r) (tableBit t) w.learned)
 
   -- what rules out p own and q free was kept; where it meets the pair of masks, the pair is none
   pub learned-one : (m p q own shared : ℕ) (met : Bool) → m ≡ 2 ^ r → RulesOut n (tableBit t) m (bit p) (bit q)
       → ((n m : ℕ) (F : ℕ → Bool) → Learned n F m notes → RulesOut n F m (bit p) (bit q) → Learned n F m left)
-      → Apart n (bit own) (bit shared) → (met ≡ true → Meets p q own (bitOr own shared))
+      → Apart n (bit own) (bit shared) → (met ≡ true → Meets p q own (bit_or own shared))
       → (met ≡ true → fewColumns n (tableBit t) (bit own) (bit shared) (2 ^ r) ≡ false) × Known n r t left
   learned-one m p q own shared met e shown kept apart meets =
       let F = tableBit t in
       let rules = subst (λ (k : ℕ). RulesOut n F k (bit p) (bit q)) e shown in
-      (λ f. meets-fails p q own shared rules (meets f) apart, known-left (kept n (2 ^ r) F (w .learned) rules))
+      (λ f. meets-fails p q own shared rules (meets f) apart, known-left (kept n (2 ^ r) F w.learned rules))

@@ -1,34 +1,34 @@
 -- Where a walk over masks may stop: the inputs that cannot be free no longer fit, or one of them was passed over.
 -- Assumes nothing.
-use mathlib.Core.Path.{_≡_, refl, sym, ap, ap₂, _∙_, subst}
-use mathlib.Core.Bool.{Bool, true, false, not, _&&_, _||_}
+use mathlib.Core.Path.{◌≡◌, refl, sym, ap, ap₂, ◌∙◌, subst}
+use mathlib.Core.Bool.{Bool, true, false, not, ◌&&◌, ◌||◌}
 use mathlib.Core.List.{List}
-use Prim.Native.Nat.{ℕ, zero, suc, _+_, _-_, _/_, _^_, _<_, _≤_}
-use native.Mathlib.Nat.{not-suc-le-zero, lt-of-lt-of-le, lt-of-le-of-lt, add-zero}
-use native.Mathlib.Decide.{ℕ-discrete, decLt}
+use Prim.Native.Nat.{ℕ, zero, suc, ◌+◌, ◌-◌, ◌/◌, ◌^◌, ◌<◌, ◌≤◌}
+use native.Mathlib.Nat.{not-suc-le-zero, lt_of_lt_of_le, lt_of_le_of_lt, add-zero}
+use native.Mathlib.Decide.{ℕ_discrete, dec_lt}
 use native.Mathlib.Omega.{arith}
-use lib.Bits.{bitAnd, and-le-l}
-use lib.Pow.{pow-mono, pow-pos, pow-lt, high}
+use lib.Bits.{bit_and, and_le_l}
+use lib.Pow.{pow_mono, pow_pos, pow-lt, high}
 use borrow.Author.Tests.{eqb-true}
-use Rattle·bits.specs.Numbers.{bit, val}
-use Rattle·bits.specs.Sets.{union, rest, Apart, size}
-use Rattle·bits.proofs.Bools.{clash}
-use Rattle·bits.proofs.Counting.{size-or}
-use Rattle·bits.proofs.Numbers.{bit-shr}
-use Rattle·bits.proofs.Sizes.{size-sum}
-use Rattle·bits.proofs.Sums.{bit-not}
-use Rattle·bits.proofs.Machine.{ones-size, bit-and}
-use Rattle·splits.specs.Columns.{fewColumns}
-use Rattle·splits.proofs.Possible.{possible-iff}
-use Rattle·best.specs.Search.{Answer, none, split, overMasks, tryA, tryB}
-use Rattle·best.specs.Walk.{Range, SharedRange}
-use Rattle·best.proofs.First.{first-nothing}
-use Rattle·best.proofs.Tries.{tryB-split, tryA-size, tryA-is}
-use Rattle·best.proofs.Ranges.{even, range-lt, upper-has}
-use Rattle·best.proofs.Walks.{Turn, maskOf}
-use Rattle·witness.proofs.Members.{bit-within, rules-more}
-use Rattle·witness.specs.Witness.{Inside, single, RulesOut}
-use Rattle·known.specs.Notes.{Needs, BadPairs, Adds, Outside}
+use Rattle.bits.specs.Numbers.{bit, val}
+use Rattle.bits.specs.Sets.{union, rest, Apart, size}
+use Rattle.bits.proofs.Bools.{clash}
+use Rattle.bits.proofs.Counting.{size-or}
+use Rattle.bits.proofs.Numbers.{bit-shr}
+use Rattle.bits.proofs.Sizes.{size-sum}
+use Rattle.bits.proofs.Sums.{bit_not}
+use Rattle.bits.proofs.Machine.{ones-size, bit-and}
+use Rattle.splits.specs.Columns.{fewColumns}
+use Rattle.splits.proofs.Possible.{possible-iff}
+use Rattle.best.specs.Search.{Answer, none, split, overMasks, tryA, tryB}
+use Rattle.best.specs.Walk.{Range, SharedRange}
+use Rattle.best.proofs.First.{first-nothing}
+use Rattle.best.proofs.Tries.{tryB-split, tryA-size, tryA-is}
+use Rattle.best.proofs.Ranges.{even, range-lt, upper-has}
+use Rattle.best.proofs.Walks.{Turn, mask_of}
+use Rattle.witness.proofs.Members.{bit-within, rules-more}
+use Rattle.witness.specs.Witness.{Inside, single, RulesOut}
+use Rattle.known.specs.Notes.{Needs, BadPairs, Adds, Outside}
 
 -- ---- counting
 
@@ -39,7 +39,7 @@ missing zero s t h = absurd (not-suc-le-zero h)
 missing (suc n) s t h = go (s n) (t n) refl refl (missing n s t)
   where
     up : (c : ℕ) × (c < n) × (s c ≡ true) × (t c ≡ false) → (c : ℕ) × (c < suc n) × (s c ≡ true) × (t c ≡ false)
-    up w = (w .0, omega (arith, w .1), w .2, w .3)
+    up w = (w.0, omega (arith, w.1), w.2, w.3)
 
     go : (u v : Bool) → s n ≡ u → t n ≡ v → (size n t < size n s → (c : ℕ) × (c < n) × (s c ≡ true) × (t c ≡ false))
         → (c : ℕ) × (c < suc n) × (s c ≡ true) × (t c ≡ false)
@@ -61,22 +61,22 @@ crowded n acc left S off inside h = pick (missing n (union acc left) S
 
     pick : (c : ℕ) × (c < n) × (union acc left c ≡ true) × (S c ≡ false) → (c : ℕ) × (c < n) × (left c ≡ true)
         × (S c ≡ false)
-    pick w = (w .0, w .1, go (acc (w .0)) refl (w .2), w .3)
+    pick w = (w.0, w.1, go (acc w.0) refl w.2, w.3)
       where
-        go : (u : Bool) → acc (w .0) ≡ u → (u || left (w .0)) ≡ true → left (w .0) ≡ true
-        go true q e = absurd (clash (inside (w .0) q) (w .3))
+        go : (u : Bool) → acc w.0 ≡ u → (u || left w.0) ≡ true → left w.0 ≡ true
+        go true q e = absurd (clash (inside w.0 q) w.3)
         go false q e = e
 
 -- a mask has as many members among 16 positions as among its own
 pub wide-size : (n m : ℕ) → n ≤ 16 → m < 2 ^ n → size 16 (bit m) ≡ size n (bit m)
-wide-size n m h l = sym (ones-size 16 m (lt-of-lt-of-le l (pow-mono {i = n} {j = 16} h))) ∙ ones-size n m l
+wide-size n m h l = sym (ones-size 16 m (lt_of_lt_of_le l (pow_mono {i = n} {j = 16} h))) ∙ ones-size n m l
 
 -- `need & !acc`
 module _ (need acc : ℕ) (small : acc < 65536) where
-  pub left-bit : (j : ℕ) → j < 16 → bit (bitAnd need (65535 - acc)) j ≡ (bit need j && not (bit acc j))
-  left-bit j l = bit-and need (65535 - acc) j ∙ ap (λ (t : Bool). bit need j && t) (bit-not 16 acc j small l)
+  pub left-bit : (j : ℕ) → j < 16 → bit (bit_and need (65535 - acc)) j ≡ (bit need j && not (bit acc j))
+  left-bit j l = bit-and need (65535 - acc) j ∙ ap (λ (t : Bool). bit need j && t) (bit_not 16 acc j small l)
 
-  left-off : (j : ℕ) → j < 16 → bit (bitAnd need (65535 - acc)) j ≡ true → (bit need j ≡ true) × (bit acc j ≡ false)
+  left-off : (j : ℕ) → j < 16 → bit (bit_and need (65535 - acc)) j ≡ true → (bit need j ≡ true) × (bit acc j ≡ false)
   left-off j l e = go (bit need j) (bit acc j) refl refl (sym (left-bit j l) ∙ e)
     where
       go : (u v : Bool) → bit need j ≡ u → bit acc j ≡ v → (u && not v) ≡ true → (bit need j ≡ true)
@@ -86,8 +86,8 @@ module _ (need acc : ℕ) (small : acc < 65536) where
       go false v p q f = absurd (clash f refl)
 
 -- a mask of a range is one of the machine's
-pub mask-fits : {n p acc : ℕ} → Range n p acc → acc < 2 ^ 16
-mask-fits {n} r = lt-of-lt-of-le (r .below) (pow-mono {i = n} {j = 16} (r .most))
+pub mask_fits : {n p acc : ℕ} → Range n p acc → acc < 2 ^ 16
+mask_fits {n} r = lt_of_lt_of_le r.below (pow_mono {i = n} {j = 16} r.most)
 
 -- ---- the masks of a range have what is made already
 module _ {n p acc : ℕ} (r : Range n p acc) (i : ℕ) (l : i < 2 ^ p) where
@@ -99,7 +99,7 @@ module _ {n p acc : ℕ} (r : Range n p acc) (i : ℕ) (l : i < 2 ^ p) where
       ∙ ap (bit acc) (sym e)
 
   pub range-has : Inside (bit acc) (bit (acc + i))
-  range-has j e = elim (decLt j p) [ yes g ↦ absurd (clash e (r .low j g)) | no g ↦ range-stays j (omega arith) ∙ e ]
+  range-has j e = elim (dec_lt j p) [ yes g ↦ absurd (clash e (r.low j g)) | no g ↦ range-stays j (omega arith) ∙ e ]
 
 -- ---- what is never answered
 module _ (n r : ℕ) (F : ℕ → Bool) where
@@ -109,37 +109,37 @@ module _ (n r : ℕ) (F : ℕ → Bool) where
     where
       go : (a : Answer) → tryB n r F q A B ≡ a → a ≡ none
       go none e = refl
-      go (split A′ B′) e =
-          let w = tryB-split n r F q A B A′ B′ e in
-          absurd (clash (possible-iff n F (bit A) (bit B) (w .apart) r .1 (w .possible)) (h (w .sizeB) (w .apart)))
+      go (split A' B') e =
+          let w = tryB-split n r F q A B A' B' e in
+          absurd (clash ((possible-iff n F (bit A) (bit B) w.apart r).1 w.possible) (h w.sizeB w.apart))
 
   -- an input that cannot be free, and is
   pub lacks : (P : ℕ → Bool) (A B : ℕ) (c : ℕ) → RulesOut n F (2 ^ r) P (single c) → Inside P (bit A)
       → union (bit A) (bit B) c ≡ false → Apart n (bit A) (bit B)
       → fewColumns n F (bit A) (bit B) (2 ^ r) ≡ false
-  lacks P A B c w inside out apart = w .fails (bit A) (bit B) apart inside
+  lacks P A B c w inside out apart = w.fails (bit A) (bit B) apart inside
       (λ j e. ap (λ (i : ℕ). rest (bit A) (bit B) i) (eqb-true j c e) ∙ ap not out)
 
   -- a pair of masks that has no room for what is needed; S has of it what the pair has
-  no-room : (P S : ℕ → Bool) (A B need acc : ℕ) → Needs n F (2 ^ r) P need → acc < 65536 → Inside P (bit A)
+  no_room : (P S : ℕ → Bool) (A B need acc : ℕ) → Needs n F (2 ^ r) P need → acc < 65536 → Inside P (bit A)
       → Inside (bit acc) S → ((c : ℕ) → bit need c ≡ true → S c ≡ false → union (bit A) (bit B) c ≡ false)
-      → size 16 S < size 16 (bit acc) + size 16 (bit (bitAnd need (65535 - acc)))
+      → size 16 S < size 16 (bit acc) + size 16 (bit (bit_and need (65535 - acc)))
       → Apart n (bit A) (bit B) → fewColumns n F (bit A) (bit B) (2 ^ r) ≡ false
-  no-room P S A B need acc w small has inside out h apart =
-      let x = crowded 16 (bit acc) (bit (bitAnd need (65535 - acc))) S (λ j l e. left-off need acc small j l e .1)
+  no_room P S A B need acc w small has inside out h apart =
+      let x = crowded 16 (bit acc) (bit (bit_and need (65535 - acc))) S (λ j l e. (left-off need acc small j l e).1)
       inside h in
-      let e = left-off need acc small (x .0) (x .1) (x .2) .0 in
-      lacks P A B (x .0) (w (x .0) e) has (out (x .0) e (x .3)) apart
+      let e = (left-off need acc small x.0 x.1 x.2).0 in
+      lacks P A B x.0 (w x.0 e) has (out x.0 e x.3) apart
 
   -- ---- shared masks
   module _ (own need : ℕ) (w : Needs n F (2 ^ r) (bit own) need) (off : (c : ℕ) → bit need c ≡ true → bit own c ≡ false)
       {p acc : ℕ} (g : SharedRange n own p acc)
       (k : ℕ) where
     without : (q c m : ℕ) → bit need c ≡ true → bit m c ≡ false → tryB n r F q own m ≡ none
-    without q c m e f = tryB-never q own m (λ s apart. lacks (bit own) own m c (w c e) (λ j h. h) (ap₂ _||_ (off c e) f)
+    without q c m e f = tryB-never q own m (λ s apart. lacks (bit own) own m c (w c e) (λ j h. h) (ap₂ ◌||◌ (off c e) f)
         apart)
 
-    pub shared-crowded : k < size 16 (bit (bitAnd need (65535 - acc)))
+    pub shared-crowded : k < size 16 (bit (bit_and need (65535 - acc)))
         → overMasks p acc (tryB n r F (size n (bit acc) + k) own) ≡ none
     shared-crowded h = first-nothing (2 ^ p) _ (λ i l. tryB-never (size n (bit acc) + k) own (acc + i)
         (λ s apart. at i l s apart))
@@ -147,42 +147,42 @@ module _ (n r : ℕ) (F : ℕ → Bool) where
         at : (i : ℕ) → i < 2 ^ p → size n (bit (acc + i)) ≡ size n (bit acc) + k → Apart n (bit own) (bit (acc + i))
             → fewColumns n F (bit own) (bit (acc + i)) (2 ^ r) ≡ false
         at i l s apart =
-            no-room (bit own) (bit (acc + i)) own (acc + i) need acc w (mask-fits (g .range)) (λ j h. h)
-            (range-has (g .range) i l) (λ c e f. ap₂ _||_ (off c e) f)
+            no_room (bit own) (bit (acc + i)) own (acc + i) need acc w (mask_fits g.range) (λ j h. h)
+            (range-has g.range i l) (λ c e f. ap₂ ◌||◌ (off c e) f)
             (omega (
               arith,
-              wide-size n acc (g .range .most) (g .range .below),
-              wide-size n (acc + i) (g .range .most)
-                  (range-lt (g .range) i l),
+              wide-size n acc g.range.most g.range.below,
+              wide-size n (acc + i) g.range.most
+                  (range-lt g.range i l),
             )) apart
 
-    pub shared-passed : need < 65536 → bit (bitAnd need (65535 - acc)) p ≡ true
+    pub shared-passed : need < 65536 → bit (bit_and need (65535 - acc)) p ≡ true
         → overMasks p acc (tryB n r F (size n (bit acc) + k) own) ≡ none
     shared-passed small h =
-        let p-lt : p < 16 = bit-within (bitAnd need (65535 - acc)) 16 p
-        (lt-of-le-of-lt (and-le-l need (65535 - acc)) small) h in
-        let e = left-off need acc (mask-fits (g .range)) p p-lt h in
-        first-nothing (2 ^ p) _ (λ i l. without (size n (bit acc) + k) p (acc + i) (e .0)
-        (range-stays (g .range) i l p (omega arith) ∙ e .1))
+        let p-lt : p < 16 = bit-within (bit_and need (65535 - acc)) 16 p
+        (lt_of_le_of_lt (and_le_l need (65535 - acc)) small) h in
+        let e = left-off need acc (mask_fits g.range) p p-lt h in
+        first-nothing (2 ^ p) _ (λ i l. without (size n (bit acc) + k) p (acc + i) e.0
+        (range-stays g.range i l p (omega arith) ∙ e.1))
 
   -- ---- own masks
   module _ (need : ℕ) {p acc : ℕ} (w : Needs n F (2 ^ r) (bit acc) need) (g : Range n p acc) (q k : ℕ) where
-    pub own-crowded : q + k < size 16 (bit (bitAnd need (65535 - acc)))
+    pub own-crowded : q + k < size 16 (bit (bit_and need (65535 - acc)))
         → overMasks p acc (tryA n r F (size n (bit acc) + k) q) ≡ none
     own-crowded h = first-nothing (2 ^ p) _ (λ i l. tried i l
-        (ℕ-discrete (size n (bit (acc + i))) (size n (bit acc) + k)))
+        (ℕ_discrete (size n (bit (acc + i))) (size n (bit acc) + k)))
       where
         pairs : (i : ℕ) → i < 2 ^ p → size n (bit (acc + i)) ≡ size n (bit acc) + k → (B : ℕ) → B < 2 ^ n
             → size n (bit B) ≡ q → Apart n (bit (acc + i)) (bit B)
             → fewColumns n F (bit (acc + i)) (bit B) (2 ^ r) ≡ false
         pairs i l s B b t apart =
-            no-room (bit acc) (union (bit (acc + i)) (bit B)) (acc + i) B need acc w (mask-fits g) (range-has g i l)
+            no_room (bit acc) (union (bit (acc + i)) (bit B)) (acc + i) B need acc w (mask_fits g) (range-has g i l)
             (λ j e. ap (λ (u : Bool). u || bit B j) (range-has g i l j e)) (λ c e f. f)
             (omega (
               arith,
-              wide-size n acc (g .most) (g .below),
-              wide-size n (acc + i) (g .most) (range-lt g i l),
-              wide-size n B (g .most) b,
+              wide-size n acc g.most g.below,
+              wide-size n (acc + i) g.most (range-lt g i l),
+              wide-size n B g.most b,
               size-or 16 (bit (acc + i)) (bit B),
             )) apart
 
@@ -193,26 +193,26 @@ module _ (n r : ℕ) (F : ℕ → Bool) where
             ∙ first-nothing (2 ^ n) _ (λ B b. tryB-never q (acc + i) B (λ t apart. pairs i l s B b t apart))
         tried i l (no s) = tryA-size n r F (size n (bit acc) + k) q (acc + i) s
 
-pub left-lt : (need acc : ℕ) → need < 65536 → bitAnd need (65535 - acc) < 65536
-left-lt need acc h = lt-of-le-of-lt (and-le-l need (65535 - acc)) h
+pub left_lt : (need acc : ℕ) → need < 65536 → bit_and need (65535 - acc) < 65536
+left_lt need acc h = lt_of_le_of_lt (and_le_l need (65535 - acc)) h
 
 -- a needed input that the own mask lacks is not own
-pub left-outside : (need acc : ℕ) → need < 65536 → acc < 65536 → Outside (bitAnd need (65535 - acc)) acc
-left-outside need acc h g c e = left-off need acc g c
-    (bit-within (bitAnd need (65535 - acc)) 16 c (left-lt need acc h) e) e .1
+pub left-outside : (need acc : ℕ) → need < 65536 → acc < 65536 → Outside (bit_and need (65535 - acc)) acc
+left-outside need acc h g c e = (left-off need acc g c
+    (bit-within (bit_and need (65535 - acc)) 16 c (left_lt need acc h) e) e).1
 
 -- the needed inputs of a mask with one position more
 pub own-more : {n : ℕ} {F : ℕ → Bool} {m p acc k : ℕ} (r : Range n p acc) (d : Turn n p acc k) (l : List ℕ)
     (need more : ℕ) → BadPairs n F m l
-    → Needs n F m (bit acc) need → Adds l acc (p - 1) need more → Needs n F m (bit (acc + maskOf p)) more
-own-more {n} {F} {m} {p} {acc} r d l need more w x a = a .needs n m F (bit (acc + maskOf p)) w inside has
+    → Needs n F m (bit acc) need → Adds l acc (p - 1) need more → Needs n F m (bit (acc + mask_of p)) more
+own-more {n} {F} {m} {p} {acc} r d l need more w x a = a.needs n m F (bit (acc + mask_of p)) w inside has
     (λ c e. rules-more (x c e) inside (λ y h. h))
   where
-    inside : Inside (bit acc) (bit (acc + maskOf p))
-    inside = range-has r (maskOf p) (subst (λ (m : ℕ). m < 2 ^ p) (sym (d .mask)) (pow-lt (omega (arith, d .down))))
+    inside : Inside (bit acc) (bit (acc + mask_of p))
+    inside = range-has r (mask_of p) (subst (λ (m : ℕ). m < 2 ^ p) (sym d.mask) (pow-lt (omega (arith, d.down))))
 
-    has : bit (acc + maskOf p) (p - 1) ≡ true
+    has : bit (acc + mask_of p) (p - 1) ≡ true
     has =
-        ap (λ (m : ℕ). bit (acc + m) (p - 1)) (d .mask)
+        ap (λ (m : ℕ). bit (acc + m) (p - 1)) d.mask
         ∙ ap (λ (m : ℕ). bit m (p - 1)) (sym (add-zero (acc + 2 ^ (p - 1))))
-        ∙ upper-has (subst (λ (p : ℕ). Range n p acc) (d .down) r) 0 (pow-pos (p - 1))
+        ∙ upper-has (subst (λ (p : ℕ). Range n p acc) d.down r) 0 (pow_pos (p - 1))

@@ -1,10 +1,8 @@
 -- What the search knows of a table while it walks.
-use Prim.Native.Nat.{ℕ, _*_, _^_, _≤_}
-use mathlib.Core.List.{List}
-use lib.ListN.{length}
-use Rattle·tables.specs.Table.{mostInputs, tableBit}
-use Rattle·best.specs.Walk.{mostFirst}
-use Rattle·known.specs.Notes.{Learned}
+use Rattle.std.specs.Prelude.{ℕ, ◌*◌, ◌^◌, ◌≤◌, List, length}
+use Rattle.tables.specs.Table.{mostInputs, tableBit}
+use Rattle.best.specs.Walk.{mostFirst}
+use Rattle.known.specs.Notes.{Learned}
 
 -- a table of n inputs, and what was learned of splits with r first cells
 pub record Known (n r : ℕ) (t notes : List ℕ) : Type 0 where

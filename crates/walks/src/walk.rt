@@ -1,43 +1,35 @@
 // The masks of one size in increasing order, by recursion on the position: a mask is made from its highest position
 // down, and those without a position come before those with it. What is known to be ruled out is not tried.
-ghost use mathlib.Core.Path.{_≡_};
-ghost use mathlib.Core.Bool.{true, false};
-ghost use Prim.Native.Nat.{_+_, _^_, _<_, _≤_};
-ghost use Rattle·bits.specs.Numbers.{bit};
-ghost use Rattle·bits.specs.Sets.{Apart, size};
-ghost use Rattle·tables.specs.Table.{mostInputs, tableBit};
-ghost use Rattle·splits.specs.Columns.{fewColumns};
-ghost use Rattle·best.specs.Search.{tryA, tryB, overMasks};
-ghost use Rattle·best.specs.Answers.{answerOf};
-ghost use Rattle·best.specs.Walk.{Range, SharedRange};
-ghost use Rattle·walks·specs.specs.Known.{Known};
-ghost use Rattle·known.specs.Notes.{Needs, BadPairs, Outside};
+ghost use Rattle.std.specs.Prelude.{◌≡◌, true, false, ◌+◌, ◌^◌, ◌<◌, ◌≤◌};
+ghost use Rattle.bits.specs.Numbers.{bit};
+ghost use Rattle.bits.specs.Sets.{Apart, size};
+ghost use Rattle.tables.specs.Table.{mostInputs, tableBit};
+ghost use Rattle.splits.specs.Columns.{fewColumns};
+ghost use Rattle.best.specs.Search.{tryA, tryB, overMasks};
+ghost use Rattle.best.specs.Answers.{answer_of};
+ghost use Rattle.best.specs.Walk.{Range, SharedRange};
+ghost use Rattle.walks.specs.Known.{Known};
+ghost use Rattle.known.specs.Notes.{Needs, BadPairs, Outside};
+
 use best::Found;
 use best::pair::attempt;
 use bits::sets::members;
 use columns::split::Split;
 use known::needed::needed;
-use known::notes::keep;
-use known::notes::meets;
-use known::notes::ruled;
+use known::notes::{keep, meets, ruled};
 use witness::crowd::many_somewhere;
-use witness::hint::NONE;
-use witness::hint::look;
-use witness::pick::highest;
-use witness::pick::two;
-use witness::shrink::own_of;
-use witness::shrink::shrink;
+use witness::hint::{NONE, look};
+use witness::pick::{highest, two};
+use witness::shrink::{own_of, shrink};
 use witness::six::shows;
 
 // Looks for many points, told apart at two free positions, against a pair of masks, and keeps what they rule out;
 // whether that is the pair itself. With nothing shared the test of the columns takes no longer than that.
 fn learn_many(t: &[u8], n: u32, r: u32, own: u16, shared: u16, notes: &mut [u32]) -> bool
-    requires { ⌜ Known n r (now t) (now notes) ⌝ }
-    requires { ⌜ (own < 2 ^ n) × (shared < 2 ^ n) × Apart n (bit own) (bit shared) ⌝ }
-    ensures { λ f. ⌜
-        (f ≡ true → fewColumns n (tableBit (now (t .entry))) (bit own) (bit shared) (2 ^ r) ≡ false)
-        × Known n r (now (t .entry)) (now (notes .exit))
-        ⌝ }
+    requires known { Known n r t.now notes.old }
+    requires own_bound { (own < 2 ^ n) × (shared < 2 ^ n) × Apart n (bit own) (bit shared) }
+    ensures { (result ≡ true → fewColumns n (tableBit t.now) (bit own) (bit shared) (2 ^ r) ≡ false)
+        × Known n r t.now notes.new }
 {
     if shared == 0 {
         return false;
@@ -59,7 +51,7 @@ fn learn_many(t: &[u8], n: u32, r: u32, own: u16, shared: u16, notes: &mut [u32]
 
 // Two own inputs and nothing shared: what six bits say of them tells of hardly another pair.
 fn two_alone(own: u16, shared: u16) -> bool
-    ensures { λ r. ⊤ₛ }
+    ensures { Unit {0} }
 {
     if shared != 0 {
         return false;
@@ -70,12 +62,10 @@ fn two_alone(own: u16, shared: u16) -> bool
 // Looks for six bits against a pair of masks, and keeps what they rule out, made small; whether that is the pair
 // itself. Of more first cells than one six bits say nothing: there many points are asked.
 fn learn(t: &[u8], n: u32, r: u32, own: u16, shared: u16, notes: &mut [u32]) -> bool
-    requires { ⌜ Known n r (now t) (now notes) ⌝ }
-    requires { ⌜ (own < 2 ^ n) × (shared < 2 ^ n) × Apart n (bit own) (bit shared) ⌝ }
-    ensures { λ f. ⌜
-        (f ≡ true → fewColumns n (tableBit (now (t .entry))) (bit own) (bit shared) (2 ^ r) ≡ false)
-        × Known n r (now (t .entry)) (now (notes .exit))
-        ⌝ }
+    requires known { Known n r t.now notes.old }
+    requires own_bound { (own < 2 ^ n) × (shared < 2 ^ n) × Apart n (bit own) (bit shared) }
+    ensures { (result ≡ true → fewColumns n (tableBit t.now) (bit own) (bit shared) (2 ^ r) ≡ false)
+        × Known n r t.now notes.new }
 {
     if r != 1 {
         return learn_many(t, n, r, own, shared, notes);
@@ -98,12 +88,10 @@ fn learn(t: &[u8], n: u32, r: u32, own: u16, shared: u16, notes: &mut [u32]) -> 
 
 // The pair of masks, if it is possible: what is known is asked first, then what can be learned.
 fn try_pair(t: &[u8], n: u32, r: u32, own: u16, shared: u16, notes: &mut [u32]) -> Found
-    requires { ⌜ Known n r (now t) (now notes) ⌝ }
-    requires { ⌜ (own < 2 ^ n) × (shared < 2 ^ n) × Apart n (bit own) (bit shared) ⌝ }
-    ensures { λ f. ⌜
-        (answerOf f ≡ tryB n r (tableBit (now (t .entry))) (size n (bit shared)) own shared)
-        × Known n r (now (t .entry)) (now (notes .exit))
-        ⌝ }
+    requires known { Known n r t.now notes.old }
+    requires own_bound { (own < 2 ^ n) × (shared < 2 ^ n) × Apart n (bit own) (bit shared) }
+    ensures { (answer_of result ≡ tryB n r (tableBit t.now) (size n (bit shared)) own shared)
+        × Known n r t.now notes.new }
 {
     if ruled(notes, own as u32, (own as u32) | (shared as u32)) {
         return Found::Nothing;
@@ -116,7 +104,7 @@ fn try_pair(t: &[u8], n: u32, r: u32, own: u16, shared: u16, notes: &mut [u32]) 
 
 // Whether the mask has more positions than there is room for.
 fn too_many(left: u16, room: u32) -> bool
-    ensures { λ r. ⌜ (r ≡ true → room < size 16 (bit left)) ⌝ }
+    ensures { result ≡ true → room < size 16 (bit left) }
 {
     if left == 0 {
         return false;
@@ -137,12 +125,10 @@ fn walk_shared(
     k: u32,
     notes: &mut [u32],
 ) -> Found
-    requires { ⌜ Known n r (now t) (now notes) ⌝ }
-    requires { ⌜ SharedRange n own p acc × Needs n (tableBit (now t)) (2 ^ r) (bit own) need × Outside need own ⌝ }
-    ensures { λ f. ⌜
-        (answerOf f ≡ overMasks p acc (tryB n r (tableBit (now (t .entry))) (size n (bit acc) + k) own))
-        × Known n r (now (t .entry)) (now (notes .exit))
-        ⌝ }
+    requires known { Known n r t.now notes.old }
+    requires shared_range { SharedRange n own p acc × Needs n (tableBit t.now) (2 ^ r) (bit own) need × Outside need own }
+    ensures { (answer_of result ≡ overMasks p acc (tryB n r (tableBit t.now) (size n (bit acc) + k) own))
+        × Known n r t.now notes.new }
 {
     if k > p {
         return Found::Nothing;
@@ -183,12 +169,10 @@ pub fn walk_own<'a>(
     k: u32,
     notes: &mut [u32],
 ) -> Found
-    requires { ⌜ Known n r (now t) (now notes) × BadPairs n (tableBit (now t)) (2 ^ r) (now pairs) ⌝ }
-    requires { ⌜ Range n p acc × Needs n (tableBit (now t)) (2 ^ r) (bit acc) need × (q ≤ mostInputs) ⌝ }
-    ensures { λ f. ⌜
-        (answerOf f ≡ overMasks p acc (tryA n r (tableBit (now (t .entry))) (size n (bit acc) + k) q))
-        × Known n r (now (t .entry)) (now (notes .exit))
-        ⌝ }
+    requires known { Known n r t.now notes.old × BadPairs n (tableBit t.now) (2 ^ r) pairs.now }
+    requires range { Range n p acc × Needs n (tableBit t.now) (2 ^ r) (bit acc) need × (q ≤ mostInputs) }
+    ensures { (answer_of result ≡ overMasks p acc (tryA n r (tableBit t.now) (size n (bit acc) + k) q))
+        × Known n r t.now notes.new }
 {
     if k > p {
         return Found::Nothing;

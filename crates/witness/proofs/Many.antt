@@ -1,37 +1,31 @@
 -- More than m columns of four bits: a point for each of them, and they are pairwise told apart. Assumes nothing.
-use mathlib.Core.Path.{_≡_, refl, sym, ap, ap₂, _∙_}
-use mathlib.Core.List.{List}
-use mathlib.Core.Bool.{Bool, true, false, _||_, Bool-discrete}
-use Prim.Native.Nat.{ℕ, zero, suc, _+_, _*_, _/_, _%_, _^_, _<_, _≤_}
-use native.Mathlib.Nat.{mod-lt}
-use native.Mathlib.Decide.{decLt}
-use native.Mathlib.Omega.{arith}
-use lib.Dec.{lit<}
-use lib.Bits.{bitAnd, bitOr, bitXor, xor-lt, xor-block, xor-zero-r}
-use borrow.Author.Tests.{eqb-true}
-use Rattle·bits.specs.Numbers.{bit, val}
-use Rattle·bits.specs.Sets.{size, spread}
-use Rattle·bits.proofs.Bools.{clash, or-none}
-use Rattle·bits.proofs.Numbers.{bit-zero, bit-number}
-use Rattle·bits.proofs.Building.{bit-digit}
-use Rattle·bits.proofs.Machine.{bit-or}
-use Rattle·bits.proofs.Members.{Place, place}
-use Rattle·tables.specs.Table.{tableBit}
-use Rattle·tables.specs.Words.{tableWord}
-use Rattle·witness·specs.specs.Witness.{RulesOut}
-use Rattle·witness·specs.specs.Crowd.{columnOver, HasColumn, Seen}
-use Rattle·witness·proofs.proofs.Members.{power-bit}
-use Rattle·witness·proofs.proofs.Points.{xor-still, xor-alike}
-use Rattle·witness·proofs.proofs.Corners.{spread-low}
-use Rattle·witness·proofs.proofs.Law.{witness-rules}
+use Rattle.std.proofs.Common.{◌≡◌, ℕ, zero, suc, ◌+◌, ◌*◌, ◌/◌, ◌%◌, ◌^◌, ◌<◌, ◌≤◌, Bool, true, false, ◌||◌, List, sym, refl, ap, ◌∙◌, ap₂, mod-lt, arith, lit<, eqb-true}
+use mathlib.Core.Bool.{Bool-discrete}
+use native.Mathlib.Decide.{dec_lt}
+use lib.Bits.{bit_and, bit_or, bit_xor, xor_lt, xor_block, xor_zero_r}
+use Rattle.bits.specs.Numbers.{bit, val}
+use Rattle.bits.specs.Sets.{size, spread}
+use Rattle.bits.proofs.Bools.{clash, or-none}
+use Rattle.bits.proofs.Numbers.{bit-zero, bit-number}
+use Rattle.bits.proofs.Building.{bit-digit}
+use Rattle.bits.proofs.Machine.{bit-or}
+use Rattle.bits.proofs.Members.{Place, place}
+use Rattle.tables.specs.Table.{tableBit}
+use Rattle.tables.specs.Words.{tableWord}
+use Rattle.witness.specs.Witness.{RulesOut}
+use Rattle.witness.specs.Crowd.{columnOver, HasColumn, Seen}
+use Rattle.witness.proofs.Members.{power-bit}
+use Rattle.witness.proofs.Points.{xor-still, xor-alike}
+use Rattle.witness.proofs.Corners.{spread-low}
+use Rattle.witness.proofs.Law.{witness-rules}
 
 -- ---- where two columns differ
 module _ (F : ℕ → Bool) (e f : ℕ) where
   four : ℕ → ℕ → ℕ
   four zero x = x
-  four (suc zero) x = bitXor x e
-  four (suc (suc zero)) x = bitXor x f
-  four (suc (suc (suc o))) x = bitXor (bitXor x e) f
+  four (suc zero) x = bit_xor x e
+  four (suc (suc zero)) x = bit_xor x f
+  four (suc (suc (suc o))) x = bit_xor (bit_xor x e) f
 
   where-told : (x y : ℕ) → (columnOver F e f x ≡ columnOver F e f y → ⊥) → (o : ℕ) × (F (four o x) ≡ F (four o y) → ⊥)
   unfolding four
@@ -51,7 +45,7 @@ module _ (F : ℕ → Bool) (e f : ℕ) where
           absurd (h all)
 
   -- ---- the offsets move no position that neither has
-  four-still : (o x j : ℕ) → bit (bitOr e f) j ≡ false → bit (four o x) j ≡ bit x j
+  four-still : (o x j : ℕ) → bit (bit_or e f) j ≡ false → bit (four o x) j ≡ bit x j
   unfolding four
   four-still o x j h = go o
     where
@@ -60,24 +54,24 @@ module _ (F : ℕ → Bool) (e f : ℕ) where
 
       go : (o : ℕ) → bit (four o x) j ≡ bit x j
       go zero = refl
-      go (suc zero) = xor-still x e j (w .0)
-      go (suc (suc zero)) = xor-still x f j (w .1)
-      go (suc (suc (suc o))) = xor-still (bitXor x e) f j (w .1) ∙ xor-still x e j (w .0)
+      go (suc zero) = xor-still x e j w.0
+      go (suc (suc zero)) = xor-still x f j w.1
+      go (suc (suc (suc o))) = xor-still (bit_xor x e) f j w.1 ∙ xor-still x e j w.0
 
   four-alike : (o x y j : ℕ) → bit x j ≡ bit y j → bit (four o x) j ≡ bit (four o y) j
   unfolding four
   four-alike zero x y j h = h
   four-alike (suc zero) x y j h = xor-alike x y e j h
   four-alike (suc (suc zero)) x y j h = xor-alike x y f j h
-  four-alike (suc (suc (suc o))) x y j h = xor-alike (bitXor x e) (bitXor y e) f j (xor-alike x y e j h)
+  four-alike (suc (suc (suc o))) x y j h = xor-alike (bit_xor x e) (bit_xor y e) f j (xor-alike x y e j h)
 
   module _ (n : ℕ) (belowE : e < 2 ^ n) (belowF : f < 2 ^ n) where
     four-lt : (o x : ℕ) → x < 2 ^ n → four o x < 2 ^ n
     unfolding four
     four-lt zero x l = l
-    four-lt (suc zero) x l = xor-lt n x e l belowE
-    four-lt (suc (suc zero)) x l = xor-lt n x f l belowF
-    four-lt (suc (suc (suc o))) x l = xor-lt n (bitXor x e) f (xor-lt n x e l belowE) belowF
+    four-lt (suc zero) x l = xor_lt n x e l belowE
+    four-lt (suc (suc zero)) x l = xor_lt n x f l belowF
+    four-lt (suc (suc (suc o))) x l = xor_lt n (bit_xor x e) f (xor_lt n x e l belowE) belowF
 
     -- ---- a point for each column: point p has the column that p others come before
     module _ (m own base seen : ℕ) (belowBase : base < 2 ^ n) (points : Seen n F own base e f seen)
@@ -86,50 +80,50 @@ module _ (F : ℕ → Bool) (e f : ℕ) where
       column {p} = place 16 (bit seen) p
 
       pick : {p : ℕ} → Dec (p < size 16 (bit seen)) → ℕ
-      pick (yes l) = points (column l .at) (column l .member) .point
+      pick (yes l) = (points (column l).at (column l).member).point
       pick (no l) = base
 
       point : ℕ → ℕ
-      point p = pick (decLt p (size 16 (bit seen)))
+      point p = pick (dec_lt p (size 16 (bit seen)))
 
       point-lt : (p : ℕ) → point p < 2 ^ n
       unfolding point pick
-      point-lt p = at (decLt p (size 16 (bit seen)))
+      point-lt p = at (dec_lt p (size 16 (bit seen)))
         where
           at : (d : Dec (p < size 16 (bit seen))) → pick d < 2 ^ n
-          at (yes l) = points (column l .at) (column l .member) .below
+          at (yes l) = (points (column l).at (column l).member).below
           at (no l) = belowBase
 
       point-like : (p j : ℕ) → j < n → bit own j ≡ false → bit (point p) j ≡ bit base j
       unfolding point pick
-      point-like p j b h = at (decLt p (size 16 (bit seen)))
+      point-like p j b h = at (dec_lt p (size 16 (bit seen)))
         where
           at : (d : Dec (p < size 16 (bit seen))) → bit (pick d) j ≡ bit base j
-          at (yes l) = points (column l .at) (column l .member) .like j b h
+          at (yes l) = (points (column l).at (column l).member).like j b h
           at (no l) = refl
 
       point-rank : (p : ℕ) → p < size 16 (bit seen) → size (columnOver F e f (point p)) (bit seen) ≡ p
       unfolding point pick
-      point-rank p b = at (decLt p (size 16 (bit seen)))
+      point-rank p b = at (dec_lt p (size 16 (bit seen)))
         where
           at : (d : Dec (p < size 16 (bit seen))) → size (columnOver F e f (pick d)) (bit seen) ≡ p
-          at (yes l) = ap (λ (c : ℕ). size c (bit seen)) (points (column l .at) (column l .member) .is)
-              ∙ column l .rank
+          at (yes l) = ap (λ (c : ℕ). size c (bit seen)) (points (column l).at (column l).member).is
+              ∙ (column l).rank
           at (no l) = absurd (l b)
 
-      pub crowd-rule : RulesOut n F m (bit own) (bit (bitOr e f))
+      pub crowd-rule : RulesOut n F m (bit own) (bit (bit_or e f))
       crowd-rule = witness-rules (record {
         at = λ p o. four o (point p);
         spots = record {
           below = λ p o. four-lt o (point p) (point-lt p);
-          points = λ p p′ o j l h. four-alike o (point p) (point p′) j (point-like p j l h ∙ sym (point-like p′ j l h));
-          offsets = λ p o o′ j l h. four-still o (point p) j h ∙ sym (four-still o′ (point p) j h);
+          points = λ p p' o j l h. four-alike o (point p) (point p') j (point-like p j l h ∙ sym (point-like p' j l h));
+          offsets = λ p o o' j l h. four-still o (point p) j h ∙ sym (four-still o' (point p) j h);
         };
-        told = λ p p′ l h. where-told (point p) (point p′) (λ q. omega (
+        told = λ p p' l h. where-told (point p) (point p') (λ q. omega (
           arith,
           l,
           point-rank p (omega (arith, many)),
-          point-rank p′ (omega (arith, many)),
+          point-rank p' (omega (arith, many)),
           ap (λ (c : ℕ). size c (bit seen)) q,
         ));
       })
@@ -137,33 +131,33 @@ module _ (F : ℕ → Bool) (e f : ℕ) where
 -- ---- as the code says it
 
 -- at first no column is seen
-pub seen-none : {n : ℕ} {F : ℕ → Bool} {own base e f : ℕ} → Seen n F own base e f 0
-seen-none c h = absurd (clash h (bit-zero c))
+pub seen_none : {n : ℕ} {F : ℕ → Bool} {own base e f : ℕ} → Seen n F own base e f 0
+seen_none c h = absurd (clash h (bit-zero c))
 
 -- then that of one more point
-pub seen-more : {n : ℕ} {F : ℕ → Bool} {own base e f : ℕ} (seen new x v : ℕ) → Seen n F own base e f seen → base < 2 ^ n
+pub seen_more : {n : ℕ} {F : ℕ → Bool} {own base e f : ℕ} (seen new x v : ℕ) → Seen n F own base e f seen → base < 2 ^ n
     → x < 2 ^ n → x ≡ spread n (bit own) v
-    → new ≡ 2 ^ columnOver F e f (bitXor base x) → Seen n F own base e f (bitOr seen new)
-seen-more {n} {F} {own} {base} {e} {f} seen new x v w b l at is c h = go (bit seen c) refl (sym (bit-or seen new c) ∙ h)
+    → new ≡ 2 ^ columnOver F e f (bit_xor base x) → Seen n F own base e f (bit_or seen new)
+seen_more {n} {F} {own} {base} {e} {f} seen new x v w b l at is c h = go (bit seen c) refl (sym (bit-or seen new c) ∙ h)
   where
     go : (t : Bool) → bit seen c ≡ t → (t || bit new c) ≡ true → HasColumn n F own base e f c
     go true q r = w c q
     go false q r = record {
-      point = bitXor base x;
-      below = xor-lt n base x b l;
+      point = bit_xor base x;
+      below = xor_lt n base x b l;
       like = λ j k g. xor-still base x j (spread-low n own x v j at k g);
-      is = sym (eqb-true c (columnOver F e f (bitXor base x))
-          (sym (power-bit (columnOver F e f (bitXor base x)) c) ∙ ap (λ (m : ℕ). bit m c) (sym is) ∙ r));
+      is = sym (eqb-true c (columnOver F e f (bit_xor base x))
+          (sym (power-bit (columnOver F e f (bit_xor base x)) c) ∙ ap (λ (m : ℕ). bit m c) (sym is) ∙ r));
     }
 
 pub column-lt : (F : ℕ → Bool) (e f x : ℕ) → columnOver F e f x < 16
 column-lt F e f x = omega (
   arith,
   small (F x),
-  small (F (bitXor x e)),
-  small (F (bitXor x f)),
+  small (F (bit_xor x e)),
+  small (F (bit_xor x f)),
   small
-      (F (bitXor (bitXor x e) f)),
+      (F (bit_xor (bit_xor x e) f)),
 )
   where
     small : (t : Bool) → val t ≤ 1
@@ -172,12 +166,12 @@ column-lt F e f x = omega (
 
 -- ---- where the offsets stay in one word
 
-near-xor : (a r d : ℕ) → r < 64 → d < 64 → bitXor (64 * a + r) d ≡ 64 * a + bitXor r d
+near-xor : (a r d : ℕ) → r < 64 → d < 64 → bit_xor (64 * a + r) d ≡ 64 * a + bit_xor r d
 near-xor a r d h l =
     let e : 64 * a + r ≡ a * 2 ^ 6 + r = omega arith in
-    let q : bitXor a 0 * 2 ^ 6 + bitXor r d ≡ 64 * a + bitXor r d = omega (arith, xor-zero-r a) in
+    let q : bit_xor a 0 * 2 ^ 6 + bit_xor r d ≡ 64 * a + bit_xor r d = omega (arith, xor_zero_r a) in
     let z : d ≡ 0 * 2 ^ 6 + d = omega arith in
-    ap₂ bitXor e z ∙ xor-block 6 a 0 r d h l ∙ q
+    ap₂ bit_xor e z ∙ xor_block 6 a 0 r d h l ∙ q
 
 module _ (t : List ℕ) (w x e f : ℕ) (belowE : e < 64) (belowF : f < 64) (is : w ≡ tableWord t (x / 64)) where
   low : x % 64 < 64
@@ -186,24 +180,24 @@ module _ (t : List ℕ) (w x e f : ℕ) (belowE : e < 64) (belowF : f < 64) (is 
   split-x : x ≡ 64 * (x / 64) + x % 64
   split-x = omega arith
 
-  by-e : bitXor x e ≡ 64 * (x / 64) + bitXor (x % 64) e
-  by-e = ap (λ (m : ℕ). bitXor m e) split-x ∙ near-xor (x / 64) (x % 64) e low belowE
+  by-e : bit_xor x e ≡ 64 * (x / 64) + bit_xor (x % 64) e
+  by-e = ap (λ (m : ℕ). bit_xor m e) split-x ∙ near-xor (x / 64) (x % 64) e low belowE
 
-  digit : (j y : ℕ) → j < 64 → y ≡ 64 * (x / 64) + j → bitAnd (w / 2 ^ j) 1 ≡ val (tableBit t y)
+  digit : (j y : ℕ) → j < 64 → y ≡ 64 * (x / 64) + j → bit_and (w / 2 ^ j) 1 ≡ val (tableBit t y)
   digit j y l q = bit-digit w j ∙ ap val (ap (λ (m : ℕ). bit m j) is
       ∙ bit-number 64 (λ i. tableBit t (64 * (x / 64) + i)) j l ∙ ap (tableBit t) (sym q))
 
-  pub near-column : bitAnd (w / 2 ^ (x % 64)) 1 + 2 * bitAnd (w / 2 ^ bitXor (x % 64) e) 1
-      + 4 * bitAnd (w / 2 ^ bitXor (x % 64) f) 1
-      + 8 * bitAnd (w / 2 ^ bitXor (bitXor (x % 64) e) f) 1 ≡ columnOver (tableBit t) e f x
+  pub near-column : bit_and (w / 2 ^ (x % 64)) 1 + 2 * bit_and (w / 2 ^ bit_xor (x % 64) e) 1
+      + 4 * bit_and (w / 2 ^ bit_xor (x % 64) f) 1
+      + 8 * bit_and (w / 2 ^ bit_xor (bit_xor (x % 64) e) f) 1 ≡ columnOver (tableBit t) e f x
   near-column =
-      let le : bitXor (x % 64) e < 64 = xor-lt 6 (x % 64) e low belowE in
+      let le : bit_xor (x % 64) e < 64 = xor_lt 6 (x % 64) e low belowE in
       omega (
         arith,
         digit (x % 64) x low split-x,
-        digit (bitXor (x % 64) e) (bitXor x e) le by-e,
-        digit (bitXor (x % 64) f) (bitXor x f) (xor-lt 6 (x % 64) f low belowF)
-            (ap (λ (m : ℕ). bitXor m f) split-x ∙ near-xor (x / 64) (x % 64) f low belowF),
-        digit (bitXor (bitXor (x % 64) e) f) (bitXor (bitXor x e) f) (xor-lt 6 (bitXor (x % 64) e) f le belowF)
-            (ap (λ (m : ℕ). bitXor m f) by-e ∙ near-xor (x / 64) (bitXor (x % 64) e) f le belowF),
+        digit (bit_xor (x % 64) e) (bit_xor x e) le by-e,
+        digit (bit_xor (x % 64) f) (bit_xor x f) (xor_lt 6 (x % 64) f low belowF)
+            (ap (λ (m : ℕ). bit_xor m f) split-x ∙ near-xor (x / 64) (x % 64) f low belowF),
+        digit (bit_xor (bit_xor (x % 64) e) f) (bit_xor (bit_xor x e) f) (xor_lt 6 (bit_xor (x % 64) e) f le belowF)
+            (ap (λ (m : ℕ). bit_xor m f) by-e ∙ near-xor (x / 64) (bit_xor (x % 64) e) f le belowF),
       )

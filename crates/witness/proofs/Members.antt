@@ -1,28 +1,23 @@
 -- Members of masks that the machine makes, and what a larger pair of sets rules out. Assumes nothing.
-use mathlib.Core.Path.{_≡_, refl, sym, ap, ap₂, _∙_}
-use mathlib.Core.Bool.{Bool, true, false, _||_}
-use Prim.Native.Nat.{ℕ, zero, suc, _+_, _-_, _*_, _/_, _%_, _^_, _<_, _≤_}
-use native.Mathlib.Nat.{pow-suc}
-use native.Mathlib.Decide.{decLt}
-use native.Mathlib.Omega.{arith}
-use lib.Dec.{eqb}
-use lib.Bits.{bitOr, bitXor, xor-shr, xor-mod}
-use lib.Pow.{high, pow-pos}
-use lib.Count.{leadingZeros, leading-top}
-use Rattle·bits.specs.Numbers.{bit, val}
-use Rattle·bits.proofs.Bools.{clash}
-use Rattle·bits.proofs.Numbers.{bit-number, bit-high}
-use Rattle·bits.proofs.Machine.{by-digits, bit-or}
-use Rattle·bits.proofs.Single as Single
-use Rattle·best.specs.Moves.{both}
-use Rattle·witness·specs.specs.Witness.{Inside, single, RulesOut}
-use Rattle·witness·specs.specs.Points.{differ}
+use Rattle.std.proofs.Common.{◌≡◌, ℕ, zero, suc, ◌+◌, ◌-◌, ◌*◌, ◌/◌, ◌%◌, ◌^◌, ◌<◌, ◌≤◌, Bool, true, false, ◌||◌, eqb, sym, refl, ap, ◌∙◌, ap₂, pow-suc, arith, pow_pos}
+use native.Mathlib.Decide.{dec_lt}
+use lib.Bits.{bit_or, bit_xor, xor_shr, xor_mod}
+use lib.Pow.{high}
+use lib.Count.{count_leading_zeros, leading_top}
+use Rattle.bits.specs.Numbers.{bit, val}
+use Rattle.bits.proofs.Bools.{clash}
+use Rattle.bits.proofs.Numbers.{bit-number, bit_high}
+use Rattle.bits.proofs.Machine.{by_digits, bit-or}
+use Rattle.bits.proofs.Single as Single
+use Rattle.best.specs.Moves.{both}
+use Rattle.witness.specs.Witness.{Inside, single, RulesOut}
+use Rattle.witness.specs.Points.{differ}
 
 -- `^`, bit by bit
-pub bit-xor : (a b j : ℕ) → bit (bitXor a b) j ≡ differ (bit a j) (bit b j)
-bit-xor = by-digits bitXor differ xor-shr xor-mod one
+pub bit-xor : (a b j : ℕ) → bit (bit_xor a b) j ≡ differ (bit a j) (bit b j)
+bit-xor = by_digits bit_xor differ xor_shr xor_mod one
   where
-    one : (s t : Bool) → eqb (bitXor (val s) (val t)) 1 ≡ differ s t
+    one : (s t : Bool) → eqb (bit_xor (val s) (val t)) 1 ≡ differ s t
     one true true = refl
     one true false = refl
     one false true = refl
@@ -34,38 +29,38 @@ power-bit i x =
     let n = suc (i + x) in
     ap (λ (m : ℕ). bit m x) (sym (Single.single n i (omega arith))) ∙ bit-number n (λ j. eqb j i) x (omega arith)
 
-below-power : (a : ℕ) → a < 2 ^ a
-below-power zero = pow-pos 0
-below-power (suc a) = omega (arith, below-power a, pow-suc 2 a)
+below_power : (a : ℕ) → a < 2 ^ a
+below_power zero = pow_pos 0
+below_power (suc a) = omega (arith, below_power a, pow-suc 2 a)
 
 -- a number that is not 0 has a bit
 pub some-bit : (a : ℕ) → (a ≡ 0 → ⊥) → (k : ℕ) × (bit a k ≡ true)
-some-bit a g = go (leading-top a a (omega arith) (below-power a))
+some-bit a g = go (leading_top a a (omega arith) (below_power a))
   where
-    go : (j : ℕ) × (leadingZeros a a + suc j ≡ a) × (2 ^ j ≤ a) × (a < 2 ^ suc j) → (k : ℕ) × (bit a k ≡ true)
+    go : (j : ℕ) × (count_leading_zeros a a + suc j ≡ a) × (2 ^ j ≤ a) × (a < 2 ^ suc j) → (k : ℕ) × (bit a k ≡ true)
     go u =
-        let e : a ≡ 1 * 2 ^ u .0 + (a - 2 ^ u .0) = omega arith in
-        let l : a - 2 ^ u .0 < 2 ^ u .0 = omega (arith, pow-suc 2 (u .0)) in
-        (u .0, ap (λ (m : ℕ). eqb (m % 2) 1) (ap (λ (m : ℕ). m / 2 ^ u .0) e ∙ high 1 (u .0) l))
+        let e : a ≡ 1 * 2 ^ u.0 + (a - 2 ^ u.0) = omega arith in
+        let l : a - 2 ^ u.0 < 2 ^ u.0 = omega (arith, pow-suc 2 u.0) in
+        (u.0, ap (λ (m : ℕ). eqb (m % 2) 1) (ap (λ (m : ℕ). m / 2 ^ u.0) e ∙ high 1 u.0 l))
 
 -- a bit of a number of w bits is below w
 pub bit-within : (m w j : ℕ) → m < 2 ^ w → bit m j ≡ true → j < w
-bit-within m w j h e = elim (decLt j w) [ yes l ↦ l | no l ↦ absurd (clash e (bit-high m w j h (omega arith))) ]
+bit-within m w j h e = elim (dec_lt j w) [ yes l ↦ l | no l ↦ absurd (clash e (bit_high m w j h (omega arith))) ]
 
 -- what a smaller pair of sets rules out, a larger one rules out too
-pub rules-more : {n : ℕ} {F : ℕ → Bool} {m : ℕ} {P Q P′ Q′ : ℕ → Bool} → RulesOut n F m P Q → Inside P P′ → Inside Q Q′
-    → RulesOut n F m P′ Q′
+pub rules-more : {n : ℕ} {F : ℕ → Bool} {m : ℕ} {P Q P' Q' : ℕ → Bool} → RulesOut n F m P Q → Inside P P' → Inside Q Q'
+    → RulesOut n F m P' Q'
 rules-more w p q = record {
-  fails = λ A B apart own free. w .fails A B apart (λ j e. own j (p j e))
+  fails = λ A B apart own free. w.fails A B apart (λ j e. own j (p j e))
       (λ j e. free j (q j e));
 }
 
 -- the triple
 pub triple-rule : {n : ℕ} {F : ℕ → Bool} {m : ℕ} (i j c p q d : ℕ) → p ≡ 2 ^ i → q ≡ 2 ^ j → d ≡ 2 ^ c
-    → RulesOut n F m (bit (bitOr p q)) (bit d)
+    → RulesOut n F m (bit (bit_or p q)) (bit d)
     → RulesOut n F m (both i j) (single c)
 triple-rule i j c p q d ep eq ed w =
     rules-more w
-    (λ x e. sym (bit-or p q x ∙ ap₂ _||_ (ap (λ (m : ℕ). bit m x) ep ∙ power-bit i x)
+    (λ x e. sym (bit-or p q x ∙ ap₂ ◌||◌ (ap (λ (m : ℕ). bit m x) ep ∙ power-bit i x)
     (ap (λ (m : ℕ). bit m x) eq ∙ power-bit j x)) ∙ e)
     (λ x e. sym (ap (λ (m : ℕ). bit m x) ed ∙ power-bit c x) ∙ e)

@@ -1,14 +1,11 @@
 -- Columns of four bits: what a table has at a point, and at the point moved by either of two offsets and by both.
-use mathlib.Core.Path.{_≡_}
-use mathlib.Core.Bool.{Bool, true, false}
-use Prim.Native.Nat.{ℕ, _+_, _*_, _^_, _<_}
-use lib.Bits.{bitXor}
-use Rattle·bits.specs.Numbers.{bit, val}
+use Rattle.std.specs.Prelude.{◌≡◌, ℕ, ◌+◌, ◌*◌, ◌^◌, ◌<◌, Bool, true, false, bit_xor}
+use Rattle.bits.specs.Numbers.{bit, val}
 
 -- its four bits as a number below 16
 abbrev pub columnOver : (ℕ → Bool) → ℕ → ℕ → ℕ → ℕ
-columnOver F e f x = val (F x) + 2 * val (F (bitXor x e)) + 4 * val (F (bitXor x f))
-    + 8 * val (F (bitXor (bitXor x e) f))
+columnOver F e f x = val (F x) + 2 * val (F (bit_xor x e)) + 4 * val (F (bit_xor x f))
+    + 8 * val (F (bit_xor (bit_xor x e) f))
 
 -- a point that differs from `base` at positions of the mask `own` alone, and has the column c
 pub record HasColumn (n : ℕ) (F : ℕ → Bool) (own base e f c : ℕ) : Type 0 where

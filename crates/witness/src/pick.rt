@@ -1,6 +1,7 @@
 // Which own and free positions to ask of many points. Nothing is promised here but that it is safe and ends.
-ghost use Prim.Native.Nat.{_≤_};
-ghost use Rattle·tables.specs.Table.{mostInputs};
+ghost use Rattle.std.specs.Prelude.{◌≤◌};
+ghost use Rattle.tables.specs.Table.{mostInputs};
+
 use bits::sets::members;
 
 // The highest positions of a mask, at most so many: in a walk these change last.
@@ -23,7 +24,7 @@ pub fn highest(mask: u16, many: u32) -> u16 {
 // Two positions outside `both`, as a mask; 0 where there are none. The positions outside `own` are taken two by two
 // from the top, so that different answers have no position in common, and few of them meet every small shared set.
 pub fn two(n: u32, own: u32, both: u32) -> u32
-    requires { ⌜ n ≤ mostInputs ⌝ }
+    requires { n ≤ mostInputs }
 {
     let mut first: u32 = 0;
     let mut j: u32 = n;

@@ -1,21 +1,18 @@
 // Two own positions and one free one: the smallest witnesses, looked for by whole words.
-ghost use mathlib.Core.Path.{_≡_};
-ghost use mathlib.Core.Bool.{true};
-ghost use Prim.Native.Nat.{ℕ, _^_, _<_, _≤_};
-ghost use lib.Bits.{bitOr};
-ghost use Rattle·bits.specs.Numbers.{bit};
-ghost use Rattle·tables.specs.Table.{mostInputs, tableBit};
-ghost use Rattle·best.specs.Moves.{both};
-ghost use Rattle·witness·specs.specs.Witness.{RulesOut, single};
-ghost use Rattle·witness·specs.specs.Points.{Wide, Turned, Off, Still, Steps};
+ghost use Rattle.std.specs.Prelude.{◌≡◌, ℕ, ◌^◌, ◌<◌, ◌≤◌, true, bit_or};
+ghost use Rattle.bits.specs.Numbers.{bit};
+ghost use Rattle.tables.specs.Table.{mostInputs, tableBit};
+ghost use Rattle.best.specs.Moves.{both};
+ghost use Rattle.witness.specs.Witness.{RulesOut, single};
+ghost use Rattle.witness.specs.Points.{Wide, Turned, Off, Still, Steps};
+
 use bits::patterns::of_input;
-use bits::sets::next;
-use bits::sets::parts;
+use bits::sets::{next, parts};
 use tables::words::bits_from;
 
 // The places of a word at which input j is 0; every place where j is not below 6.
 pub fn off(j: u32) -> u64
-    ensures { λ r. ⌜ Off j r ⌝ }
+    ensures { Off j result }
 {
     if j < 6 {
         return !of_input(j);
@@ -25,8 +22,8 @@ pub fn off(j: u32) -> u64
 
 // The positions that step from word to word, without those of `own`.
 fn steps(n: u32, own: u32) -> u16
-    requires { ⌜ (6 ≤ n) × (n ≤ mostInputs) ⌝ }
-    ensures { λ r. ⌜ Steps n own r ⌝ }
+    requires { (6 ≤ n) × (n ≤ mostInputs) }
+    ensures { Steps n own result }
 {
     let all: u32 = 1 << n;
     ((all - 64) & !own) as u16
@@ -34,8 +31,8 @@ fn steps(n: u32, own: u32) -> u16
 
 // Where the bits from x on change as the positions of s are set.
 fn change(t: &[u8], n: u32, x: u32, s: u32) -> u64
-    requires { ⌜ Wide n (now t) × (x < 2 ^ n) × (s < 2 ^ n) ⌝ }
-    ensures { λ r. ⌜ Turned (tableBit (now (t .entry))) x s r ⌝ }
+    requires { Wide n t.now × (x < 2 ^ n) × (s < 2 ^ n) }
+    ensures { Turned (tableBit t.now) x s result }
 {
     bits_from(t, x | s) ^ bits_from(t, x)
 }
@@ -43,11 +40,9 @@ fn change(t: &[u8], n: u32, x: u32, s: u32) -> u64
 // Where, from x on, the four points with p, q, both and neither have three columns over d: some point changes without
 // d, some with d, and some with one of the two alone.
 fn clash(t: &[u8], n: u32, x: u32, d: u32, p: u32, q: u32) -> u64
-    requires { ⌜ Wide n (now t) × (x < 2 ^ n) × (d < 2 ^ n) × (p < 2 ^ n) × (q < 2 ^ n) ⌝ }
-    ensures { λ r. ⌜
-        ((k : ℕ) → Still n x d p q k → bit r k ≡ true
-        → RulesOut n (tableBit (now (t .entry))) 2 (bit (bitOr p q)) (bit d))
-        ⌝ }
+    requires { Wide n t.now × (x < 2 ^ n) × (d < 2 ^ n) × (p < 2 ^ n) × (q < 2 ^ n) }
+    ensures { (k : ℕ) → Still n x d p q k → bit result k ≡ true
+        → RulesOut n (tableBit t.now) 2 (bit (bit_or p q)) (bit d) }
 {
     let r = p | q;
     let y = x | d;
@@ -63,8 +58,8 @@ fn clash(t: &[u8], n: u32, x: u32, d: u32, p: u32, q: u32) -> u64
 // Whether eight bits of the table rule out every split with i and j own and c free. The places are those without i and
 // j. No more than `reach` places to step to are looked at.
 pub fn bad(t: &[u8], n: u32, places: u64, i: u32, j: u32, c: u32, reach: u32) -> bool
-    requires { ⌜ Wide n (now t) × (i < n) × (j < n) × (c < n) × Off i places × Off j places ⌝ }
-    ensures { λ r. ⌜ (r ≡ true → RulesOut n (tableBit (now (t .entry))) 2 (both i j) (single c)) ⌝ }
+    requires { Wide n t.now × (i < n) × (j < n) × (c < n) × Off i places × Off j places }
+    ensures { result ≡ true → RulesOut n (tableBit t.now) 2 (both i j) (single c) }
 {
     let p: u32 = 1 << i;
     let q: u32 = 1 << j;

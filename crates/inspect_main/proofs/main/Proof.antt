@@ -1,11 +1,11 @@
 -- `main`: what is read and what is written are parts of their rooms. Assumes nothing.
-use borrow.Author.Needs.{needs}
-use Rattle·programs.proofs.InspectProgram.{within}
-use Rattle·inspect_main·proofs.proofs.main.Statement.{statement}
-use Rattle·inspect_main·proofs.proofs.main.Tie as tie
+use borrow.Author.Rules.{rules}
+use Rattle.programs.proofs.InspectProgram.{within}
+use Rattle.inspect_main.proofs.main.Statement.{statement}
+use Rattle.inspect_main.proofs.main.Tie as tie
 
-pub main-spec : {M : Type 1} → statement M
-main-spec =
-    tie.close (tie.spec (λ c κs. search needs) (λ c. search needs) (λ c κs. search needs) (λ c κs. search needs)
-    (λ c. search needs) (λ c. search needs) (λ c. search needs) (λ c κs. search needs) (λ c. search needs)
-    (λ c κs. within _ (c .before .before .answer-input .ensures)) (λ c. search needs))
+pub main_spec : {M : Type 1} → statement M
+main_spec =
+    tie.close (tie.spec (λ c κs. search rules) (λ c. search rules) (λ c κs. search rules) (λ c κs. search rules)
+    (λ c. search rules) (λ c. search rules) (λ c. search rules) (λ c κs. search rules) (λ c. search rules)
+    (λ c κs. within _ c.before.before.answer-input.ensures) (λ c. search rules))

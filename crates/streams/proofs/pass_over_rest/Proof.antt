@@ -1,15 +1,15 @@
 -- `pass_over_rest` is safe and ends: the measure is the number of turns that are left. Assumes nothing.
 use native.Mathlib.Omega.{arith}
-use Rattle·streams·proofs.proofs.pass_over_rest.Statement.{statement}
-use Rattle·streams·proofs.proofs.pass_over_rest.Tie as tie
+use Rattle.streams.proofs.pass_over_rest.Statement.{statement}
+use Rattle.streams.proofs.pass_over_rest.Tie as tie
 
-abbrev Inv-loop : tie.InvT-loop
-Inv-loop turns₀ turns = Unit {0}
+abbrev invariant-loop : tie.invariant-loop
+invariant-loop turns₀ turns = Unit {0}
 
-abbrev μ-loop : tie.MeasureT-loop
-μ-loop turns₀ turns = turns
+abbrev decreases-loop : tie.decreases-loop
+decreases-loop turns₀ turns = turns
 
 pub pass-over-rest-spec : {M : Type 1} → statement M
 pass-over-rest-spec =
-    tie.close (tie.spec Inv-loop μ-loop (λ c. tt) (λ c κs. tt) (λ c. omega arith) (λ c. omega arith) (λ c. tt)
+    tie.close (tie.spec invariant-loop decreases-loop (λ c. tt) (λ c κs. tt) (λ c. omega arith) (λ c. omega arith) (λ c. tt)
     (λ c. tt) (λ c. tt))

@@ -1,24 +1,24 @@
 -- `make_any` meets its contract: the edition handed down is the first. Assumes nothing.
-use mathlib.Core.Path.{sym, ap, _∙_, subst}
-use borrow.Author.Needs.{needs}
-use Rattle·sheets.specs.declared.kinds.Edition.{Edition}
-use Rattle·sheets.specs.Edition.{IsEdition}
-use Rattle·sheets.proofs.Keeping.{first-edition}
-use Rattle·any_gate·specs.specs.MakeAny.{anyOutcome}
-use Rattle·any_gate·proofs.proofs.make_any.make_any.Statement.{statement}
-use Rattle·any_gate·proofs.proofs.make_any.make_any.Tie as tie
+use mathlib.Core.Path.{sym, ap, ◌∙◌, subst}
+use borrow.Author.Rules.{rules}
+use Rattle.sheets.specs.declared.kinds.Edition.{Edition}
+use Rattle.sheets.specs.Edition.{IsEdition}
+use Rattle.sheets.proofs.Keeping.{first-edition}
+use Rattle.any_gate.specs.MakeAny.{anyOutcome}
+use Rattle.any_gate.proofs.make_any.make_any.Statement.{statement}
+use Rattle.any_gate.proofs.make_any.make_any.Tie as tie
 
 any-in-requires : tie.Need-any-in-requires
-any-in-requires c κs = subst IsEdition (sym (c .before .before .first .ensures)) first-edition
+any-in-requires c κs = subst IsEdition (sym c.before.before.first.ensures) first-edition
 
 returns : tie.Need-returns
 returns c =
-    let r = c .before .before .before .before in
-    let f = r .before .before .before in
-    let a = f .before .before .before .before .args in
-    r .any-in .ensures ∙ ap (λ (e : Edition). anyOutcome e (a .desk) (a .n) (a .k) (a .t .now) (a .sheet .now)
-    (a .work .now)) (f .first .ensures)
+    let r = c.before.before.before.before in
+    let f = r.before.before.before in
+    let a = f.before.before.before.before.args in
+    r.any-in.ensures ∙ ap (λ (e : Edition). anyOutcome e a.desk a.n a.k a.t.now a.sheet.now
+    a.work.now) f.first.ensures
 
 pub make-any-spec : {M : Type 1} → statement M
 make-any-spec =
-    tie.close (tie.spec (λ c κs. search needs) any-in-requires (λ c. search needs) (λ c. search needs) returns)
+    tie.close (tie.spec (λ c κs. search rules) any-in-requires (λ c. search rules) (λ c. search rules) returns)

@@ -1,12 +1,12 @@
 -- `look_up` reads the printed book. Assumes nothing.
-use borrow.Author.Needs.{needs}
-use Rattle·book·proofs.proofs.Printed.{book, printed}
-use Rattle·book·proofs.proofs.look_up.look_up.Statement.{statement}
-use Rattle·book·proofs.proofs.look_up.look_up.Tie as tie
+use borrow.Author.Rules.{rules}
+use Rattle.book.proofs.Printed.{book, printed}
+use Rattle.book.proofs.look_up.look_up.Statement.{statement}
+use Rattle.book.proofs.look_up.look_up.Tie as tie
 
 returns : tie.Need-returns
 unfolding book
-returns c = printed (c .args .table) (search needs)
+returns c = printed c.args.table (search rules)
 
 pub look-up-spec : {M : Type 1} → statement M
-look-up-spec = tie.close (tie.spec (λ c. search needs) returns)
+look-up-spec = tie.close (tie.spec (λ c. search rules) returns)

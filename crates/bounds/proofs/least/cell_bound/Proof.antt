@@ -1,62 +1,62 @@
 -- `cell_bound` meets its contract: few inputs count, or whether there is a tree tells, or the best split. Assumes
 -- nothing.
-use mathlib.Core.Path.{sym, ap, _∙_}
-use Prim.Native.Nat.{ℕ, _^_}
+use mathlib.Core.Path.{sym, ap, ◌∙◌}
+use Prim.Native.Nat.{ℕ, ◌^◌}
 use native.Mathlib.Omega.{arith}
-use borrow.Author.Needs.{needs}
-use Rattle·bits.specs.Numbers.{number}
-use Rattle·tables.specs.Table.{tableBit}
-use Rattle·best.specs.Counting.{bestCounting}
-use Rattle·chains.specs.Aside.{sheetAside}
-use Rattle·bounds·specs.specs.Least.{bySplit, byChain}
-use Rattle·bounds·proofs.proofs.Bound.{least-few, least-chain, least-split}
-use Rattle·bounds·proofs.proofs.least.cell_bound.Statement.{statement}
-use Rattle·bounds·proofs.proofs.least.cell_bound.Tie as tie
+use borrow.Author.Rules.{rules}
+use Rattle.bits.specs.Numbers.{number}
+use Rattle.tables.specs.Table.{tableBit}
+use Rattle.best.specs.Counting.{bestCounting}
+use Rattle.chains.specs.Aside.{sheetAside}
+use Rattle.bounds.specs.Least.{bySplit, byChain}
+use Rattle.bounds.proofs.Bound.{least-few, least-chain, least-split}
+use Rattle.bounds.proofs.least.cell_bound.Statement.{statement}
+use Rattle.bounds.proofs.least.cell_bound.Tie as tie
 
 returns : tie.Need-returns
 returns c =
-    let i = c .before .before .before .before in
-    let m = i .before .before in
-    let a = m .before .before .before .args in
-    let w = m .counting-inputs .ensures in (
-      sym (least-few (a .n) (a .k) (tableBit (a .t .now)) (omega (arith, w .count, i .if1 .taken))),
-      c .before .before .clear .ensures,
+    let i = c.before.before.before.before in
+    let m = i.before.before in
+    let a = m.before.before.before.args in
+    let w = m.counting-inputs.ensures in (
+      sym (least-few a.n a.k (tableBit a.t.now) (omega (arith, w.count, i.if1.true))),
+      c.before.before.clear.ensures,
     )
 
 by-tree-requires : tie.Need-by-tree-requires
 by-tree-requires c κs =
-    let j = c .before .before .before .before in
-    let m = j .before .before .before in
-    let p = m .before .before .before .pre in
-    (p .0, p .1, p .4, omega (arith, j .before .if1 .left, j .if2 .taken), m .counting-inputs .ensures)
+    let j = c.before.before.before.before in
+    let m = j.before.before.before in
+    let p = m.before.before.before.requires in
+    (p.0, p.1, p.4, omega (arith, j.before.if1.false, j.if2.true), m.counting-inputs.ensures)
 
 returns-2 : tie.Need-returns-2
 returns-2 c =
-    let r = c .before .before .before in
-    let j = r .before .before in
-    let m = j .before .before .before in
-    let a = m .before .before .before .args in
-    let F = tableBit (a .t .now) in
-    let is = m .counting-inputs .ensures .count in (
-      c .by-tree .ensures ∙ ap (λ (c : ℕ). byChain c (sheetAside (a .n) 2 (number (2 ^ a .n) F))) is
-          ∙ sym (least-chain (a .n) (a .k) F (omega (arith, is, j .before .if1 .left)) (j .if2 .taken)),
-      r .clear2 .ensures,
+    let r = c.before.before.before in
+    let j = r.before.before in
+    let m = j.before.before.before in
+    let a = m.before.before.before.args in
+    let F = tableBit a.t.now in
+    let is = m.counting-inputs.ensures.count in (
+      c.by-tree.ensures ∙ ap (λ (c : ℕ). byChain c (sheetAside a.n 2 (number (2 ^ a.n) F))) is
+          ∙ sym (least-chain a.n a.k F (omega (arith, is, j.before.if1.false)) j.if2.true),
+      r.clear2.ensures,
     )
 
 returns-3 : tie.Need-returns-3
 returns-3 c =
-    let r = c .before .before in
-    let j = r .before .before in
-    let m = j .before .before .before in
-    let a = m .before .before .before .args in
-    let F = tableBit (a .t .now) in
-    let is = m .counting-inputs .ensures .count in (
-      r .by-split .ensures .0 ∙ ap (λ (c : ℕ). bySplit (a .n) (a .k) c (bestCounting (a .n) 1 F (a .k))) is
-          ∙ sym (least-split (a .n) (a .k) F (omega (arith, is, j .before .if1 .left)) (j .if2 .left)),
-      r .by-split .ensures .1,
+    let r = c.before.before in
+    let j = r.before.before in
+    let m = j.before.before.before in
+    let a = m.before.before.before.args in
+    let F = tableBit a.t.now in
+    let is = m.counting-inputs.ensures.count in (
+      r.by-split.ensures.0 ∙ ap (λ (c : ℕ). bySplit a.n a.k c (bestCounting a.n 1 F a.k)) is
+          ∙ sym (least-split a.n a.k F (omega (arith, is, j.before.if1.false)) j.if2.false),
+      r.by-split.ensures.1,
     )
 
 pub cell-bound-spec : {M : Type 1} → statement M
 cell-bound-spec =
-    tie.close (tie.spec (λ c κs. search needs) (λ c κs. search needs) (λ c. search needs) returns (λ c κs. search needs)
-    by-tree-requires (λ c. search needs) returns-2 (λ c κs. search needs) (λ c. search needs) returns-3)
+    tie.close (tie.spec (λ c κs. search rules) (λ c κs. search rules) (λ c. search rules) returns (λ c κs. search rules)
+    by-tree-requires (λ c. search rules) returns-2 (λ c κs. search rules) (λ c. search rules) returns-3)

@@ -1,12 +1,12 @@
 -- Every place of the array is zero, and past its end stands the default. Assumes nothing.
-use mathlib.Core.Path.{_≡_, refl}
+use mathlib.Core.Path.{◌≡◌, refl}
 use Prim.Native.Nat.{ℕ, zero, suc}
-use lib.ListN.{getD, replicate}
-use Rattle·columns.specs.Reading.{chartRoom}
-use Rattle·charts·proofs.proofs.pair.blank.Statement.{statement}
-use Rattle·charts·proofs.proofs.pair.blank.Tie as tie
+use lib.ListN.{get_or, replicate}
+use Rattle.columns.specs.Reading.{chartRoom}
+use Rattle.charts.proofs.pair.blank.Statement.{statement}
+use Rattle.charts.proofs.pair.blank.Tie as tie
 
-zeros : (n i : ℕ) → _≡_ {A = ℕ} (getD (replicate n 0) i 0) 0
+zeros : (n i : ℕ) → ◌≡◌ {A = ℕ} (get_or (replicate n 0) i 0) 0
 zeros zero i = refl
 zeros (suc n) zero = refl
 zeros (suc n) (suc i) = zeros n i

@@ -1,75 +1,75 @@
 -- The column is looked for in its shared assignment's row of the chart. Assumes nothing.
-use mathlib.Core.Path.{_≡_, refl, ap}
-use Prim.Native.Nat.{ℕ, _+_, _-_, _*_, _≤_}
+use mathlib.Core.Path.{◌≡◌, refl, ap}
+use Prim.Native.Nat.{ℕ, ◌+◌, ◌-◌, ◌*◌, ◌≤◌}
 use native.Mathlib.Omega.{arith}
-use lib.Bits.{bitAnd}
+use lib.Bits.{bit_and}
 use lib.ListN.{length}
-use borrow.Author.Needs.{needs}
-use Rattle·tables.specs.Table.{tableBit}
-use Rattle·columns.specs.Reading.{sharedPart}
-use Rattle·charts·proofs.proofs.Codes.{base-le, base-within, own-within, row-there, row-length, row-own, code-found}
-use Rattle·charts·proofs.proofs.pair.code_at.Statement.{statement}
-use Rattle·charts·proofs.proofs.pair.code_at.Tie as tie
+use borrow.Author.Rules.{rules}
+use Rattle.tables.specs.Table.{tableBit}
+use Rattle.columns.specs.Reading.{sharedPart}
+use Rattle.charts.proofs.Codes.{base-le, base-within, own-within, row-there, row-length, row-own, code-found}
+use Rattle.charts.proofs.pair.code_at.Statement.{statement}
+use Rattle.charts.proofs.pair.code_at.Tie as tie
 
 module _ (c : tie.After-gather-in) where
   abbrev g : tie.Start
-  g = c .before .before .before .before
+  g = c.before.before.before.before
 
   abbrev base : ℕ
-  base = bitAnd (g .args .x) (g .args .s .shared)
+  base = bit_and g.args.x g.args.s.shared
 
   abbrev from : ℕ
-  from = c .gather-in .result * g .args .limit
+  from = c.gather-in.result * g.args.limit
 
-  start : from ≡ sharedPart (g .args .s) (g .args .x) * g .args .limit
-  start = ap (λ (b : ℕ). b * g .args .limit) (c .gather-in .ensures .0)
+  start : from ≡ sharedPart g.args.s g.args.x * g.args.limit
+  start = ap (λ (b : ℕ). b * g.args.limit) c.gather-in.ensures.0
 
-  there : from + g .args .limit ≤ length (g .args .seen .now)
+  there : from + g.args.limit ≤ length g.args.seen.now
   there =
-      row-there (g .args .s) (g .pre .0 .0) (tableBit (g .args .t .now)) (g .args .x) base (g .pre .0 .1) refl
-      (g .pre .1 .0) from (g .args .limit) start refl
+      row-there g.args.s g.pre.0.0 (tableBit g.args.t.now) g.args.x base g.pre.0.1 refl
+      g.pre.1.0 from g.args.limit start refl
 
-sub-place : tie.Need-sub-place
-sub-place c = base-le (g c .args .s) (g c .pre .0 .0) (tableBit (g c .args .t .now)) (g c .args .x) (base c)
-    (g c .pre .0 .1) refl
+sub-place : tie.Need-overflow-sub-place
+sub-place c = base-le (g c).args.s (g c).requires.0.0 (tableBit (g c).args.t.now) (g c).args.x (base c)
+    (g c).requires.0.1 refl
 
 place-requires : tie.Need-place-requires
 place-requires c κs =
-    let w = c .before in
-    let a = g w .args in
-    let p = g w .pre .0 in
-    let F = tableBit (a .t .now) in
-    let m = from w + a .limit - from w in (
+    let w = c.before in
+    let a = (g w).args in
+    let p = (g w).requires.0 in
+    let F = tableBit a.t.now in
+    let m = from w + a.limit - from w in (
       (
-        p .0,
-        base-within (a .s) (p .0) F (a .x) (base w) (p .1) refl,
-        own-within (a .s) (p .0) F (a .x) (base w) (p .1)
+        p.0,
+        base-within a.s p.0 F a.x (base w) p.1 refl,
+        own-within a.s p.0 F a.x (base w) p.1
             refl,
       ),
       (
-        p .2,
+        p.2,
         (
           omega (
             arith,
-            row-length (a .s) (p .0) F (a .x) (base w) (p .1) refl (g w .pre .1 .0) (from w) m (start w)
+            row-length a.s p.0 F a.x (base w) p.1 refl (g w).requires.1.0 (from w) m (start w)
                 (omega arith),
           ),
-          row-own (a .s) (p .0) F (a .x) (base w) (p .1) refl (g w .pre .1 .0) (from w) m (start w) (omega arith),
+          row-own a.s p.0 F a.x (base w) p.1 refl (g w).requires.1.0 (from w) m (start w) (omega arith),
         ),
       ),
     )
 
 returns : tie.Need-returns
 returns c =
-    let w = c .before .before in
-    let a = g w .args in
-    let p = g w .pre .0 in
-    code-found (a .s) (p .0) (tableBit (a .t .now)) (a .x) (base w) (p .1) refl (g w .pre .1 .0) (from w)
-    (from w + a .limit - from w) (start w) (omega arith)
-    (g w .pre .1 .1) _ (c .place .ensures)
+    let w = c.before.before in
+    let a = (g w).args in
+    let p = (g w).requires.0 in
+    code-found a.s p.0 (tableBit a.t.now) a.x (base w) p.1 refl (g w).requires.1.0 (from w)
+    (from w + a.limit - from w) (start w) (omega arith)
+    (g w).requires.1.1 _ c.place.ensures
 
 pub code-at-spec : {M : Type 1} → statement M
 code-at-spec =
-    tie.close (tie.spec (λ c. search needs) (λ c κs. search needs) (λ c. search needs) (λ c. omega (arith, there c))
-    (λ c. omega (arith, there c)) sub-place (λ c. omega (arith, there c)) (λ c. search needs) (λ c. search needs)
+    tie.close (tie.spec (λ c. search rules) (λ c κs. search rules) (λ c. search rules) (λ c. omega (arith, there c))
+    (λ c. omega (arith, there c)) sub-place (λ c. omega (arith, there c)) (λ c. search rules) (λ c. search rules)
     (λ c. omega (arith, there c)) place-requires returns)

@@ -1,26 +1,26 @@
 -- Each word by itself. Assumes nothing.
-use borrow.Author.Needs.{needs}
-use Rattle·bits.specs.Numbers.{bit}
-use Rattle·bits.specs.Sets.{size}
-use Rattle·tables.specs.Table.{tableBit}
-use Rattle·tables.specs.Words.{gateWord}
-use Rattle·tables.proofs.CellTables.{four-words}
-use Rattle·charts·specs.specs.Cells.{bitD}
-use Rattle·columns.specs.Reading.{firstReads}
-use Rattle·charts·proofs.proofs.pair.table_of.Statement.{statement}
-use Rattle·charts·proofs.proofs.pair.table_of.Tie as tie
+use borrow.Author.Rules.{rules}
+use Rattle.bits.specs.Numbers.{bit}
+use Rattle.bits.specs.Sets.{size}
+use Rattle.tables.specs.Table.{tableBit}
+use Rattle.tables.specs.Words.{gateWord}
+use Rattle.tables.proofs.CellTables.{four-words}
+use Rattle.charts.specs.Cells.{bitD}
+use Rattle.columns.specs.Reading.{firstReads}
+use Rattle.charts.proofs.pair.table_of.Statement.{statement}
+use Rattle.charts.proofs.pair.table_of.Tie as tie
 
 returns : tie.Need-returns
 returns c =
-    let z = c .before in
-    let y = z .before in
-    let x = y .before in
-    let a = x .before .before .before .args in
-    four-words (gateWord (size (a .s .n) (firstReads (a .s)))
-    (bitD (a .s .n) (tableBit (a .t .now)) (bit (a .s .own)) (bit (a .s .shared)) (a .which)))
-    (x .d-word .ensures) (y .d-word2 .ensures) (z .d-word3 .ensures) (c .d-word4 .ensures)
+    let z = c.before in
+    let y = z.before in
+    let x = y.before in
+    let a = x.before.before.before.args in
+    four-words (gateWord (size a.s.n (firstReads a.s))
+    (bitD a.s.n (tableBit a.t.now) (bit a.s.own) (bit a.s.shared) a.which))
+    x.d-word.ensures y.d-word2.ensures z.d-word3.ensures c.d-word4.ensures
 
 pub table-of-spec : {M : Type 1} → statement M
 table-of-spec =
-    tie.close (tie.spec (λ c κs. search needs) (λ c κs. search needs) (λ c κs. search needs) (λ c κs. search needs)
+    tie.close (tie.spec (λ c κs. search rules) (λ c κs. search rules) (λ c κs. search rules) (λ c κs. search rules)
     returns)

@@ -1,51 +1,51 @@
 -- Below r there is a first cell, from r up there is none. Assumes nothing.
-use mathlib.Core.Path.{_≡_, sym, ap, _∙_, subst}
+use mathlib.Core.Path.{◌≡◌, sym, ap, ◌∙◌, subst}
 use mathlib.Core.Bool.{Bool, true, cond}
-use Prim.Native.Nat.{ℕ, _*_, _%_, _^_}
+use Prim.Native.Nat.{ℕ, ◌*◌, ◌%◌, ◌^◌}
 use native.Mathlib.Omega.{arith}
-use lib.Pow.{pow-mono}
-use borrow.Author.Needs.{needs}
+use lib.Pow.{pow_mono}
+use borrow.Author.Rules.{rules}
 use borrow.Author.Tests.{lt-ltb, le-ltb}
-use Rattle·bits.specs.Numbers.{bit}
-use Rattle·bits.proofs.Machine.{shl-one}
-use Rattle·tables.specs.Table.{tableBit}
-use Rattle·splits.specs.Columns.{mostFirst, fewColumns}
-use Rattle·tables.specs.declared.cell.CellTable.{CellTable}
-use Rattle·tables.specs.Cells.{noTable}
-use Rattle·charts·specs.specs.Cells.{heldD}
-use Rattle·columns.specs.Reading.{Chart}
-use Rattle·charts·proofs.proofs.pair.table_or_zero.Statement.{statement}
-use Rattle·charts·proofs.proofs.pair.table_or_zero.Tie as tie
+use Rattle.bits.specs.Numbers.{bit}
+use Rattle.bits.proofs.Machine.{shl_one}
+use Rattle.tables.specs.Table.{tableBit}
+use Rattle.splits.specs.Columns.{mostFirst, fewColumns}
+use Rattle.tables.specs.declared.cell.CellTable.{CellTable}
+use Rattle.tables.specs.Cells.{noTable}
+use Rattle.charts.specs.Cells.{heldD}
+use Rattle.columns.specs.Reading.{Chart}
+use Rattle.charts.proofs.pair.table_or_zero.Statement.{statement}
+use Rattle.charts.proofs.pair.table_or_zero.Tie as tie
 
 -- what is returned, as there is such a cell or not
 module _ (c : tie.Start) where
   abbrev by : Bool → CellTable
-  by b = cond b (heldD (c .args .s .n) (tableBit (c .args .t .now)) (bit (c .args .s .own)) (bit (c .args .s .shared))
-      (c .args .which)) noTable
+  by b = cond b (heldD c.args.s.n (tableBit c.args.t.now) (bit c.args.s.own) (bit c.args.s.shared)
+      c.args.which) noTable
 
 returns : tie.Need-returns
 returns c =
-    let g = c .before .before .before .before in
-    c .zero .ensures ∙ sym (ap (by g) (le-ltb (g .args .which) (g .args .r) (c .before .if1 .taken)))
+    let g = c.before.before.before.before in
+    c.zero.ensures ∙ sym (ap (by g) (le-ltb g.args.which g.args.r c.before.if1.true))
 
 table-of-requires : tie.Need-table-of-requires
 table-of-requires c κs =
-    let g = c .before .before .before in
-    let s = g .args .s in
-    let F = tableBit (g .args .t .now) in
-    let p = g .pre .0 in
-    let e : 2 ^ g .args .r ≡ 1 * 2 ^ g .args .r % 2 ^ 64 = sym (shl-one 64 (g .args .r) (omega (arith, p .2))) in (
-      (p .0, p .1, omega (arith, e, pow-mono {i = g .args .r} {j = mostFirst} (p .2))),
+    let g = c.before.before.before in
+    let s = g.args.s in
+    let F = tableBit g.args.t.now in
+    let p = g.requires.0 in
+    let e : 2 ^ g.args.r ≡ 1 * 2 ^ g.args.r % 2 ^ 64 = sym (shl_one 64 g.args.r (omega (arith, p.2))) in (
+      (p.0, p.1, omega (arith, e, pow_mono {i = g.args.r} {j = mostFirst} p.2)),
       (
-        (subst (λ (m : ℕ). Chart s F m (g .args .seen .now)) e (g .pre .1 .0), omega (arith, p .2, c .if1 .left)),
-        subst (λ (m : ℕ). fewColumns (s .n) F (bit (s .own)) (bit (s .shared)) m ≡ true) e (g .pre .1 .1),
+        (subst (λ (m : ℕ). Chart s F m g.args.seen.now) e g.requires.1.0, omega (arith, p.2, c.if1.false)),
+        subst (λ (m : ℕ). fewColumns s.n F (bit s.own) (bit s.shared) m ≡ true) e g.requires.1.1,
       ),
     )
 
 returns-2 : tie.Need-returns-2
 returns-2 c =
-    let g = c .before .before .before .before in
-    c .table-of .ensures ∙ sym (ap (by g) (lt-ltb (g .args .which) (g .args .r) (omega (arith, c .before .if1 .left))))
+    let g = c.before.before.before.before in
+    c.table-of.ensures ∙ sym (ap (by g) (lt-ltb g.args.which g.args.r (omega (arith, c.before.if1.false))))
 
 pub table-or-zero-spec : {M : Type 1} → statement M
-table-or-zero-spec = tie.close (tie.spec (λ c κs. search needs) returns (λ c. search needs) table-of-requires returns-2)
+table-or-zero-spec = tie.close (tie.spec (λ c κs. search rules) returns (λ c. search rules) table-of-requires returns-2)

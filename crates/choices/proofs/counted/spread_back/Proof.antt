@@ -1,19 +1,19 @@
 -- Each mask is spread by itself. Assumes nothing.
-use mathlib.Core.Path.{ap₂, _∙_}
+use mathlib.Core.Path.{ap₂, ◌∙◌}
 use Prim.Native.Nat.{ℕ}
-use borrow.Author.Needs.{needs}
-use Rattle·bits.specs.Numbers.{bit}
-use Rattle·choices·specs.specs.Chosen.{choiceOf}
-use Rattle·choices·proofs.proofs.Spread.{spread-chosen}
-use Rattle·choices·proofs.proofs.counted.spread_back.Statement.{statement}
-use Rattle·choices·proofs.proofs.counted.spread_back.Tie as tie
+use borrow.Author.Rules.{rules}
+use Rattle.bits.specs.Numbers.{bit}
+use Rattle.choices.specs.Chosen.{choice_of}
+use Rattle.choices.proofs.Spread.{spread-chosen}
+use Rattle.choices.proofs.counted.spread_back.Statement.{statement}
+use Rattle.choices.proofs.counted.spread_back.Tie as tie
 
 returns : tie.Need-returns
 returns c =
-    let a = c .before .before .args in
-    ap₂ (λ (x y : ℕ). choiceOf (record { first = a .found .first; own = x; shared = y }))
-    (c .before .spread-mask .ensures) (c .spread-mask2 .ensures)
-    ∙ spread-chosen (a .n) (bit (a .mask)) (a .found)
+    let a = c.before.before.args in
+    ap₂ (λ (x y : ℕ). choice_of (record { first = a.found.first; own = x; shared = y }))
+    c.before.spread-mask.ensures c.spread-mask2.ensures
+    ∙ spread-chosen a.n (bit a.mask) a.found
 
 pub spread-back-spec : {M : Type 1} → statement M
-spread-back-spec = tie.close (tie.spec (λ c κs. search needs) (λ c κs. search needs) returns)
+spread-back-spec = tie.close (tie.spec (λ c κs. search rules) (λ c κs. search rules) returns)

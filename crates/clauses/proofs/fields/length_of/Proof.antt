@@ -1,18 +1,18 @@
 -- `length_of` meets its contract: the lengths are read off a table. Assumes nothing.
 use mathlib.Core.Path.{refl}
-use borrow.Author.Needs.{needs}
+use borrow.Author.Rules.{rules}
 use native.Mathlib.Omega.{arith}
-use Rattle·clauses·specs.specs.Step.{lengthOf}
-use Rattle·clauses·proofs.proofs.Bytes.{lengths-end}
-use Rattle·clauses·proofs.proofs.fields.length_of.Statement.{statement}
-use Rattle·clauses·proofs.proofs.fields.length_of.Tie as tie
+use Rattle.clauses.specs.Step.{length_of}
+use Rattle.clauses.proofs.Bytes.{lengths-end}
+use Rattle.clauses.proofs.fields.length_of.Statement.{statement}
+use Rattle.clauses.proofs.fields.length_of.Tie as tie
 
 returns : tie.Need-returns
-returns c = lengths-end (c .before .args .kind) (omega arith)
+returns c = lengths-end c.before.args.kind (omega arith)
 
 returns-2 : tie.Need-returns-2
-unfolding lengthOf
+unfolding length_of
 returns-2 c = refl
 
 pub length-of-spec : {M : Type 1} → statement M
-length-of-spec = tie.close (tie.spec returns (λ c. search needs) (λ c. search needs) returns-2)
+length-of-spec = tie.close (tie.spec returns (λ c. search rules) (λ c. search rules) returns-2)

@@ -1,11 +1,11 @@
 -- `are_cells` meets its contract: each test is asked. Assumes nothing.
-use borrow.Author.Needs.{needs}
-use Rattle·clauses·proofs.proofs.given.are_cells.Statement.{statement}
-use Rattle·clauses·proofs.proofs.given.are_cells.Tie as tie
+use borrow.Author.Rules.{rules}
+use Rattle.clauses.proofs.given.are_cells.Statement.{statement}
+use Rattle.clauses.proofs.given.are_cells.Tie as tie
 
 returns : tie.Need-returns
 returns c = cc
 
 pub are-cells-spec : {M : Type 1} → statement M
-are-cells-spec = tie.close (tie.spec (λ c κs. search needs) (λ c κs. search needs) (λ c κs. search needs) (λ c κs. search needs)
+are-cells-spec = tie.close (tie.spec (λ c κs. search rules) (λ c κs. search rules) (λ c κs. search rules) (λ c κs. search rules)
     returns)

@@ -1,11 +1,11 @@
 -- `is_count` meets its contract: each test is asked. Assumes nothing.
-use borrow.Author.Needs.{needs}
-use Rattle·clauses·proofs.proofs.given.is_count.Statement.{statement}
-use Rattle·clauses·proofs.proofs.given.is_count.Tie as tie
+use borrow.Author.Rules.{rules}
+use Rattle.clauses.proofs.given.is_count.Statement.{statement}
+use Rattle.clauses.proofs.given.is_count.Tie as tie
 
 returns : tie.Need-returns
 returns c = cc
 
 pub is-count-spec : {M : Type 1} → statement M
-is-count-spec = tie.close (tie.spec (λ c κs. search needs) (λ c. search needs) (λ c κs. search needs) (λ c κs. search needs)
+is-count-spec = tie.close (tie.spec (λ c κs. search rules) (λ c. search rules) (λ c κs. search rules) (λ c κs. search rules)
     returns)

@@ -1,16 +1,16 @@
 -- `byte_behind` meets its contract: past the end a byte reads as 0. Assumes nothing.
-use borrow.Author.Needs.{needs}
+use borrow.Author.Rules.{rules}
 use native.Mathlib.Omega.{arith}
-use Rattle·clauses·proofs.proofs.Bytes.{past-end}
-use Rattle·clauses·proofs.proofs.numbers.byte_behind.Statement.{statement}
-use Rattle·clauses·proofs.proofs.numbers.byte_behind.Tie as tie
+use Rattle.clauses.proofs.Bytes.{past_end}
+use Rattle.clauses.proofs.numbers.byte_behind.Statement.{statement}
+use Rattle.clauses.proofs.numbers.byte_behind.Tie as tie
 
 returns : tie.Need-returns
-returns c = past-end (c .before .args .c .now) _ (omega arith)
+returns c = past_end c.before.args.c.now _ (omega arith)
 
 returns-2 : tie.Need-returns-2
-returns-2 c = past-end (c .before .before .args .c .now) _ (omega arith)
+returns-2 c = past_end c.before.before.args.c.now _ (omega arith)
 
 pub byte-behind-spec : {M : Type 1} → statement M
-byte-behind-spec = tie.close (tie.spec returns (λ c. search needs) returns-2 (λ c. search needs)
-    (λ c. search needs) (λ c. search needs))
+byte-behind-spec = tie.close (tie.spec returns (λ c. search rules) returns-2 (λ c. search rules)
+    (λ c. search rules) (λ c. search rules))

@@ -1,20 +1,20 @@
 -- `even_shape` meets its contract, sign by sign. Assumes nothing.
-use borrow.Author.Needs.{needs}
-use borrow.Author.Tests.{eq-eqb, ne-eqb}
-use Rattle·clauses·proofs.proofs.shapes.even_shape.Statement.{statement}
-use Rattle·clauses·proofs.proofs.shapes.even_shape.Tie as tie
+use borrow.Author.Rules.{rules}
+use borrow.Author.Tests.{eq-eqb, ne_eqb}
+use Rattle.clauses.proofs.shapes.even_shape.Statement.{statement}
+use Rattle.clauses.proofs.shapes.even_shape.Tie as tie
 
 returns : tie.Need-returns
-returns c = λ z row. simp (eq-eqb _ _ (c .if1 .taken))
+returns c = λ z row. simp (eq-eqb _ _ c.if1.true)
 
 returns-2 : tie.Need-returns-2
-returns-2 c = λ z row. simp (ne-eqb _ _ (c .before .if1 .left), eq-eqb _ _ (c .if2 .taken))
+returns-2 c = λ z row. simp (ne_eqb _ _ c.before.if1.false, eq-eqb _ _ c.if2.true)
 
 returns-3 : tie.Need-returns-3
-returns-3 c = λ z row. simp (ne-eqb _ _ (c .before .before .if1 .left), ne-eqb _ _ (c .before .if2 .left), eq-eqb _ _ (c .if3 .taken))
+returns-3 c = λ z row. simp (ne_eqb _ _ c.before.before.if1.false, ne_eqb _ _ c.before.if2.false, eq-eqb _ _ c.if3.true)
 
 returns-4 : tie.Need-returns-4
-returns-4 c = λ z row. simp (ne-eqb _ _ (c .before .before .if1 .left), ne-eqb _ _ (c .before .if2 .left), ne-eqb _ _ (c .if3 .left))
+returns-4 c = λ z row. simp (ne_eqb _ _ c.before.before.if1.false, ne_eqb _ _ c.before.if2.false, ne_eqb _ _ c.if3.false)
 
 pub even-shape-spec : {M : Type 1} → statement M
 even-shape-spec = tie.close (tie.spec returns returns-2 returns-3 returns-4)

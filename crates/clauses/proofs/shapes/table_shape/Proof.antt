@@ -1,13 +1,13 @@
 -- `table_shape` meets its contract: said or denied. Assumes nothing.
-use borrow.Author.Needs.{needs}
-use Rattle·clauses·proofs.proofs.shapes.table_shape.Statement.{statement}
-use Rattle·clauses·proofs.proofs.shapes.table_shape.Tie as tie
+use borrow.Author.Rules.{rules}
+use Rattle.clauses.proofs.shapes.table_shape.Statement.{statement}
+use Rattle.clauses.proofs.shapes.table_shape.Tie as tie
 
 returns : tie.Need-returns
-returns c = λ z row. simp (c .if1 .taken)
+returns c = λ z row. simp c.if1.true
 
 returns-2 : tie.Need-returns-2
-returns-2 c = λ z row. simp (c .if1 .left)
+returns-2 c = λ z row. simp c.if1.false
 
 pub table-shape-spec : {M : Type 1} → statement M
 table-shape-spec = tie.close (tie.spec returns returns-2)

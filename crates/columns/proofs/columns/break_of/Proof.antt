@@ -1,19 +1,19 @@
 -- Where none breaks both are 0, else the first that does and its columns. Assumes nothing.
-use mathlib.Core.Path.{_≡_, sym, ap, ap₂, _∙_}
+use mathlib.Core.Path.{◌≡◌, sym, ap, ap₂, ◌∙◌}
 use mathlib.Core.Bool.{Bool, true, false, cond}
-use Prim.Native.Nat.{ℕ, _^_}
+use Prim.Native.Nat.{ℕ, ◌^◌}
 use native.Mathlib.Omega.{arith}
 use lib.Dec.{eqb}
 use lib.ListN.{length}
-use borrow.Author.Tests.{eq-eqb, ne-eqb}
-use Rattle·bits.specs.Numbers.{bit}
-use Rattle·bits.specs.Sets.{size}
-use Rattle·tables.specs.Table.{tableBit}
-use Rattle·columns·specs.specs.declared.columns.Broken.{Broken}
-use Rattle·splits.specs.Columns.{columns, firstBroken}
-use Rattle·columns·proofs.proofs.Breaking.{broken-few, broken-within}
-use Rattle·columns·proofs.proofs.columns.break_of.Statement.{statement}
-use Rattle·columns·proofs.proofs.columns.break_of.Tie as tie
+use borrow.Author.Tests.{eq-eqb, ne_eqb}
+use Rattle.bits.specs.Numbers.{bit}
+use Rattle.bits.specs.Sets.{size}
+use Rattle.tables.specs.Table.{tableBit}
+use Rattle.columns.specs.declared.columns.Broken.{Broken}
+use Rattle.splits.specs.Columns.{columns, firstBroken}
+use Rattle.columns.proofs.Breaking.{broken-few, broken-within}
+use Rattle.columns.proofs.columns.break_of.Statement.{statement}
+use Rattle.columns.proofs.columns.break_of.Tie as tie
 
 -- what is returned, as the test holds or not
 module _ (n : ℕ) (F : ℕ → Bool) (A B : ℕ → Bool) (m : ℕ) where
@@ -27,50 +27,50 @@ module _ (n : ℕ) (F : ℕ → Bool) (A B : ℕ → Bool) (m : ℕ) where
 
   some : (b many : ℕ) → b ≡ firstBroken n F A B m → many ≡ 2 ^ size n B → (b ≡ many → ⊥)
       → eqb (firstBroken n F A B m) (2 ^ size n B) ≡ false
-  some b many p q e = ne-eqb (firstBroken n F A B m) (2 ^ size n B) (λ z. e (p ∙ z ∙ sym q))
+  some b many p q e = ne_eqb (firstBroken n F A B m) (2 ^ size n B) (λ z. e (p ∙ z ∙ sym q))
 
 returns : tie.Need-returns
 returns c =
-    let f = c .before in
-    let a = f .before .before .before .args in
-    let F = tableBit (a .t .now) in
-    let A = bit (a .s .own) in
-    let B = bit (a .s .shared) in
-    none (a .s .n) F A B (a .limit) _ _ (f .first-broken .ensures) (f .before .parts .ensures .0) (c .if1 .taken)
-    ∙ ap (by (a .s .n) F A B (a .limit)) (sym (broken-few (a .s .n) F A B (a .limit)))
+    let f = c.before in
+    let a = f.before.before.before.args in
+    let F = tableBit a.t.now in
+    let A = bit a.s.own in
+    let B = bit a.s.shared in
+    none a.s.n F A B a.limit _ _ f.first-broken.ensures f.before.parts.ensures.0 c.if1.true
+    ∙ ap (by a.s.n F A B a.limit) (sym (broken-few a.s.n F A B a.limit))
 
 columns-at-requires : tie.Need-columns-at-requires
 columns-at-requires c κs =
-    let f = c .before in
-    let s = f .before .before .before in
-    let a = s .args in
-    let F = tableBit (a .t .now) in
-    let A = bit (a .s .own) in
-    let B = bit (a .s .shared) in
-    let few = broken-few (a .s .n) F A B (a .limit)
-    ∙ some (a .s .n) F A B (a .limit) _ _ (f .first-broken .ensures) (f .before .parts .ensures .0) (c .if1 .left)
+    let f = c.before in
+    let s = f.before.before.before in
+    let a = s.args in
+    let F = tableBit a.t.now in
+    let A = bit a.s.own in
+    let B = bit a.s.shared in
+    let few = broken-few a.s.n F A B a.limit
+    ∙ some a.s.n F A B a.limit _ _ f.first-broken.ensures f.before.parts.ensures.0 c.if1.false
     in (
-      (s .pre .0 .0, s .pre .1, s .pre .0 .2),
+      (s.requires.0.0, s.requires.1, s.requires.0.2),
       omega
-          (arith, f .first-broken .ensures, broken-within (a .s .n) F A B (a .limit) few),
+          (arith, f.first-broken.ensures, broken-within a.s.n F A B a.limit few),
     )
 
 returns-2 : tie.Need-returns-2
 returns-2 c =
-    let i = c .before in
-    let f = i .before in
-    let a = f .before .before .before .args in
-    let F = tableBit (a .t .now) in
-    let A = bit (a .s .own) in
-    let B = bit (a .s .shared) in
-    let few = broken-few (a .s .n) F A B (a .limit)
-    ∙ some (a .s .n) F A B (a .limit) _ _ (f .first-broken .ensures) (f .before .parts .ensures .0) (i .if1 .left)
+    let i = c.before in
+    let f = i.before in
+    let a = f.before.before.before.args in
+    let F = tableBit a.t.now in
+    let A = bit a.s.own in
+    let B = bit a.s.shared in
+    let few = broken-few a.s.n F A B a.limit
+    ∙ some a.s.n F A B a.limit _ _ f.first-broken.ensures f.before.parts.ensures.0 i.if1.false
     in
-    ap₂ (λ (b k : ℕ). record { b = b; columns = k }) (f .first-broken .ensures)
-    (c .columns-at .ensures ∙ ap (λ (b : ℕ). length (columns (a .s .n) F A B b)) (f .first-broken .ensures))
-    ∙ ap (by (a .s .n) F A B (a .limit)) (sym few)
+    ap₂ (λ (b k : ℕ). record { b = b; columns = k }) f.first-broken.ensures
+    (c.columns-at.ensures ∙ ap (λ (b : ℕ). length (columns a.s.n F A B b)) f.first-broken.ensures)
+    ∙ ap (by a.s.n F A B a.limit) (sym few)
 
 pub break-of-spec : {M : Type 1} → statement M
 break-of-spec =
-    tie.close (tie.spec (λ c κs. let p = c .before .pre .0 .0 in (p .most, p .belowB))
-    (λ c κs. (c .before .before .pre .0, c .parts .ensures .0)) returns columns-at-requires returns-2)
+    tie.close (tie.spec (λ c κs. let p = c.before.requires.0.0 in (p.most, p.belowB))
+    (λ c κs. (c.before.before.requires.0, c.parts.ensures.0)) returns columns-at-requires returns-2)

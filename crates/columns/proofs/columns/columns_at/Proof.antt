@@ -1,36 +1,36 @@
 -- With room for the columns of all own assignments none is one too many. Assumes nothing.
-use mathlib.Core.Path.{_≡_, sym, ap, _∙_, subst}
+use mathlib.Core.Path.{◌≡◌, sym, ap, ◌∙◌, subst}
 use mathlib.Core.Bool.{Bool}
-use Prim.Native.Nat.{ℕ, _^_, _≤_}
-use native.Mathlib.Decide.{decLt}
+use Prim.Native.Nat.{ℕ, ◌^◌, ◌≤◌}
+use native.Mathlib.Decide.{dec_lt}
 use native.Mathlib.Omega.{arith}
-use lib.Pow.{pow-mono}
+use lib.Pow.{pow_mono}
 use lib.ListN.{length}
-use borrow.Author.Needs.{needs}
-use Rattle·bits.specs.Numbers.{bit}
-use Rattle·bits.specs.Sets.{size, gather}
-use Rattle·bits.proofs.Spreading.{gather-spread}
-use Rattle·tables.specs.Table.{tableBit}
-use Rattle·splits.specs.Columns.{mostOwn, columns, column}
-use Rattle·columns·specs.specs.Reading.{Within, columnsOf}
-use Rattle·columns·proofs.proofs.Reading.{within-spread}
-use Rattle·columns·proofs.proofs.Breaking.{firsts-most}
-use Rattle·columns·proofs.proofs.columns.columns_at.Statement.{statement}
-use Rattle·columns·proofs.proofs.columns.columns_at.Tie as tie
+use borrow.Author.Rules.{rules}
+use Rattle.bits.specs.Numbers.{bit}
+use Rattle.bits.specs.Sets.{size, gather}
+use Rattle.bits.proofs.Spreading.{gather-spread}
+use Rattle.tables.specs.Table.{tableBit}
+use Rattle.splits.specs.Columns.{mostOwn, columns, column}
+use Rattle.columns.specs.Reading.{Within, columnsOf}
+use Rattle.columns.proofs.Reading.{within-spread}
+use Rattle.columns.proofs.Breaking.{firsts-most}
+use Rattle.columns.proofs.columns.columns_at.Statement.{statement}
+use Rattle.columns.proofs.columns.columns_at.Tie as tie
 
 look-through-requires : tie.Need-look-through-requires
 look-through-requires c κs =
-    let o = c .before .spread-out .ensures in
-    let s = c .before .before .before in
-    let p = s .pre in (
+    let o = c.before.spread-out.ensures in
+    let s = c.before.before.before in
+    let p = s.requires in (
       (
-        p .0 .0,
-        subst (Within (s .args .s .n) (s .args .s .shared)) (sym (o .0))
-            (within-spread (s .args .s .n) (s .args .s .shared) (s .args .b) (p .1)),
+        p.0.0,
+        subst (Within s.args.s.n s.args.s.shared) (sym o.0)
+            (within-spread s.args.s.n s.args.s.shared s.args.b p.1),
         omega arith,
         omega arith,
       ),
-      p .0 .2,
+      p.0.2,
     )
 
 -- at most as many columns as own assignments
@@ -40,32 +40,32 @@ unfolding columns
 columns-most n F A B b h = omega (
   arith,
   firsts-most (column n F A B b) (2 ^ size n A),
-  pow-mono {i = size n A}
+  pow_mono {i = size n A}
       {j = mostOwn} h,
 )
 
 returns : tie.Need-returns
 returns c =
-    let l = c .before in
-    let o = l .before .before .spread-out .ensures in
-    let s = l .before .before .before .before in
-    let a = s .args in
-    let F = tableBit (a .t .now) in
-    let at : gather (a .s .n) (bit (a .s .shared)) (l .before .before .spread-out .result) ≡ a .b =
-    ap (gather (a .s .n) (bit (a .s .shared))) (o .0) ∙ gather-spread (a .s .n) (bit (a .s .shared)) (a .b) (s .pre .1)
+    let l = c.before in
+    let o = l.before.before.spread-out.ensures in
+    let s = l.before.before.before.before in
+    let a = s.args in
+    let F = tableBit a.t.now in
+    let at : gather a.s.n (bit a.s.shared) l.before.before.spread-out.result ≡ a.b =
+    ap (gather a.s.n (bit a.s.shared)) o.0 ∙ gather-spread a.s.n (bit a.s.shared) a.b s.requires.1
     in
-    let w = l .look-through .ensures in
-    let few : l .look-through .result ≤ 2 ^ mostOwn = elim (decLt (2 ^ mostOwn) (l .look-through .result)) [
+    let w = l.look-through.ensures in
+    let few : l.look-through.result ≤ 2 ^ mostOwn = elim (dec_lt (2 ^ mostOwn) l.look-through.result) [
       | yes g ↦ absurd (omega (
         arith,
-        w .many (λ m. omega arith),
-        columns-most (a .s .n) F (bit (a .s .own))
-            (bit (a .s .shared)) (gather (a .s .n) (bit (a .s .shared)) (l .before .before .spread-out .result))
-            (s .pre .0 .1),
+        w.many (λ m. omega arith),
+        columns-most a.s.n F (bit a.s.own)
+            (bit a.s.shared) (gather a.s.n (bit a.s.shared) l.before.before.spread-out.result)
+            s.requires.0.1,
       ))
       | no g ↦ omega arith
     ] in
-    w .few few ∙ ap (λ (b : ℕ). length (columnsOf (a .s) F b)) at
+    w.few few ∙ ap (λ (b : ℕ). length (columnsOf a.s F b)) at
 
 pub columns-at-spec : {M : Type 1} → statement M
-columns-at-spec = tie.close (tie.spec (λ c κs. search needs) (λ c. search needs) look-through-requires returns)
+columns-at-spec = tie.close (tie.spec (λ c κs. search rules) (λ c. search rules) look-through-requires returns)

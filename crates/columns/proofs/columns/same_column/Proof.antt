@@ -1,96 +1,96 @@
 -- The loop keeps that the two columns agree in the first v words. Assumes nothing.
-use mathlib.Core.Path.{_≡_, sym}
-use mathlib.Core.Logic.{_↔_}
-use Prim.Native.Nat.{ℕ, _+_, _-_, _^_, _<_}
+use mathlib.Core.Path.{◌≡◌, sym}
+use mathlib.Core.Logic.{◌↔◌}
+use Prim.Native.Nat.{ℕ, ◌+◌, ◌-◌, ◌^◌, ◌<◌}
 use native.Mathlib.Omega.{arith}
-use lib.Bits.{bitAnd}
-use borrow.Author.Count.{below-more, below-none}
-use borrow.Author.Needs.{needs}
-use Rattle·bits.proofs.Bools.{false-of}
-use Rattle·bits.proofs.Masks.{mask-most}
-use Rattle·bits.proofs.Walking.{Walked, walked-none, walked-more, walked-lt, walked-end}
-use Rattle·tables.specs.Table.{tableBit}
-use Rattle·columns·specs.specs.declared.split.Split.{Split}
-use Rattle·columns·specs.specs.Reading.{highPart}
-use Rattle·columns·proofs.proofs.Reading.{free-lt}
-use Rattle·tables.proofs.Pieces.{word-at}
-use Rattle·columns·proofs.proofs.ByWords.{Even, alike-even, even-alike, word-lt, equal-even, even-equal}
-use Rattle·columns·proofs.proofs.columns.same_column.Statement.{statement}
-use Rattle·columns·proofs.proofs.columns.same_column.Tie as tie
+use lib.Bits.{bit_and}
+use borrow.Author.Count.{below_more, below_none}
+use borrow.Author.Rules.{rules}
+use Rattle.bits.proofs.Bools.{false_of}
+use Rattle.bits.proofs.Masks.{mask-most}
+use Rattle.bits.proofs.Walking.{Walked, walked_none, walked_more, walked-lt, walked_end}
+use Rattle.tables.specs.Table.{tableBit}
+use Rattle.columns.specs.declared.split.Split.{Split}
+use Rattle.columns.specs.Reading.{highPart}
+use Rattle.columns.proofs.Reading.{free-lt}
+use Rattle.tables.proofs.Pieces.{word_at}
+use Rattle.columns.proofs.ByWords.{Even, alike-even, even-alike, word_lt, equal-even, even-equal}
+use Rattle.columns.proofs.columns.same_column.Statement.{statement}
+use Rattle.columns.proofs.columns.same_column.Tie as tie
 
-abbrev Inv-loop : tie.InvT-loop
-Inv-loop t s x y high f₀ v₀ f v =
-    Walked (s .n) (highPart (s .free)) (s .words) f v × ((u : ℕ) → u < v → Even (s .n) (s .free) (tableBit t) x y u)
+abbrev invariant-loop : tie.invariant-loop
+invariant-loop t s x y high f₀ v₀ f v =
+    Walked s.n (highPart s.free) s.words f v × ((u : ℕ) → u < v → Even s.n s.free (tableBit t) x y u)
 
-abbrev μ-loop : tie.MeasureT-loop
-μ-loop t s x y high f₀ v₀ f v = s .words - v
+abbrev decreases-loop : tie.decreases-loop
+decreases-loop t s x y high f₀ v₀ f v = s.words - v
 
-loop-holds : tie.Need-loop-holds Inv-loop μ-loop
-loop-holds c = let h = c .before .before .pre .0 .0 in (walked-none (h .most) (h .words), below-none _)
+loop-holds : tie.Need-loop-init invariant-loop decreases-loop
+loop-holds c = let h = c.before.before.requires.0.0 in (walked_none h.most h.words, below_none _)
 
 -- both words lie in the table
-module _ (c : tie.Then1 Inv-loop μ-loop) where
-  abbrev g : tie.Start Inv-loop μ-loop
-  g = c .before .before .before .before .before
+module _ (c : tie.Then1 invariant-loop decreases-loop) where
+  abbrev g : tie.Start invariant-loop decreases-loop
+  g = c.before.before.before.before.before
 
   abbrev s : Split
-  s = g .args .s
+  s = g.args.s
 
-  walk : Walked (s .n) (highPart (s .free)) (s .words) (c .before .before .loop .f) (c .before .before .loop .v)
-  walk = c .before .before .loop .inv .0
+  walk : Walked s.n (highPart s.free) s.words c.before.before.loop.f c.before.before.loop.v
+  walk = c.before.before.loop.invariant.0
 
-  x-lt : g .args .x + c .before .before .loop .f < 2 ^ s .n
-  x-lt = word-lt (s .n) (s .free) (free-lt s (g .pre .0 .0)) walk (g .pre .0 .1)
+  x_lt : g.args.x + c.before.before.loop.f < 2 ^ s.n
+  x_lt = word_lt s.n s.free (free-lt s g.pre.0.0) walk g.pre.0.1
 
-  y-lt : g .args .y + c .before .before .loop .f < 2 ^ s .n
-  y-lt = word-lt (s .n) (s .free) (free-lt s (g .pre .0 .0)) walk (g .pre .0 .2)
+  y-lt : g.args.y + c.before.before.loop.f < 2 ^ s.n
+  y-lt = word_lt s.n s.free (free-lt s g.pre.0.0) walk g.pre.0.2
 
 -- what the comparison says of word v
-told : (c : tie.After-bits-from2 Inv-loop μ-loop)
-    → let i = c .before .before .before in let q = i .before .before .loop in
-    (bitAnd (c .before .before .bits-from .result) (s i .low) ≡ bitAnd (c .bits-from2 .result) (s i .low))
-    ↔ Even (s i .n) (s i .free) (tableBit (g i .args .t .now)) (g i .args .x) (g i .args .y) (q .v)
+told : (c : tie.After-bits-from2 invariant-loop decreases-loop)
+    → let i = c.before.before.before in let q = i.before.before.loop in
+    (bit_and c.before.before.bits-from.result (s i).low ≡ bit_and c.bits-from2.result (s i).low)
+    ↔ Even (s i).n (s i).free (tableBit (g i).args.t.now) (g i).args.x (g i).args.y q.v
 told c =
-    let i = c .before .before .before in
-    let p = g i .pre .0 in
-    let F = tableBit (g i .args .t .now) in
-    let l = free-lt (s i) (p .0) in (
-      equal-even (s i .n) (s i .free) l (walk i) F _ _ (p .1) (p .2) (p .0 .low) (c .before .before .bits-from .ensures)
-          (c .bits-from2 .ensures),
-      even-equal (s i .n) (s i .free) l (walk i) F _ _ (p .1) (p .2) (p .0 .low) (c .before .before .bits-from .ensures)
-          (c .bits-from2 .ensures),
+    let i = c.before.before.before in
+    let p = (g i).requires.0 in
+    let F = tableBit (g i).args.t.now in
+    let l = free-lt (s i) p.0 in (
+      equal-even (s i).n (s i).free l (walk i) F _ _ p.1 p.2 p.0.low c.before.before.bits-from.ensures
+          c.bits-from2.ensures,
+      even-equal (s i).n (s i).free l (walk i) F _ _ p.1 p.2 p.0.low c.before.before.bits-from.ensures
+          c.bits-from2.ensures,
     )
 
-returns : tie.Need-returns Inv-loop μ-loop
+returns : tie.Need-returns invariant-loop decreases-loop
 returns c =
-    let w = c .before .before in
-    let i = w .before .before .before in
-    let a = g i .args in
-    sym (false-of _ (λ e. c .if2 .taken (told w .1
-    (alike-even (s i .n) (s i .free) (free-lt (s i) (g i .pre .0 .0)) (tableBit (a .t .now)) (a .x) (a .y) e _))))
+    let w = c.before.before in
+    let i = w.before.before.before in
+    let a = (g i).args in
+    sym (false_of _ (λ e. c.if2.true ((told w).1
+    (alike-even (s i).n (s i).free (free-lt (s i) (g i).requires.0.0) (tableBit a.t.now) a.x a.y e _))))
 
-returns-2 : tie.Need-returns-2 Inv-loop μ-loop
+returns-2 : tie.Need-returns-2 invariant-loop decreases-loop
 returns-2 c =
-    let g = c .before .before .before .before .before in
-    let i = c .before .before .loop .inv in
-    let s = g .args .s in
-    sym (even-alike (s .n) (s .free) (free-lt s (g .pre .0 .0)) (tableBit (g .args .t .now)) (g .args .x) (g .args .y)
-    (λ u l. i .1 u (omega (arith, walked-end (i .0) (omega arith)))))
+    let g = c.before.before.before.before.before in
+    let i = c.before.before.loop.invariant in
+    let s = g.args.s in
+    sym (even-alike s.n s.free (free-lt s g.requires.0.0) (tableBit g.args.t.now) g.args.x g.args.y
+    (λ u l. i.1 u (omega (arith, walked_end i.0 (omega arith)))))
 
 pub same-column-spec : {M : Type 1} → statement M
 same-column-spec =
-    tie.close (tie.spec Inv-loop μ-loop (λ c. search needs) loop-holds
-    (λ c. omega (arith, x-lt c, mask-most (g c .pre .0 .0 .most)))
-    (λ c κs. word-at (s c .n) (g c .args .t .now) _ (g c .pre .1) (x-lt c))
-    (λ c. let i = c .before .before in omega (arith, y-lt i, mask-most (g i .pre .0 .0 .most)))
-    (λ c κs. let i = c .before .before in word-at (s i .n) (g i .args .t .now) _ (g i .pre .1) (y-lt i)) returns
-    (λ c κs. let i = c .before .before .before .before .before in let h = g i .pre .0 .0
-    in (h .most, omega (arith, free-lt (s i) h), walked-lt (walk i)))
-    (λ c. search needs) (λ c. search needs)
-    (λ c. let w = c .before .before .before in let i = w .before .before .before
+    tie.close (tie.spec invariant-loop decreases-loop (λ c. search rules) loop-holds
+    (λ c. omega (arith, x_lt c, mask-most (g c).requires.0.0.most))
+    (λ c κs. word_at (s c).n (g c).args.t.now _ (g c).requires.1 (x_lt c))
+    (λ c. let i = c.before.before in omega (arith, y-lt i, mask-most (g i).requires.0.0.most))
+    (λ c κs. let i = c.before.before in word_at (s i).n (g i).args.t.now _ (g i).requires.1 (y-lt i)) returns
+    (λ c κs. let i = c.before.before.before.before.before in let h = (g i).requires.0.0
+    in (h.most, omega (arith, free-lt (s i) h), walked-lt (walk i)))
+    (λ c. search rules) (λ c. search rules)
+    (λ c. let w = c.before.before.before in let i = w.before.before.before
     in (
-      walked-more (walk i) (i .if1 .taken) (c .next .ensures .1),
-      below-more _ _ (i .before .before .loop .inv .1)
-          (told w .0 (c .before .if2 .left)),
+      walked_more (walk i) i.if1.taken c.next.ensures.1,
+      below_more _ _ i.before.before.loop.inv.1
+          ((told w).0 c.before.if2.false),
     ))
     returns-2)

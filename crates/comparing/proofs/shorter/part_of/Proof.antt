@@ -1,19 +1,19 @@
 -- `part_of` meets its contract: what is handed back is the whole of the slice named, or none of the first. Assumes
 -- nothing.
 use mathlib.Core.Path.{refl}
-use borrow.Author.Needs.{needs}
-use borrow.Author.Tests.{eq-eqb, ne-eqb}
-use Rattle·comparing·proofs.proofs.shorter.part_of.Statement.{statement}
-use Rattle·comparing·proofs.proofs.shorter.part_of.Tie as tie
+use borrow.Author.Rules.{rules}
+use borrow.Author.Tests.{eq-eqb, ne_eqb}
+use Rattle.comparing.proofs.shorter.part_of.Statement.{statement}
+use Rattle.comparing.proofs.shorter.part_of.Tie as tie
 
 returns : tie.Need-returns
-returns c = rw (eq-eqb _ 1 (c .if1 .taken)) refl
+returns c = rw (eq-eqb _ 1 c.if1.true) refl
 
 returns-2 : tie.Need-returns-2
-returns-2 c = rw (ne-eqb _ 1 (c .before .if1 .left), eq-eqb _ 2 (c .if2 .taken)) refl
+returns-2 c = rw (ne_eqb _ 1 c.before.if1.false, eq-eqb _ 2 c.if2.true) refl
 
 returns-3 : tie.Need-returns-3
-returns-3 c = rw (ne-eqb _ 1 (c .before .before .if1 .left), ne-eqb _ 2 (c .before .if2 .left)) refl
+returns-3 c = rw (ne_eqb _ 1 c.before.before.if1.false, ne_eqb _ 2 c.before.if2.false) refl
 
 pub part-of-spec : {M : Type 1} → statement M
-part-of-spec = tie.close (tie.spec returns returns-2 (λ c. search needs) returns-3)
+part-of-spec = tie.close (tie.spec returns returns-2 (λ c. search rules) returns-3)

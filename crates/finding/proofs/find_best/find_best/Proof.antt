@@ -1,23 +1,23 @@
 -- `find_best` meets its contract: the edition handed down is the first. Assumes nothing.
-use mathlib.Core.Path.{sym, ap, _∙_, subst}
-use borrow.Author.Needs.{needs}
-use Rattle·sheets.specs.declared.kinds.Edition.{Edition}
-use Rattle·sheets.specs.Edition.{IsEdition}
-use Rattle·sheets.proofs.Keeping.{first-edition}
-use Rattle·finding·specs.specs.FindBest.{findOutcome}
-use Rattle·finding·proofs.proofs.find_best.find_best.Statement.{statement}
-use Rattle·finding·proofs.proofs.find_best.find_best.Tie as tie
+use mathlib.Core.Path.{sym, ap, ◌∙◌, subst}
+use borrow.Author.Rules.{rules}
+use Rattle.sheets.specs.declared.kinds.Edition.{Edition}
+use Rattle.sheets.specs.Edition.{IsEdition}
+use Rattle.sheets.proofs.Keeping.{first-edition}
+use Rattle.finding.specs.FindBest.{findOutcome}
+use Rattle.finding.proofs.find_best.find_best.Statement.{statement}
+use Rattle.finding.proofs.find_best.find_best.Tie as tie
 
 find-in-requires : tie.Need-find-in-requires
-find-in-requires c κs = subst IsEdition (sym (c .before .first .ensures)) first-edition
+find-in-requires c κs = subst IsEdition (sym c.before.first.ensures) first-edition
 
 returns : tie.Need-returns
 returns c =
-    let r = c .before .before in
-    let f = r .before .before in
-    let a = f .before .before .before .args in
-    r .find-in .ensures ∙ ap (λ (e : Edition). findOutcome e (a .n) (a .k) (a .t .now) (a .work .now))
-    (f .first .ensures)
+    let r = c.before.before in
+    let f = r.before.before in
+    let a = f.before.before.before.args in
+    r.find-in.ensures ∙ ap (λ (e : Edition). findOutcome e a.n a.k a.t.now a.work.now)
+    f.first.ensures
 
 pub find-best-spec : {M : Type 1} → statement M
-find-best-spec = tie.close (tie.spec (λ c κs. search needs) find-in-requires (λ c. search needs) returns)
+find-best-spec = tie.close (tie.spec (λ c κs. search rules) find-in-requires (λ c. search rules) returns)

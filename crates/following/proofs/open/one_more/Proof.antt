@@ -1,17 +1,17 @@
 -- `one_more` meets its contract, case by case. Assumes nothing.
-use borrow.Author.Needs.{needs}
-use Rattle·following·proofs.proofs.open.one_more.Statement.{statement}
-use Rattle·following·proofs.proofs.open.one_more.Tie as tie
+use borrow.Author.Rules.{rules}
+use Rattle.following.proofs.open.one_more.Statement.{statement}
+use Rattle.following.proofs.open.one_more.Tie as tie
 
 returns : tie.Need-returns
-returns c = rw (c .enum-told .given .1)
+returns c = rw c.enum_told.given.1
 
 returns-2 : tie.Need-returns-2
-returns-2 c = rw (c .enum-told2 .given .1)
+returns-2 c = rw c.enum-told2.given.1
 
 returns-3 : tie.Need-returns-3
-returns-3 c = rw (c .enum-told3 .given .1)
+returns-3 c = rw c.enum-told3.given.1
 
 pub one-more-spec : {M : Type 1} → statement M
-one-more-spec = tie.close (tie.spec (λ c. search needs) (λ c. search needs) (λ c. search needs) returns
+one-more-spec = tie.close (tie.spec (λ c. search rules) (λ c. search rules) (λ c. search rules) returns
     returns-2 returns-3)

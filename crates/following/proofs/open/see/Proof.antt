@@ -1,22 +1,22 @@
 -- `see` meets its contract: a literal that is false counts for nothing. Assumes nothing.
-use mathlib.Core.Path.{_∙_}
-use borrow.Author.Needs.{needs}
+use mathlib.Core.Path.{◌∙◌}
+use borrow.Author.Rules.{rules}
 use native.Mathlib.Omega.{arith}
-use Prim.Native.Nat.{_/_}
-use Rattle·bits.specs.Lists.{byteAt}
-use Rattle·following·proofs.proofs.Opening.{seen-false, seen-more}
-use Rattle·following·proofs.proofs.open.see.Statement.{statement}
-use Rattle·following·proofs.proofs.open.see.Tie as tie
+use Prim.Native.Nat.{◌/◌}
+use Rattle.bits.specs.Lists.{byte_at}
+use Rattle.following.proofs.Opening.{seen_false, seen_more}
+use Rattle.following.proofs.open.see.Statement.{statement}
+use Rattle.following.proofs.open.see.Tie as tie
 
-cast-if1 : tie.Need-cast-if1
-cast-if1 c = omega (arith, c .shared-slice-known2 .given (c .before .before .args .l / 2))
+cast-if1 : tie.Need-overflow-cast-if1
+cast-if1 c = omega (arith, c.shared-slice-known2.given (c.before.before.args.l / 2))
 
 returns : tie.Need-returns
-returns c = seen-false (byteAt (c .before .before .before .args .work .now)) (c .before .before .before .args .l) (c .before .before .before .args .o) (c .if1 .taken)
+returns c = seen_false (byte_at c.before.before.before.args.work.now) c.before.before.before.args.l c.before.before.before.args.o c.if1.true
 
 returns-2 : tie.Need-returns-2
-returns-2 c = c .one-more .ensures ∙ seen-more (byteAt (c .before .before .before .before .args .work .now)) (c .before .before .before .before .args .l) (c .before .before .before .before .args .o) (c .before .if1 .left)
+returns-2 c = c.one_more.ensures ∙ seen_more (byte_at c.before.before.before.before.args.work.now) c.before.before.before.before.args.l c.before.before.before.before.args.o c.before.if1.false
 
 pub see-spec : {M : Type 1} → statement M
-see-spec = tie.close (tie.spec (λ c. search needs) cast-if1 (λ c. search needs) returns
-    (λ c κs. search needs) returns-2)
+see-spec = tie.close (tie.spec (λ c. search rules) cast-if1 (λ c. search rules) returns
+    (λ c κs. search rules) returns-2)

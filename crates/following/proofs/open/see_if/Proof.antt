@@ -1,13 +1,13 @@
 -- `see_if` meets its contract: one literal or none. Assumes nothing.
-use borrow.Author.Needs.{needs}
-use Rattle·following·proofs.proofs.open.see_if.Statement.{statement}
-use Rattle·following·proofs.proofs.open.see_if.Tie as tie
+use borrow.Author.Rules.{rules}
+use Rattle.following.proofs.open.see_if.Statement.{statement}
+use Rattle.following.proofs.open.see_if.Tie as tie
 
 returns : tie.Need-returns
-returns c = rw (c .before .if1 .taken) (c .see-named .ensures)
+returns c = rw c.before.if1.true c.see-named.ensures
 
 returns-2 : tie.Need-returns-2
-returns-2 c = rw (c .if1 .left)
+returns-2 c = rw c.if1.false
 
 pub see-if-spec : {M : Type 1} → statement M
-see-if-spec = tie.close (tie.spec (λ c κs. search needs) returns returns-2)
+see-if-spec = tie.close (tie.spec (λ c κs. search rules) returns returns-2)

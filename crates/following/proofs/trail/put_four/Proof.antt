@@ -1,27 +1,27 @@
 -- `put_four` meets its contract: the four bytes are those of the number. Assumes nothing.
-use borrow.Author.Needs.{needs}
+use borrow.Author.Rules.{rules}
 use native.Mathlib.Omega.{arith}
-use Prim.Native.Nat.{ℕ, _+_, _-_, _*_, _/_, _%_, _<_, _≤_}
+use Prim.Native.Nat.{ℕ, ◌+◌, ◌-◌, ◌*◌, ◌/◌, ◌%◌, ◌<◌, ◌≤◌}
 use lib.ListN.{set}
 use lib.Seq.{lt-length-set}
-use Rattle·following·proofs.proofs.Trailing.{wrote}
-use Rattle·following·proofs.proofs.trail.put_four.Statement.{statement}
-use Rattle·following·proofs.proofs.trail.put_four.Tie as tie
+use Rattle.following.proofs.Trailing.{wrote}
+use Rattle.following.proofs.trail.put_four.Statement.{statement}
+use Rattle.following.proofs.trail.put_four.Tie as tie
 
 slice-write-area-2 : tie.Need-slice-write-area-2
-slice-write-area-2 c = lt-length-set (c .args .area .now) (c .args .at) (c .args .x % 256) (omega arith)
+slice-write-area-2 c = lt-length-set c.args.area.now c.args.at (c.args.x % 256) (omega arith)
 
 slice-write-area-3 : tie.Need-slice-write-area-3
-slice-write-area-3 c = lt-length-set (set (c .args .area .now) (c .args .at) (c .args .x % 256)) (c .args .at + 1) (c .args .x / 256 % 256) (lt-length-set (c .args .area .now) (c .args .at) (c .args .x % 256) (omega arith))
+slice-write-area-3 c = lt-length-set (set c.args.area.now c.args.at (c.args.x % 256)) (c.args.at + 1) (c.args.x / 256 % 256) (lt-length-set c.args.area.now c.args.at (c.args.x % 256) (omega arith))
 
 slice-write-area-4 : tie.Need-slice-write-area-4
-slice-write-area-4 c = lt-length-set (set (set (c .args .area .now) (c .args .at) (c .args .x % 256)) (c .args .at + 1) (c .args .x / 256 % 256)) (c .args .at + 2) (c .args .x / 65536 % 256) (lt-length-set (set (c .args .area .now) (c .args .at) (c .args .x % 256)) (c .args .at + 1) (c .args .x / 256 % 256) (lt-length-set (c .args .area .now) (c .args .at) (c .args .x % 256) (omega arith)))
+slice-write-area-4 c = lt-length-set (set (set c.args.area.now c.args.at (c.args.x % 256)) (c.args.at + 1) (c.args.x / 256 % 256)) (c.args.at + 2) (c.args.x / 65536 % 256) (lt-length-set (set c.args.area.now c.args.at (c.args.x % 256)) (c.args.at + 1) (c.args.x / 256 % 256) (lt-length-set c.args.area.now c.args.at (c.args.x % 256) (omega arith)))
 
 returns : tie.Need-returns
-returns c = wrote (c .args .area .now) (c .args .at) (c .args .x) (c .pre .0) (c .pre .1)
+returns c = wrote c.args.area.now c.args.at c.args.x c.requires.0 c.requires.1
 
 pub put-four-spec : {M : Type 1} → statement M
-put-four-spec = tie.close (tie.spec (λ c. search needs) (λ c. search needs) (λ c. search needs) (λ c. search needs)
-    slice-write-area-2 (λ c. search needs) (λ c. search needs) slice-write-area-3
-    (λ c. search needs) (λ c. search needs) slice-write-area-4 (λ c. search needs)
+put-four-spec = tie.close (tie.spec (λ c. search rules) (λ c. search rules) (λ c. search rules) (λ c. search rules)
+    slice-write-area-2 (λ c. search rules) (λ c. search rules) slice-write-area-3
+    (λ c. search rules) (λ c. search rules) slice-write-area-4 (λ c. search rules)
     returns)

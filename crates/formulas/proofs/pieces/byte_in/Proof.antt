@@ -1,12 +1,12 @@
 -- `byte_in` meets its contract: behind the text the list has none but its default. Assumes nothing.
 use mathlib.Core.Path.{sym}
-use borrow.Author.Needs.{needs}
-use lib.ListN.{List·getD-eq-default}
-use Rattle·formulas·proofs.proofs.pieces.byte_in.Statement.{statement}
-use Rattle·formulas·proofs.proofs.pieces.byte_in.Tie as tie
+use borrow.Author.Rules.{rules}
+use lib.ListN.{get_or-eq_default}
+use Rattle.formulas.proofs.pieces.byte_in.Statement.{statement}
+use Rattle.formulas.proofs.pieces.byte_in.Tie as tie
 
 returns-2 : tie.Need-returns-2
-returns-2 c = sym (List·getD-eq-default (c .before .args .t .now) 0 (c .if1 .left))
+returns-2 c = sym (get_or-eq_default c.before.args.t.now 0 c.if1.false)
 
 pub byte-in-spec : {M : Type 1} → statement M
-byte-in-spec = tie.close (tie.spec (λ c. search needs) (λ c. search needs) returns-2)
+byte-in-spec = tie.close (tie.spec (λ c. search rules) (λ c. search rules) returns-2)

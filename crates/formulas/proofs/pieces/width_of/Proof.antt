@@ -3,17 +3,17 @@ use mathlib.Core.Path.{sym, ap}
 use mathlib.Core.Bool.{Bool, cond}
 use Prim.Native.Nat.{ℕ}
 use borrow.Author.Tests.{le-leb, lt-leb}
-use Rattle·formulas·proofs.proofs.pieces.width_of.Statement.{statement}
-use Rattle·formulas·proofs.proofs.pieces.width_of.Tie as tie
+use Rattle.formulas.proofs.pieces.width_of.Statement.{statement}
+use Rattle.formulas.proofs.pieces.width_of.Tie as tie
 
 abbrev two : Bool → ℕ
 two b = cond b 2 1
 
 returns : tie.Need-returns
-returns c = sym (ap two (le-leb 10 _ (c .if1 .taken)))
+returns c = sym (ap two (le-leb 10 _ c.if1.true))
 
 returns-2 : tie.Need-returns-2
-returns-2 c = sym (ap two (lt-leb 10 _ (c .if1 .left)))
+returns-2 c = sym (ap two (lt-leb 10 _ c.if1.false))
 
 pub width-of-spec : {M : Type 1} → statement M
 width-of-spec = tie.close (tie.spec returns returns-2)

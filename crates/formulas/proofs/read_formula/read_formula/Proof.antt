@@ -1,7 +1,7 @@
 -- `read_formula` meets its contract: it is the reading of a text without counts. Assumes nothing.
-use borrow.Author.Needs.{needs}
-use Rattle·formulas·proofs.proofs.read_formula.read_formula.Statement.{statement}
-use Rattle·formulas·proofs.proofs.read_formula.read_formula.Tie as tie
+use borrow.Author.Rules.{rules}
+use Rattle.formulas.proofs.read_formula.read_formula.Statement.{statement}
+use Rattle.formulas.proofs.read_formula.read_formula.Tie as tie
 
 pub read-formula-spec : {M : Type 1} → statement M
-read-formula-spec = tie.close (tie.spec (λ c κs. search needs) (λ c. search needs) (λ c. c .before .before .read-text .ensures))
+read-formula-spec = tie.close (tie.spec (λ c κs. search rules) (λ c. search rules) (λ c. c.before.before.read-text.ensures))

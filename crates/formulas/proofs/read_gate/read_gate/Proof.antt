@@ -1,7 +1,7 @@
 -- `read_gate` meets its contract: it is the reading of a text with counts. Assumes nothing.
-use borrow.Author.Needs.{needs}
-use Rattle·formulas·proofs.proofs.read_gate.read_gate.Statement.{statement}
-use Rattle·formulas·proofs.proofs.read_gate.read_gate.Tie as tie
+use borrow.Author.Rules.{rules}
+use Rattle.formulas.proofs.read_gate.read_gate.Statement.{statement}
+use Rattle.formulas.proofs.read_gate.read_gate.Tie as tie
 
 pub read-gate-spec : {M : Type 1} → statement M
-read-gate-spec = tie.close (tie.spec (λ c κs. search needs) (λ c. search needs) (λ c. c .before .before .read-text .ensures))
+read-gate-spec = tie.close (tie.spec (λ c κs. search rules) (λ c. search rules) (λ c. c.before.before.read-text.ensures))

@@ -1,76 +1,76 @@
 -- `fill` meets its contract. The loop's invariant: the bytes passed are the table's, and within a stretch v is that
 -- stretch. Assumes nothing.
-use mathlib.Core.Path.{_≡_, refl, ap, _∙_}
-use mathlib.Core.Logic.{⊎-elim}
-use mathlib.Core.Bool.{Bool, _&&_}
+use mathlib.Core.Path.{◌≡◌, refl, ap, ◌∙◌}
+use mathlib.Core.Logic.{⊎_elim}
+use mathlib.Core.Bool.{Bool, ◌&&◌}
 use mathlib.Core.List.{List}
-use Prim.Native.Nat.{ℕ, _+_, _-_, _*_, _/_, _%_, _^_}
+use Prim.Native.Nat.{ℕ, ◌+◌, ◌-◌, ◌*◌, ◌/◌, ◌%◌, ◌^◌}
 use native.Mathlib.Omega.{arith}
 use lib.Dec.{ltb}
 use lib.ListN.{length}
-use lib.Pow.{pow-mono}
-use borrow.Author.Needs.{needs}
-use Rattle·bits.specs.Numbers.{number}
-use Rattle·bits.proofs.Filling.{Filled, filled-none, filled-more, filled-whole}
-use Rattle·tables.specs.Table.{bytesOf, tableOf}
-use Rattle·tables.proofs.Pieces.{word-byte}
-use Rattle·runs.proofs.Choosing.{word-starts}
-use Rattle·formulas·specs.specs.Reading.{textOf, valueIn}
-use Rattle·values.specs.Stretches.{stretchOf}
-use Rattle·values.proofs.Bitwise.{table-word}
-use Rattle·formulas·proofs.proofs.texts.fill.Statement.{statement}
-use Rattle·formulas·proofs.proofs.texts.fill.Tie as tie
+use lib.Pow.{pow_mono}
+use borrow.Author.Rules.{rules}
+use Rattle.bits.specs.Numbers.{number}
+use Rattle.bits.proofs.Filling.{Filled, filled_none, filled_more, filled-whole}
+use Rattle.tables.specs.Table.{bytes_of, table_of}
+use Rattle.tables.proofs.Pieces.{word_byte}
+use Rattle.runs.proofs.Choosing.{word-starts}
+use Rattle.formulas.specs.Reading.{text_of, valueIn}
+use Rattle.values.specs.Stretches.{stretchOf}
+use Rattle.values.proofs.Bitwise.{table-word}
+use Rattle.formulas.proofs.texts.fill.Statement.{statement}
+use Rattle.formulas.proofs.texts.fill.Tie as tie
 
 abbrev bits : Bool → ℕ → List ℕ → ℕ → Bool
-bits counts n t x = ltb x (2 ^ n) && valueIn (textOf counts n t) x
+bits counts n t x = ltb x (2 ^ n) && valueIn (text_of counts n t) x
 
-abbrev Inv-loop : tie.InvT-loop
-Inv-loop n t table₀ counts v₀ i₀ table v i =
+abbrev invariant-loop : tie.invariant-loop
+invariant-loop n t table₀ counts v₀ i₀ table v i =
     Filled 0 (length table₀) (λ k. number 8 (λ j. bits counts n t (k * 8 + j))) table₀ table i
-    × ((i % 32 ≡ 0 → ⊥) → v ≡ stretchOf (valueIn (textOf counts n t)) (i / 32))
+    × ((i % 32 ≡ 0 → ⊥) → v ≡ stretchOf (valueIn (text_of counts n t)) (i / 32))
 
-abbrev μ-loop : tie.MeasureT-loop
-μ-loop n t table₀ counts v₀ i₀ table v i = length table₀ - i
+abbrev decreases-loop : tie.decreases-loop
+decreases-loop n t table₀ counts v₀ i₀ table v i = length table₀ - i
 
-cast-text-stretch : tie.Need-cast-text-stretch Inv-loop μ-loop
+cast-text-stretch : tie.Need-overflow-cast-text-stretch invariant-loop decreases-loop
 cast-text-stretch c =
-    let t = c .before .before .before .before .before .before in
-    omega (arith, pow-mono {i = t .args .n - 3} {j = 13} (omega (arith, t .pre .0)), t .pre .1)
+    let t = c.before.before.before.before.before.before in
+    omega (arith, pow_mono {i = t.args.n - 3} {j = 13} (omega (arith, t.requires.0)), t.requires.1)
 
-text-stretch-requires : tie.Need-text-stretch-requires Inv-loop μ-loop
-text-stretch-requires c κs = let t = c .before .before .before .before .before .before in (t .pre .0, t .pre .2)
+text-stretch-requires : tie.Need-text-stretch-requires invariant-loop decreases-loop
+text-stretch-requires c κs = let t = c.before.before.before.before.before.before in (t.requires.0, t.requires.2)
 
-first-bits-requires : tie.Need-first-bits-requires Inv-loop μ-loop
-first-bits-requires c κs = c .before .before .before .before .before .before .before .pre .0
+first-bits-requires : tie.Need-first-bits-requires invariant-loop decreases-loop
+first-bits-requires c κs = c.before.before.before.before.before.before.before.requires.0
 
-loop-again : tie.Need-loop-again Inv-loop μ-loop
+loop-again : tie.Need-loop-preserved invariant-loop decreases-loop
 loop-again c =
-    let u = c .before .before in
-    let q = u .before .before in
-    let t = q .before .before .before .before in
-    let a = t .args in
-    let i = q .loop .i in
-    let w : u .if1 .v ≡ stretchOf (valueIn (textOf (a .counts) (a .n) (a .t .now))) (i / 32) =
-    ⊎-elim (λ u. u .2 ∙ u .1 .ensures) (λ u. u .1 ∙ q .loop .inv .1 (u .0 .left)) (u .if1 .came) in (
-      filled-more (q .loop .inv .0) (omega arith) (omega arith)
-          (word-byte (bits (a .counts) (a .n) (a .t .now)) i _ (table-word (a .n) i (valueIn (textOf (a .counts) (a .n) (a .t .now)))
-          (word-starts (a .n) i (omega (arith, t .pre .1))) w (c .before .word-in .ensures)
-          (c .first-bits .ensures))),
-      λ h. let e : i / 32 ≡ (i + 1) / 32 = omega arith in w ∙ ap (stretchOf (valueIn (textOf (a .counts) (a .n) (a .t .now)))) e,
+    let u = c.before.before in
+    let q = u.before.before in
+    let t = q.before.before.before.before in
+    let a = t.args in
+    let i = q.loop.i in
+    let w : u.if1.v ≡ stretchOf (valueIn (text_of a.counts a.n a.t.now)) (i / 32) =
+    ⊎_elim (λ u. u.2 ∙ u.1.ensures) (λ u. u.1 ∙ q.loop.invariant.1 u.0.left) u.if1.branch in (
+      filled_more q.loop.invariant.0 (omega arith) (omega arith)
+          (word_byte (bits a.counts a.n a.t.now) i _ (table-word a.n i (valueIn (text_of a.counts a.n a.t.now))
+          (word-starts a.n i (omega (arith, t.requires.1))) w c.before.word_in.ensures
+          c.first-bits.ensures)),
+      λ h. let e : i / 32 ≡ (i + 1) / 32 = omega arith in w ∙ ap (stretchOf (valueIn (text_of a.counts a.n a.t.now))) e,
     )
 
-returns : tie.Need-returns Inv-loop μ-loop
-unfolding tableOf
+returns : tie.Need-returns invariant-loop decreases-loop
+unfolding table_of
 returns c =
-    let q = c .before in
-    let t = q .before .before .before .before in
-    let a = t .args in
-    filled-whole (q .loop .inv .0) (omega arith) (omega arith)
-    ∙ ap (λ (k : ℕ). bytesOf k (bits (a .counts) (a .n) (a .t .now))) (t .pre .1)
+    let q = c.before in
+    let t = q.before.before.before.before in
+    let a = t.args in
+    filled-whole q.loop.invariant.0 (omega arith) (omega arith)
+    ∙ ap (λ (k : ℕ). bytes_of k (bits a.counts a.n a.t.now)) t.requires.1
 
-pub fill-spec : {M : Type 1} → statement M
-fill-spec =
-    tie.close (tie.spec Inv-loop μ-loop (λ c κs. search needs) (λ c. (filled-none (omega arith), λ h. absurd (h refl)))
-    cast-text-stretch text-stretch-requires (λ c κs. search needs) first-bits-requires (λ c. search needs)
-    (λ c. search needs) (λ c. search needs) (λ c. search needs) (λ c. search needs) (λ c. search needs) loop-again
-    (λ c. search needs) returns)
+pub fill_spec : {M : Type 1} → statement M
+fill_spec =
+    tie.close (tie.spec invariant-loop decreases-loop (λ c κs. search rules) (λ c. (filled_none (omega arith), λ h. absurd (h refl)))
+    cast-text-stretch text-stretch-requires (λ c κs. search rules) first-bits-requires (λ c. search rules)
+    (λ c. search rules) (λ c. search rules) (λ c. search rules) (λ c. search rules) (λ c. search rules) loop-again
+    (λ c. search rules) returns)

@@ -1,35 +1,35 @@
 -- `read_form` meets its contract: what lines 1 and 3 refuse, else what the look at the text comes to. Assumes nothing.
-use mathlib.Core.List.{[], _∷_}
+use mathlib.Core.List.{[], ◌∷◌}
 use native.Mathlib.Omega.{arith}
-use borrow.Author.Needs.{needs}
-use Rattle·refusals.specs.Refusals.{sizedLines}
-use Rattle·refusals.proofs.Lines.{stopped, goes-on}
-use Rattle·refusals.proofs.Tests.{sized-through}
-use Rattle·formulas·specs.specs.Refusals.{badText}
-use Rattle·formulas·proofs.proofs.texts.read_form.Statement.{statement}
-use Rattle·formulas·proofs.proofs.texts.read_form.Tie as tie
+use borrow.Author.Rules.{rules}
+use Rattle.refusals.specs.Refusals.{sizedLines}
+use Rattle.refusals.proofs.Lines.{stopped, goes_on}
+use Rattle.refusals.proofs.Tests.{sized-through}
+use Rattle.formulas.specs.Refusals.{badText}
+use Rattle.formulas.proofs.texts.read_form.Statement.{statement}
+use Rattle.formulas.proofs.texts.read_form.Tie as tie
 
 returns : tie.Need-returns
 returns c =
-    let l = c .before .before in
-    let a = l .before .before .before .args in
-    stopped (sizedLines (a .n) (a .table .now)) (badText (a .counts) (a .n) (a .t .now) ∷ []) _ (l .sized .ensures)
-    (c .enum-told2 .given .0 .0) (c .enum-told2 .given .1)
+    let l = c.before.before in
+    let a = l.before.before.before.args in
+    stopped (sizedLines a.n a.table.now) (badText a.counts a.n a.t.now ∷ []) _ l.sized.ensures
+    c.enum-told2.given.0.0 c.enum-told2.given.1
 
 look-at-text-requires : tie.Need-look-at-text-requires
-look-at-text-requires c κs = let l = c .before .before in
-    sized-through _ (l .before .before .before .args .table .now) _ (l .sized .ensures) (c .enum-told .given .1) .0
+look-at-text-requires c κs = let l = c.before.before in
+    (sized-through _ l.before.before.before.args.table.now _ l.sized.ensures c.enum_told.given.1).0
 
 returns-2 : tie.Need-returns-2
 returns-2 c =
-    let t = c .before in
-    let l = t .before .before in
-    let a = l .before .before .before .args in
-    goes-on (sizedLines (a .n) (a .table .now)) (badText (a .counts) (a .n) (a .t .now) ∷ []) _ (l .sized .ensures)
-    (t .enum-told .given .1) (c .look-at-text .ensures)
+    let t = c.before in
+    let l = t.before.before in
+    let a = l.before.before.before.args in
+    goes_on (sizedLines a.n a.table.now) (badText a.counts a.n a.t.now ∷ []) _ l.sized.ensures
+    t.enum_told.given.1 c.look-at-text.ensures
 
 pub read-form-spec : {M : Type 1} → statement M
 read-form-spec =
-    tie.close (tie.spec (λ c κs. search needs) (λ c. search needs) (λ c. search needs) returns
-    (λ c. omega (arith, look-at-text-requires c (c .before .before .before .before .before .κs))) look-at-text-requires
+    tie.close (tie.spec (λ c κs. search rules) (λ c. search rules) (λ c. search rules) returns
+    (λ c. omega (arith, look-at-text-requires c c.before.before.before.before.before.lifetimes)) look-at-text-requires
     returns-2)

@@ -1,16 +1,16 @@
 -- `check_own` meets its contract: the desk handed down is the sheet's own. Assumes nothing.
-use mathlib.Core.Path.{ap, _∙_}
+use mathlib.Core.Path.{ap, ◌∙◌}
 use Prim.Native.Nat.{ℕ}
-use borrow.Author.Needs.{needs}
-use Rattle·inspection·specs.specs.CheckSheet.{checkOutcome}
-use Rattle·inspection·proofs.proofs.check_sheet.check_own.Statement.{statement}
-use Rattle·inspection·proofs.proofs.check_sheet.check_own.Tie as tie
+use borrow.Author.Rules.{rules}
+use Rattle.inspection.specs.CheckSheet.{checkOutcome}
+use Rattle.inspection.proofs.check_sheet.check_own.Statement.{statement}
+use Rattle.inspection.proofs.check_sheet.check_own.Tie as tie
 
 returns : tie.Need-returns
 returns c =
-    let a = c .before .before .before .before .args in
-    c .check-in .ensures ∙ ap (λ (d : ℕ). checkOutcome (a .e) d (a .n) (a .t .now) (a .s .now))
-    (c .before .desk-of .ensures)
+    let a = c.before.before.before.before.args in
+    c.check-in.ensures ∙ ap (λ (d : ℕ). checkOutcome a.e d a.n a.t.now a.s.now)
+    c.before.desk-of.ensures
 
 pub check-own-spec : {M : Type 1} → statement M
-check-own-spec = tie.close (tie.spec (λ c κs. search needs) (λ c κs. search needs) returns)
+check-own-spec = tie.close (tie.spec (λ c κs. search rules) (λ c κs. search rules) returns)

@@ -1,38 +1,38 @@
 -- `check_told` meets its contract: n and the edition refuse, or the edition handed down is the one with that number.
 -- Assumes nothing.
-use mathlib.Core.Path.{sym, ap, _∙_, subst}
-use borrow.Author.Needs.{needs}
-use Rattle·sheets.specs.declared.kinds.Edition.{Edition}
-use Rattle·sheets.specs.Edition.{IsEdition, editionOf}
-use Rattle·sheets.specs.Desk.{deskOf}
-use Rattle·sheets.proofs.Keeping.{is-edition}
-use Rattle·refusals.specs.Refusals.{toldForm}
-use Rattle·refusals.proofs.Lines.{stopped, goes-on}
-use Rattle·inspection·specs.specs.CheckSheet.{checkLines, checkOutcome, checkOwn}
-use Rattle·inspection·proofs.proofs.check_told.check_told.Statement.{statement}
-use Rattle·inspection·proofs.proofs.check_told.check_told.Tie as tie
+use mathlib.Core.Path.{sym, ap, ◌∙◌, subst}
+use borrow.Author.Rules.{rules}
+use Rattle.sheets.specs.declared.kinds.Edition.{Edition}
+use Rattle.sheets.specs.Edition.{IsEdition, editionOf}
+use Rattle.sheets.specs.Desk.{deskOf}
+use Rattle.sheets.proofs.Keeping.{is-edition}
+use Rattle.refusals.specs.Refusals.{toldForm}
+use Rattle.refusals.proofs.Lines.{stopped, goes_on}
+use Rattle.inspection.specs.CheckSheet.{checkLines, checkOutcome, checkOwn}
+use Rattle.inspection.proofs.check_told.check_told.Statement.{statement}
+use Rattle.inspection.proofs.check_told.check_told.Tie as tie
 
 returns : tie.Need-returns
 returns c =
-    let f = c .before .before in
-    let a = f .before .before .before .args in
-    let e = editionOf (a .w) in
-    stopped (toldForm (a .w) (a .n)) (checkLines e (deskOf e (a .s .now)) (a .n) (a .t .now) (a .s .now))
-    (f .told .result) (f .told .ensures)
-    (c .enum-told2 .given .0 .0) (c .enum-told2 .given .1)
+    let f = c.before.before in
+    let a = f.before.before.before.args in
+    let e = editionOf a.w in
+    stopped (toldForm a.w a.n) (checkLines e (deskOf e a.s.now) a.n a.t.now a.s.now)
+    f.told.result f.told.ensures
+    c.enum-told2.given.0.0 c.enum-told2.given.1
 
 returns-2 : tie.Need-returns-2
 unfolding checkOutcome
 returns-2 c =
-    let g = c .before .before in
-    let f = g .before .before in
-    let a = f .before .before .before .args in
-    let e = editionOf (a .w) in
-    goes-on (toldForm (a .w) (a .n)) (checkLines e (deskOf e (a .s .now)) (a .n) (a .t .now) (a .s .now)) _
-    (f .told .ensures) (g .enum-told .given .1) (c .check-own .ensures
-    ∙ ap (λ (e : Edition). checkOwn e (a .n) (a .t .now) (a .s .now)) (c .before .numbered .ensures))
+    let g = c.before.before in
+    let f = g.before.before in
+    let a = f.before.before.before.args in
+    let e = editionOf a.w in
+    goes_on (toldForm a.w a.n) (checkLines e (deskOf e a.s.now) a.n a.t.now a.s.now) _
+    f.told.ensures g.enum_told.given.1 (c.check-own.ensures
+    ∙ ap (λ (e : Edition). checkOwn e a.n a.t.now a.s.now) c.before.numbered.ensures)
 
 pub check-told-spec : {M : Type 1} → statement M
 check-told-spec =
-    tie.close (tie.spec (λ c κs. search needs) (λ c. search needs) (λ c. search needs) returns (λ c κs. search needs)
-    (λ c κs. subst IsEdition (sym (c .numbered .ensures)) (is-edition _)) returns-2)
+    tie.close (tie.spec (λ c κs. search rules) (λ c. search rules) (λ c. search rules) returns (λ c κs. search rules)
+    (λ c κs. subst IsEdition (sym c.numbered.ensures) (is-edition _)) returns-2)

@@ -1,121 +1,121 @@
 -- `joint` meets its contract: the points of the two inputs, one after the other, are asked about. Assumes nothing.
-use mathlib.Core.Path.{_≡_, sym, ap}
-use Prim.Native.Nat.{ℕ, _+_, _*_, _%_, _^_, _<_}
+use mathlib.Core.Path.{◌≡◌, sym, ap}
+use Prim.Native.Nat.{ℕ, ◌+◌, ◌*◌, ◌%◌, ◌^◌, ◌<◌}
 use native.Mathlib.Omega.{arith}
-use lib.Pow.{pow-mono, pow-pos}
-use borrow.Author.Needs.{needs}
-use Rattle·bits.specs.Numbers.{bit}
-use Rattle·bits.specs.Sets.{spread}
-use Rattle·bits.proofs.Spreading.{spread-zero}
-use Rattle·tables.specs.Table.{tableBit}
-use Rattle·columns.specs.declared.split.Split.{Split}
-use Rattle·columns.specs.Reading.{Without}
-use Rattle·joins·proofs.proofs.Asking as asking
-use Rattle·joins·proofs.proofs.pairs.joint.Statement.{statement}
-use Rattle·joins·proofs.proofs.pairs.joint.Tie as tie
+use lib.Pow.{pow_mono, pow_pos}
+use borrow.Author.Rules.{rules}
+use Rattle.bits.specs.Numbers.{bit}
+use Rattle.bits.specs.Sets.{spread}
+use Rattle.bits.proofs.Spreading.{spread-zero}
+use Rattle.tables.specs.Table.{tableBit}
+use Rattle.columns.specs.declared.split.Split.{Split}
+use Rattle.columns.specs.Reading.{Without}
+use Rattle.joins.proofs.Asking as asking
+use Rattle.joins.proofs.pairs.joint.Statement.{statement}
+use Rattle.joins.proofs.pairs.joint.Tie as tie
 
 -- the mask of the two
 module _ (c : tie.Start) where
   abbrev own : ℕ
-  own = 1 * 2 ^ c .args .j % 2 ^ 16 + 1 * 2 ^ c .args .i % 2 ^ 16
+  own = 1 * 2 ^ c.args.j % 2 ^ 16 + 1 * 2 ^ c.args.i % 2 ^ 16
 
-  own-lt : own < 2 ^ c .args .n
-  own-lt = asking.own-lt (c .args .n) (c .args .g) (c .pre .1) (c .pre .0) (c .args .i) (c .args .j) (c .pre .2)
-      (c .pre .3) (c .pre .4)
+  own-lt : own < 2 ^ c.args.n
+  own-lt = asking.own-lt c.args.n c.args.g c.requires.1 c.requires.0 c.args.i c.args.j c.requires.2
+      c.requires.3 c.requires.4
 
-  width : 2 ^ c .args .n < 2 ^ 16 + 1
-  width = omega (arith, pow-mono {i = c .args .n} {j = 16} (c .pre .0))
+  width : 2 ^ c.args.n < 2 ^ 16 + 1
+  width = omega (arith, pow_mono {i = c.args.n} {j = 16} c.requires.0)
 
-add-own : tie.Need-add-own
-add-own c = omega (arith, own-lt (c .before), width (c .before))
+add-own : tie.Need-overflow-add-own
+add-own c = omega (arith, own-lt c.before, width c.before)
 
 of-requires : tie.Need-of-requires
 of-requires c κs =
-    let g = c .before in
-    let a = g .args in (
-      g .pre .0,
+    let g = c.before in
+    let a = g.args in (
+      g.requires.0,
       own-lt g,
-      g .pre .1 .below,
-      asking.own-apart (a .n) (a .g) (g .pre .1) (g .pre .0) (a .i) (a .j) (g .pre .2)
-          (g .pre .3) (g .pre .4),
+      g.requires.1.below,
+      asking.own-apart a.n a.g g.requires.1 g.requires.0 a.i a.j g.requires.2
+          g.requires.3 g.requires.4,
     )
 
 next-requires : tie.Need-next-requires
-next-requires c κs = let g = c .before .before in (g .pre .0, own-lt g, pow-pos (g .args .n))
+next-requires c κs = let g = c.before.before in (g.requires.0, own-lt g, pow_pos g.args.n)
 
 next-requires-2 : tie.Need-next-requires-2
-next-requires-2 c κs = let g = c .before .before .before in (g .pre .0, own-lt g, c .next .ensures .0)
+next-requires-2 c κs = let g = c.before.before.before in (g.requires.0, own-lt g, c.next.ensures.0)
 
 next-requires-3 : tie.Need-next-requires-3
-next-requires-3 c κs = let g = c .before .before .before .before in (g .pre .0, own-lt g, c .next2 .ensures .0)
+next-requires-3 c κs = let g = c.before.before.before.before in (g.requires.0, own-lt g, c.next2.ensures.0)
 
 -- the three points beside what is fixed
 module _ (c : tie.After-next3) where
   abbrev g : tie.Start
-  g = c .before .before .before .before .before
+  g = c.before.before.before.before.before
 
-  first : c .before .before .next .result ≡ spread (g .args .n) (bit (own g)) 1
-  first = c .before .before .next .ensures .1 0 (sym (spread-zero (g .args .n) (bit (own g))))
+  first : c.before.before.next.result ≡ spread g.args.n (bit (own g)) 1
+  first = c.before.before.next.ensures.1 0 (sym (spread-zero g.args.n (bit (own g))))
 
-  second : c .before .next2 .result ≡ spread (g .args .n) (bit (own g)) 2
-  second = c .before .next2 .ensures .1 1 first
+  second : c.before.next2.result ≡ spread g.args.n (bit (own g)) 2
+  second = c.before.next2.ensures.1 1 first
 
-  third : c .next3 .result ≡ spread (g .args .n) (bit (own g)) 3
-  third = c .next3 .ensures .1 2 second
+  third : c.next3.result ≡ spread g.args.n (bit (own g)) 3
+  third = c.next3.ensures.1 2 second
 
   abbrev split : Split
-  split = c .before .before .before .of .result
+  split = c.before.before.before.of.result
 
   -- the columns are read from there
-  without : (k z : ℕ) → k < 4 → z ≡ spread (g .args .n) (bit (own g)) k
-      → Without (split .n) (split .free) (g .args .g .at + z)
-  without = let w = c .before .before .before .of .ensures in
-      asking.without (g .args .n) (g .args .g) (g .pre .1) (g .pre .0) (g .args .i) (g .args .j) (g .pre .2) (g .pre .3)
-      (g .pre .4) split (w .0) (w .1) (w .2) (w .3)
+  without : (k z : ℕ) → k < 4 → z ≡ spread g.args.n (bit (own g)) k
+      → Without split.n split.free (g.args.g.at + z)
+  without = let w = c.before.before.before.of.ensures in
+      asking.without g.args.n g.args.g g.pre.1 g.pre.0 g.args.i g.args.j g.pre.2 g.pre.3
+      g.pre.4 split w.0 w.1 w.2 w.3
 
-  fits : (k z : ℕ) → k < 4 → z ≡ spread (g .args .n) (bit (own g)) k → g .args .g .at + z < 2 ^ 32
+  fits : (k z : ℕ) → k < 4 → z ≡ spread g.args.n (bit (own g)) k → g.args.g.at + z < 2 ^ 32
   fits k z l e =
       omega (
         arith,
-        without k z l e .below,
+        (without k z l e).below,
         width g,
-        ap (λ (m : ℕ). 2 ^ m) (c .before .before .before .of .ensures .1),
+        ap (λ (m : ℕ). 2 ^ m) c.before.before.before.of.ensures.1,
       )
 
-add-value-by : tie.Need-add-value-by
-add-value-by c = let d = c .before in record { fits = fits d 1 _ (omega arith) (first d) }
+add-value-by : tie.Need-overflow-add-value-by
+add-value-by c = let d = c.before in record { fits = fits d 1 _ (omega arith) (first d) }
 
-add-value-by-2 : tie.Need-add-value-by-2
-add-value-by-2 c = let d = c .before .before in record { fits = fits d 2 _ (omega arith) (second d) }
+add-value-by-2 : tie.Need-overflow-add-value-by-2
+add-value-by-2 c = let d = c.before.before in record { fits = fits d 2 _ (omega arith) (second d) }
 
-add-value-by-3 : tie.Need-add-value-by-3
-add-value-by-3 c = let d = c .before .before .before in record { fits = fits d 3 _ (omega arith) (third d) }
+add-value-by-3 : tie.Need-overflow-add-value-by-3
+add-value-by-3 c = let d = c.before.before.before in record { fits = fits d 3 _ (omega arith) (third d) }
 
 value-by-requires : tie.Need-value-by-requires
 value-by-requires c κs =
-    let d = c .before .before .before in
-    let w = d .before .before .before .of .ensures in
+    let d = c.before.before.before in
+    let w = d.before.before.before.of.ensures in
     let s = g d in (
-      w .0,
-      asking.without-none (s .args .n) (s .args .g) (s .pre .1) (s .pre .0) (s .args .i) (s .args .j) (s .pre .2)
-          (s .pre .3) (s .pre .4) (split d) (w .0) (w .1) (w .2) (w .3),
+      w.0,
+      asking.without-none s.args.n s.args.g s.pre.1 s.pre.0 s.args.i s.args.j s.pre.2
+          s.pre.3 s.pre.4 (split d) w.0 w.1 w.2 w.3,
       without d 1 _ (omega arith) (first d),
       without d 2 _ (omega arith) (second d),
       without d 3 _ (omega arith) (third d),
-      omega (arith, s .pre .5, ap (λ (m : ℕ). 2 ^ m) (w .1)),
+      omega (arith, s.pre.5, ap (λ (m : ℕ). 2 ^ m) w.1),
     )
 
 returns : tie.Need-returns
 returns c =
-    let d = c .before .before .before .before in
-    let w = d .before .before .before .of .ensures in
+    let d = c.before.before.before.before in
+    let w = d.before.before.before.of.ensures in
     let s = g d in
-    asking.asked (s .args .n) (s .args .g) (s .pre .1) (s .pre .0) (s .args .i) (s .args .j) (s .pre .2) (s .pre .3)
-    (s .pre .4) (split d) (w .0) (w .1) (w .2) (w .3) (tableBit (s .args .t .now)) _ _ _ _ (first d) (second d)
-    (third d) (c .value-by .ensures)
+    asking.asked s.args.n s.args.g s.pre.1 s.pre.0 s.args.i s.args.j s.pre.2 s.pre.3
+    s.pre.4 (split d) w.0 w.1 w.2 w.3 (tableBit s.args.t.now) _ _ _ _ (first d) (second d)
+    (third d) c.value-by.ensures
 
 pub joint-spec : {M : Type 1} → statement M
 joint-spec =
-    tie.close (tie.spec (λ c. search needs) (λ c. search needs) (λ c. search needs) (λ c. search needs) add-own
+    tie.close (tie.spec (λ c. search rules) (λ c. search rules) (λ c. search rules) (λ c. search rules) add-own
     of-requires next-requires next-requires-2 next-requires-3 add-value-by add-value-by-2 add-value-by-3
     value-by-requires returns)

@@ -1,36 +1,36 @@
 -- Each turn adds what the table says of one pair; a member less is left. Assumes nothing.
-use Prim.Native.Nat.{_-_}
-use Rattle·known·proofs.proofs.Keeping.{adds-none, adds-both}
-use Rattle·known·specs.specs.Notes.{Adds}
-use borrow.Author.Needs.{needs}
-use lib.Bits.{and-le-r}
+use Prim.Native.Nat.{◌-◌}
+use Rattle.known.proofs.Keeping.{adds_none, adds-both}
+use Rattle.known.specs.Notes.{Adds}
+use borrow.Author.Rules.{rules}
+use lib.Bits.{and_le_r}
 use native.Mathlib.Omega.{arith}
-use Rattle·known·proofs.proofs.needed.needed.Statement.{statement}
-use Rattle·known·proofs.proofs.needed.needed.Tie as tie
+use Rattle.known.proofs.needed.needed.Statement.{statement}
+use Rattle.known.proofs.needed.needed.Tie as tie
 
-abbrev Inv-loop : tie.InvT-loop
-Inv-loop pairs acc j need more₀ x₀ more x = Adds pairs acc j need more
+abbrev invariant-loop : tie.invariant-loop
+invariant-loop pairs acc j need more₀ x₀ more x = Adds pairs acc j need more
 
-abbrev μ-loop : tie.MeasureT-loop
-μ-loop pairs acc j need more₀ x₀ more x = x
+abbrev decreases-loop : tie.decreases-loop
+decreases-loop pairs acc j need more₀ x₀ more x = x
 
-loop-holds : tie.Need-loop-holds Inv-loop μ-loop
-loop-holds c = adds-none _ _ _ _
+loop-holds : tie.Need-loop-init invariant-loop decreases-loop
+loop-holds c = adds_none _ _ _ _
 
-loop-less : tie.Need-loop-less Inv-loop μ-loop
+loop-less : tie.Need-loop-smaller invariant-loop decreases-loop
 loop-less c = omega (
   arith,
-  and-le-r (c .before .before .loop .x) (c .before .before .loop .x - 1),
-  c .before .loop-test .taken,
+  and_le_r c.before.before.loop.x (c.before.before.loop.x - 1),
+  c.before.loop-test.true,
 )
 
-loop-again : tie.Need-loop-again Inv-loop μ-loop
-loop-again c = adds-both _ _ _ (c .before .before .loop .inv) (c .with-pair .ensures)
+loop-again : tie.Need-loop-preserved invariant-loop decreases-loop
+loop-again c = adds-both _ _ _ c.before.before.loop.invariant c.with_pair.ensures
 
-returns : tie.Need-returns Inv-loop μ-loop
-returns c = c .before .loop .inv
+returns : tie.Need-returns invariant-loop decreases-loop
+returns c = c.before.loop.invariant
 
 pub needed-spec : {M : Type 1} → statement M
 needed-spec =
-    tie.close (tie.spec Inv-loop μ-loop loop-holds (λ c κs. search needs) (λ c. search needs) loop-less loop-again
+    tie.close (tie.spec invariant-loop decreases-loop loop-holds (λ c κs. search rules) (λ c. search rules) loop-less loop-again
     returns)

@@ -1,7 +1,7 @@
 -- An empty table of pairs says nothing. Assumes nothing.
-use Rattle·known·proofs.proofs.Keeping.{pairs-blank}
-use Rattle·known·proofs.proofs.pairs.unknown.Statement.{statement}
-use Rattle·known·proofs.proofs.pairs.unknown.Tie as tie
+use Rattle.known.proofs.Keeping.{pairs-blank}
+use Rattle.known.proofs.pairs.unknown.Statement.{statement}
+use Rattle.known.proofs.pairs.unknown.Tie as tie
 
 pub unknown-spec : {M : Type 1} → statement M
 unknown-spec = tie.close (tie.spec (λ c n m F. pairs-blank))

@@ -1,70 +1,70 @@
 -- `load_form` meets its contract: each return is the first line that holds, or that none does. Assumes nothing.
-use mathlib.Core.Path.{sym, ap, ap₂, _∙_}
-use mathlib.Core.Bool.{Bool, not, _||_}
-use mathlib.Core.List.{[], _∷_}
+use mathlib.Core.Path.{sym, ap, ap₂, ◌∙◌}
+use mathlib.Core.Bool.{Bool, not, ◌||◌}
+use mathlib.Core.List.{[], ◌∷◌}
 use native.Mathlib.Omega.{arith}
 use lib.ListN.{length}
-use borrow.Author.Needs.{needs}
-use borrow.Author.Tests.{eq-eqb, ne-eqb}
-use Rattle·refusals.proofs.Lines.{here, later, decides, passes}
-use Rattle·refusals.proofs.Tests.{inside}
-use Rattle·cards.specs.Card.{desks, cardBytes}
-use Rattle·cards.specs.Refusals.{badCard, anotherDesk, badLoad, filedLines}
-use Rattle·cards.specs.LoadDesk.{loadLines}
-use Rattle·loads·proofs.proofs.loading.load_form.Statement.{statement}
-use Rattle·loads·proofs.proofs.loading.load_form.Tie as tie
+use borrow.Author.Rules.{rules}
+use borrow.Author.Tests.{eq-eqb, ne_eqb}
+use Rattle.refusals.proofs.Lines.{here, later, decides, passes}
+use Rattle.refusals.proofs.Tests.{inside}
+use Rattle.cards.specs.Card.{desks, cardBytes}
+use Rattle.cards.specs.Refusals.{badCard, anotherDesk, badLoad, filedLines}
+use Rattle.cards.specs.LoadDesk.{loadLines}
+use Rattle.loads.proofs.loading.load_form.Statement.{statement}
+use Rattle.loads.proofs.loading.load_form.Tie as tie
 
 returns : tie.Need-returns
 returns c =
-    let a = c .before .before .before .before .args in
-    c .refuse .ensures ∙ decides (loadLines (a .card .now) (a .d) (a .n) (a .s .now))
-    (here (ap not (ne-eqb (length (a .card .now)) cardBytes (c .before .if1 .taken))))
+    let a = c.before.before.before.before.args in
+    c.refuse.ensures ∙ decides (loadLines a.card.now a.d a.n a.s.now)
+    (here (ap not (ne_eqb (length a.card.now) cardBytes c.before.if1.true)))
 
 returns-2 : tie.Need-returns-2
 returns-2 c =
-    let o = c .before .before in
-    let a = o .before .before .before .before .args in
-    c .refuse2 .ensures
-    ∙ decides (loadLines (a .card .now) (a .d) (a .n) (a .s .now))
-    (later (ap not (eq-eqb (length (a .card .now)) cardBytes (o .before .if1 .left)))
-    (here (ap (λ (t : Bool). t || anotherDesk (a .d) (a .s .now)) (sym (o .outside .ensures) ∙ c .before .if2 .taken))))
+    let o = c.before.before in
+    let a = o.before.before.before.before.args in
+    c.refuse2.ensures
+    ∙ decides (loadLines a.card.now a.d a.n a.s.now)
+    (later (ap not (eq-eqb (length a.card.now) cardBytes o.before.if1.false))
+    (here (ap (λ (t : Bool). t || anotherDesk a.d a.s.now) (sym o.outside.ensures ∙ c.before.if2.true))))
 
 returns-3 : tie.Need-returns-3
 returns-3 c =
-    let m = c .before .before in
-    let o = m .before .before in
-    let a = o .before .before .before .before .args in
-    c .refuse3 .ensures
-    ∙ decides (loadLines (a .card .now) (a .d) (a .n) (a .s .now))
-    (later (ap not (eq-eqb (length (a .card .now)) cardBytes (o .before .if1 .left)))
-    (here (ap₂ _||_ (sym (o .outside .ensures) ∙ m .before .if2 .left)
-    (sym (m .another-desk .ensures) ∙ c .before .if3 .taken))))
+    let m = c.before.before in
+    let o = m.before.before in
+    let a = o.before.before.before.before.args in
+    c.refuse3.ensures
+    ∙ decides (loadLines a.card.now a.d a.n a.s.now)
+    (later (ap not (eq-eqb (length a.card.now) cardBytes o.before.if1.false))
+    (here (ap₂ ◌||◌ (sym o.outside.ensures ∙ m.before.if2.false)
+    (sym m.another-desk.ensures ∙ c.before.if3.true))))
 
-cast-filed : tie.Need-cast-filed
+cast-filed : tie.Need-overflow-cast-filed
 cast-filed c =
-    let o = c .before .before .before in
+    let o = c.before.before.before in
     omega (
       arith,
-      inside 1 (o .before .before .before .before .args .d) desks
-          (sym (o .outside .ensures) ∙ c .before .before .if2 .left),
+      inside 1 o.before.before.before.before.args.d desks
+          (sym o.outside.ensures ∙ c.before.before.if2.false),
     )
 
 returns-4 : tie.Need-returns-4
 returns-4 c =
-    let m = c .before .before in
-    let o = m .before .before in
-    let a = o .before .before .before .before .args in
-    c .filed .ensures
-    ∙ sym (passes (badCard (a .card .now) ∷ badLoad (a .d) (a .s .now) ∷ []) (filedLines (a .d) (a .n) (a .s .now)) (
-      ap not (eq-eqb (length (a .card .now)) cardBytes (o .before .if1 .left)),
+    let m = c.before.before in
+    let o = m.before.before in
+    let a = o.before.before.before.before.args in
+    c.filed.ensures
+    ∙ sym (passes (badCard a.card.now ∷ badLoad a.d a.s.now ∷ []) (filedLines a.d a.n a.s.now) (
+      ap not (eq-eqb (length a.card.now) cardBytes o.before.if1.false),
       (
-        ap₂ _||_ (sym (o .outside .ensures) ∙ m .before .if2 .left)
-            (sym (m .another-desk .ensures) ∙ c .before .if3 .left),
+        ap₂ ◌||◌ (sym o.outside.ensures ∙ m.before.if2.false)
+            (sym m.another-desk.ensures ∙ c.before.if3.false),
         tt,
       ),
     ))
 
 pub load-form-spec : {M : Type 1} → statement M
 load-form-spec =
-    tie.close (tie.spec (λ c κs. search needs) returns (λ c κs. search needs) (λ c κs. search needs) returns-2
-    (λ c κs. search needs) (λ c κs. search needs) returns-3 cast-filed (λ c κs. search needs) returns-4)
+    tie.close (tie.spec (λ c κs. search rules) returns (λ c κs. search rules) (λ c κs. search rules) returns-2
+    (λ c κs. search rules) (λ c κs. search rules) returns-3 cast-filed (λ c κs. search rules) returns-4)

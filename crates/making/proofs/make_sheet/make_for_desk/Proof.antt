@@ -1,24 +1,24 @@
 -- `make_for_desk` meets its contract: the edition handed down is the first. Assumes nothing.
-use mathlib.Core.Path.{sym, ap, _∙_, subst}
-use borrow.Author.Needs.{needs}
-use Rattle·sheets.specs.declared.kinds.Edition.{Edition}
-use Rattle·sheets.specs.Edition.{IsEdition}
-use Rattle·sheets.proofs.Keeping.{first-edition}
-use Rattle·making·specs.specs.MakeSheet.{makeOutcome}
-use Rattle·making·proofs.proofs.make_sheet.make_for_desk.Statement.{statement}
-use Rattle·making·proofs.proofs.make_sheet.make_for_desk.Tie as tie
+use mathlib.Core.Path.{sym, ap, ◌∙◌, subst}
+use borrow.Author.Rules.{rules}
+use Rattle.sheets.specs.declared.kinds.Edition.{Edition}
+use Rattle.sheets.specs.Edition.{IsEdition}
+use Rattle.sheets.proofs.Keeping.{first-edition}
+use Rattle.making.specs.MakeSheet.{makeOutcome}
+use Rattle.making.proofs.make_sheet.make_for_desk.Statement.{statement}
+use Rattle.making.proofs.make_sheet.make_for_desk.Tie as tie
 
 make-in-requires : tie.Need-make-in-requires
-make-in-requires c κs = subst IsEdition (sym (c .before .before .first .ensures)) first-edition
+make-in-requires c κs = subst IsEdition (sym c.before.before.first.ensures) first-edition
 
 returns : tie.Need-returns
 returns c =
-    let r = c .before .before .before .before in
-    let f = r .before .before .before in
-    let a = f .before .before .before .before .args in
-    r .make-in .ensures ∙ ap (λ (e : Edition). makeOutcome e (a .desk) (a .n) (a .k) (a .t .now) (a .sheet .now)
-    (a .work .now)) (f .first .ensures)
+    let r = c.before.before.before.before in
+    let f = r.before.before.before in
+    let a = f.before.before.before.before.args in
+    r.make-in.ensures ∙ ap (λ (e : Edition). makeOutcome e a.desk a.n a.k a.t.now a.sheet.now
+    a.work.now) f.first.ensures
 
 pub make-for-desk-spec : {M : Type 1} → statement M
 make-for-desk-spec =
-    tie.close (tie.spec (λ c κs. search needs) make-in-requires (λ c. search needs) (λ c. search needs) returns)
+    tie.close (tie.spec (λ c κs. search rules) make-in-requires (λ c. search rules) (λ c. search rules) returns)

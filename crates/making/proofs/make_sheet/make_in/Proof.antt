@@ -1,111 +1,111 @@
 -- `make_in` meets its contract: what form and room refuse, else the chain's sheet. Assumes nothing.
-use mathlib.Core.Path.{_≡_, refl, sym, ap, _∙_}
-use mathlib.Core.List.{List, [], _∷_}
+use mathlib.Core.Path.{◌≡◌, refl, sym, ap, ◌∙◌}
+use mathlib.Core.List.{List, [], ◌∷◌}
 use Prim.Native.Nat.{ℕ}
 use native.Mathlib.Omega.{arith}
-use borrow.Author.Needs.{needs}
-use Rattle·tables.specs.Table.{tableBit}
-use Rattle·chains.proofs.Aside.{cells-few}
-use Rattle·refusals.specs.declared.verdicts.Verdict.{Verdict}
-use Rattle·refusals.specs.declared.verdicts.Verdict.the-variants.{Fine}
-use Rattle·refusals.specs.Lines.{Line}
-use Rattle·making·specs.specs.Refusals.{chainStuck}
-use Rattle·refusals.proofs.Lines.{in-order, left-to}
-use Rattle·refusals.proofs.Refusing.{form-refuses}
-use Rattle·making·specs.specs.MakeSheet.{MakeOutcome, sheetFor, cellsIn, makeForm, makeDone, makeNot, makeOutcome}
-use Rattle·making·proofs.proofs.Ready.{Ready, ready}
-use Rattle·making·proofs.proofs.Written.{writable, one-written}
-use Rattle·making·proofs.proofs.make_sheet.make_in.Statement.{statement}
-use Rattle·making·proofs.proofs.make_sheet.make_in.Tie as tie
+use borrow.Author.Rules.{rules}
+use Rattle.tables.specs.Table.{tableBit}
+use Rattle.chains.proofs.Aside.{cells-few}
+use Rattle.refusals.specs.declared.verdicts.Verdict.{Verdict}
+use Rattle.refusals.specs.declared.verdicts.Verdict.TheVariants.{Fine}
+use Rattle.refusals.specs.Lines.{Line}
+use Rattle.making.specs.Refusals.{chainStuck}
+use Rattle.refusals.proofs.Lines.{in_order, left-to}
+use Rattle.refusals.proofs.Refusing.{form-refuses}
+use Rattle.making.specs.MakeSheet.{MakeOutcome, sheetFor, cells_in, makeForm, makeDone, makeNot, makeOutcome}
+use Rattle.making.proofs.Ready.{Ready, ready}
+use Rattle.making.proofs.Written.{writable, one_written}
+use Rattle.making.proofs.make_sheet.make_in.Statement.{statement}
+use Rattle.making.proofs.make_sheet.make_in.Tie as tie
 
 module _ (c : tie.After-make-form) where
   abbrev g : tie.Start
-  g = c .before .before .before .before .before .before
+  g = c.before.before.before.before.before.before
 
   -- form and room; the line of the chain; what is left where nothing is wrong
   abbrev ls : List Line
-  ls = makeForm (g .args .e) (g .args .d) (g .args .n) (g .args .k) (g .args .t .now) (g .args .sheet .now)
-      (g .args .work .now)
+  ls = makeForm g.args.e g.args.d g.args.n g.args.k g.args.t.now g.args.sheet.now
+      g.args.work.now
 
   abbrev ms : List Line
-  ms = chainStuck (sheetFor (g .args .n) (g .args .k) (g .args .t .now)) ∷ []
+  ms = chainStuck (sheetFor g.args.n g.args.k g.args.t.now) ∷ []
 
   abbrev done : MakeOutcome
-  done = makeDone (g .args .e) (g .args .d) (cellsIn (sheetFor (g .args .n) (g .args .k) (g .args .t .now)))
-      (g .args .sheet .now) (g .args .work .now)
+  done = makeDone g.args.e g.args.d (cells_in (sheetFor g.args.n g.args.k g.args.t.now))
+      g.args.sheet.now g.args.work.now
 
   -- both are in order
-  through : c .make-form .result ≡ Fine
-      → Ready (g .args .e) (g .args .d) (g .args .n) (g .args .k) (g .args .t .now) (g .args .sheet .now)
-      (g .args .work .now)
-  through fine = ready (g .args .e) (g .args .d) (g .args .n) (g .args .k) (g .args .t .now) (g .args .sheet .now)
-      (g .args .work .now) (in-order ls (sym (c .make-form .ensures) ∙ fine))
+  through : c.make-form.result ≡ Fine
+      → Ready g.args.e g.args.d g.args.n g.args.k g.args.t.now g.args.sheet.now
+      g.args.work.now
+  through fine = ready g.args.e g.args.d g.args.n g.args.k g.args.t.now g.args.sheet.now
+      g.args.work.now (in_order ls (sym c.make-form.ensures ∙ fine))
 
 returns : tie.Need-returns
 unfolding makeOutcome
 returns c =
-    let f = c .before .before in
-    let a = g f .args in
+    let f = c.before.before in
+    let a = (g f).args in
     form-refuses (ls f) (ms f) (done f) (λ (v : Verdict) (l : List ℕ). record {
       answer = record { verdict = v; count = 0 };
-      sheet = a .sheet .now;
+      sheet = a.sheet.now;
       work = l;
-    }) (a .work .now) refl (f .make-form .result) (c .enum-told2 .given .0 .0) (f .make-form .ensures)
-    (c .enum-told2 .given .1)
+    }) a.work.now refl f.make-form.result c.enum-told2.given.0.0 f.make-form.ensures
+    c.enum-told2.given.1
 
 chain-upto-requires : tie.Need-chain-upto-requires
 chain-upto-requires c κs =
-    let f = c .before .before .before in
-    let w = through f (c .before .enum-told .given .1) in (
-      w .gate .some,
-      w .gate .most,
+    let f = c.before.before.before in
+    let w = through f c.before.enum_told.given.1 in (
+      w.gate.some,
+      w.gate.most,
       omega arith,
-      w .gate .two,
-      omega (arith, w .gate .largest, g f .pre .eight),
-      w .gate .long,
-      w .area,
+      w.gate.two,
+      omega (arith, w.gate.largest, (g f).requires.eight),
+      w.gate.long,
+      w.area,
     )
 
 -- the chain of the table
 module _ (c : tie.After-chain-upto) where
   abbrev f : tie.After-make-form
-  f = c .before .before .before .before
+  f = c.before.before.before.before
 
-  ok : Ready (g f .args .e) (g f .args .d) (g f .args .n) (g f .args .k) (g f .args .t .now) (g f .args .sheet .now)
-      (g f .args .work .now)
-  ok = through f (c .before .before .enum-told .given .1)
+  ok : Ready (g f).args.e (g f).args.d (g f).args.n (g f).args.k (g f).args.t.now (g f).args.sheet.now
+      (g f).args.work.now
+  ok = through f c.before.before.enum_told.given.1
 
 write-end-requires : tie.Need-write-end-requires
 write-end-requires c κs =
-    let m = c .before .before .before in
-    let a = g (f m) .args in
-    let w = ok m .gate in (
-      g (f m) .pre,
-      ok m .records,
-      writable (a .e) (a .d) (a .sheet .now) (a .work .now) (m .chain-upto .result) (sheetFor (a .n) (a .k) (a .t .now))
-          (m .chain-upto .ensures .told) (λ cs e. cells-few 1 (a .n) (a .k) (tableBit (a .t .now)) (w .some)
-          (omega (arith, w .two)) cs e (a .e .most) (w .largest)),
+    let m = c.before.before.before in
+    let a = (g (f m)).args in
+    let w = (ok m).gate in (
+      (g (f m)).pre,
+      (ok m).records,
+      writable a.e a.d a.sheet.now a.work.now m.chain-upto.result (sheetFor a.n a.k a.t.now)
+          m.chain-upto.ensures.told (λ cs e. cells-few 1 a.n a.k (tableBit a.t.now) w.some
+          (omega (arith, w.two)) cs e a.e.most w.largest),
     )
 
 returns-2 : tie.Need-returns-2
 unfolding makeOutcome
 returns-2 c =
-    let o = c .before .before in
-    let m = o .before .before .before .before in
-    let a = g (f m) .args in
-    ap (λ (l : List ℕ). record { answer = o .write-end .result; sheet = o .write-end .last .1 .1 .1 .0; work = l })
-    (m .chain-upto .ensures .cleared)
-    ∙ o .write-end .ensures (sheetFor (a .n) (a .k) (a .t .now)) (a .work .now) (m .chain-upto .ensures .told)
-    ∙ one-written (a .e) (a .d) (a .sheet .now) (a .work .now) (a .n) (a .k) (a .t .now) (ok m .gate)
-    ∙ left-to (ls (f m)) (ms (f m)) (done (f m)) (makeNot (a .sheet .now) (a .work .now)) (f m .make-form .result)
-    (f m .make-form .ensures) (m .before .before .enum-told .given .1)
+    let o = c.before.before in
+    let m = o.before.before.before.before in
+    let a = (g (f m)).args in
+    ap (λ (l : List ℕ). record { answer = o.write-end.result; sheet = o.write-end.new.1.1.1.0; work = l })
+    m.chain-upto.ensures.cleared
+    ∙ o.write-end.ensures (sheetFor a.n a.k a.t.now) a.work.now m.chain-upto.ensures.told
+    ∙ one_written a.e a.d a.sheet.now a.work.now a.n a.k a.t.now (ok m).gate
+    ∙ left-to (ls (f m)) (ms (f m)) (done (f m)) (makeNot a.sheet.now a.work.now) (f m).make-form.result
+    (f m).make-form.ensures m.before.before.enum_told.given.1
 
 pub make-in-spec : {M : Type 1} → statement M
 make-in-spec =
-    tie.close (tie.spec (λ c κs. search needs) (λ c. search needs) (λ c. search needs) (λ c. search needs)
-    (λ c. search needs) returns
-    (λ c. omega (arith, through (c .before .before) (c .enum-told .given .1) .gate .most))
-    (λ c. let f = c .before .before in omega
-    (arith, through f (c .enum-told .given .1) .gate .largest, g f .pre .eight))
-    chain-upto-requires (λ c. omega (arith, ok (c .before .before) .desk)) write-end-requires (λ c. search needs)
-    (λ c. search needs) returns-2)
+    tie.close (tie.spec (λ c κs. search rules) (λ c. search rules) (λ c. search rules) (λ c. search rules)
+    (λ c. search rules) returns
+    (λ c. omega (arith, (through c.before.before c.enum_told.given.1).gate.most))
+    (λ c. let f = c.before.before in omega
+    (arith, (through f c.enum_told.given.1).gate.largest, (g f).requires.eight))
+    chain-upto-requires (λ c. omega (arith, (ok c.before.before).desk)) write-end-requires (λ c. search rules)
+    (λ c. search rules) returns-2)

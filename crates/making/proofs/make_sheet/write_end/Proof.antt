@@ -1,53 +1,53 @@
 -- `write_end` meets its contract: the held cells are written as records where a sheet has room for them. Assumes
 -- nothing.
-use mathlib.Core.Path.{refl, ap, _∙_}
+use mathlib.Core.Path.{refl, ap, ◌∙◌}
 use mathlib.Core.List.{List}
 use Prim.Native.Nat.{ℕ}
-use native.Mathlib.Nat.{le-trans, mul-le-mul-left}
+use native.Mathlib.Nat.{le_trans, mul-le-mul_left}
 use native.Mathlib.Omega.{arith}
 use lib.ListN.{length, replicate}
-use borrow.Author.Needs.{needs}
+use borrow.Author.Rules.{rules}
 use borrow.Author.Tests.{not-true, not-false}
-use Rattle·refusals.specs.declared.verdicts.Verdict.the-variants.{Fine}
-use Rattle·making·proofs.proofs.Written.{stuck-written, long-written, fits}
-use Rattle·making·proofs.proofs.make_sheet.write_end.Statement.{statement}
-use Rattle·making·proofs.proofs.make_sheet.write_end.Tie as tie
+use Rattle.refusals.specs.declared.verdicts.Verdict.TheVariants.{Fine}
+use Rattle.making.proofs.Written.{stuck-written, long-written, fits}
+use Rattle.making.proofs.make_sheet.write_end.Statement.{statement}
+use Rattle.making.proofs.make_sheet.write_end.Tie as tie
 
 returns : tie.Need-returns
 returns c x work w =
-    let a = c .before .before .before .before .args in
-    stuck-written (a .e) (a .d) (a .sheet .now) work (a .end) (c .refuse .result) (replicate (length work) 0) refl x w
-    (not-true (a .end .finished) (c .before .if1 .taken)) (c .refuse .ensures)
+    let a = c.before.before.before.before.args in
+    stuck-written a.e a.d a.sheet.now work a.end c.refuse.result (replicate (length work) 0) refl x w
+    (not-true a.end.finished c.before.if1.true) c.refuse.ensures
 
 returns-2 : tie.Need-returns-2
 returns-2 c x work w =
-    let a = c .before .before .before .before .before .args in
-    long-written (a .e) (a .d) (a .sheet .now) work (a .end) (c .refuse2 .result) (replicate (length work) 0) refl x w
-    (not-false (a .end .finished) (c .before .before .if1 .left)) (omega (arith, c .before .if2 .taken))
-    (c .refuse2 .ensures)
+    let a = c.before.before.before.before.before.args in
+    long-written a.e a.d a.sheet.now work a.end c.refuse2.result (replicate (length work) 0) refl x w
+    (not-false a.end.finished c.before.before.if1.false) (omega (arith, c.before.if2.true))
+    c.refuse2.ensures
 
 put-all-requires : tie.Need-put-all-requires
 put-all-requires c κs =
-    let j = c .before .before in
-    let g = j .before .before .before .before in
-    let a = g .args in
-    let k = g .pre .2 (not-false (a .end .finished) (j .before .if1 .left)) (omega (arith, j .if2 .left)) in
-    (g .pre .0, k .0, k .1, le-trans (mul-le-mul-left (a .e .size) (k .0)) (g .pre .1))
+    let j = c.before.before in
+    let g = j.before.before.before.before in
+    let a = g.args in
+    let k = g.requires.2 (not-false a.end.finished j.before.if1.false) (omega (arith, j.if2.false)) in
+    (g.requires.0, k.0, k.1, le_trans (mul-le-mul_left a.e.size k.0) g.requires.1)
 
 returns-3 : tie.Need-returns-3
 returns-3 c x work w =
-    let o = c .before .before in
-    let j = o .before .before .before in
-    let a = j .before .before .before .before .args in
+    let o = c.before.before in
+    let j = o.before.before.before in
+    let a = j.before.before.before.before.args in
     ap (λ (l : List ℕ). record {
-      answer = record { verdict = Fine; count = a .end .count };
+      answer = record { verdict = Fine; count = a.end.count };
       sheet = l;
       work = replicate (length work) 0;
-    }) (o .put-all .ensures)
-    ∙ fits (a .e) (a .d) (a .sheet .now) work (a .end) x w (not-false (a .end .finished) (j .before .if1 .left))
-    (omega (arith, j .if2 .left)) .written
+    }) o.put_all_lem.ensures
+    ∙ (fits a.e a.d a.sheet.now work a.end x w (not-false a.end.finished j.before.if1.false)
+    (omega (arith, j.if2.false))).written
 
 pub write-end-spec : {M : Type 1} → statement M
 write-end-spec =
-    tie.close (tie.spec (λ c κs. search needs) returns (λ c κs. search needs) returns-2 put-all-requires
-    (λ c. search needs) returns-3)
+    tie.close (tie.spec (λ c κs. search rules) returns (λ c κs. search rules) returns-2 put-all-requires
+    (λ c. search rules) returns-3)

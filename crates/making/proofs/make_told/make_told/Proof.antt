@@ -1,52 +1,52 @@
 -- `make_told` meets its contract: what n and the edition refuse, else the call in that edition. Assumes nothing.
-use mathlib.Core.Path.{refl, sym, ap, _∙_, subst}
+use mathlib.Core.Path.{refl, sym, ap, ◌∙◌, subst}
 use mathlib.Core.List.{List}
 use Prim.Native.Nat.{ℕ}
-use borrow.Author.Needs.{needs}
-use Rattle·sheets.specs.declared.kinds.Edition.{Edition}
-use Rattle·sheets.specs.Edition.{IsEdition, editionOf}
-use Rattle·sheets.proofs.Keeping.{is-edition}
-use Rattle·refusals.specs.declared.verdicts.Verdict.{Verdict}
-use Rattle·refusals.specs.Refusals.{toldForm}
-use Rattle·refusals.proofs.Lines.{left-to}
-use Rattle·refusals.proofs.Refusing.{form-refuses}
-use Rattle·making·specs.specs.MakeSheet.{sheetFor, cellsIn, makeLines, makeDone, makeNot, makeOutcome}
-use Rattle·making·proofs.proofs.make_told.make_told.Statement.{statement}
-use Rattle·making·proofs.proofs.make_told.make_told.Tie as tie
+use borrow.Author.Rules.{rules}
+use Rattle.sheets.specs.declared.kinds.Edition.{Edition}
+use Rattle.sheets.specs.Edition.{IsEdition, editionOf}
+use Rattle.sheets.proofs.Keeping.{is-edition}
+use Rattle.refusals.specs.declared.verdicts.Verdict.{Verdict}
+use Rattle.refusals.specs.Refusals.{toldForm}
+use Rattle.refusals.proofs.Lines.{left-to}
+use Rattle.refusals.proofs.Refusing.{form-refuses}
+use Rattle.making.specs.MakeSheet.{sheetFor, cells_in, makeLines, makeDone, makeNot, makeOutcome}
+use Rattle.making.proofs.make_told.make_told.Statement.{statement}
+use Rattle.making.proofs.make_told.make_told.Tie as tie
 
 returns : tie.Need-returns
 returns c =
-    let f = c .before .before in
-    let a = f .before .before .before .before .args in
-    form-refuses (toldForm (a .w) (a .n))
-    (makeLines (editionOf (a .w)) (a .desk) (a .n) (a .k) (a .t .now) (a .sheet .now) (a .work .now))
-    (makeDone (editionOf (a .w)) (a .desk) (cellsIn (sheetFor (a .n) (a .k) (a .t .now))) (a .sheet .now)
-    (a .work .now)) (λ (v : Verdict) (l : List ℕ). record {
+    let f = c.before.before in
+    let a = f.before.before.before.before.args in
+    form-refuses (toldForm a.w a.n)
+    (makeLines (editionOf a.w) a.desk a.n a.k a.t.now a.sheet.now a.work.now)
+    (makeDone (editionOf a.w) a.desk (cells_in (sheetFor a.n a.k a.t.now)) a.sheet.now
+    a.work.now) (λ (v : Verdict) (l : List ℕ). record {
       answer = record { verdict = v; count = 0 };
-      sheet = a .sheet .now;
+      sheet = a.sheet.now;
       work = l;
-    }) (a .work .now) refl (f .told .result) (c .enum-told2 .given .0 .0) (f .told .ensures) (c .enum-told2 .given .1)
+    }) a.work.now refl f.told.result c.enum-told2.given.0.0 f.told.ensures c.enum-told2.given.1
 
 make-in-requires : tie.Need-make-in-requires
-make-in-requires c κs = subst IsEdition (sym (c .before .before .numbered .ensures)) (is-edition _)
+make-in-requires c κs = subst IsEdition (sym c.before.before.numbered.ensures) (is-edition _)
 
 returns-2 : tie.Need-returns-2
 unfolding makeOutcome
 returns-2 c =
-    let r = c .before .before .before .before in
-    let e = r .before .before .before in
-    let i = e .before in
-    let f = i .before .before in
-    let a = f .before .before .before .before .args in
-    r .make-in .ensures ∙ ap (λ (e : Edition). makeOutcome e (a .desk) (a .n) (a .k) (a .t .now) (a .sheet .now)
-    (a .work .now)) (e .numbered .ensures)
-    ∙ left-to (toldForm (a .w) (a .n)) (makeLines (editionOf (a .w)) (a .desk) (a .n) (a .k) (a .t .now) (a .sheet .now)
-    (a .work .now))
-    (makeDone (editionOf (a .w)) (a .desk) (cellsIn (sheetFor (a .n) (a .k) (a .t .now))) (a .sheet .now)
-    (a .work .now)) (makeNot (a .sheet .now) (a .work .now))
-    (f .told .result) (f .told .ensures) (i .enum-told .given .1)
+    let r = c.before.before.before.before in
+    let e = r.before.before.before in
+    let i = e.before in
+    let f = i.before.before in
+    let a = f.before.before.before.before.args in
+    r.make-in.ensures ∙ ap (λ (e : Edition). makeOutcome e a.desk a.n a.k a.t.now a.sheet.now
+    a.work.now) e.numbered.ensures
+    ∙ left-to (toldForm a.w a.n) (makeLines (editionOf a.w) a.desk a.n a.k a.t.now a.sheet.now
+    a.work.now)
+    (makeDone (editionOf a.w) a.desk (cells_in (sheetFor a.n a.k a.t.now)) a.sheet.now
+    a.work.now) (makeNot a.sheet.now a.work.now)
+    f.told.result f.told.ensures i.enum_told.given.1
 
 pub make-told-spec : {M : Type 1} → statement M
 make-told-spec =
-    tie.close (tie.spec (λ c κs. search needs) (λ c. search needs) (λ c. search needs) returns (λ c κs. search needs)
-    make-in-requires (λ c. search needs) (λ c. search needs) returns-2)
+    tie.close (tie.spec (λ c κs. search rules) (λ c. search rules) (λ c. search rules) returns (λ c κs. search rules)
+    make-in-requires (λ c. search rules) (λ c. search rules) returns-2)

@@ -1,15 +1,15 @@
 -- `pelzurivan_bound` meets its contract: the number and the value are those of the call's outcome. Assumes nothing.
 use mathlib.Core.Path.{refl}
-use borrow.Author.Needs.{needs}
-use Rattle·pelzurivan·proofs.proofs.bound.pelzurivan_bound.Statement.{statement}
-use Rattle·pelzurivan·proofs.proofs.bound.pelzurivan_bound.Tie as tie
+use borrow.Author.Rules.{rules}
+use Rattle.pelzurivan.proofs.bound.pelzurivan_bound.Statement.{statement}
+use Rattle.pelzurivan.proofs.bound.pelzurivan_bound.Tie as tie
 
 returns : tie.Need-returns
 returns c =
-    rw (c .before .number-of .ensures, ← c .before .before .before .before .bound-cells .ensures)
+    rw (c.before.number-of.ensures, ← c.before.before.before.before.bound-cells.ensures)
     (refl, refl)
 
 pub pelzurivan-bound-spec : {M : Type 1} → statement M
 pelzurivan-bound-spec =
-    tie.close (tie.spec (λ c κs. search needs) (λ c κs. search needs) (λ c. search needs) (λ c. search needs)
-    (λ c. search needs) returns)
+    tie.close (tie.spec (λ c κs. search rules) (λ c κs. search rules) (λ c. search rules) (λ c. search rules)
+    (λ c. search rules) returns)

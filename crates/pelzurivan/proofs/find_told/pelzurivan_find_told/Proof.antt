@@ -1,16 +1,16 @@
 -- `pelzurivan_find_told` meets its contract: the number and the values are those of the call's outcome. Assumes
 -- nothing.
 use mathlib.Core.Path.{refl}
-use borrow.Author.Needs.{needs}
-use Rattle·pelzurivan·proofs.proofs.find_told.pelzurivan_find_told.Statement.{statement}
-use Rattle·pelzurivan·proofs.proofs.find_told.pelzurivan_find_told.Tie as tie
+use borrow.Author.Rules.{rules}
+use Rattle.pelzurivan.proofs.find_told.pelzurivan_find_told.Statement.{statement}
+use Rattle.pelzurivan.proofs.find_told.pelzurivan_find_told.Tie as tie
 
 returns : tie.Need-returns
 returns c =
-    rw (c .before .before .number-of .ensures, ← c .before .before .before .before .before .find-told .ensures)
+    rw (c.before.before.number-of.ensures, ← c.before.before.before.before.before.find-told.ensures)
     (refl, refl)
 
 pub pelzurivan-find-told-spec : {M : Type 1} → statement M
 pelzurivan-find-told-spec =
-    tie.close (tie.spec (λ c κs. search needs) (λ c κs. search needs) (λ c. search needs) (λ c. search needs)
-    (λ c. search needs) (λ c. search needs) returns)
+    tie.close (tie.spec (λ c κs. search rules) (λ c κs. search rules) (λ c. search rules) (λ c. search rules)
+    (λ c. search rules) (λ c. search rules) returns)

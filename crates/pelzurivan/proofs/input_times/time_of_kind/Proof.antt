@@ -1,19 +1,19 @@
 -- `time_of_kind` meets its contract, kind by kind. Assumes nothing.
-use mathlib.Core.Path.{_≡_, sym, ap, _∙_}
+use mathlib.Core.Path.{◌≡◌, sym, ap, ◌∙◌}
 use mathlib.Core.Bool.{Bool, cond}
 use Prim.Native.Nat.{ℕ}
 use lib.Dec.{eqb}
 use lib.Ieee.{Float}
-use borrow.Author.Tests.{eq-eqb, ne-eqb}
-use Rattle·times.specs.declared.input_time.InputTime.the-variants.{NotRead, Arrival, Between}
-use Rattle·pelzurivan·specs.specs.InputTimes.{timeOfKind}
-use Rattle·pelzurivan·proofs.proofs.input_times.time_of_kind.Statement.{statement}
-use Rattle·pelzurivan·proofs.proofs.input_times.time_of_kind.Tie as tie
+use borrow.Author.Tests.{eq-eqb, ne_eqb}
+use Rattle.times.specs.declared.input_time.InputTime.TheVariants.{NotRead, Arrival, Between}
+use Rattle.pelzurivan.specs.InputTimes.{timeOfKind}
+use Rattle.pelzurivan.proofs.input_times.time_of_kind.Statement.{statement}
+use Rattle.pelzurivan.proofs.input_times.time_of_kind.Tie as tie
 
 module _ (kind : ℕ) (x y : Float) where
-  by-kind : {p q : Bool} → eqb kind 1 ≡ p → eqb kind 2 ≡ q → cond p (Arrival x) (cond q (Between x y) NotRead)
+  by_kind : {p q : Bool} → eqb kind 1 ≡ p → eqb kind 2 ≡ q → cond p (Arrival x) (cond q (Between x y) NotRead)
       ≡ timeOfKind kind x y
-  by-kind {p} h k =
+  by_kind {p} h k =
       sym (ap (λ (t : Bool). cond t (Arrival x) (cond (eqb kind 2) (Between x y) NotRead)) h
       ∙ ap (λ (t : Bool). cond p (Arrival x) (cond t (Between x y) NotRead)) k)
 
@@ -22,15 +22,15 @@ module _ (kind : ℕ) (x y : Float) where
 
 returns-2 : tie.Need-returns-2
 returns-2 c =
-    let a = c .before .before .args in
-    by-kind (a .kind) (a .first) (a .second) (ne-eqb (a .kind) 1 (c .before .if1 .left))
-    (eq-eqb (a .kind) 2 (c .if2 .taken))
+    let a = c.before.before.args in
+    by_kind a.kind a.first a.second (ne_eqb a.kind 1 c.before.if1.false)
+    (eq-eqb a.kind 2 c.if2.true)
 
 returns-3 : tie.Need-returns-3
 returns-3 c =
-    let a = c .before .before .args in
-    by-kind (a .kind) (a .first) (a .second) (ne-eqb (a .kind) 1 (c .before .if1 .left))
-    (ne-eqb (a .kind) 2 (c .if2 .left))
+    let a = c.before.before.args in
+    by_kind a.kind a.first a.second (ne_eqb a.kind 1 c.before.if1.false)
+    (ne_eqb a.kind 2 c.if2.false)
 
 pub time-of-kind-spec : {M : Type 1} → statement M
-time-of-kind-spec = tie.close (tie.spec (λ c. one _ _ _ (c .if1 .taken)) returns-2 returns-3)
+time-of-kind-spec = tie.close (tie.spec (λ c. one _ _ _ c.if1.true) returns-2 returns-3)

@@ -1,19 +1,19 @@
 -- `pelzurivan_load` meets its contract: the number and the values are those of the call's outcome. Assumes nothing.
 use mathlib.Core.Path.{refl}
-use borrow.Author.Needs.{needs}
-use Rattle·pelzurivan·proofs.proofs.load_desk.pelzurivan_load.Statement.{statement}
-use Rattle·pelzurivan·proofs.proofs.load_desk.pelzurivan_load.Tie as tie
+use borrow.Author.Rules.{rules}
+use Rattle.pelzurivan.proofs.load_desk.pelzurivan_load.Statement.{statement}
+use Rattle.pelzurivan.proofs.load_desk.pelzurivan_load.Tie as tie
 
 returns : tie.Need-returns
 returns c =
     rw (
-      c .before .number-of .ensures,
-      c .place-of .ensures,
-      ← c .before .before .before .before .load-desk .ensures,
+      c.before.number-of.ensures,
+      c.place_of.ensures,
+      ← c.before.before.before.before.load-desk.ensures,
     )
     (refl, refl)
 
 pub pelzurivan-load-spec : {M : Type 1} → statement M
 pelzurivan-load-spec =
-    tie.close (tie.spec (λ c κs. search needs) (λ c κs. search needs) (λ c. search needs) (λ c κs. search needs)
-    (λ c. search needs) returns)
+    tie.close (tie.spec (λ c κs. search rules) (λ c κs. search rules) (λ c. search rules) (λ c κs. search rules)
+    (λ c. search rules) returns)

@@ -1,14 +1,14 @@
 -- `pelzurivan_make_any` meets its contract: the number and the values are those of the call's outcome. Assumes nothing.
 use mathlib.Core.Path.{refl}
-use borrow.Author.Needs.{needs}
-use Rattle·pelzurivan·proofs.proofs.make_any.pelzurivan_make_any.Statement.{statement}
-use Rattle·pelzurivan·proofs.proofs.make_any.pelzurivan_make_any.Tie as tie
+use borrow.Author.Rules.{rules}
+use Rattle.pelzurivan.proofs.make_any.pelzurivan_make_any.Statement.{statement}
+use Rattle.pelzurivan.proofs.make_any.pelzurivan_make_any.Tie as tie
 
 returns : tie.Need-returns
 returns c =
-    rw (c .number-of .ensures, ← c .before .before .before .before .before .make-any .ensures) (refl, refl, refl)
+    rw (c.number-of.ensures, ← c.before.before.before.before.before.make-any.ensures) (refl, refl, refl)
 
 pub pelzurivan-make-any-spec : {M : Type 1} → statement M
 pelzurivan-make-any-spec =
-    tie.close (tie.spec (λ c κs. search needs) (λ c κs. search needs) (λ c. search needs) (λ c. search needs)
-    (λ c. search needs) returns)
+    tie.close (tie.spec (λ c κs. search rules) (λ c κs. search rules) (λ c. search rules) (λ c. search rules)
+    (λ c. search rules) returns)

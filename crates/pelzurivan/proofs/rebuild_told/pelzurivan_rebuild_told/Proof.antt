@@ -1,20 +1,20 @@
 -- `pelzurivan_rebuild_told` meets its contract: the number and the values are those of the call's outcome. Assumes
 -- nothing.
 use mathlib.Core.Path.{refl}
-use borrow.Author.Needs.{needs}
-use Rattle·pelzurivan·proofs.proofs.rebuild_told.pelzurivan_rebuild_told.Statement.{statement}
-use Rattle·pelzurivan·proofs.proofs.rebuild_told.pelzurivan_rebuild_told.Tie as tie
+use borrow.Author.Rules.{rules}
+use Rattle.pelzurivan.proofs.rebuild_told.pelzurivan_rebuild_told.Statement.{statement}
+use Rattle.pelzurivan.proofs.rebuild_told.pelzurivan_rebuild_told.Tie as tie
 
 returns : tie.Need-returns
 returns c =
     rw (
-      c .before .number-of .ensures,
-      c .place-of .ensures,
-      ← c .before .before .before .before .rebuild-told .ensures,
+      c.before.number-of.ensures,
+      c.place_of.ensures,
+      ← c.before.before.before.before.rebuild-told.ensures,
     )
     (refl, refl)
 
 pub pelzurivan-rebuild-told-spec : {M : Type 1} → statement M
 pelzurivan-rebuild-told-spec =
-    tie.close (tie.spec (λ c κs. search needs) (λ c κs. search needs) (λ c. search needs) (λ c κs. search needs)
-    (λ c. search needs) returns)
+    tie.close (tie.spec (λ c κs. search rules) (λ c κs. search rules) (λ c. search rules) (λ c κs. search rules)
+    (λ c. search rules) returns)

@@ -1,24 +1,24 @@
 -- `pelzurivan_settle` meets its contract: the number and the values are those of the call's outcome. Assumes nothing.
-use mathlib.Core.Path.{ap, _∙_}
+use mathlib.Core.Path.{ap, ◌∙◌}
 use mathlib.Core.List.{List}
-use borrow.Author.Needs.{needs}
-use Rattle·sheets.specs.Edition.{firstEdition}
-use Rattle·times.specs.declared.input_time.InputTime.{InputTime}
-use Rattle·settling.specs.Settle.{settleOwn}
-use Rattle·pelzurivan·specs.specs.Settle.{settledC}
-use Rattle·pelzurivan·proofs.proofs.settle.pelzurivan_settle.Statement.{statement}
-use Rattle·pelzurivan·proofs.proofs.settle.pelzurivan_settle.Tie as tie
+use borrow.Author.Rules.{rules}
+use Rattle.sheets.specs.Edition.{firstEdition}
+use Rattle.times.specs.declared.input_time.InputTime.{InputTime}
+use Rattle.settling.specs.Settle.{settleOwn}
+use Rattle.pelzurivan.specs.Settle.{settledC}
+use Rattle.pelzurivan.proofs.settle.pelzurivan_settle.Statement.{statement}
+use Rattle.pelzurivan.proofs.settle.pelzurivan_settle.Tie as tie
 
 returns : tie.Need-returns
 returns c =
-    let s = c .before .before in
-    let i = s .before in
-    let a = i .before .before .args in
-    rw (c .before .number-of .ensures, c .place-of .ensures) (ap settledC (s .settle .ensures))
-    ∙ ap (λ (ts : List InputTime). settledC (settleOwn firstEdition (a .n) (a .s .now) (a .delay) ts))
-    (i .input-times .ensures)
+    let s = c.before.before in
+    let i = s.before in
+    let a = i.before.before.args in
+    rw (c.before.number-of.ensures, c.place_of.ensures) (ap settledC s.settle.ensures)
+    ∙ ap (λ (ts : List InputTime). settledC (settleOwn firstEdition a.n a.s.now a.delay ts))
+    i.input-times.ensures
 
 pub pelzurivan-settle-spec : {M : Type 1} → statement M
 pelzurivan-settle-spec =
-    tie.close (tie.spec (λ c κs. search needs) (λ c κs. search needs) (λ c κs. search needs) (λ c. search needs)
-    (λ c κs. search needs) returns)
+    tie.close (tie.spec (λ c κs. search rules) (λ c κs. search rules) (λ c κs. search rules) (λ c. search rules)
+    (λ c κs. search rules) returns)

@@ -1,34 +1,34 @@
 -- `pelzurivan_slack` meets its contract: the number and the values are those of the call's outcome. Assumes nothing.
-use mathlib.Core.Path.{_≡_, ap, ap₂, _∙_}
+use mathlib.Core.Path.{◌≡◌, ap, ap₂, ◌∙◌}
 use Prim.Native.Nat.{ℕ}
 use lib.IntN.{ℤ}
-use mir.Facts.{toZ-ofZ}
-use borrow.Author.Needs.{needs}
-use Rattle·sheets.specs.Edition.{firstEdition}
-use Rattle·refusals.specs.Lines.{numberOf, placeOf}
-use Rattle·settling.specs.declared.slack.SlackAnswer.{SlackAnswer}
-use Rattle·settling.specs.Slack.{slackOwn}
-use Rattle·pelzurivan·specs.specs.Slack.{slackC}
-use Rattle·pelzurivan·proofs.proofs.slack.pelzurivan_slack.Statement.{statement}
-use Rattle·pelzurivan·proofs.proofs.slack.pelzurivan_slack.Tie as tie
+use mir.Facts.{to_z-of_z}
+use borrow.Author.Rules.{rules}
+use Rattle.sheets.specs.Edition.{firstEdition}
+use Rattle.refusals.specs.Lines.{number_of, placeOf}
+use Rattle.settling.specs.declared.slack.SlackAnswer.{SlackAnswer}
+use Rattle.settling.specs.Slack.{slackOwn}
+use Rattle.pelzurivan.specs.Slack.{slackC}
+use Rattle.pelzurivan.proofs.slack.pelzurivan_slack.Statement.{statement}
+use Rattle.pelzurivan.proofs.slack.pelzurivan_slack.Tie as tie
 
-same : (a b : SlackAnswer) (n i : ℕ) (z : ℤ) → n ≡ numberOf (a .verdict) → i ≡ placeOf (a .verdict) → z ≡ a .slack → a
+same : (a b : SlackAnswer) (n i : ℕ) (z : ℤ) → n ≡ number_of a.verdict → i ≡ placeOf a.verdict → z ≡ a.slack → a
     ≡ b → record { number = n; index = i; slack = z } ≡ slackC b
 same a b n i z p q r e = rw (p, q, r) (ap slackC e)
 
 returns : tie.Need-returns
 returns c =
-    let p = c .before in
-    let s = p .before .before in
-    let i = s .before in
-    let t = i .before .before in
-    let a = t .args in
-    same (s .slack .result) _ _ _ _ (p .before .number-of .ensures) (p .place-of .ensures)
-    (toZ-ofZ (record { sfits = c .struct-told .given .1 .0 .1 }))
-    (s .slack .ensures ∙ ap₂ (slackOwn firstEdition (a .n) (a .s .now) (a .delay)) (i .input-times .ensures)
-    (toZ-ofZ (t .fits .deadline)))
+    let p = c.before in
+    let s = p.before.before in
+    let i = s.before in
+    let t = i.before.before in
+    let a = t.args in
+    same s.slack.result _ _ _ _ p.before.number-of.ensures p.place_of.ensures
+    (to_z-of_z (record { sfits = c.struct_told.given.1.0.1 }))
+    (s.slack.ensures ∙ ap₂ (slackOwn firstEdition a.n a.s.now a.delay) i.input-times.ensures
+    (to_z-of_z t.ranges.deadline))
 
 pub pelzurivan-slack-spec : {M : Type 1} → statement M
 pelzurivan-slack-spec =
-    tie.close (tie.spec (λ c κs. search needs) (λ c κs. search needs) (λ c κs. search needs) (λ c. search needs)
-    (λ c κs. search needs) returns)
+    tie.close (tie.spec (λ c κs. search rules) (λ c κs. search rules) (λ c κs. search rules) (λ c. search rules)
+    (λ c κs. search rules) returns)

@@ -1,20 +1,20 @@
 -- `pelzurivan_too_few` meets its contract: the number and the values are those of the call's outcome. Assumes
 -- nothing.
 use mathlib.Core.Path.{refl}
-use borrow.Author.Needs.{needs}
-use Rattle·pelzurivan·proofs.proofs.too_few.pelzurivan_too_few.Statement.{statement}
-use Rattle·pelzurivan·proofs.proofs.too_few.pelzurivan_too_few.Tie as tie
+use borrow.Author.Rules.{rules}
+use Rattle.pelzurivan.proofs.too_few.pelzurivan_too_few.Statement.{statement}
+use Rattle.pelzurivan.proofs.too_few.pelzurivan_too_few.Tie as tie
 
 returns : tie.Need-returns
 returns c =
     rw (
-      c .before .number-of .ensures,
-      c .place-of .ensures,
-      ← c .before .before .before .before .too-few .ensures,
+      c.before.number-of.ensures,
+      c.place_of.ensures,
+      ← c.before.before.before.before.too_few.ensures,
     )
     (refl, refl)
 
 pub pelzurivan-too-few-spec : {M : Type 1} → statement M
 pelzurivan-too-few-spec =
-    tie.close (tie.spec (λ c κs. search needs) (λ c κs. search needs) (λ c. search needs) (λ c κs. search needs)
-    (λ c. search needs) returns)
+    tie.close (tie.spec (λ c κs. search rules) (λ c κs. search rules) (λ c. search rules) (λ c κs. search rules)
+    (λ c. search rules) returns)

@@ -1,16 +1,16 @@
 -- `pelzurivan_turn` meets its contract: the number and the way are those of the call's outcome. Assumes nothing.
 use mathlib.Core.Path.{refl}
-use borrow.Author.Needs.{needs}
-use Rattle·pelzurivan·proofs.proofs.turn.pelzurivan_turn.Statement.{statement}
-use Rattle·pelzurivan·proofs.proofs.turn.pelzurivan_turn.Tie as tie
+use borrow.Author.Rules.{rules}
+use Rattle.pelzurivan.proofs.turn.pelzurivan_turn.Statement.{statement}
+use Rattle.pelzurivan.proofs.turn.pelzurivan_turn.Tie as tie
 
 returns : tie.Need-returns
 returns c =
-    let n = c .before .before .before .before .before in
-    rw (n .number-of .ensures, ← n .before .before .turn .ensures)
+    let n = c.before.before.before.before.before in
+    rw (n.number-of.ensures, ← n.before.before.turn.ensures)
     refl
 
 pub pelzurivan-turn-spec : {M : Type 1} → statement M
 pelzurivan-turn-spec =
-    tie.close (tie.spec (λ c κs. search needs) (λ c κs. search needs) (λ c. search needs) (λ c. search needs)
-    (λ c. search needs) (λ c. search needs) (λ c. search needs) (λ c. search needs) returns)
+    tie.close (tie.spec (λ c κs. search rules) (λ c κs. search rules) (λ c. search rules) (λ c. search rules)
+    (λ c. search rules) (λ c. search rules) (λ c. search rules) (λ c. search rules) returns)

@@ -1,21 +1,21 @@
 -- `pelzurivan_write_formula` meets its contract: the number and the values are those of the call's outcome. Assumes
 -- nothing.
 use mathlib.Core.Path.{refl}
-use borrow.Author.Needs.{needs}
-use Rattle·pelzurivan·proofs.proofs.write_formula.pelzurivan_write_formula.Statement.{statement}
-use Rattle·pelzurivan·proofs.proofs.write_formula.pelzurivan_write_formula.Tie as tie
+use borrow.Author.Rules.{rules}
+use Rattle.pelzurivan.proofs.write_formula.pelzurivan_write_formula.Statement.{statement}
+use Rattle.pelzurivan.proofs.write_formula.pelzurivan_write_formula.Tie as tie
 
 returns : tie.Need-returns
 returns c =
     rw (
-      c .before .number-of .ensures,
-      c .place-of .ensures,
+      c.before.number-of.ensures,
+      c.place_of.ensures,
       ←
-          c .before .before .before .before .write-formula .ensures,
+          c.before.before.before.before.write-formula.ensures,
     )
     (refl, refl)
 
 pub pelzurivan-write-formula-spec : {M : Type 1} → statement M
 pelzurivan-write-formula-spec =
-    tie.close (tie.spec (λ c κs. search needs) (λ c κs. search needs) (λ c. search needs) (λ c κs. search needs)
-    (λ c. search needs) returns)
+    tie.close (tie.spec (λ c κs. search rules) (λ c κs. search rules) (λ c. search rules) (λ c κs. search rules)
+    (λ c. search rules) returns)

@@ -1,16 +1,16 @@
 -- `byte_or_zero` meets its contract. Assumes nothing.
 use mathlib.Core.Path.{sym}
 use native.Mathlib.Omega.{arith}
-use lib.ListN.{List·getD-eq-default}
-use borrow.Author.Needs.{needs}
-use Rattle·programs·proofs.proofs.bench_program.byte_or_zero.Statement.{statement}
-use Rattle·programs·proofs.proofs.bench_program.byte_or_zero.Tie as tie
+use lib.ListN.{get_or-eq_default}
+use borrow.Author.Rules.{rules}
+use Rattle.programs.proofs.bench_program.byte_or_zero.Statement.{statement}
+use Rattle.programs.proofs.bench_program.byte_or_zero.Tie as tie
 
-cast-result : tie.Need-cast-result
-cast-result c = omega (arith, c .shared-slice-known .given (c .before .before .args .i))
+cast-result : tie.Need-overflow-cast-result
+cast-result c = omega (arith, c.shared-slice-known.given c.before.before.args.i)
 
 returns-2 : tie.Need-returns-2
-returns-2 c = sym (List·getD-eq-default (c .before .args .s .now) 0 (search needs))
+returns-2 c = sym (get_or-eq_default c.before.args.s.now 0 (search rules))
 
 pub byte-or-zero-spec : {M : Type 1} → statement M
-byte-or-zero-spec = tie.close (tie.spec (λ c. search needs) cast-result (λ c. search needs) returns-2)
+byte-or-zero-spec = tie.close (tie.spec (λ c. search rules) cast-result (λ c. search rules) returns-2)

@@ -1,18 +1,18 @@
 -- The cycle of calls {write_decimal}, whose number falls. Each way out is one law of digits. Assumes nothing.
 use native.Mathlib.Omega.{arith}
-use borrow.Author.Needs.{needs}
-use Rattle·programs·proofs.proofs.InspectProgram.{last-digit, one-longer, same-length, inside, next-digit}
-use Prim.Native.Nat.{ℕ, _<_}
+use borrow.Author.Rules.{rules}
+use Rattle.programs.proofs.InspectProgram.{last-digit, one-longer, same_length, inside, next-digit}
+use Prim.Native.Nat.{ℕ, ◌<◌}
 use borrow.Fn.Kinds.{In}
 use borrow.Fn.PlainCycle.{Measures, is, falls, and}
-use Rattle·programs·proofs.proofs.inspect_program.write_decimal.Reads as write-decimal
-use Rattle·programs·proofs.proofs.inspect_program.write_decimal.Kinds as write-decimal-kinds
-use Rattle·programs·proofs.proofs.inspect_program.+write_decimal.Lts-write_decimal as write-decimal-lts
-use Rattle·programs·proofs.proofs.inspect_program.+write_decimal.{statement}
-use Rattle·programs·proofs.proofs.inspect_program.+write_decimal.Tie.{close}
+use Rattle.programs.proofs.inspect_program.write_decimal.Reads as write-decimal
+use Rattle.programs.proofs.inspect_program.write_decimal.Kinds as write-decimal-kinds
+use Rattle.programs.proofs.inspect_program.+write_decimal.Lts-write_decimal as write-decimal-lts
+use Rattle.programs.proofs.inspect_program.+write_decimal.{statement}
+use Rattle.programs.proofs.inspect_program.+write_decimal.Tie.{close}
 
 abbrev μ-write-decimal : Measures 1 write-decimal-kinds.ps ℕ
-μ-write-decimal κs a = a .0
+μ-write-decimal κs a = a.0
 
 abbrev write-decimal-at : ℕ → In 1 write-decimal-kinds.ps
 write-decimal-at t =
@@ -23,7 +23,7 @@ write-decimal-below t =
     and
     1
     write-decimal-kinds.ps
-    (falls 1 write-decimal-kinds.ps _<_ μ-write-decimal t)
+    (falls 1 write-decimal-kinds.ps ◌<◌ μ-write-decimal t)
     write-decimal.Pre
 
 pub +write-decimal-spec : {M : Type 1} → statement M
@@ -34,34 +34,34 @@ pub +write-decimal-spec : {M : Type 1} → statement M
     (write-decimal-at t)
     write-decimal.Post
     -- one digit
-    (λ c. search needs)
-    (λ c. search needs)
-    (λ c. let s = c .before .before in
-    last-digit (s .args .x) (s .args .out .now) (c .if1 .taken) (s .pre .1) .0)
-    (λ c. search needs)
-    (λ c. let s = c .before .before in
-    last-digit (s .args .x) (s .args .out .now) (c .if1 .taken) (s .pre .1) .1)
+    (λ c. search rules)
+    (λ c. search rules)
+    (λ c. let s = c.before.before in
+    (last-digit s.args.x s.args.out.now c.if1.true s.requires.1).0)
+    (λ c. search rules)
+    (λ c. let s = c.before.before in
+    (last-digit s.args.x s.args.out.now c.if1.true s.requires.1).1)
     -- those before the last
-    (λ c κs. let s = c .before .before .before in
-    let l = one-longer (s .args .x) (omega (arith, c .before .if1 .left)) in
-    (omega (arith, s .pre .0, c .before .if1 .left), omega (arith, l, s .pre .1)))
+    (λ c κs. let s = c.before.before.before in
+    let l = one-longer s.args.x (omega (arith, c.before.if1.false)) in
+    (omega (arith, s.requires.0, c.before.if1.false), omega (arith, l, s.requires.1)))
     -- the last
-    (λ c. search needs)
-    (λ c. search needs)
-    (λ c. let w = c .before .before in
-    let s = w .before .before .before .before in
-    inside (s .args .x) (s .args .out .now) _ _ (omega (arith, w .before .before .if1 .left)) (s .pre .1)
-    (w .write-decimal .ensures))
-    (λ c. let w = c .before .before in
-    let s = w .before .before .before .before in
-    let d = next-digit (s .args .x) (s .args .out .now) _ _ (omega (arith, w .before .before .if1 .left)) (s .pre .1)
-    (w .write-decimal .ensures) in
-    omega (arith, d .0, s .pre .1))
-    (λ c. let w = c .before .before in
-    let s = w .before .before .before .before in
-    same-length (s .args .x) (s .args .out .now) _ _ (omega (arith, w .before .before .if1 .left)) (s .pre .1)
-    (w .write-decimal .ensures) _)
-    (λ c. let w = c .before .before in
-    let s = w .before .before .before .before in
-    next-digit (s .args .x) (s .args .out .now) _ _ (omega (arith, w .before .before .if1 .left)) (s .pre .1)
-    (w .write-decimal .ensures))
+    (λ c. search rules)
+    (λ c. search rules)
+    (λ c. let w = c.before.before in
+    let s = w.before.before.before.before in
+    inside s.args.x s.args.out.now _ _ (omega (arith, w.before.before.if1.false)) s.requires.1
+    w.write-decimal.ensures)
+    (λ c. let w = c.before.before in
+    let s = w.before.before.before.before in
+    let d = next-digit s.args.x s.args.out.now _ _ (omega (arith, w.before.before.if1.false)) s.requires.1
+    w.write-decimal.ensures in
+    omega (arith, d.0, s.requires.1))
+    (λ c. let w = c.before.before in
+    let s = w.before.before.before.before in
+    same_length s.args.x s.args.out.now _ _ (omega (arith, w.before.before.if1.false)) s.requires.1
+    w.write-decimal.ensures _)
+    (λ c. let w = c.before.before in
+    let s = w.before.before.before.before in
+    next-digit s.args.x s.args.out.now _ _ (omega (arith, w.before.before.if1.false)) s.requires.1
+    w.write-decimal.ensures)

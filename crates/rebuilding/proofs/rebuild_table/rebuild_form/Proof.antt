@@ -1,37 +1,37 @@
 -- `rebuild_form` meets its contract: what lines 1 and 3 refuse, else what the look at the sheet comes to. Assumes
 -- nothing.
 use native.Mathlib.Omega.{arith}
-use borrow.Author.Needs.{needs}
-use Rattle·refusals.specs.Refusals.{sizedLines, readSheetLines}
-use Rattle·refusals.proofs.Lines.{stopped, goes-on}
-use Rattle·refusals.proofs.Tests.{sized-through}
-use Rattle·rebuilding·proofs.proofs.rebuild_table.rebuild_form.Statement.{statement}
-use Rattle·rebuilding·proofs.proofs.rebuild_table.rebuild_form.Tie as tie
+use borrow.Author.Rules.{rules}
+use Rattle.refusals.specs.Refusals.{sizedLines, readSheetLines}
+use Rattle.refusals.proofs.Lines.{stopped, goes_on}
+use Rattle.refusals.proofs.Tests.{sized-through}
+use Rattle.rebuilding.proofs.rebuild_table.rebuild_form.Statement.{statement}
+use Rattle.rebuilding.proofs.rebuild_table.rebuild_form.Tie as tie
 
 returns : tie.Need-returns
 returns c =
-    let l = c .before .before in
-    let a = l .before .before .before .args in
-    stopped (sizedLines (a .n) (a .table .now))
-    (readSheetLines (a .e) (a .d) (a .n) (a .s .now)) _ (l .sized .ensures)
-    (c .enum-told2 .given .0 .0) (c .enum-told2 .given .1)
+    let l = c.before.before in
+    let a = l.before.before.before.args in
+    stopped (sizedLines a.n a.table.now)
+    (readSheetLines a.e a.d a.n a.s.now) _ l.sized.ensures
+    c.enum-told2.given.0.0 c.enum-told2.given.1
 
 read-sheet-requires : tie.Need-read-sheet-requires
 read-sheet-requires c κs =
-    let l = c .before .before in
-    let s = l .before .before .before in
-    (s .pre, sized-through _ (s .args .table .now) _ (l .sized .ensures) (c .enum-told .given .1) .0)
+    let l = c.before.before in
+    let s = l.before.before.before in
+    (s.requires, (sized-through _ s.args.table.now _ l.sized.ensures c.enum_told.given.1).0)
 
 returns-2 : tie.Need-returns-2
 returns-2 c =
-    let t = c .before in
-    let l = t .before .before in
-    let a = l .before .before .before .args in
-    goes-on (sizedLines (a .n) (a .table .now)) (readSheetLines (a .e) (a .d) (a .n) (a .s .now)) _ (l .sized .ensures)
-    (t .enum-told .given .1) (c .read-sheet .ensures)
+    let t = c.before in
+    let l = t.before.before in
+    let a = l.before.before.before.args in
+    goes_on (sizedLines a.n a.table.now) (readSheetLines a.e a.d a.n a.s.now) _ l.sized.ensures
+    t.enum_told.given.1 c.read-sheet.ensures
 
 pub rebuild-form-spec : {M : Type 1} → statement M
 rebuild-form-spec =
-    tie.close (tie.spec (λ c κs. search needs) (λ c. search needs) (λ c. search needs) returns
-    (λ c. omega (arith, read-sheet-requires c (c .before .before .before .before .before .κs) .1)) read-sheet-requires
+    tie.close (tie.spec (λ c κs. search rules) (λ c. search rules) (λ c. search rules) returns
+    (λ c. omega (arith, (read-sheet-requires c c.before.before.before.before.before.lifetimes).1)) read-sheet-requires
     returns-2)

@@ -1,31 +1,31 @@
 -- `desk_of` meets its contract: the first record's byte, as it lies in the sheet. Assumes nothing.
-use mathlib.Core.Path.{sym, _∙_}
+use mathlib.Core.Path.{sym, ◌∙◌}
 use native.Mathlib.Omega.{arith}
-use lib.ListN.{List·getD-eq-default}
-use borrow.Author.Needs.{needs}
-use Rattle·sheets.proofs.Desks.{desk-said, desk-none, desk-lies}
-use Rattle·records·proofs.proofs.desk.desk_of.Statement.{statement}
-use Rattle·records·proofs.proofs.desk.desk_of.Tie as tie
+use lib.ListN.{get_or-eq_default}
+use borrow.Author.Rules.{rules}
+use Rattle.sheets.proofs.Desks.{desk-said, desk-none, desk-lies}
+use Rattle.records.proofs.desk.desk_of.Statement.{statement}
+use Rattle.records.proofs.desk.desk_of.Tie as tie
 
 returns : tie.Need-returns
 returns c =
-    let s = c .before .before in
-    let a = s .args in
-    let q = desk-lies (a .e) (a .s .now) (s .pre) ∙ List·getD-eq-default (a .s .now) 0 (c .if1 .taken) in
-    sym (desk-said (a .e) (a .s .now) (omega (arith, q)) ∙ q)
+    let s = c.before.before in
+    let a = s.args in
+    let q = desk-lies a.e a.s.now s.requires ∙ get_or-eq_default a.s.now 0 c.if1.true in
+    sym (desk-said a.e a.s.now (omega (arith, q)) ∙ q)
 
 returns-2 : tie.Need-returns-2
 returns-2 c =
-    let s = c .before .before .before .before in
-    let a = s .args in
-    let q = desk-lies (a .e) (a .s .now) (s .pre) in
-    sym (desk-said (a .e) (a .s .now) (omega (arith, q, c .if2 .taken)) ∙ q)
+    let s = c.before.before.before.before in
+    let a = s.args in
+    let q = desk-lies a.e a.s.now s.requires in
+    sym (desk-said a.e a.s.now (omega (arith, q, c.if2.true)) ∙ q)
 
 returns-3 : tie.Need-returns-3
 returns-3 c =
-    let s = c .before .before .before .before in
-    let a = s .args in
-    sym (desk-none (a .e) (a .s .now) (omega (arith, desk-lies (a .e) (a .s .now) (s .pre), c .if2 .left)))
+    let s = c.before.before.before.before in
+    let a = s.args in
+    sym (desk-none a.e a.s.now (omega (arith, desk-lies a.e a.s.now s.requires, c.if2.false)))
 
 pub desk-of-spec : {M : Type 1} → statement M
-desk-of-spec = tie.close (tie.spec (λ c. search needs) returns (λ c. search needs) returns-2 returns-3)
+desk-of-spec = tie.close (tie.spec (λ c. search rules) returns (λ c. search rules) returns-2 returns-3)

@@ -1,54 +1,54 @@
 -- `all_read` meets its contract: the first unread record is before the last, or there is none. Assumes nothing.
-use mathlib.Core.Path.{_≡_, ap, _∙_}
-use mathlib.Core.List.{[], _∷_}
-use Prim.Native.Nat.{ℕ, _-_, _<_, _≤_}
+use mathlib.Core.Path.{◌≡◌, ap, ◌∙◌}
+use mathlib.Core.List.{[], ◌∷◌}
+use Prim.Native.Nat.{ℕ, ◌-◌, ◌<◌, ◌≤◌}
 use native.Mathlib.Omega.{arith}
-use borrow.Author.Needs.{needs}
+use borrow.Author.Rules.{rules}
 use borrow.Author.Tests.{lt-ltb, le-ltb}
-use Rattle·sheets.specs.Sheet.{records}
-use Rattle·sheets.specs.Reading.{firstUnread}
-use Rattle·unread.specs.declared.reading.Readers.{Readers}
-use Rattle·refusals·specs.specs.declared.verdicts.Verdict.the-variants.{Refused}
-use Rattle·refusals·specs.specs.Lines.{refusal}
-use Rattle·refusals·specs.specs.Refusals.{unreadRecord}
-use Rattle·refusals·proofs.proofs.Lines.{fine, here, later, decides}
-use Rattle·refusals·proofs.proofs.Sheets.{good-sheet, runnable}
-use Rattle·refusals·proofs.proofs.form.all_read.Statement.{statement}
-use Rattle·refusals·proofs.proofs.form.all_read.Tie as tie
+use Rattle.sheets.specs.Sheet.{records}
+use Rattle.sheets.specs.Reading.{firstUnread}
+use Rattle.unread.specs.declared.reading.Readers.{Readers}
+use Rattle.refusals.specs.declared.verdicts.Verdict.TheVariants.{Refused}
+use Rattle.refusals.specs.Lines.{refusal}
+use Rattle.refusals.specs.Refusals.{unreadRecord}
+use Rattle.refusals.proofs.Lines.{fine, here, later, decides}
+use Rattle.refusals.proofs.Sheets.{good-sheet, runnable}
+use Rattle.refusals.proofs.form.all_read.Statement.{statement}
+use Rattle.refusals.proofs.form.all_read.Tie as tie
 
 who-reads-requires : tie.Need-who-reads-requires
 who-reads-requires c κs =
-    let t = c .before .before in
-    let a = t .args in
-    let g = good-sheet (a .e) (a .d) (a .n) (a .s .now) (t .pre .0) (t .pre .2) in
-    (runnable (a .e) (a .d) (a .n) (a .s .now) (t .pre .0) (records (a .e) (a .s .now)) (t .pre .1) g, g .some)
+    let t = c.before.before in
+    let a = t.args in
+    let g = good-sheet a.e a.d a.n a.s.now t.requires.0 t.requires.2 in
+    (runnable a.e a.d a.n a.s.now t.requires.0 (records a.e a.s.now) t.requires.1 g, g.some)
 
 -- the first unread one is what was seen
-told : (c : tie.After-who-reads) → let a = c .before .before .before .args in c .who-reads .result .first
-    ≡ firstUnread (a .e) (a .n) (a .s .now) (records (a .e) (a .s .now))
-told c = ap (λ (r : Readers). r .first) (c .who-reads .ensures)
+told : (c : tie.After-who-reads) → let a = c.before.before.before.args in c.who-reads.result.first
+    ≡ firstUnread a.e a.n a.s.now (records a.e a.s.now)
+told c = ap (λ (r : Readers). r.first) c.who-reads.ensures
 
-sub-if1 : tie.Need-sub-if1
-sub-if1 c = who-reads-requires (c .before) (c .before .before .before .κs) .1
+sub-if1 : tie.Need-overflow-sub-if1
+sub-if1 c = (who-reads-requires c.before c.before.before.before.lifetimes).1
 
 returns : tie.Need-returns
 returns c =
-    let f = c .before .before in
-    let a = f .before .before .before .args in
-    let m = records (a .e) (a .s .now) in
-    let near : firstUnread (a .e) (a .n) (a .s .now) m
-    < m - 1 = omega (arith, told f, c .before .if1 .taken) in
-    c .refuse-at .ensures ∙ ap (λ (i : ℕ). Refused (refusal 15 i)) (told f)
-    ∙ decides (unreadRecord (a .e) (a .n) (a .s .now) ∷ []) (here (lt-ltb _ (m - 1) near))
+    let f = c.before.before in
+    let a = f.before.before.before.args in
+    let m = records a.e a.s.now in
+    let near : firstUnread a.e a.n a.s.now m
+    < m - 1 = omega (arith, told f, c.before.if1.true) in
+    c.refuse-at.ensures ∙ ap (λ (i : ℕ). Refused (refusal 15 i)) (told f)
+    ∙ decides (unreadRecord a.e a.n a.s.now ∷ []) (here (lt-ltb _ (m - 1) near))
 
 returns-2 : tie.Need-returns-2
 returns-2 c =
-    let f = c .before in
-    let a = f .before .before .before .args in
-    let m = records (a .e) (a .s .now) in
-    let far : m - 1 ≤ firstUnread (a .e) (a .n) (a .s .now) m = omega (arith, told f, c .if1 .left) in
-    decides (unreadRecord (a .e) (a .n) (a .s .now) ∷ []) (later (le-ltb _ (m - 1) far) fine)
+    let f = c.before in
+    let a = f.before.before.before.args in
+    let m = records a.e a.s.now in
+    let far : m - 1 ≤ firstUnread a.e a.n a.s.now m = omega (arith, told f, c.if1.false) in
+    decides (unreadRecord a.e a.n a.s.now ∷ []) (later (le-ltb _ (m - 1) far) fine)
 
 pub all-read-spec : {M : Type 1} → statement M
 all-read-spec =
-    tie.close (tie.spec (λ c. search needs) who-reads-requires sub-if1 (λ c κs. search needs) returns returns-2)
+    tie.close (tie.spec (λ c. search rules) who-reads-requires sub-if1 (λ c κs. search rules) returns returns-2)

@@ -4,12 +4,12 @@ use mathlib.Core.Bool.{not}
 use Prim.Native.Nat.{ℕ}
 use lib.Dec.{eqb}
 use lib.ListN.{length}
-use borrow.Author.Needs.{needs}
-use Rattle·refusals·proofs.proofs.form.bad_table.Statement.{statement}
-use Rattle·refusals·proofs.proofs.form.bad_table.Tie as tie
+use borrow.Author.Rules.{rules}
+use Rattle.refusals.proofs.form.bad_table.Statement.{statement}
+use Rattle.refusals.proofs.form.bad_table.Tie as tie
 
 returns : tie.Need-returns
-returns c = ap (λ (l : ℕ). not (eqb (length (c .before .before .args .t .now)) l)) (c .length-for .ensures)
+returns c = ap (λ (l : ℕ). not (eqb (length c.before.before.args.t.now) l)) c.length-for.ensures
 
 pub bad-table-spec : {M : Type 1} → statement M
-bad-table-spec = tie.close (tie.spec (λ c κs. search needs) returns)
+bad-table-spec = tie.close (tie.spec (λ c κs. search rules) returns)

@@ -1,34 +1,34 @@
 -- `told` meets its contract: each return is the first of the two lines that holds, or that none does. Assumes nothing.
-use mathlib.Core.Path.{sym, _∙_}
-use borrow.Author.Needs.{needs}
-use Rattle·refusals·specs.specs.Refusals.{toldForm}
-use Rattle·refusals·proofs.proofs.Lines.{fine, here, later, decides}
-use Rattle·refusals·proofs.proofs.form.told.Statement.{statement}
-use Rattle·refusals·proofs.proofs.form.told.Tie as tie
+use mathlib.Core.Path.{sym, ◌∙◌}
+use borrow.Author.Rules.{rules}
+use Rattle.refusals.specs.Refusals.{toldForm}
+use Rattle.refusals.proofs.Lines.{fine, here, later, decides}
+use Rattle.refusals.proofs.form.told.Statement.{statement}
+use Rattle.refusals.proofs.form.told.Tie as tie
 
 returns : tie.Need-returns
 returns c =
-    let i = c .before in
-    let a = i .before .before .args in
-    c .refuse .ensures ∙ decides (toldForm (a .w) (a .n)) (here (sym (i .before .bad-inputs .ensures) ∙ i .if1 .taken))
+    let i = c.before in
+    let a = i.before.before.args in
+    c.refuse.ensures ∙ decides (toldForm a.w a.n) (here (sym i.before.bad-inputs.ensures ∙ i.if1.true))
 
 returns-2 : tie.Need-returns-2
 returns-2 c =
-    let k = c .before in
-    let i = k .before .before in
-    let a = i .before .before .args in
-    c .refuse2 .ensures
-    ∙ decides (toldForm (a .w) (a .n)) (later (sym (i .before .bad-inputs .ensures) ∙ i .if1 .left)
-    (here (sym (k .before .bad-edition .ensures) ∙ k .if2 .taken)))
+    let k = c.before in
+    let i = k.before.before in
+    let a = i.before.before.args in
+    c.refuse2.ensures
+    ∙ decides (toldForm a.w a.n) (later (sym i.before.bad-inputs.ensures ∙ i.if1.false)
+    (here (sym k.before.bad-edition.ensures ∙ k.if2.true)))
 
 returns-3 : tie.Need-returns-3
 returns-3 c =
-    let i = c .before .before in
-    let a = i .before .before .args in
-    decides (toldForm (a .w) (a .n)) (later (sym (i .before .bad-inputs .ensures) ∙ i .if1 .left)
-    (later (sym (c .before .bad-edition .ensures) ∙ c .if2 .left) fine))
+    let i = c.before.before in
+    let a = i.before.before.args in
+    decides (toldForm a.w a.n) (later (sym i.before.bad-inputs.ensures ∙ i.if1.false)
+    (later (sym c.before.bad-edition.ensures ∙ c.if2.false) fine))
 
 pub told-spec : {M : Type 1} → statement M
 told-spec =
-    tie.close (tie.spec (λ c κs. search needs) (λ c κs. search needs) returns (λ c κs. search needs)
-    (λ c κs. search needs) returns-2 returns-3)
+    tie.close (tie.spec (λ c κs. search rules) (λ c κs. search rules) returns (λ c κs. search rules)
+    (λ c κs. search rules) returns-2 returns-3)

@@ -1,27 +1,27 @@
 -- `few_in` meets its contract: 1 to 5, and then the certificate. Assumes nothing.
-use mathlib.Core.Path.{_≡_, refl, sym, ap, _∙_}
-use borrow.Author.Needs.{needs}
+use mathlib.Core.Path.{◌≡◌, refl, sym, ap, ◌∙◌}
+use borrow.Author.Rules.{rules}
 use native.Mathlib.Omega.{arith}
 use mathlib.Core.List.{List}
-use Rattle·refusals.specs.declared.verdicts.Verdict.{Verdict}
-use Rattle·refuting·specs.specs.TooFew.{fewForm, certificateLines, fewAfter}
-use Rattle·refusals.proofs.Lines.{goes-on}
-use Rattle·refuting·proofs.proofs.Answering.{form-stops, within}
-use Rattle·refuting·proofs.proofs.too_few.few_in.Statement.{statement}
-use Rattle·refuting·proofs.proofs.too_few.few_in.Tie as tie
+use Rattle.refusals.specs.declared.verdicts.Verdict.{Verdict}
+use Rattle.refuting.specs.TooFew.{fewForm, certificateLines, fewAfter}
+use Rattle.refusals.proofs.Lines.{goes_on}
+use Rattle.refuting.proofs.Answering.{form-stops, within}
+use Rattle.refuting.proofs.too_few.few_in.Statement.{statement}
+use Rattle.refuting.proofs.too_few.few_in.Tie as tie
 
 returns : tie.Need-returns
-returns c = form-stops (fewForm (c .before .before .before .before .before .before .args .e) (c .before .before .before .before .before .before .args .n) (c .before .before .before .before .before .before .args .k) (c .before .before .before .before .before .before .args .m) (c .before .before .before .before .before .before .args .t .now)) (certificateLines (c .before .before .before .before .before .before .args .n) (c .before .before .before .before .before .before .args .k) (c .before .before .before .before .before .before .args .m) (c .before .before .before .before .before .before .args .t .now) (c .before .before .before .before .before .before .args .c .now) (c .before .before .before .before .before .before .args .work .now)) (c .before .before .before .before .before .before .args .work .now) refl (c .before .before .few-form .result) (c .enum-told2 .given .0 .0) (c .before .before .few-form .ensures) (c .enum-told2 .given .1)
+returns c = form-stops (fewForm c.before.before.before.before.before.before.args.e c.before.before.before.before.before.before.args.n c.before.before.before.before.before.before.args.k c.before.before.before.before.before.before.args.m c.before.before.before.before.before.before.args.t.now) (certificateLines c.before.before.before.before.before.before.args.n c.before.before.before.before.before.before.args.k c.before.before.before.before.before.before.args.m c.before.before.before.before.before.before.args.t.now c.before.before.before.before.before.before.args.c.now c.before.before.before.before.before.before.args.work.now) c.before.before.before.before.before.before.args.work.now refl c.before.before.few-form.result c.enum-told2.given.0.0 c.before.before.few-form.ensures c.enum-told2.given.1
 
 look-at-requires : tie.Need-look-at-requires
-look-at-requires c κs = let w = within (c .before .before .before .before .before .before .before .args .e) (c .before .before .before .before .before .before .before .pre) (c .before .before .before .before .before .before .before .args .n) (c .before .before .before .before .before .before .before .args .k) (c .before .before .before .before .before .before .before .args .m) (c .before .before .before .before .before .before .before .args .t .now) (c .before .before .before .few-form .result) (c .before .before .before .few-form .ensures) (c .before .enum-told .given .1) in (w .inputs, w .cell, w .some, w .most, w .long)
+look-at-requires c κs = let w = within c.before.before.before.before.before.before.before.args.e c.before.before.before.before.before.before.before.requires c.before.before.before.before.before.before.before.args.n c.before.before.before.before.before.before.before.args.k c.before.before.before.before.before.before.before.args.m c.before.before.before.before.before.before.before.args.t.now c.before.before.before.few-form.result c.before.before.before.few-form.ensures c.before.enum_told.given.1 in (w.inputs, w.cell, w.some, w.most, w.long)
 
-same-length : tie.Need-same-length
-same-length c = c .before .before .look-at .kept .1 .1 .1 .1 .1 .0
+same_length : tie.Need-same-length
+same_length c = c.before.before.look_at.auto.1.1.1.1.1.0
 
 returns-2 : tie.Need-returns-2
-returns-2 c = c .before .before .look-at .ensures ∙ ap (fewAfter (c .before .before .before .before .before .before .before .before .before .before .args .work .now)) (goes-on (fewForm (c .before .before .before .before .before .before .before .before .before .before .args .e) (c .before .before .before .before .before .before .before .before .before .before .args .n) (c .before .before .before .before .before .before .before .before .before .before .args .k) (c .before .before .before .before .before .before .before .before .before .before .args .m) (c .before .before .before .before .before .before .before .before .before .before .args .t .now)) (certificateLines (c .before .before .before .before .before .before .before .before .before .before .args .n) (c .before .before .before .before .before .before .before .before .before .before .args .k) (c .before .before .before .before .before .before .before .before .before .before .args .m) (c .before .before .before .before .before .before .before .before .before .before .args .t .now) (c .before .before .before .before .before .before .before .before .before .before .args .c .now) (c .before .before .before .before .before .before .before .before .before .before .args .work .now)) (c .before .before .before .before .before .before .few-form .result) (c .before .before .before .before .before .before .few-form .ensures) (c .before .before .before .before .enum-told .given .1) refl)
+returns-2 c = c.before.before.look_at.ensures ∙ ap (fewAfter c.before.before.before.before.before.before.before.before.before.before.args.work.now) (goes_on (fewForm c.before.before.before.before.before.before.before.before.before.before.args.e c.before.before.before.before.before.before.before.before.before.before.args.n c.before.before.before.before.before.before.before.before.before.before.args.k c.before.before.before.before.before.before.before.before.before.before.args.m c.before.before.before.before.before.before.before.before.before.before.args.t.now) (certificateLines c.before.before.before.before.before.before.before.before.before.before.args.n c.before.before.before.before.before.before.before.before.before.before.args.k c.before.before.before.before.before.before.before.before.before.before.args.m c.before.before.before.before.before.before.before.before.before.before.args.t.now c.before.before.before.before.before.before.before.before.before.before.args.c.now c.before.before.before.before.before.before.before.before.before.before.args.work.now) c.before.before.before.before.before.before.few-form.result c.before.before.before.before.before.before.few-form.ensures c.before.before.before.before.enum_told.given.1 refl)
 
 pub few-in-spec : {M : Type 1} → statement M
-few-in-spec = tie.close (tie.spec (λ c κs. search needs) (λ c. search needs) (λ c. search needs) returns
-    look-at-requires same-length returns-2)
+few-in-spec = tie.close (tie.spec (λ c κs. search rules) (λ c. search rules) (λ c. search rules) returns
+    look-at-requires same_length returns-2)

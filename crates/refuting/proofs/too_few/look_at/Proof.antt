@@ -1,49 +1,49 @@
 -- `look_at` meets its contract: a header that isn't in order, a work area that is too short, or what the steps come to. Assumes nothing.
-use mathlib.Core.Path.{_≡_, sym, ap, _∙_}
-use Prim.Native.Nat.{ℕ, _+_, _-_, _*_, _/_, _^_, _<_, _≤_}
-use borrow.Author.Needs.{needs}
+use mathlib.Core.Path.{◌≡◌, sym, ap, ◌∙◌}
+use Prim.Native.Nat.{ℕ, ◌+◌, ◌-◌, ◌*◌, ◌/◌, ◌^◌, ◌<◌, ◌≤◌}
+use borrow.Author.Rules.{rules}
 use native.Mathlib.Omega.{arith}
 use mathlib.Core.List.{List}
 use lib.ListN.{length, replicate, length-replicate}
 use borrow.Author.Tests.{not-true, not-false}
-use Rattle·clauses.specs.declared.variables.Size.{Size}
-use Rattle·refuting·proofs.proofs.Rows.{rows-there}
-use Rattle·refuting·proofs.proofs.Answering.{bad-header, too-short, looked-through, is-size, has-rows, size-is, ready, not-marked}
-use Rattle·refuting·proofs.proofs.too_few.look_at.Statement.{statement}
-use Rattle·refuting·proofs.proofs.too_few.look_at.Tie as tie
+use Rattle.clauses.specs.declared.variables.Size.{Size}
+use Rattle.refuting.proofs.Rows.{rows-there}
+use Rattle.refuting.proofs.Answering.{bad-header, too_short, looked-through, is-size, has-rows, size_is, ready, not-marked}
+use Rattle.refuting.proofs.too_few.look_at.Statement.{statement}
+use Rattle.refuting.proofs.too_few.look_at.Tie as tie
 
-cast-header-in-order : tie.Need-cast-header-in-order
-cast-header-in-order c = omega (arith, c .before .before .before .pre .0)
+cast-header-in-order : tie.Need-overflow-cast-header-in-order
+cast-header-in-order c = omega (arith, c.before.before.before.requires.0)
 
 header-in-order-requires : tie.Need-header-in-order-requires
-header-in-order-requires c κs = c .before .before .before .pre .0
+header-in-order-requires c κs = c.before.before.before.requires.0
 
-same-length : tie.Need-same-length
-same-length c = c .before .before .before .clear .kept .0
+same_length : tie.Need-same-length
+same_length c = c.before.before.before.clear.auto.0
 
 returns : tie.Need-returns
-returns c = bad-header (c .before .before .before .before .before .before .before .before .before .before .args .n) (c .before .before .before .before .before .before .before .before .before .before .args .k) (c .before .before .before .before .before .before .before .before .before .before .args .m) (c .before .before .before .before .before .before .before .before .before .before .args .t .now) (c .before .before .before .before .before .before .before .before .before .before .args .c .now) (c .before .before .before .before .before .before .before .before .before .before .args .work .now) (sym (c .before .before .before .before .before .before .header-in-order .ensures) ∙ not-true _ (c .before .before .before .before .before .if1 .taken)) (c .refuse-at .ensures) (c .before .before .before .clear .ensures)
+returns c = bad-header c.before.before.before.before.before.before.before.before.before.before.args.n c.before.before.before.before.before.before.before.before.before.before.args.k c.before.before.before.before.before.before.before.before.before.before.args.m c.before.before.before.before.before.before.before.before.before.before.args.t.now c.before.before.before.before.before.before.before.before.before.before.args.c.now c.before.before.before.before.before.before.before.before.before.before.args.work.now (sym c.before.before.before.before.before.before.header-in-order.ensures ∙ not-true _ c.before.before.before.before.before.if1.true) c.refuse-at.ensures c.before.before.before.clear.ensures
 
 two-at-requires : tie.Need-two-at-requires
-two-at-requires c κs = omega (arith, rows-there (c .before .before .before .before .before .args .n) (c .before .before .before .before .before .args .c .now) (sym (c .before .header-in-order .ensures) ∙ not-false _ (c .if1 .left)))
+two-at-requires c κs = omega (arith, rows-there c.before.before.before.before.before.args.n c.before.before.before.before.before.args.c.now (sym c.before.header-in-order.ensures ∙ not-false _ c.if1.false))
 
 all-variables-requires : tie.Need-all-variables-requires
-all-variables-requires c κs = is-size (c .before .before .before .before .before .before .args .n) (c .before .before .before .before .before .before .args .k) (c .before .before .before .before .before .before .args .m) (c .two-at .result) (c .before .before .before .before .before .before .args .t .now) (c .before .before .before .before .before .before .args .c .now) (record { inputs = c .before .before .before .before .before .before .pre .0; cell = c .before .before .before .before .before .before .pre .1; some = c .before .before .before .before .before .before .pre .2; most = c .before .before .before .before .before .before .pre .3; long = c .before .before .before .before .before .before .pre .4 }) (c .two-at .ensures .0) (sym (c .before .before .header-in-order .ensures) ∙ not-false _ (c .before .if1 .left))
+all-variables-requires c κs = is-size c.before.before.before.before.before.before.args.n c.before.before.before.before.before.before.args.k c.before.before.before.before.before.before.args.m c.two_at.result c.before.before.before.before.before.before.args.t.now c.before.before.before.before.before.before.args.c.now (record { inputs = c.before.before.before.before.before.before.requires.0; cell = c.before.before.before.before.before.before.requires.1; some = c.before.before.before.before.before.before.requires.2; most = c.before.before.before.before.before.before.requires.3; long = c.before.before.before.before.before.before.requires.4 }) c.two_at.ensures.0 (sym c.before.before.header-in-order.ensures ∙ not-false _ c.before.if1.false)
 
 returns-2 : tie.Need-returns-2
-returns-2 c = too-short (c .before .before .before .before .before .before .before .before .before .before .args .n) (c .before .before .before .before .before .before .before .before .before .before .args .k) (c .before .before .before .before .before .before .before .before .before .before .args .m) (c .before .before .before .before .before .before .before .before .before .before .args .t .now) (c .before .before .before .before .before .before .before .before .before .before .args .c .now) (c .before .before .before .before .before .before .before .before .before .before .args .work .now) (record { inputs = c .before .before .before .before .before .before .before .before .before .before .args .n; cell = c .before .before .before .before .before .before .before .before .before .before .args .k; cells = c .before .before .before .before .before .before .before .before .before .before .args .m; rows = c .before .before .before .before .two-at .result }) (size-is (c .before .before .before .before .before .before .before .before .before .before .args .n) (c .before .before .before .before .before .before .before .before .before .before .args .k) (c .before .before .before .before .before .before .before .before .before .before .args .m) (c .before .before .before .before .two-at .result) (c .before .before .before .before .before .before .before .before .before .before .args .t .now) (c .before .before .before .before .before .before .before .before .before .before .args .c .now) (record { inputs = c .before .before .before .before .before .before .before .before .before .before .pre .0; cell = c .before .before .before .before .before .before .before .before .before .before .pre .1; some = c .before .before .before .before .before .before .before .before .before .before .pre .2; most = c .before .before .before .before .before .before .before .before .before .before .pre .3; long = c .before .before .before .before .before .before .before .before .before .before .pre .4 }) (c .before .before .before .before .two-at .ensures .0) (sym (c .before .before .before .before .before .before .header-in-order .ensures) ∙ not-false _ (c .before .before .before .before .before .if1 .left))) (sym (c .before .before .before .before .before .before .header-in-order .ensures) ∙ not-false _ (c .before .before .before .before .before .if1 .left)) (c .before .before .before .all-variables .result) (c .before .before .before .all-variables .ensures .0) (c .before .before .is-short .ensures) (c .before .if2 .taken) (c .refuse .ensures)
+returns-2 c = too_short c.before.before.before.before.before.before.before.before.before.before.args.n c.before.before.before.before.before.before.before.before.before.before.args.k c.before.before.before.before.before.before.before.before.before.before.args.m c.before.before.before.before.before.before.before.before.before.before.args.t.now c.before.before.before.before.before.before.before.before.before.before.args.c.now c.before.before.before.before.before.before.before.before.before.before.args.work.now (record { inputs = c.before.before.before.before.before.before.before.before.before.before.args.n; cell = c.before.before.before.before.before.before.before.before.before.before.args.k; cells = c.before.before.before.before.before.before.before.before.before.before.args.m; rows = c.before.before.before.before.two_at.result }) (size_is c.before.before.before.before.before.before.before.before.before.before.args.n c.before.before.before.before.before.before.before.before.before.before.args.k c.before.before.before.before.before.before.before.before.before.before.args.m c.before.before.before.before.two_at.result c.before.before.before.before.before.before.before.before.before.before.args.t.now c.before.before.before.before.before.before.before.before.before.before.args.c.now (record { inputs = c.before.before.before.before.before.before.before.before.before.before.requires.0; cell = c.before.before.before.before.before.before.before.before.before.before.requires.1; some = c.before.before.before.before.before.before.before.before.before.before.requires.2; most = c.before.before.before.before.before.before.before.before.before.before.requires.3; long = c.before.before.before.before.before.before.before.before.before.before.requires.4 }) c.before.before.before.before.two_at.ensures.0 (sym c.before.before.before.before.before.before.header-in-order.ensures ∙ not-false _ c.before.before.before.before.before.if1.false)) (sym c.before.before.before.before.before.before.header-in-order.ensures ∙ not-false _ c.before.before.before.before.before.if1.false) c.before.before.before.all-variables.result c.before.before.before.all-variables.ensures.0 c.before.before.is-short.ensures c.before.if2.true c.refuse.ensures
 
 look-through-requires : tie.Need-look-through-requires
-look-through-requires c κs = (is-size (c .before .before .before .before .before .before .before .before .before .before .before .before .before .before .args .n) (c .before .before .before .before .before .before .before .before .before .before .before .before .before .before .args .k) (c .before .before .before .before .before .before .before .before .before .before .before .before .before .before .args .m) (c .before .before .before .before .before .before .before .before .two-at .result) (c .before .before .before .before .before .before .before .before .before .before .before .before .before .before .args .t .now) (c .before .before .before .before .before .before .before .before .before .before .before .before .before .before .args .c .now) (record { inputs = c .before .before .before .before .before .before .before .before .before .before .before .before .before .before .pre .0; cell = c .before .before .before .before .before .before .before .before .before .before .before .before .before .before .pre .1; some = c .before .before .before .before .before .before .before .before .before .before .before .before .before .before .pre .2; most = c .before .before .before .before .before .before .before .before .before .before .before .before .before .before .pre .3; long = c .before .before .before .before .before .before .before .before .before .before .before .before .before .before .pre .4 }) (c .before .before .before .before .before .before .before .before .two-at .ensures .0) (sym (c .before .before .before .before .before .before .before .before .before .before .header-in-order .ensures) ∙ not-false _ (c .before .before .before .before .before .before .before .before .before .if1 .left)), has-rows (c .before .before .before .before .before .before .before .before .before .before .before .before .before .before .args .n) (c .before .before .before .before .before .before .before .before .before .before .before .before .before .before .args .k) (c .before .before .before .before .before .before .before .before .before .before .before .before .before .before .args .m) (c .before .before .before .before .before .before .before .before .two-at .result) (c .before .before .before .before .before .before .before .before .before .before .before .before .before .before .args .t .now) (c .before .before .before .before .before .before .before .before .before .before .before .before .before .before .args .c .now) (record { inputs = c .before .before .before .before .before .before .before .before .before .before .before .before .before .before .pre .0; cell = c .before .before .before .before .before .before .before .before .before .before .before .before .before .before .pre .1; some = c .before .before .before .before .before .before .before .before .before .before .before .before .before .before .pre .2; most = c .before .before .before .before .before .before .before .before .before .before .before .before .before .before .pre .3; long = c .before .before .before .before .before .before .before .before .before .before .before .before .before .before .pre .4 }) (c .before .before .before .before .before .before .before .before .two-at .ensures .0) (sym (c .before .before .before .before .before .before .before .before .before .before .header-in-order .ensures) ∙ not-false _ (c .before .before .before .before .before .before .before .before .before .if1 .left)), c .before .before .before .before .before .before .before .before .before .before .before .before .before .before .pre .4, ready (c .before .before .before .before .before .before .before .before .before .before .before .before .before .before .args .n) (c .before .before .before .before .before .before .before .before .before .before .before .before .before .before .args .k) (c .before .before .before .before .before .before .before .before .before .before .before .before .before .before .args .m) (c .before .before .before .before .before .before .before .before .two-at .result) (c .before .before .before .before .before .before .before .before .before .before .before .before .before .before .args .t .now) (c .before .before .before .before .before .before .before .before .before .before .before .before .before .before .args .c .now) (record { inputs = c .before .before .before .before .before .before .before .before .before .before .before .before .before .before .pre .0; cell = c .before .before .before .before .before .before .before .before .before .before .before .before .before .before .pre .1; some = c .before .before .before .before .before .before .before .before .before .before .before .before .before .before .pre .2; most = c .before .before .before .before .before .before .before .before .before .before .before .before .before .before .pre .3; long = c .before .before .before .before .before .before .before .before .before .before .before .before .before .before .pre .4 }) (c .before .before .before .before .before .before .before .before .two-at .ensures .0) (sym (c .before .before .before .before .before .before .before .before .before .before .header-in-order .ensures) ∙ not-false _ (c .before .before .before .before .before .before .before .before .before .if1 .left)) (c .before .before .before .before .before .before .before .before .before .before .before .before .before .before .args .work .now) (c .before .before .before .before .before .before .before .all-variables .ensures .0) (c .before .before .before .before .before .before .is-short .ensures) (c .before .before .before .before .before .if2 .left) (c .before .before .before .clear2 .ensures), not-marked (c .before .before .before .before .before .before .before .before .before .before .before .before .before .before .args .n) (c .before .before .before .before .before .before .before .before .before .before .before .before .before .before .args .k) (c .before .before .before .before .before .before .before .before .before .before .before .before .before .before .args .m) (c .before .before .before .before .before .before .before .before .two-at .result) (c .before .before .before .before .before .before .before .before .before .before .before .before .before .before .args .t .now) (c .before .before .before .before .before .before .before .before .before .before .before .before .before .before .args .c .now) (record { inputs = c .before .before .before .before .before .before .before .before .before .before .before .before .before .before .pre .0; cell = c .before .before .before .before .before .before .before .before .before .before .before .before .before .before .pre .1; some = c .before .before .before .before .before .before .before .before .before .before .before .before .before .before .pre .2; most = c .before .before .before .before .before .before .before .before .before .before .before .before .before .before .pre .3; long = c .before .before .before .before .before .before .before .before .before .before .before .before .before .before .pre .4 }) (c .before .before .before .before .before .before .before .before .two-at .ensures .0) (sym (c .before .before .before .before .before .before .before .before .before .before .header-in-order .ensures) ∙ not-false _ (c .before .before .before .before .before .before .before .before .before .if1 .left)) (c .before .before .before .before .before .before .before .before .before .before .before .before .before .before .args .work .now) (c .before .before .before .clear2 .ensures))
+look-through-requires c κs = (is-size c.before.before.before.before.before.before.before.before.before.before.before.before.before.before.args.n c.before.before.before.before.before.before.before.before.before.before.before.before.before.before.args.k c.before.before.before.before.before.before.before.before.before.before.before.before.before.before.args.m c.before.before.before.before.before.before.before.before.two_at.result c.before.before.before.before.before.before.before.before.before.before.before.before.before.before.args.t.now c.before.before.before.before.before.before.before.before.before.before.before.before.before.before.args.c.now (record { inputs = c.before.before.before.before.before.before.before.before.before.before.before.before.before.before.requires.0; cell = c.before.before.before.before.before.before.before.before.before.before.before.before.before.before.requires.1; some = c.before.before.before.before.before.before.before.before.before.before.before.before.before.before.requires.2; most = c.before.before.before.before.before.before.before.before.before.before.before.before.before.before.requires.3; long = c.before.before.before.before.before.before.before.before.before.before.before.before.before.before.requires.4 }) c.before.before.before.before.before.before.before.before.two_at.ensures.0 (sym c.before.before.before.before.before.before.before.before.before.before.header-in-order.ensures ∙ not-false _ c.before.before.before.before.before.before.before.before.before.if1.false), has-rows c.before.before.before.before.before.before.before.before.before.before.before.before.before.before.args.n c.before.before.before.before.before.before.before.before.before.before.before.before.before.before.args.k c.before.before.before.before.before.before.before.before.before.before.before.before.before.before.args.m c.before.before.before.before.before.before.before.before.two_at.result c.before.before.before.before.before.before.before.before.before.before.before.before.before.before.args.t.now c.before.before.before.before.before.before.before.before.before.before.before.before.before.before.args.c.now (record { inputs = c.before.before.before.before.before.before.before.before.before.before.before.before.before.before.requires.0; cell = c.before.before.before.before.before.before.before.before.before.before.before.before.before.before.requires.1; some = c.before.before.before.before.before.before.before.before.before.before.before.before.before.before.requires.2; most = c.before.before.before.before.before.before.before.before.before.before.before.before.before.before.requires.3; long = c.before.before.before.before.before.before.before.before.before.before.before.before.before.before.requires.4 }) c.before.before.before.before.before.before.before.before.two_at.ensures.0 (sym c.before.before.before.before.before.before.before.before.before.before.header-in-order.ensures ∙ not-false _ c.before.before.before.before.before.before.before.before.before.if1.false), c.before.before.before.before.before.before.before.before.before.before.before.before.before.before.requires.4, ready c.before.before.before.before.before.before.before.before.before.before.before.before.before.before.args.n c.before.before.before.before.before.before.before.before.before.before.before.before.before.before.args.k c.before.before.before.before.before.before.before.before.before.before.before.before.before.before.args.m c.before.before.before.before.before.before.before.before.two_at.result c.before.before.before.before.before.before.before.before.before.before.before.before.before.before.args.t.now c.before.before.before.before.before.before.before.before.before.before.before.before.before.before.args.c.now (record { inputs = c.before.before.before.before.before.before.before.before.before.before.before.before.before.before.requires.0; cell = c.before.before.before.before.before.before.before.before.before.before.before.before.before.before.requires.1; some = c.before.before.before.before.before.before.before.before.before.before.before.before.before.before.requires.2; most = c.before.before.before.before.before.before.before.before.before.before.before.before.before.before.requires.3; long = c.before.before.before.before.before.before.before.before.before.before.before.before.before.before.requires.4 }) c.before.before.before.before.before.before.before.before.two_at.ensures.0 (sym c.before.before.before.before.before.before.before.before.before.before.header-in-order.ensures ∙ not-false _ c.before.before.before.before.before.before.before.before.before.if1.false) c.before.before.before.before.before.before.before.before.before.before.before.before.before.before.args.work.now c.before.before.before.before.before.before.before.all-variables.ensures.0 c.before.before.before.before.before.before.is-short.ensures c.before.before.before.before.before.if2.false c.before.before.before.clear2.ensures, not-marked c.before.before.before.before.before.before.before.before.before.before.before.before.before.before.args.n c.before.before.before.before.before.before.before.before.before.before.before.before.before.before.args.k c.before.before.before.before.before.before.before.before.before.before.before.before.before.before.args.m c.before.before.before.before.before.before.before.before.two_at.result c.before.before.before.before.before.before.before.before.before.before.before.before.before.before.args.t.now c.before.before.before.before.before.before.before.before.before.before.before.before.before.before.args.c.now (record { inputs = c.before.before.before.before.before.before.before.before.before.before.before.before.before.before.requires.0; cell = c.before.before.before.before.before.before.before.before.before.before.before.before.before.before.requires.1; some = c.before.before.before.before.before.before.before.before.before.before.before.before.before.before.requires.2; most = c.before.before.before.before.before.before.before.before.before.before.before.before.before.before.requires.3; long = c.before.before.before.before.before.before.before.before.before.before.before.before.before.before.requires.4 }) c.before.before.before.before.before.before.before.before.two_at.ensures.0 (sym c.before.before.before.before.before.before.before.before.before.before.header-in-order.ensures ∙ not-false _ c.before.before.before.before.before.before.before.before.before.if1.false) c.before.before.before.before.before.before.before.before.before.before.before.before.before.before.args.work.now c.before.before.before.clear2.ensures)
 
 same-length-2 : tie.Need-same-length-2
-same-length-2 c = c .before .before .clear3 .kept .0 ∙ c .before .before .before .before .before .before .look-through .kept .1 .1 .1 .0 ∙ c .before .before .before .before .before .before .before .before .before .before .clear2 .kept .0
+same-length-2 c = c.before.before.clear3.auto.0 ∙ c.before.before.before.before.before.before.look-through.auto.1.1.1.0 ∙ c.before.before.before.before.before.before.before.before.before.before.clear2.auto.0
 
 returns-3 : tie.Need-returns-3
-returns-3 c = looked-through (c .before .before .before .before .before .before .before .before .before .before .before .before .before .before .before .before .before .before .before .before .before .args .n) (c .before .before .before .before .before .before .before .before .before .before .before .before .before .before .before .before .before .before .before .before .before .args .k) (c .before .before .before .before .before .before .before .before .before .before .before .before .before .before .before .before .before .before .before .before .before .args .m) (c .before .before .before .before .before .before .before .before .before .before .before .before .before .before .before .before .before .before .before .before .before .args .t .now) (c .before .before .before .before .before .before .before .before .before .before .before .before .before .before .before .before .before .before .before .before .before .args .c .now) (c .before .before .before .before .before .before .before .before .before .before .before .before .before .before .before .before .before .before .before .before .before .args .work .now) (record { inputs = c .before .before .before .before .before .before .before .before .before .before .before .before .before .before .before .before .before .before .before .before .before .args .n; cell = c .before .before .before .before .before .before .before .before .before .before .before .before .before .before .before .before .before .before .before .before .before .args .k; cells = c .before .before .before .before .before .before .before .before .before .before .before .before .before .before .before .before .before .before .before .before .before .args .m; rows = c .before .before .before .before .before .before .before .before .before .before .before .before .before .before .before .two-at .result }) (size-is (c .before .before .before .before .before .before .before .before .before .before .before .before .before .before .before .before .before .before .before .before .before .args .n) (c .before .before .before .before .before .before .before .before .before .before .before .before .before .before .before .before .before .before .before .before .before .args .k) (c .before .before .before .before .before .before .before .before .before .before .before .before .before .before .before .before .before .before .before .before .before .args .m) (c .before .before .before .before .before .before .before .before .before .before .before .before .before .before .before .two-at .result) (c .before .before .before .before .before .before .before .before .before .before .before .before .before .before .before .before .before .before .before .before .before .args .t .now) (c .before .before .before .before .before .before .before .before .before .before .before .before .before .before .before .before .before .before .before .before .before .args .c .now) (record { inputs = c .before .before .before .before .before .before .before .before .before .before .before .before .before .before .before .before .before .before .before .before .before .pre .0; cell = c .before .before .before .before .before .before .before .before .before .before .before .before .before .before .before .before .before .before .before .before .before .pre .1; some = c .before .before .before .before .before .before .before .before .before .before .before .before .before .before .before .before .before .before .before .before .before .pre .2; most = c .before .before .before .before .before .before .before .before .before .before .before .before .before .before .before .before .before .before .before .before .before .pre .3; long = c .before .before .before .before .before .before .before .before .before .before .before .before .before .before .before .before .before .before .before .before .before .pre .4 }) (c .before .before .before .before .before .before .before .before .before .before .before .before .before .before .before .two-at .ensures .0) (sym (c .before .before .before .before .before .before .before .before .before .before .before .before .before .before .before .before .before .header-in-order .ensures) ∙ not-false _ (c .before .before .before .before .before .before .before .before .before .before .before .before .before .before .before .before .if1 .left))) (sym (c .before .before .before .before .before .before .before .before .before .before .before .before .before .before .before .before .before .header-in-order .ensures) ∙ not-false _ (c .before .before .before .before .before .before .before .before .before .before .before .before .before .before .before .before .if1 .left)) (c .before .before .before .before .before .before .before .before .before .before .before .before .before .before .all-variables .result) (c .before .before .before .before .before .before .before .before .before .before .before .before .before .before .all-variables .ensures .0) (c .before .before .before .before .before .before .before .before .before .before .before .before .before .is-short .ensures) (c .before .before .before .before .before .before .before .before .before .before .before .before .if2 .left) (c .before .before .before .before .before .before .look-through .ensures) (c .before .before .clear3 .ensures ∙ ap (λ (i : ℕ). replicate i 0) (c .before .before .before .before .before .before .look-through .kept .1 .1 .1 .0 ∙ c .before .before .before .before .before .before .before .before .before .before .clear2 .kept .0))
+returns-3 c = looked-through c.before.before.before.before.before.before.before.before.before.before.before.before.before.before.before.before.before.before.before.before.before.args.n c.before.before.before.before.before.before.before.before.before.before.before.before.before.before.before.before.before.before.before.before.before.args.k c.before.before.before.before.before.before.before.before.before.before.before.before.before.before.before.before.before.before.before.before.before.args.m c.before.before.before.before.before.before.before.before.before.before.before.before.before.before.before.before.before.before.before.before.before.args.t.now c.before.before.before.before.before.before.before.before.before.before.before.before.before.before.before.before.before.before.before.before.before.args.c.now c.before.before.before.before.before.before.before.before.before.before.before.before.before.before.before.before.before.before.before.before.before.args.work.now (record { inputs = c.before.before.before.before.before.before.before.before.before.before.before.before.before.before.before.before.before.before.before.before.before.args.n; cell = c.before.before.before.before.before.before.before.before.before.before.before.before.before.before.before.before.before.before.before.before.before.args.k; cells = c.before.before.before.before.before.before.before.before.before.before.before.before.before.before.before.before.before.before.before.before.before.args.m; rows = c.before.before.before.before.before.before.before.before.before.before.before.before.before.before.before.two_at.result }) (size_is c.before.before.before.before.before.before.before.before.before.before.before.before.before.before.before.before.before.before.before.before.before.args.n c.before.before.before.before.before.before.before.before.before.before.before.before.before.before.before.before.before.before.before.before.before.args.k c.before.before.before.before.before.before.before.before.before.before.before.before.before.before.before.before.before.before.before.before.before.args.m c.before.before.before.before.before.before.before.before.before.before.before.before.before.before.before.two_at.result c.before.before.before.before.before.before.before.before.before.before.before.before.before.before.before.before.before.before.before.before.before.args.t.now c.before.before.before.before.before.before.before.before.before.before.before.before.before.before.before.before.before.before.before.before.before.args.c.now (record { inputs = c.before.before.before.before.before.before.before.before.before.before.before.before.before.before.before.before.before.before.before.before.before.requires.0; cell = c.before.before.before.before.before.before.before.before.before.before.before.before.before.before.before.before.before.before.before.before.before.requires.1; some = c.before.before.before.before.before.before.before.before.before.before.before.before.before.before.before.before.before.before.before.before.before.requires.2; most = c.before.before.before.before.before.before.before.before.before.before.before.before.before.before.before.before.before.before.before.before.before.requires.3; long = c.before.before.before.before.before.before.before.before.before.before.before.before.before.before.before.before.before.before.before.before.before.requires.4 }) c.before.before.before.before.before.before.before.before.before.before.before.before.before.before.before.two_at.ensures.0 (sym c.before.before.before.before.before.before.before.before.before.before.before.before.before.before.before.before.before.header-in-order.ensures ∙ not-false _ c.before.before.before.before.before.before.before.before.before.before.before.before.before.before.before.before.if1.false)) (sym c.before.before.before.before.before.before.before.before.before.before.before.before.before.before.before.before.before.header-in-order.ensures ∙ not-false _ c.before.before.before.before.before.before.before.before.before.before.before.before.before.before.before.before.if1.false) c.before.before.before.before.before.before.before.before.before.before.before.before.before.before.all-variables.result c.before.before.before.before.before.before.before.before.before.before.before.before.before.before.all-variables.ensures.0 c.before.before.before.before.before.before.before.before.before.before.before.before.before.is-short.ensures c.before.before.before.before.before.before.before.before.before.before.before.before.if2.false c.before.before.before.before.before.before.look-through.ensures (c.before.before.clear3.ensures ∙ ap (λ (i : ℕ). replicate i 0) (c.before.before.before.before.before.before.look-through.auto.1.1.1.0 ∙ c.before.before.before.before.before.before.before.before.before.before.clear2.auto.0))
 
 pub look-at-spec : {M : Type 1} → statement M
-look-at-spec = tie.close (tie.spec cast-header-in-order header-in-order-requires (λ c κs. search needs) (λ c κs. search needs)
-    same-length returns two-at-requires all-variables-requires
-    (λ c κs. search needs) (λ c κs. search needs) returns-2 (λ c κs. search needs)
-    look-through-requires (λ c κs. search needs) same-length-2 returns-3)
+look-at-spec = tie.close (tie.spec cast-header-in-order header-in-order-requires (λ c κs. search rules) (λ c κs. search rules)
+    same_length returns two-at-requires all-variables-requires
+    (λ c κs. search rules) (λ c κs. search rules) returns-2 (λ c κs. search rules)
+    look-through-requires (λ c κs. search rules) same-length-2 returns-3)

@@ -1,54 +1,54 @@
 -- `rewrite_form` meets its contract: each return is the first line that holds, or that none does. Assumes nothing.
-use mathlib.Core.Path.{sym, _∙_}
-use mathlib.Core.List.{[], _∷_}
-use Prim.Native.Nat.{_*_, _≤_}
+use mathlib.Core.Path.{sym, ◌∙◌}
+use mathlib.Core.List.{[], ◌∷◌}
+use Prim.Native.Nat.{◌*◌, ◌≤◌}
 use native.Mathlib.Omega.{arith}
 use lib.ListN.{length}
-use borrow.Author.Needs.{needs}
+use borrow.Author.Rules.{rules}
 use borrow.Author.Tests.{lt-ltb, le-ltb}
-use Rattle·tables.specs.Table.{mostInputs}
-use Rattle·sheets.specs.Edition.{mostRecords}
-use Rattle·refusals.specs.Refusals.{badInputs, shortRecords, readSheetLines}
-use Rattle·refusals.proofs.Lines.{here, later, decides, passes}
-use Rattle·refusals.proofs.Tests.{few-inputs}
-use Rattle·rewriting·specs.specs.Rewrite.{rewriteLines}
-use Rattle·rewriting·proofs.proofs.rewrite.rewrite_form.Statement.{statement}
-use Rattle·rewriting·proofs.proofs.rewrite.rewrite_form.Tie as tie
+use Rattle.tables.specs.Table.{mostInputs}
+use Rattle.sheets.specs.Edition.{mostRecords}
+use Rattle.refusals.specs.Refusals.{badInputs, shortRecords, readSheetLines}
+use Rattle.refusals.proofs.Lines.{here, later, decides, passes}
+use Rattle.refusals.proofs.Tests.{few-inputs}
+use Rattle.rewriting.specs.Rewrite.{rewriteLines}
+use Rattle.rewriting.proofs.rewrite.rewrite_form.Statement.{statement}
+use Rattle.rewriting.proofs.rewrite.rewrite_form.Tie as tie
 
 returns : tie.Need-returns
 returns c =
-    let i = c .before in
-    let a = i .before .before .before .before .args in
-    c .refuse .ensures ∙ decides (rewriteLines (a .e) (a .f) (a .d) (a .n) (a .s .now) (a .room .now))
-    (here (sym (i .before .bad-inputs .ensures) ∙ i .if1 .taken))
+    let i = c.before in
+    let a = i.before.before.before.before.args in
+    c.refuse.ensures ∙ decides (rewriteLines a.e a.f a.d a.n a.s.now a.room.now)
+    (here (sym i.before.bad-inputs.ensures ∙ i.if1.true))
 
 returns-2 : tie.Need-returns-2
 returns-2 c =
-    let b = c .before in
-    let i = b .before .before in
-    let a = i .before .before .before .before .args in
-    c .refuse2 .ensures
-    ∙ decides (rewriteLines (a .e) (a .f) (a .d) (a .n) (a .s .now) (a .room .now))
-    (later (sym (i .before .bad-inputs .ensures) ∙ i .if1 .left)
-    (here (lt-ltb (length (a .room .now)) (a .f .size * mostRecords) (b .if2 .taken))))
+    let b = c.before in
+    let i = b.before.before in
+    let a = i.before.before.before.before.args in
+    c.refuse2.ensures
+    ∙ decides (rewriteLines a.e a.f a.d a.n a.s.now a.room.now)
+    (later (sym i.before.bad-inputs.ensures ∙ i.if1.false)
+    (here (lt-ltb (length a.room.now) (a.f.size * mostRecords) b.if2.true)))
 
-few : (c : tie.Else2) → c .before .before .before .before .before .before .args .n ≤ mostInputs
-few c = let i = c .before .before in few-inputs _ (i .before .bad-inputs .ensures) (i .if1 .left)
+few : (c : tie.Else2) → c.before.before.before.before.before.before.args.n ≤ mostInputs
+few c = let i = c.before.before in few-inputs _ i.before.bad-inputs.ensures i.if1.false
 
 returns-3 : tie.Need-returns-3
 returns-3 c =
-    let b = c .before in
-    let i = b .before .before in
-    let a = i .before .before .before .before .args in
-    c .read-sheet .ensures
-    ∙ sym (passes (badInputs (a .n) ∷ shortRecords (a .f) (a .room .now) ∷ [])
-    (readSheetLines (a .e) (a .d) (a .n) (a .s .now)) (
-      sym (i .before .bad-inputs .ensures) ∙ i .if1 .left,
-      (le-ltb (length (a .room .now)) (a .f .size * mostRecords) (b .if2 .left), tt),
+    let b = c.before in
+    let i = b.before.before in
+    let a = i.before.before.before.before.args in
+    c.read-sheet.ensures
+    ∙ sym (passes (badInputs a.n ∷ shortRecords a.f a.room.now ∷ [])
+    (readSheetLines a.e a.d a.n a.s.now) (
+      sym i.before.bad-inputs.ensures ∙ i.if1.false,
+      (le-ltb (length a.room.now) (a.f.size * mostRecords) b.if2.false, tt),
     ))
 
 pub rewrite-form-spec : {M : Type 1} → statement M
 rewrite-form-spec =
-    tie.close (tie.spec (λ c κs. search needs) (λ c κs. search needs) returns (λ c. search needs)
-    (λ c κs. search needs) returns-2 (λ c. omega (arith, few c))
-    (λ c κs. (c .before .before .before .before .before .before .pre .0, few c)) returns-3)
+    tie.close (tie.spec (λ c κs. search rules) (λ c κs. search rules) returns (λ c. search rules)
+    (λ c κs. search rules) returns-2 (λ c. omega (arith, few c))
+    (λ c κs. (c.before.before.before.before.before.before.requires.0, few c)) returns-3)

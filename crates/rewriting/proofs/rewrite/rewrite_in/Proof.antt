@@ -1,57 +1,57 @@
 -- `rewrite_in` meets its contract: a refusal is its lines' verdict, and where these are in order the sheet is good and
 -- the room is long enough. Assumes nothing.
-use mathlib.Core.Path.{_≡_, sym, ap, _∙_}
-use mathlib.Core.List.{List, _++_}
-use Prim.Native.Nat.{ℕ, _*_}
-use native.Mathlib.Nat.{mul-le-mul-left}
+use mathlib.Core.Path.{◌≡◌, sym, ap, ◌∙◌}
+use mathlib.Core.List.{List, ◌++◌}
+use Prim.Native.Nat.{ℕ, ◌*◌}
+use native.Mathlib.Nat.{mul-le-mul_left}
 use native.Mathlib.Omega.{arith}
 use lib.ListN.{length, drop}
-use borrow.Author.Needs.{needs}
+use borrow.Author.Rules.{rules}
 use borrow.Author.Tests.{ltb-false}
-use Rattle·tables.specs.Table.{mostInputs}
-use Rattle·sheets.specs.Edition.{mostRecords}
-use Rattle·sheets.specs.Sheet.{records, sheetCells}
-use Rattle·sheets.proofs.Wiring.{cells-length}
-use Rattle·sheets.proofs.Wholes.{length-sheet}
-use Rattle·refusals.specs.declared.verdicts.Verdict.{Verdict}
-use Rattle·refusals.specs.declared.verdicts.Verdict.the-variants.{Fine}
-use Rattle·refusals.specs.Lines.{reply}
-use Rattle·refusals.proofs.Lines.{in-order}
-use Rattle·refusals.proofs.Tests.{inside}
-use Rattle·refusals.proofs.Sheets.{good-sheet, runnable}
-use Rattle·rewriting·specs.specs.Rewrite.{rewritten, rewriteLines, rewriteDone, rewriteNot, rewriteOutcome}
-use Rattle·rewriting·proofs.proofs.rewrite.rewrite_in.Statement.{statement}
-use Rattle·rewriting·proofs.proofs.rewrite.rewrite_in.Tie as tie
+use Rattle.tables.specs.Table.{mostInputs}
+use Rattle.sheets.specs.Edition.{mostRecords}
+use Rattle.sheets.specs.Sheet.{records, sheetCells}
+use Rattle.sheets.proofs.Wiring.{cells-length}
+use Rattle.sheets.proofs.Wholes.{length-sheet}
+use Rattle.refusals.specs.declared.verdicts.Verdict.{Verdict}
+use Rattle.refusals.specs.declared.verdicts.Verdict.TheVariants.{Fine}
+use Rattle.refusals.specs.Lines.{reply}
+use Rattle.refusals.proofs.Lines.{in_order}
+use Rattle.refusals.proofs.Tests.{inside}
+use Rattle.refusals.proofs.Sheets.{good-sheet, runnable}
+use Rattle.rewriting.specs.Rewrite.{rewritten, rewriteLines, rewriteDone, rewriteNot, rewriteOutcome}
+use Rattle.rewriting.proofs.rewrite.rewrite_in.Statement.{statement}
+use Rattle.rewriting.proofs.rewrite.rewrite_in.Tie as tie
 
 returns : tie.Need-returns
 unfolding rewriteOutcome
 returns c =
-    let f = c .before .before in
-    let a = f .before .before .before .before .args in
-    let e = c .enum-told2 .given .1 in
-    ap (λ (v : Verdict). record { answer = record { verdict = v; count = 0 }; room = a .room .now }) e
-    ∙ ap (λ (v : Verdict). reply v (rewriteDone (a .e) (a .f) (a .d) (a .s .now) (a .room .now))
-    (rewriteNot (a .room .now))) (sym e ∙ f .rewrite-form .ensures)
+    let f = c.before.before in
+    let a = f.before.before.before.before.args in
+    let e = c.enum-told2.given.1 in
+    ap (λ (v : Verdict). record { answer = record { verdict = v; count = 0 }; room = a.room.now }) e
+    ∙ ap (λ (v : Verdict). reply v (rewriteDone a.e a.f a.d a.s.now a.room.now)
+    (rewriteNot a.room.now)) (sym e ∙ f.rewrite-form.ensures)
 
 write-cells-requires : tie.Need-write-cells-requires
 write-cells-requires c κs =
-    let f = c .before .before .before .before in
-    let s = f .before .before .before .before in
-    let a = s .args in
-    let w = in-order (rewriteLines (a .e) (a .f) (a .d) (a .n) (a .s .now) (a .room .now))
-    (sym (f .rewrite-form .ensures) ∙ c .before .before .enum-told .given .1) in
-    let r = runnable (a .e) (a .d) (a .n) (a .s .now) (s .pre .0) (records (a .e) (a .s .now))
-    (inside 1 (a .n) mostInputs (w .0) .1)
-    (good-sheet (a .e) (a .d) (a .n) (a .s .now) (s .pre .0) (w .1 .1 .0, (w .1 .1 .1 .0, tt))) in (
-      (r .0, r .1, r .3, r .4),
+    let f = c.before.before.before.before in
+    let s = f.before.before.before.before in
+    let a = s.args in
+    let w = in_order (rewriteLines a.e a.f a.d a.n a.s.now a.room.now)
+    (sym f.rewrite-form.ensures ∙ c.before.before.enum_told.given.1) in
+    let r = runnable a.e a.d a.n a.s.now s.requires.0 (records a.e a.s.now)
+    (inside 1 a.n mostInputs w.0).1
+    (good-sheet a.e a.d a.n a.s.now s.requires.0 (w.1.1.0, (w.1.1.1.0, tt))) in (
+      (r.0, r.1, r.3, r.4),
       (
-        s .pre .1,
-        s .pre .2,
+        s.requires.1,
+        s.requires.2,
         omega (
           arith,
-          ltb-false (length (a .room .now)) (a .f .size * mostRecords) (w .1 .0),
-          mul-le-mul-left
-              {m = records (a .e) (a .s .now)} {n = mostRecords} (a .f .size) (r .1),
+          ltb-false (length a.room.now) (a.f.size * mostRecords) w.1.0,
+          mul-le-mul_left
+              {m = records a.e a.s.now} {n = mostRecords} a.f.size r.1,
         ),
       ),
     )
@@ -59,21 +59,21 @@ write-cells-requires c κs =
 returns-2 : tie.Need-returns-2
 unfolding rewriteOutcome
 returns-2 c =
-    let r = c .before .before in
-    let f = r .before .before .before .before .before in
-    let a = f .before .before .before .before .args in
-    let m = records (a .e) (a .s .now) in
-    let bytes = rewritten (a .e) (a .f) (a .d) (a .s .now) m in
-    let long : length bytes ≡ a .f .size * m =
-    length-sheet (a .f) (a .d) (sheetCells (a .e) (a .s .now) m)
-    ∙ ap (λ (k : ℕ). a .f .size * k) (cells-length (a .e) (a .s .now) 0 m) in
+    let r = c.before.before in
+    let f = r.before.before.before.before.before in
+    let a = f.before.before.before.before.args in
+    let m = records a.e a.s.now in
+    let bytes = rewritten a.e a.f a.d a.s.now m in
+    let long : length bytes ≡ a.f.size * m =
+    length-sheet a.f a.d (sheetCells a.e a.s.now m)
+    ∙ ap (λ (k : ℕ). a.f.size * k) (cells-length a.e a.s.now 0 m) in
     ap (λ (l : List ℕ). record { answer = record { verdict = Fine; count = m }; room = l })
-    (r .write-cells .ensures ∙ ap (λ (k : ℕ). bytes ++ drop k (a .room .now)) (sym long))
-    ∙ ap (λ (v : Verdict). reply v (rewriteDone (a .e) (a .f) (a .d) (a .s .now) (a .room .now))
-    (rewriteNot (a .room .now)))
-    (sym (r .before .before .before .enum-told .given .1) ∙ f .rewrite-form .ensures)
+    (r.write-cells.ensures ∙ ap (λ (k : ℕ). bytes ++ drop k a.room.now) (sym long))
+    ∙ ap (λ (v : Verdict). reply v (rewriteDone a.e a.f a.d a.s.now a.room.now)
+    (rewriteNot a.room.now))
+    (sym r.before.before.before.enum_told.given.1 ∙ f.rewrite-form.ensures)
 
 pub rewrite-in-spec : {M : Type 1} → statement M
 rewrite-in-spec =
-    tie.close (tie.spec (λ c κs. search needs) (λ c. search needs) (λ c. search needs) (λ c. search needs) returns
-    (λ c. search needs) write-cells-requires (λ c. search needs) returns-2)
+    tie.close (tie.spec (λ c κs. search rules) (λ c. search rules) (λ c. search rules) (λ c. search rules) returns
+    (λ c. search rules) write-cells-requires (λ c. search rules) returns-2)

@@ -1,71 +1,71 @@
 -- `run_form` meets its contract: what lines 1, 9 and 10 refuse, else line 11, else 15. Assumes nothing.
-use mathlib.Core.Path.{_≡_, sym, _∙_}
-use mathlib.Core.List.{List, [], _∷_}
-use Prim.Native.Nat.{_^_, _*_, _%_, _<_, _≤_}
+use mathlib.Core.Path.{◌≡◌, sym, ◌∙◌}
+use mathlib.Core.List.{List, [], ◌∷◌}
+use Prim.Native.Nat.{◌^◌, ◌*◌, ◌%◌, ◌<◌, ◌≤◌}
 use native.Mathlib.Omega.{arith}
-use borrow.Author.Needs.{needs}
+use borrow.Author.Rules.{rules}
 use borrow.Author.Tests.{le-leb, lt-leb}
-use Rattle·bits.proofs.Machine.{shl-one}
-use Rattle·tables.specs.Table.{mostInputs}
-use Rattle·refusals.specs.Lines.{Line, InOrder}
-use Rattle·refusals.specs.Refusals.{badInputs, sheetLines, badAssignment, unreadRecord}
-use Rattle·refusals.proofs.Lines.{here, passes, stopped, goes-on, decided}
-use Rattle·refusals.proofs.Tests.{sheet-through}
-use Rattle·running·proofs.proofs.run_sheet.run_form.Statement.{statement}
-use Rattle·running·proofs.proofs.run_sheet.run_form.Tie as tie
+use Rattle.bits.proofs.Machine.{shl_one}
+use Rattle.tables.specs.Table.{mostInputs}
+use Rattle.refusals.specs.Lines.{Line, InOrder}
+use Rattle.refusals.specs.Refusals.{badInputs, sheetLines, badAssignment, unreadRecord}
+use Rattle.refusals.proofs.Lines.{here, passes, stopped, goes_on, decided}
+use Rattle.refusals.proofs.Tests.{sheet-through}
+use Rattle.running.proofs.run_sheet.run_form.Statement.{statement}
+use Rattle.running.proofs.run_sheet.run_form.Tie as tie
 
 -- after the look at n and the sheet
 module _ (c : tie.After-sheet-for) where
   abbrev start : tie.Start
-  start = c .before .before
+  start = c.before.before
 
   abbrev ls : List Line
-  ls = badInputs (start .args .n) ∷ sheetLines (start .args .e) (start .args .d) (start .args .n) (start .args .s .now)
+  ls = badInputs start.args.n ∷ sheetLines start.args.e start.args.d start.args.n start.args.s.now
 
   abbrev last : List Line
-  last = unreadRecord (start .args .e) (start .args .n) (start .args .s .now) ∷ []
+  last = unreadRecord start.args.e start.args.n start.args.s.now ∷ []
 
   abbrev ms : List Line
-  ms = badAssignment (start .args .n) (start .args .x) ∷ last
+  ms = badAssignment start.args.n start.args.x ∷ last
 
 -- it lets them through
 module _ (c : tie.After-enum-told) where
   abbrev seen : tie.After-sheet-for
-  seen = c .before .before
+  seen = c.before.before
 
-  through : let a = start seen .args
-      in (a .n ≤ mostInputs) × InOrder (sheetLines (a .e) (a .d) (a .n) (a .s .now))
-  through = let a = start seen .args
-      in sheet-through (a .e) (a .d) (a .n) (a .s .now) _ (seen .sheet-for .ensures) (c .enum-told .given .1)
+  through : let a = (start seen).args
+      in (a.n ≤ mostInputs) × InOrder (sheetLines a.e a.d a.n a.s.now)
+  through = let a = (start seen).args
+      in sheet-through a.e a.d a.n a.s.now _ seen.sheet-for.ensures c.enum_told.given.1
 
-  size : 1 * 2 ^ start seen .args .n % 2 ^ 64 ≡ 2 ^ start seen .args .n
-  size = shl-one 64 (start seen .args .n) (omega (arith, through .0))
+  size : 1 * 2 ^ (start seen).args.n % 2 ^ 64 ≡ 2 ^ (start seen).args.n
+  size = shl_one 64 (start seen).args.n (omega (arith, through.0))
 
 returns : tie.Need-returns
-returns c = let l = c .before .before in stopped (ls l) (ms l) _ (l .sheet-for .ensures) (c .enum-told2 .given .0 .0)
-    (c .enum-told2 .given .1)
+returns c = let l = c.before.before in stopped (ls l) (ms l) _ l.sheet-for.ensures c.enum-told2.given.0.0
+    c.enum-told2.given.1
 
 returns-2 : tie.Need-returns-2
 returns-2 c =
-    let t = c .before .before in
+    let t = c.before.before in
     let l = seen t in
-    let a = start l .args in
-    let far : 2 ^ a .n ≤ a .x = omega (arith, c .before .if1 .taken, size t) in
-    c .refuse .ensures ∙ decided (ls l) (ms l) _ (l .sheet-for .ensures) (t .enum-told .given .1)
-    (here (le-leb (2 ^ a .n) (a .x) far))
+    let a = (start l).args in
+    let far : 2 ^ a.n ≤ a.x = omega (arith, c.before.if1.true, size t) in
+    c.refuse.ensures ∙ decided (ls l) (ms l) _ l.sheet-for.ensures t.enum_told.given.1
+    (here (le-leb (2 ^ a.n) a.x far))
 
 returns-3 : tie.Need-returns-3
 returns-3 c =
-    let t = c .before .before in
+    let t = c.before.before in
     let l = seen t in
-    let a = start l .args in
-    let near : a .x < 2 ^ a .n = omega (arith, c .before .if1 .left, size t) in
-    goes-on (ls l) (ms l) _ (l .sheet-for .ensures) (t .enum-told .given .1)
-    (c .all-read .ensures ∙ sym (passes (badAssignment (a .n) (a .x) ∷ []) (last l)
-    (lt-leb (2 ^ a .n) (a .x) near, tt)))
+    let a = (start l).args in
+    let near : a.x < 2 ^ a.n = omega (arith, c.before.if1.false, size t) in
+    goes_on (ls l) (ms l) _ l.sheet-for.ensures t.enum_told.given.1
+    (c.all_read.ensures ∙ sym (passes (badAssignment a.n a.x ∷ []) (last l)
+    (lt-leb (2 ^ a.n) a.x near, tt)))
 
 pub run-form-spec : {M : Type 1} → statement M
 run-form-spec =
-    tie.close (tie.spec (λ c κs. search needs) (λ c. search needs) (λ c. search needs) returns
-    (λ c. omega (arith, through c .0)) (λ c κs. search needs) returns-2 (λ c. omega (arith, through (c .before) .0))
-    (λ c κs. (start (seen (c .before)) .pre, through (c .before) .0, through (c .before) .1)) returns-3)
+    tie.close (tie.spec (λ c κs. search rules) (λ c. search rules) (λ c. search rules) returns
+    (λ c. omega (arith, (through c).0)) (λ c κs. search rules) returns-2 (λ c. omega (arith, (through c.before).0))
+    (λ c κs. ((start (seen c.before)).pre, (through c.before).0, (through c.before).1)) returns-3)

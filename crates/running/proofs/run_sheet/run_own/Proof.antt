@@ -1,15 +1,15 @@
 -- `run_own` meets its contract: the desk handed down is the sheet's own. Assumes nothing.
-use mathlib.Core.Path.{ap, _∙_}
+use mathlib.Core.Path.{ap, ◌∙◌}
 use Prim.Native.Nat.{ℕ}
-use borrow.Author.Needs.{needs}
-use Rattle·running·specs.specs.RunSheet.{runOutcome}
-use Rattle·running·proofs.proofs.run_sheet.run_own.Statement.{statement}
-use Rattle·running·proofs.proofs.run_sheet.run_own.Tie as tie
+use borrow.Author.Rules.{rules}
+use Rattle.running.specs.RunSheet.{runOutcome}
+use Rattle.running.proofs.run_sheet.run_own.Statement.{statement}
+use Rattle.running.proofs.run_sheet.run_own.Tie as tie
 
 returns : tie.Need-returns
 returns c =
-    let a = c .before .before .before .args in
-    c .run-in .ensures ∙ ap (λ (d : ℕ). runOutcome (a .e) d (a .n) (a .s .now) (a .x)) (c .before .desk-of .ensures)
+    let a = c.before.before.before.args in
+    c.run_in.ensures ∙ ap (λ (d : ℕ). runOutcome a.e d a.n a.s.now a.x) c.before.desk-of.ensures
 
 pub run-own-spec : {M : Type 1} → statement M
-run-own-spec = tie.close (tie.spec (λ c κs. search needs) (λ c κs. search needs) returns)
+run-own-spec = tie.close (tie.spec (λ c κs. search rules) (λ c κs. search rules) returns)

@@ -1,47 +1,47 @@
 -- `output_of` meets its contract: inputs 6 and 7 make the number of a word, and the word's bit is the cell's. Assumes
 -- nothing.
-use mathlib.Core.Path.{_≡_, _∙_}
-use Prim.Native.Nat.{_+_, _*_, _<_}
+use mathlib.Core.Path.{◌≡◌, ◌∙◌}
+use Prim.Native.Nat.{◌+◌, ◌*◌, ◌<◌}
 use native.Mathlib.Omega.{arith}
-use mir.Val.{boolByte}
-use borrow.Author.Needs.{needs}
-use Rattle·bits.specs.Numbers.{bit, number}
-use Rattle·bits.proofs.Building.{bool-digit}
-use Rattle·bits.proofs.Numbers.{number-lt}
-use Rattle·sheets.specs.Record.{byteAt}
-use Rattle·runs·specs.specs.Running.{inputAt}
-use Rattle·runs·proofs.proofs.Choosing.{word-there, output-word}
-use Rattle·runs·proofs.proofs.running.output_of.Statement.{statement}
-use Rattle·runs·proofs.proofs.running.output_of.Tie as tie
+use mir.Val.{bool_byte}
+use borrow.Author.Rules.{rules}
+use Rattle.bits.specs.Numbers.{bit, number}
+use Rattle.bits.proofs.Building.{bool-digit}
+use Rattle.bits.proofs.Numbers.{number_lt}
+use Rattle.sheets.specs.Record.{byte_at}
+use Rattle.runs.specs.Running.{input_at}
+use Rattle.runs.proofs.Choosing.{word-there, output-word}
+use Rattle.runs.proofs.running.output_of.Statement.{statement}
+use Rattle.runs.proofs.running.output_of.Tie as tie
 
 -- the number of a word
-high : (c : tie.After-value2) → let a = c .before .before .before .args in
-    boolByte (c .before .value .result) + 2 * boolByte (c .value2 .result)
-    ≡ number 2 (λ j. inputAt (byteAt (a .b .now)) (bit (a .w)) (6 + j))
+high : (c : tie.After-value2) → let a = c.before.before.before.args in
+    bool_byte c.before.value.result + 2 * bool_byte c.value2.result
+    ≡ number 2 (λ j. input_at (byte_at a.b.now) (bit a.w) (6 + j))
 unfolding number
-high c = omega (arith, bool-digit (c .before .value .ensures), bool-digit (c .value2 .ensures))
+high c = omega (arith, bool-digit c.before.value.ensures, bool-digit c.value2.ensures)
 
-few : (c : tie.After-value2) → boolByte (c .before .value .result) + 2 * boolByte (c .value2 .result) < 4
-few c = let a = c .before .before .before .args
-    in omega (arith, high c, number-lt 2 (λ j. inputAt (byteAt (a .b .now)) (bit (a .w)) (6 + j)))
+few : (c : tie.After-value2) → bool_byte c.before.value.result + 2 * bool_byte c.value2.result < 4
+few c = let a = c.before.before.before.args
+    in omega (arith, high c, number_lt 2 (λ j. input_at (byte_at a.b.now) (bit a.w) (6 + j)))
 
 bits-from-requires : tie.Need-bits-from-requires
 bits-from-requires c κs =
-    let q = c .before in
-    let t = q .before .before .before in
-    word-there (t .args .e) (t .args .b .now) (t .pre) (bit (t .args .w)) (high q)
+    let q = c.before in
+    let t = q.before.before.before in
+    word-there t.args.e t.args.b.now t.requires (bit t.args.w) (high q)
 
 returns : tie.Need-returns
 returns c =
-    let q = c .before .before .before in
-    let t = q .before .before .before in
-    let a = t .args in
-    c .halved .ensures
-    ∙ output-word (a .e) (a .b .now) (t .pre) (bit (a .w)) (high q)
-    (c .before .bits-from .result) (c .before .bits-from .ensures)
+    let q = c.before.before.before in
+    let t = q.before.before.before in
+    let a = t.args in
+    c.halved.ensures
+    ∙ output-word a.e a.b.now t.requires (bit a.w) (high q)
+    c.before.bits-from.result c.before.bits-from.ensures
 
 pub output-of-spec : {M : Type 1} → statement M
 output-of-spec =
-    tie.close (tie.spec (λ c κs. search needs) (λ c. search needs) (λ c κs. search needs) (λ c. search needs)
-    (λ c. omega (arith, few c)) (λ c. omega (arith, few c)) (λ c. search needs) (λ c. search needs)
-    (λ c. search needs) (λ c. omega (arith, few (c .before))) bits-from-requires (λ c κs. search needs) returns)
+    tie.close (tie.spec (λ c κs. search rules) (λ c. search rules) (λ c κs. search rules) (λ c. search rules)
+    (λ c. omega (arith, few c)) (λ c. omega (arith, few c)) (λ c. search rules) (λ c. search rules)
+    (λ c. search rules) (λ c. omega (arith, few c.before)) bits-from-requires (λ c κs. search rules) returns)

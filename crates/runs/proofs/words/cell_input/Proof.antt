@@ -1,38 +1,38 @@
 -- `cell_input` meets its contract: the word of the signal that stands at the input's place. Assumes nothing.
-use mathlib.Core.Path.{sym, ap, _∙_}
-use mathlib.Core.Bool.{Bool, _&&_}
-use Prim.Native.Nat.{_+_}
+use mathlib.Core.Path.{sym, ap, ◌∙◌}
+use mathlib.Core.Bool.{Bool, ◌&&◌}
+use Prim.Native.Nat.{◌+◌}
 use native.Mathlib.Omega.{arith}
-use borrow.Author.Needs.{needs}
+use borrow.Author.Rules.{rules}
 use borrow.Author.Tests.{lt-ltb, le-ltb}
-use Rattle·bits.proofs.Numbers.{bit-zero}
-use Rattle·sheets.specs.Record.{byteAt}
-use Rattle·runs·specs.specs.Words.{lane}
-use Rattle·runs·proofs.proofs.words.cell_input.Statement.{statement}
-use Rattle·runs·proofs.proofs.words.cell_input.Tie as tie
+use Rattle.bits.proofs.Numbers.{bit-zero}
+use Rattle.sheets.specs.Record.{byte_at}
+use Rattle.runs.specs.Words.{lane}
+use Rattle.runs.proofs.words.cell_input.Statement.{statement}
+use Rattle.runs.proofs.words.cell_input.Tie as tie
 
 returns : tie.Need-returns
 returns c = λ i.
-    let a = c .before .before .args in
-    let b = byteAt (a .b .now) in
-    bit-zero i ∙ sym (ap (λ (t : Bool). t && lane (a .words .now) i (b (a .j + 1))) (le-ltb (a .j) (b 0) (omega arith)))
+    let a = c.before.before.args in
+    let b = byte_at a.b.now in
+    bit-zero i ∙ sym (ap (λ (t : Bool). t && lane a.words.now i (b (a.j + 1))) (le-ltb a.j (b 0) (omega arith)))
 
-mul-result : tie.Need-mul-result
-mul-result c = omega (arith, c .shared-slice-known2 .given (c .before .before .before .args .j + 1))
+mul-result : tie.Need-overflow-mul-result
+mul-result c = omega (arith, c.shared-slice-known2.given (c.before.before.before.args.j + 1))
 
 shared-slice-read-result : tie.Need-shared-slice-read-result
 shared-slice-read-result c =
-    let t = c .before .before .before .before in
-    omega (arith, t .pre .0 .readable .below (t .args .j) (omega arith))
+    let t = c.before.before.before.before in
+    omega (arith, t.requires.0.readable.below t.args.j (omega arith))
 
 returns-2 : tie.Need-returns-2
 returns-2 c = λ i.
-    let a = c .before .before .before .before .args in
-    let b = byteAt (a .b .now) in
-    sym (ap (λ (t : Bool). t && lane (a .words .now) i (b (a .j + 1))) (lt-ltb (a .j) (b 0) (omega arith)))
+    let a = c.before.before.before.before.args in
+    let b = byte_at a.b.now in
+    sym (ap (λ (t : Bool). t && lane a.words.now i (b (a.j + 1))) (lt-ltb a.j (b 0) (omega arith)))
 
 pub cell-input-spec : {M : Type 1} → statement M
 cell-input-spec =
-    tie.close (tie.spec (λ c. search needs) (λ c. search needs) returns (λ c. search needs) (λ c. search needs)
-    (λ c. omega (arith, c .shared-slice-known2 .given (c .before .before .before .args .j + 1))) mul-result
+    tie.close (tie.spec (λ c. search rules) (λ c. search rules) returns (λ c. search rules) (λ c. search rules)
+    (λ c. omega (arith, c.shared-slice-known2.given (c.before.before.before.args.j + 1))) mul-result
     shared-slice-read-result returns-2)

@@ -1,31 +1,31 @@
 -- `input_word` meets its contract: below 6 the bits of the place, from there on the bits of w. Assumes nothing.
-use mathlib.Core.Path.{sym, _∙_}
+use mathlib.Core.Path.{sym, ◌∙◌}
 use mathlib.Core.Bool.{true, false}
-use Prim.Native.Nat.{_-_}
+use Prim.Native.Nat.{◌-◌}
 use native.Mathlib.Omega.{arith}
-use borrow.Author.Needs.{needs}
-use Rattle·bits.proofs.Machine.{bit-set, bit-clear}
-use Rattle·bits.proofs.Numbers.{none-zero}
-use Rattle·bits.proofs.Sums.{all-ones}
-use Rattle·runs·proofs.proofs.Choosing.{input-low, input-high}
-use Rattle·runs·proofs.proofs.words.input_word.Statement.{statement}
-use Rattle·runs·proofs.proofs.words.input_word.Tie as tie
+use borrow.Author.Rules.{rules}
+use Rattle.bits.proofs.Machine.{bit-set, bit-clear}
+use Rattle.bits.proofs.Numbers.{none-zero}
+use Rattle.bits.proofs.Sums.{all_ones}
+use Rattle.runs.proofs.Choosing.{input-low, input-high}
+use Rattle.runs.proofs.words.input_word.Statement.{statement}
+use Rattle.runs.proofs.words.input_word.Tie as tie
 
 returns : tie.Need-returns
-returns c = let a = c .before .before .args in c .of-input .ensures ∙ input-low (a .j) (a .w) (omega arith)
+returns c = let a = c.before.before.args in c.of-input.ensures ∙ input-low a.j a.w (omega arith)
 
 returns-2 : tie.Need-returns-2
-returns-2 c = let a = c .before .before .args
+returns-2 c = let a = c.before.before.args
     in omega (
       arith,
-      input-high (a .j) (a .w) true (omega arith) (bit-set (a .w) (a .j - 6) (c .if2 .taken)),
-      all-ones
+      input-high a.j a.w true (omega arith) (bit-set a.w (a.j - 6) c.if2.true),
+      all_ones
           64,
     )
 
 returns-3 : tie.Need-returns-3
-returns-3 c = let a = c .before .before .args
-    in sym (input-high (a .j) (a .w) false (omega arith) (bit-clear (a .w) (a .j - 6) (c .if2 .left)) ∙ none-zero 64)
+returns-3 c = let a = c.before.before.args
+    in sym (input-high a.j a.w false (omega arith) (bit-clear a.w (a.j - 6) c.if2.false) ∙ none-zero 64)
 
 pub input-word-spec : {M : Type 1} → statement M
-input-word-spec = tie.close (tie.spec (λ c κs. search needs) returns (λ c. search needs) returns-2 returns-3)
+input-word-spec = tie.close (tie.spec (λ c κs. search rules) returns (λ c. search rules) returns-2 returns-3)

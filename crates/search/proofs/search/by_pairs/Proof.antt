@@ -1,42 +1,42 @@
 -- Where no two inputs can be own there is no split; else the walk finds it. Assumes nothing.
 use mathlib.Core.Path.{sym, ap}
 use native.Mathlib.Omega.{arith}
-use borrow.Author.Needs.{needs}
-use Rattle·tables.specs.Table.{tableBit}
-use Rattle·best.specs.Search.{above}
-use Rattle·search·proofs.proofs.Early.{dead-none}
-use Rattle·search·proofs.proofs.search.by_pairs.Statement.{statement}
-use Rattle·search·proofs.proofs.search.by_pairs.Tie as tie
+use borrow.Author.Rules.{rules}
+use Rattle.tables.specs.Table.{tableBit}
+use Rattle.best.specs.Search.{above}
+use Rattle.search.proofs.Early.{dead-none}
+use Rattle.search.proofs.search.by_pairs.Statement.{statement}
+use Rattle.search.proofs.search.by_pairs.Tie as tie
 
 fill-requires : tie.Need-fill-requires
-fill-requires c κs = let s = c .before .before .before
-    in (s .pre .0, c .before .unknown .ensures (s .args .n) 2 (tableBit (s .args .t .now)))
+fill-requires c κs = let s = c.before.before.before
+    in (s.pre.0, c.before.unknown.ensures s.args.n 2 (tableBit s.args.t.now))
 
 returns : tie.Need-returns
 returns c =
-    let s = c .before .before .before .before .before .before .before .before in
-    sym (ap (above (s .args .n) (s .args .low))
-    (dead-none (s .args .k) _ (s .pre .0 .most) (c .before .before .before .before .fill .ensures)
-    (c .before .all-dead .ensures (c .if1 .taken))))
+    let s = c.before.before.before.before.before.before.before.before in
+    sym (ap (above s.args.n s.args.low)
+    (dead-none s.args.k _ s.requires.0.most c.before.before.before.before.fill.ensures
+    (c.before.all-dead.ensures c.if1.true)))
 
 walk-all-requires : tie.Need-walk-all-requires
 walk-all-requires c κs =
-    let s = c .before .before .before .before .before .before .before .before .before in (
-      (s .pre .0 .most, omega arith, s .pre .0 .long, s .pre .3, s .pre .1),
-      c .before .before .before .before .before .fill .ensures,
+    let s = c.before.before.before.before.before.before.before.before.before in (
+      (s.requires.0.most, omega arith, s.requires.0.long, s.requires.3, s.requires.1),
+      c.before.before.before.before.before.fill.ensures,
     )
 
 pub by-pairs-spec : {M : Type 1} → statement M
 by-pairs-spec =
     tie.close
     (tie.spec
-    (λ c κs. search needs)
-    (λ c. search needs)
-    (λ c. search needs)
+    (λ c κs. search rules)
+    (λ c. search rules)
+    (λ c. search rules)
     fill-requires
-    (λ c. search needs)
-    (λ c κs. search needs)
+    (λ c. search rules)
+    (λ c κs. search rules)
     returns
-    (λ c. search needs)
+    (λ c. search rules)
     walk-all-requires
-    (λ c. search needs))
+    (λ c. search rules))

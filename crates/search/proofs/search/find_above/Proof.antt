@@ -1,50 +1,50 @@
 -- Each way out is one law: too few inputs, no own inputs, the walk. Assumes nothing.
-use mathlib.Core.Path.{sym, ap, _∙_}
-use Prim.Native.Nat.{ℕ, _^_}
+use mathlib.Core.Path.{sym, ap, ◌∙◌}
+use Prim.Native.Nat.{ℕ, ◌^◌}
 use native.Mathlib.Omega.{arith}
-use lib.Pow.{pow-pos}
-use borrow.Author.Needs.{needs}
-use Rattle·tables.specs.Table.{tableBit}
-use Rattle·best.specs.Search.{above, best}
-use Rattle·search·proofs.proofs.Early.{above-small}
-use Rattle·search·proofs.proofs.Taking.{owns-none}
-use Rattle·search·proofs.proofs.search.find_above.Statement.{statement}
-use Rattle·search·proofs.proofs.search.find_above.Tie as tie
+use lib.Pow.{pow_pos}
+use borrow.Author.Rules.{rules}
+use Rattle.tables.specs.Table.{tableBit}
+use Rattle.best.specs.Search.{above, best}
+use Rattle.search.proofs.Early.{above-small}
+use Rattle.search.proofs.Taking.{owns_none}
+use Rattle.search.proofs.search.find_above.Statement.{statement}
+use Rattle.search.proofs.search.find_above.Tie as tie
 
 returns : tie.Need-returns
 returns c =
-    let s = c .before .before in
-    let a = s .args in
-    sym (above-small (a .n) (a .r) (tableBit (a .t .now)) (a .k) (a .low) (s .pre .4) (c .if1 .taken))
+    let s = c.before.before in
+    let a = s.args in
+    sym (above-small a.n a.r (tableBit a.t.now) a.k a.low s.requires.4 c.if1.true)
 
 by-pairs-requires : tie.Need-by-pairs-requires
 by-pairs-requires c κs =
-    let p = c .before .before .before .before .pre in (
-      record { least = c .before .if2 .taken; most = p .0; long = p .2 },
-      omega (arith, c .if3 .taken, p .4),
-      omega (arith, c .before .before .if1 .left),
-      p .3,
+    let p = c.before.before.before.before.requires in (
+      record { least = c.before.if2.true; most = p.0; long = p.2 },
+      omega (arith, c.if3.true, p.4),
+      omega (arith, c.before.before.if1.false),
+      p.3,
     )
 
 returns-2 : tie.Need-returns-2
 returns-2 c =
-    let a = c .before .before .before .before .before .args in
-    c .by-pairs .ensures ∙ ap (λ (r : ℕ). above (a .n) (a .low) (best (a .n) r (tableBit (a .t .now)) (a .k)))
-    (sym (c .before .if3 .taken))
+    let a = c.before.before.before.before.before.args in
+    c.by-pairs.ensures ∙ ap (λ (r : ℕ). above a.n a.low (best a.n r (tableBit a.t.now) a.k))
+    (sym c.before.if3.true)
 
 none-owns-requires : tie.Need-none-owns-requires
-none-owns-requires c κs = let s = c .before .before .before
-    in (s .pre .0, s .pre .1, s .pre .2, s .pre .3, pow-pos (s .args .n), omega arith)
+none-owns-requires c κs = let s = c.before.before.before
+    in (s.pre.0, s.pre.1, s.pre.2, s.pre.3, pow_pos s.args.n, omega arith)
 
 returns-3 : tie.Need-returns-3
 returns-3 c =
-    let a = c .before .before .before .before .before .args in
-    sym (ap (above (a .n) (a .low)) (owns-none (c .before .none-owns .ensures (c .if4 .taken))))
+    let a = c.before.before.before.before.before.args in
+    sym (ap (above a.n a.low) (owns_none (c.before.none-owns.ensures c.if4.true)))
 
 walk-all-requires : tie.Need-walk-all-requires
 walk-all-requires c κs =
-    let s = c .before .before .before .before .before .before .before in
-    (s .pre, c .before .unknown .ensures (s .args .n) (2 ^ s .args .r) (tableBit (s .args .t .now)))
+    let s = c.before.before.before.before.before.before.before in
+    (s.requires, c.before.unknown.ensures s.args.n (2 ^ s.args.r) (tableBit s.args.t.now))
 
 pub find-above-spec : {M : Type 1} → statement M
 find-above-spec =
@@ -53,10 +53,10 @@ find-above-spec =
     returns
     by-pairs-requires
     returns-2
-    (λ c. search needs)
+    (λ c. search rules)
     none-owns-requires
     returns-3
-    (λ c κs. search needs)
-    (λ c. search needs)
+    (λ c κs. search rules)
+    (λ c. search rules)
     walk-all-requires
-    (λ c. search needs))
+    (λ c. search rules))

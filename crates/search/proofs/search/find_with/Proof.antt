@@ -1,21 +1,21 @@
 -- The first candidate, or else the search of all: every split has more than r own inputs. Assumes nothing.
-use mathlib.Core.Path.{sym, ap, _∙_}
-use borrow.Author.Needs.{needs}
-use Rattle·tables.specs.Table.{tableBit}
-use Rattle·best.specs.Answers.{answerOf}
-use Rattle·best.proofs.Best.{above-all}
-use Rattle·search·proofs.proofs.search.find_with.Statement.{statement}
-use Rattle·search·proofs.proofs.search.find_with.Tie as tie
+use mathlib.Core.Path.{sym, ap, ◌∙◌}
+use borrow.Author.Rules.{rules}
+use Rattle.tables.specs.Table.{tableBit}
+use Rattle.best.specs.Answers.{answer_of}
+use Rattle.best.proofs.Best.{above-all}
+use Rattle.search.proofs.search.find_with.Statement.{statement}
+use Rattle.search.proofs.search.find_with.Tie as tie
 
 returns : tie.Need-returns
-returns c = sym (c .before .before .before .first-try .ensures _ _ (ap answerOf (c .before .early .given .1)) .0)
+returns c = sym (c.before.before.before.first-try.ensures _ _ (ap answer_of c.before.early.given.1)).0
 
 returns-2 : tie.Need-returns-2
 returns-2 c =
-    let a = c .before .before .before .before .before .args in
-    c .find-above .ensures ∙ above-all (a .n) (a .r) (tableBit (a .t .now)) (a .k)
+    let a = c.before.before.before.before.before.args in
+    c.find-above.ensures ∙ above-all a.n a.r (tableBit a.t.now) a.k
 
 pub find-with-spec : {M : Type 1} → statement M
 find-with-spec =
     tie.close
-    (tie.spec (λ c κs. search needs) (λ c. search needs) returns (λ c. search needs) (λ c κs. search needs) returns-2)
+    (tie.spec (λ c κs. search rules) (λ c. search rules) returns (λ c. search rules) (λ c κs. search rules) returns-2)

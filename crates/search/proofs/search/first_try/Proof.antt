@@ -1,78 +1,78 @@
 -- No candidate comes before the least mask of k inputs with nothing shared. Assumes nothing.
-use mathlib.Core.Path.{_≡_, refl, sym, ap, _∙_}
-use Prim.Native.Nat.{ℕ, _-_, _*_, _%_, _^_, _<_}
+use mathlib.Core.Path.{◌≡◌, refl, sym, ap, ◌∙◌}
+use Prim.Native.Nat.{ℕ, ◌-◌, ◌*◌, ◌%◌, ◌^◌, ◌<◌}
 use native.Mathlib.Omega.{arith}
-use lib.Pow.{pow-pos, pow-mono}
-use Rattle·bits.specs.Numbers.{bit}
-use Rattle·bits.specs.Sets.{size}
-use Rattle·bits.proofs.Bools.{clash}
-use Rattle·bits.proofs.Numbers.{bit-zero}
-use Rattle·bits.proofs.Machine.{shl-one}
-use Rattle·tables.specs.Table.{tableBit}
-use Rattle·best.specs.Search.{tryB}
-use Rattle·best.proofs.First.{found-none}
-use Rattle·search·proofs.proofs.Early.{first-best}
-use Rattle·search·proofs.proofs.search.first_try.Statement.{statement}
-use Rattle·search·proofs.proofs.search.first_try.Tie as tie
+use lib.Pow.{pow_pos, pow_mono}
+use Rattle.bits.specs.Numbers.{bit}
+use Rattle.bits.specs.Sets.{size}
+use Rattle.bits.proofs.Bools.{clash}
+use Rattle.bits.proofs.Numbers.{bit-zero}
+use Rattle.bits.proofs.Machine.{shl_one}
+use Rattle.tables.specs.Table.{tableBit}
+use Rattle.best.specs.Search.{tryB}
+use Rattle.best.proofs.First.{found_none}
+use Rattle.search.proofs.Early.{first-best}
+use Rattle.search.proofs.search.first_try.Statement.{statement}
+use Rattle.search.proofs.search.first_try.Tie as tie
 
 -- the least mask of k inputs, as the machine makes it
 module _ (c : tie.Else2) where
   k : ℕ
-  k = c .before .before .before .args .k
+  k = c.before.before.before.args.k
 
   all : 1 * 2 ^ k % 4294967296 ≡ 2 ^ k
   unfolding k
-  all = shl-one 32 k (omega (arith, c .before .before .before .pre .0, c .if2 .left))
+  all = shl_one 32 k (omega (arith, c.before.before.before.requires.0, c.if2.false))
 
-  own-lt : 1 * 2 ^ k % 4294967296 - 1 < 2 ^ c .before .before .before .args .n
+  own-lt : 1 * 2 ^ k % 4294967296 - 1 < 2 ^ c.before.before.before.args.n
   unfolding k
   own-lt = omega (
     arith,
     all,
-    pow-pos k,
-    pow-mono {i = k} {j = c .before .before .before .args .n}
-        (omega (arith, c .if2 .left)),
+    pow_pos k,
+    pow_mono {i = k} {j = c.before.before.before.args.n}
+        (omega (arith, c.if2.false)),
   )
 
-sub-attempt : tie.Need-sub-attempt
+sub-attempt : tie.Need-overflow-sub-attempt
 unfolding k
-sub-attempt c = omega (arith, all c, pow-pos (k c))
+sub-attempt c = omega (arith, all c, pow_pos (k c))
 
-cast-attempt : tie.Need-cast-attempt
+cast-attempt : tie.Need-overflow-cast-attempt
 unfolding k
 cast-attempt c = record {
   fits = omega (
     arith,
     own-lt c,
-    pow-mono {i = c .before .before .before .args .n} {j = 16}
-        (c .before .before .before .pre .0),
+    pow_mono {i = c.before.before.before.args.n} {j = 16}
+        c.before.before.before.requires.0,
   );
 }
 
 attempt-requires : tie.Need-attempt-requires
 unfolding k
 attempt-requires c κs =
-    let s = c .before .before .before in
-    ((s .pre .1, s .pre .2), (s .pre .0, own-lt c, pow-pos (s .args .n), λ j l e. absurd (clash e (bit-zero j))))
+    let s = c.before.before.before in
+    ((s.requires.1, s.requires.2), (s.requires.0, own-lt c, pow_pos s.args.n, λ j l e. absurd (clash e (bit-zero j))))
 
 returns-3 : tie.Need-returns-3
 unfolding k
 returns-3 c A B e =
-    let s = c .before .before .before .before in
-    let a = s .args in
-    let F = tableBit (a .t .now) in
-    first-best (a .n) (a .k) (omega (arith, c .before .if2 .left)) (a .r) F
-    (omega (arith, c .before .before .if1 .left)) (size (a .n) (bit 0)) A B
-    (ap (λ (m : ℕ). tryB (a .n) (a .r) F (size (a .n) (bit 0)) (m - 1) 0) (sym (all (c .before)))
-    ∙ sym (c .attempt .ensures) ∙ e)
+    let s = c.before.before.before.before in
+    let a = s.args in
+    let F = tableBit a.t.now in
+    first-best a.n a.k (omega (arith, c.before.if2.false)) a.r F
+    (omega (arith, c.before.before.if1.false)) (size a.n (bit 0)) A B
+    (ap (λ (m : ℕ). tryB a.n a.r F (size a.n (bit 0)) (m - 1) 0) (sym (all c.before))
+    ∙ sym c.attempt.ensures ∙ e)
 
 pub first-try-spec : {M : Type 1} → statement M
 first-try-spec =
     tie.close
     (tie.spec
-    (λ c A B e. absurd (found-none refl e))
-    (λ c A B e. absurd (found-none refl e))
-    (λ c. let s = c .before .before .before in omega (arith, s .pre .0, c .if2 .left))
+    (λ c A B e. absurd (found_none refl e))
+    (λ c A B e. absurd (found_none refl e))
+    (λ c. let s = c.before.before.before in omega (arith, s.requires.0, c.if2.false))
     sub-attempt
     cast-attempt
     attempt-requires

@@ -1,25 +1,25 @@
 -- The cells are put on the sheet in turn. Assumes nothing.
-use mathlib.Core.Path.{refl, _∙_}
-use mathlib.Core.List.{[], _∷_}
+use mathlib.Core.Path.{refl, ◌∙◌}
+use mathlib.Core.List.{[], ◌∷◌}
 use native.Mathlib.Omega.{arith}
-use borrow.Author.Needs.{needs}
-use Rattle·sheets.specs.Held.{cellsOf}
-use Rattle·selectors·proofs.proofs.Piles.{one-more, three-more}
-use Rattle·selectors·proofs.proofs.select.by_three.Statement.{statement}
-use Rattle·selectors·proofs.proofs.select.by_three.Tie as tie
+use borrow.Author.Rules.{rules}
+use Rattle.sheets.specs.Held.{cells_of}
+use Rattle.selectors.proofs.Piles.{one_more, three-more}
+use Rattle.selectors.proofs.select.by_three.Statement.{statement}
+use Rattle.selectors.proofs.select.by_three.Tie as tie
 
 returns : tie.Need-returns
 returns c =
-    let y = c .before .before in
-    let x = y .before .before in
-    let a = x .before .before .args in (
-      one-more (c .with-cell3 .ensures) (one-more (y .with-cell2 .ensures) (one-more (x .with-cell .ensures) refl
-          (x .before .two-cell .ensures)) (y .before .two-cell2 .ensures)) (c .before .two-cell3 .ensures)
-          ∙ three-more (cellsOf (a .sheet)) _ _ _,
-      omega (arith, c .with-cell3 .ensures .count, y .with-cell2 .ensures .count, x .with-cell .ensures .count),
+    let y = c.before.before in
+    let x = y.before.before in
+    let a = x.before.before.args in (
+      one_more c.with-cell3.ensures (one_more y.with-cell2.ensures (one_more x.with_cell.ensures refl
+          x.before.two-cell.ensures) y.before.two-cell2.ensures) c.before.two-cell3.ensures
+          ∙ three-more (cells_of a.sheet) _ _ _,
+      omega (arith, c.with-cell3.ensures.count, y.with-cell2.ensures.count, x.with_cell.ensures.count),
     )
 
 pub by-three-spec : {M : Type 1} → statement M
 by-three-spec =
-    tie.close (tie.spec (λ c κs. search needs) (λ c κs. search needs) (λ c κs. search needs) (λ c κs. search needs)
-    (λ c. search needs) (λ c κs. search needs) (λ c κs. search needs) returns)
+    tie.close (tie.spec (λ c κs. search rules) (λ c κs. search rules) (λ c κs. search rules) (λ c κs. search rules)
+    (λ c. search rules) (λ c κs. search rules) (λ c κs. search rules) returns)

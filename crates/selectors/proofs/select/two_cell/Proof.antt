@@ -1,14 +1,14 @@
 -- Its first two places are its signals. Assumes nothing.
-use borrow.Author.Needs.{needs}
-use Rattle·bits.specs.Lists.{listOf}
-use Rattle·selectors·proofs.proofs.select.two_cell.Statement.{statement}
-use Rattle·selectors·proofs.proofs.select.two_cell.Tie as tie
-use Rattle·selectors·proofs.proofs.select.two_cell.Reads as reads
-use Rattle·selectors·proofs.proofs.select.two_cell.Lts as lts
+use borrow.Author.Rules.{rules}
+use Rattle.bits.specs.Lists.{list_of}
+use Rattle.selectors.proofs.select.two_cell.Statement.{statement}
+use Rattle.selectors.proofs.select.two_cell.Tie as tie
+use Rattle.selectors.proofs.select.two_cell.Reads as reads
+use Rattle.selectors.proofs.select.two_cell.Lts as lts
 
 returns : tie.Need-returns
-unfolding listOf
-returns c = c .word-cell .ensures
+unfolding list_of
+returns c = c.word_cell.ensures
 
 pub two-cell-spec : {M : Type 1} → statement M
-two-cell-spec = tie.close (tie.spec (λ c κs. search needs) returns)
+two-cell-spec = tie.close (tie.spec (λ c κs. search rules) returns)

@@ -1,18 +1,18 @@
 -- The table's number is its one word. Assumes nothing.
 use mathlib.Core.Path.{ap}
-use Prim.Native.Nat.{_<_}
+use Prim.Native.Nat.{◌<◌}
 use native.Mathlib.Omega.{arith}
-use Rattle·selectors·specs.specs.Standing.{wordCell}
-use Rattle·selectors·proofs.proofs.Cells.{one-word}
-use Rattle·selectors·proofs.proofs.select.word_cell.Statement.{statement}
-use Rattle·selectors·proofs.proofs.select.word_cell.Tie as tie
-use Rattle·selectors·proofs.proofs.select.word_cell.Reads as reads
-use Rattle·selectors·proofs.proofs.select.word_cell.Lts as lts
+use Rattle.selectors.specs.Standing.{wordCell}
+use Rattle.selectors.proofs.Cells.{one_word}
+use Rattle.selectors.proofs.select.word_cell.Statement.{statement}
+use Rattle.selectors.proofs.select.word_cell.Tie as tie
+use Rattle.selectors.proofs.select.word_cell.Reads as reads
+use Rattle.selectors.proofs.select.word_cell.Lts as lts
 
 returns : tie.Need-returns
 returns c =
-    let h : c .args .table < 18446744073709551616 = omega arith in
-    ap (wordCell (c .args .k) (c .args .signals)) (one-word (c .args .table) h)
+    let h : c.args.table < 18446744073709551616 = omega arith in
+    ap (wordCell c.args.k c.args.signals) (one_word c.args.table h)
 
 pub word-cell-spec : {M : Type 1} → statement M
 word-cell-spec = tie.close (tie.spec returns)

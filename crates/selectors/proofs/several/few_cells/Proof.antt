@@ -2,12 +2,12 @@
 use mathlib.Core.Path.{refl}
 use native.Mathlib.Omega.{arith}
 use borrow.Author.Tests.{leb-true}
-use Rattle·bits.proofs.Bools.{clash}
-use Rattle·selectors·proofs.proofs.several.few_cells.Statement.{statement}
-use Rattle·selectors·proofs.proofs.several.few_cells.Tie as tie
+use Rattle.bits.proofs.Bools.{clash}
+use Rattle.selectors.proofs.several.few_cells.Statement.{statement}
+use Rattle.selectors.proofs.several.few_cells.Tie as tie
 
 returns : tie.Need-returns
-returns c q = (c .before .if1 .taken, leb-true (c .before .before .args .chain .count) 3 q)
+returns c q = (c.before.if1.true, leb-true c.before.before.args.chain.count 3 q)
 
 returns-2 : tie.Need-returns-2
 returns-2 c q = absurd (clash q refl)

@@ -1,25 +1,25 @@
 -- By K. Assumes nothing.
 use native.Mathlib.Omega.{arith}
-use borrow.Author.Needs.{needs}
-use Rattle·bits.proofs.Bools.{clash}
-use Rattle·selectors·proofs.proofs.Choosing.{near-two, near-three}
-use Rattle·selectors·proofs.proofs.several.is_near.Statement.{statement}
-use Rattle·selectors·proofs.proofs.several.is_near.Tie as tie
+use borrow.Author.Rules.{rules}
+use Rattle.bits.proofs.Bools.{clash}
+use Rattle.selectors.proofs.Choosing.{near-two, near-three}
+use Rattle.selectors.proofs.several.is_near.Statement.{statement}
+use Rattle.selectors.proofs.several.is_near.Tie as tie
 use mathlib.Core.Path.{refl}
 
 returns : tie.Need-returns
-returns c = (λ q. absurd (clash q refl), λ q w. omega (arith, w .more, c .if1 .taken))
+returns c = (λ q. absurd (clash q refl), λ q w. omega (arith, w.more, c.if1.true))
 
 returns-2 : tie.Need-returns-2
 returns-2 c =
-    let a = c .before .before .args in
-    near-two (a .k) (a .many) (omega (arith, c .before .if1 .left)) (c .if2 .taken)
+    let a = c.before.before.args in
+    near-two a.k a.many (omega (arith, c.before.if1.false)) c.if2.true
 
 returns-3 : tie.Need-returns-3
 returns-3 c =
-    let a = c .before .before .args in
-    near-three (a .k) (a .many) (omega (arith, c .before .if1 .left)) (omega (arith, c .if2 .left))
+    let a = c.before.before.args in
+    near-three a.k a.many (omega (arith, c.before.if1.false)) (omega (arith, c.if2.false))
 
 pub is-near-spec : {M : Type 1} → statement M
 is-near-spec =
-    tie.close (tie.spec returns (λ c. search needs) returns-2 (λ c. search needs) returns-3)
+    tie.close (tie.spec returns (λ c. search rules) returns-2 (λ c. search rules) returns-3)

@@ -1,24 +1,24 @@
 -- `settle` meets its contract: the edition handed down is the first, and the desk the sheet's own. Assumes nothing.
-use mathlib.Core.Path.{sym, ap, _∙_, subst}
+use mathlib.Core.Path.{sym, ap, ◌∙◌, subst}
 use Prim.Native.Nat.{ℕ}
-use borrow.Author.Needs.{needs}
-use Rattle·sheets.specs.declared.kinds.Edition.{Edition}
-use Rattle·sheets.specs.Edition.{IsEdition}
-use Rattle·sheets.proofs.Keeping.{first-edition}
-use Rattle·settling·specs.specs.Settle.{settleOutcome, settleOwn}
-use Rattle·settling·proofs.proofs.settle.settle.Statement.{statement}
-use Rattle·settling·proofs.proofs.settle.settle.Tie as tie
+use borrow.Author.Rules.{rules}
+use Rattle.sheets.specs.declared.kinds.Edition.{Edition}
+use Rattle.sheets.specs.Edition.{IsEdition}
+use Rattle.sheets.proofs.Keeping.{first-edition}
+use Rattle.settling.specs.Settle.{settleOutcome, settleOwn}
+use Rattle.settling.proofs.settle.settle.Statement.{statement}
+use Rattle.settling.proofs.settle.settle.Tie as tie
 
 returns : tie.Need-returns
 returns c =
-    let f = c .before .before in
-    let a = f .before .before .args in
-    c .settle-in .ensures
-    ∙ ap (λ (d : ℕ). settleOutcome (f .first .result) d (a .n) (a .s .now) (a .delay) (a .times))
-    (c .before .desk-of .ensures)
-    ∙ ap (λ (e : Edition). settleOwn e (a .n) (a .s .now) (a .delay) (a .times)) (f .first .ensures)
+    let f = c.before.before in
+    let a = f.before.before.args in
+    c.settle-in.ensures
+    ∙ ap (λ (d : ℕ). settleOutcome f.first.result d a.n a.s.now a.delay a.times)
+    c.before.desk-of.ensures
+    ∙ ap (λ (e : Edition). settleOwn e a.n a.s.now a.delay a.times) f.first.ensures
 
 pub settle-spec : {M : Type 1} → statement M
 settle-spec =
-    tie.close (tie.spec (λ c κs. search needs) (λ c κs. subst IsEdition (sym (c .first .ensures)) first-edition)
-    (λ c κs. subst IsEdition (sym (c .before .first .ensures)) first-edition) returns)
+    tie.close (tie.spec (λ c κs. search rules) (λ c κs. subst IsEdition (sym c.first.ensures) first-edition)
+    (λ c κs. subst IsEdition (sym c.before.first.ensures) first-edition) returns)

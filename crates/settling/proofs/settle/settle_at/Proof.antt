@@ -1,32 +1,32 @@
 -- `settle_at` meets its contract: the signals start with the inputs' times. Assumes nothing.
-use mathlib.Core.Path.{ap₂, _∙_, fun-ext}
+use mathlib.Core.Path.{ap₂, ◌∙◌, fun_ext}
 use native.Mathlib.Omega.{arith}
 use Prim.Native.Nat.{ℕ}
 use lib.Ieee.{Float}
-use borrow.Author.Needs.{needs}
-use Rattle·sheets.specs.Sheet.{records, sheetCells}
-use Rattle·times.specs.InputTimes.{zeroTime}
-use Rattle·times.specs.Signals.{keeping, delayed, outputTime, settled}
-use Rattle·settling·proofs.proofs.settle.settle_at.Statement.{statement}
-use Rattle·settling·proofs.proofs.settle.settle_at.Tie as tie
+use borrow.Author.Rules.{rules}
+use Rattle.sheets.specs.Sheet.{records, sheetCells}
+use Rattle.times.specs.InputTimes.{zeroTime}
+use Rattle.times.specs.Signals.{keeping, delayed, outputTime, settled}
+use Rattle.settling.proofs.settle.settle_at.Statement.{statement}
+use Rattle.settling.proofs.settle.settle_at.Tie as tie
 
-div-m : tie.Need-div-m
-div-m c = let t = c .before .before .before in omega (arith, t .pre .0 .sound .ends, t .pre .0 .sound .order)
+div-m : tie.Need-nonzero-div-m
+div-m c = let t = c.before.before.before in omega (arith, t.requires.0.sound.ends, t.requires.0.sound.order)
 
 output-time-requires : tie.Need-output-time-requires
-output-time-requires c κs = let t = c .before .before .before .before
-    in (t .pre .0, t .pre .1, c .before .before .times-of-inputs .ensures .0)
+output-time-requires c κs = let t = c.before.before.before.before
+    in (t.pre.0, t.pre.1, c.before.before.times-of-inputs.ensures.0)
 
 returns : tie.Need-returns
 unfolding settled
 returns c =
-    let i = c .before .before .before in
-    let a = i .before .before .args in
-    c .output-time .ensures
-    ∙ ap₂ (λ (d : Float) (v : ℕ → Float). outputTime (keeping (a .late)) (delayed d) zeroTime (a .n)
-    (sheetCells (a .e) (a .s .now) (records (a .e) (a .s .now))) v)
-    (c .before .plain-zero .ensures) (fun-ext (i .times-of-inputs .ensures .1))
+    let i = c.before.before.before in
+    let a = i.before.before.args in
+    c.output-time.ensures
+    ∙ ap₂ (λ (d : Float) (v : ℕ → Float). outputTime (keeping a.late) (delayed d) zeroTime a.n
+    (sheetCells a.e a.s.now (records a.e a.s.now)) v)
+    c.before.plain-zero.ensures (fun_ext i.times-of-inputs.ensures.1)
 
 pub settle-at-spec : {M : Type 1} → statement M
 settle-at-spec =
-    tie.close (tie.spec (λ c κs. search needs) div-m (λ c κs. search needs) output-time-requires returns)
+    tie.close (tie.spec (λ c κs. search rules) div-m (λ c κs. search rules) output-time-requires returns)

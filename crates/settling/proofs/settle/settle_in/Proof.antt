@@ -1,66 +1,66 @@
 -- `settle_in` meets its contract: a refusal is its lines' verdict, and where these are in order the sheet is good and
 -- its times can be found. Assumes nothing.
-use mathlib.Core.Path.{sym, ap, ap₂, _∙_}
+use mathlib.Core.Path.{sym, ap, ap₂, ◌∙◌}
 use native.Mathlib.Omega.{arith}
-use lib.Ieee.{Float, ofBits}
-use borrow.Author.Needs.{needs}
-use Rattle·sheets.specs.Sheet.{records}
-use Rattle·times.specs.InputTimes.{zeroTime}
-use Rattle·refusals.specs.declared.verdicts.Verdict.{Verdict}
-use Rattle·refusals.specs.declared.verdicts.Verdict.the-variants.{Fine}
-use Rattle·refusals.specs.Lines.{verdict, reply}
-use Rattle·refusals.proofs.Lines.{in-order}
-use Rattle·settling·specs.specs.Settle.{settleLines, settleDone, settleNot, settleOutcome}
-use Rattle·settling·proofs.proofs.Kept.{Leaves, leaves, good-timed}
-use Rattle·settling·proofs.proofs.settle.settle_in.Statement.{statement}
-use Rattle·settling·proofs.proofs.settle.settle_in.Tie as tie
+use lib.Ieee.{Float, of_bits}
+use borrow.Author.Rules.{rules}
+use Rattle.sheets.specs.Sheet.{records}
+use Rattle.times.specs.InputTimes.{zeroTime}
+use Rattle.refusals.specs.declared.verdicts.Verdict.{Verdict}
+use Rattle.refusals.specs.declared.verdicts.Verdict.TheVariants.{Fine}
+use Rattle.refusals.specs.Lines.{verdict, reply}
+use Rattle.refusals.proofs.Lines.{in_order}
+use Rattle.settling.specs.Settle.{settleLines, settleDone, settleNot, settleOutcome}
+use Rattle.settling.proofs.Kept.{Leaves, leaves, good-timed}
+use Rattle.settling.proofs.settle.settle_in.Statement.{statement}
+use Rattle.settling.proofs.settle.settle_in.Tie as tie
 
 returns : tie.Need-returns
-unfolding settleOutcome ofBits
+unfolding settleOutcome of_bits
 returns c =
-    let f = c .before .before in
-    let a = f .before .before .args in
-    let e = c .enum-told2 .given .1 in
+    let f = c.before.before in
+    let a = f.before.before.args in
+    let e = c.enum-told2.given.1 in
     ap (λ (v : Verdict). record { verdict = v; earliest = zeroTime; latest = zeroTime }) e
-    ∙ ap (λ (v : Verdict). reply v (settleDone (a .e) (a .n) (a .s .now) (a .delay) (a .times)) settleNot)
-    (sym e ∙ f .settle-form .ensures)
+    ∙ ap (λ (v : Verdict). reply v (settleDone a.e a.n a.s.now a.delay a.times) settleNot)
+    (sym e ∙ f.settle-form.ensures)
 
 -- what the lines leave
-left : (c : tie.After-enum-told) → let a = c .before .before .before .before .args
-    in Leaves (a .e) (a .d) (a .n) (a .s .now) (a .delay) (a .times)
+left : (c : tie.After-enum-told) → let a = c.before.before.before.before.args
+    in Leaves a.e a.d a.n a.s.now a.delay a.times
 left c =
-    let f = c .before .before in
-    let t = f .before .before in
-    let a = t .args in
-    leaves (a .e) (t .pre) (a .d) (a .n) (a .s .now) (a .delay) (a .times)
-    (in-order (settleLines (a .e) (a .d) (a .n) (a .s .now) (a .delay) (a .times))
-    (sym (f .settle-form .ensures) ∙ c .enum-told .given .1))
+    let f = c.before.before in
+    let t = f.before.before in
+    let a = t.args in
+    leaves a.e t.requires a.d a.n a.s.now a.delay a.times
+    (in_order (settleLines a.e a.d a.n a.s.now a.delay a.times)
+    (sym f.settle-form.ensures ∙ c.enum_told.given.1))
 
-cast-inputs : tie.Need-cast-inputs
-cast-inputs c = omega (arith, left c .inputs)
+cast-inputs : tie.Need-overflow-cast-inputs
+cast-inputs c = omega (arith, (left c).inputs)
 
 settle-at-requires : tie.Need-settle-at-requires
 settle-at-requires c κs =
-    let t = c .before .before .before .before in
-    let a = t .args in
+    let t = c.before.before.before.before in
+    let a = t.args in
     let l = left c in
-    (good-timed (a .e) (t .pre) (a .d) (a .n) (a .s .now) (records (a .e) (a .s .now)) (l .inputs) (l .good), l .inputs)
+    (good-timed a.e t.requires a.d a.n a.s.now (records a.e a.s.now) l.inputs l.good, l.inputs)
 
 settle-at-requires-2 : tie.Need-settle-at-requires-2
-settle-at-requires-2 c κs = settle-at-requires (c .before) κs
+settle-at-requires-2 c κs = settle-at-requires c.before κs
 
 returns-2 : tie.Need-returns-2
 unfolding settleOutcome
 returns-2 c =
-    let m = c .before .before in
-    let f = m .before .before in
-    let a = f .before .before .args in
-    ap₂ (λ (x y : Float). record { verdict = Fine; earliest = x; latest = y }) (c .before .settle-at .ensures)
-    (c .settle-at2 .ensures)
-    ∙ ap (λ (v : Verdict). reply v (settleDone (a .e) (a .n) (a .s .now) (a .delay) (a .times)) settleNot)
-    (sym (m .enum-told .given .1) ∙ f .settle-form .ensures)
+    let m = c.before.before in
+    let f = m.before.before in
+    let a = f.before.before.args in
+    ap₂ (λ (x y : Float). record { verdict = Fine; earliest = x; latest = y }) c.before.settle-at.ensures
+    c.settle-at2.ensures
+    ∙ ap (λ (v : Verdict). reply v (settleDone a.e a.n a.s.now a.delay a.times) settleNot)
+    (sym m.enum_told.given.1 ∙ f.settle-form.ensures)
 
 pub settle-in-spec : {M : Type 1} → statement M
 settle-in-spec =
-    tie.close (tie.spec (λ c κs. search needs) (λ c. search needs) (λ c. search needs) returns cast-inputs
+    tie.close (tie.spec (λ c κs. search rules) (λ c. search rules) (λ c. search rules) returns cast-inputs
     settle-at-requires settle-at-requires-2 returns-2)

@@ -1,23 +1,23 @@
 -- `slack_form` meets its contract: line 14, test by test. Assumes nothing.
-use mathlib.Core.Path.{_≡_, refl, sym, ap, _∙_}
-use mathlib.Core.Bool.{Bool, cond, not, _&&_}
-use mathlib.Core.List.{List, [], _∷_}
+use mathlib.Core.Path.{◌≡◌, refl, sym, ap, ◌∙◌}
+use mathlib.Core.Bool.{Bool, cond, not, ◌&&◌}
+use mathlib.Core.List.{List, [], ◌∷◌}
 use Prim.Native.Nat.{ℕ}
 use lib.IntN.{ℤ}
 use lib.Ieee.{Float}
-use mir.Facts.{toZ-ofZ}
-use borrow.Author.Needs.{needs}
+use mir.Facts.{to_z-of_z}
+use borrow.Author.Rules.{rules}
 use borrow.Author.Tests.{not-true, not-false}
-use Rattle·bits.specs.Below.{every}
-use Rattle·times.specs.declared.input_time.InputTime.{InputTime}
-use Rattle·times.specs.InputTimes.{timeAt}
-use Rattle·times.specs.Sixteenths.{inSixteenths, timeInSixteenths, deadlineOk}
-use Rattle·refusals.specs.declared.verdicts.Verdict.{Verdict}
-use Rattle·refusals.specs.declared.verdicts.Verdict.the-variants.{Fine, Refused}
-use Rattle·refusals.specs.Lines.{refusal, verdict}
-use Rattle·settling·specs.specs.Refusals.{badSlack}
-use Rattle·settling·proofs.proofs.slack.slack_form.Statement.{statement}
-use Rattle·settling·proofs.proofs.slack.slack_form.Tie as tie
+use Rattle.bits.specs.Below.{every}
+use Rattle.times.specs.declared.input_time.InputTime.{InputTime}
+use Rattle.times.specs.InputTimes.{timeAt}
+use Rattle.times.specs.Sixteenths.{inSixteenths, timeInSixteenths, deadlineOk}
+use Rattle.refusals.specs.declared.verdicts.Verdict.{Verdict}
+use Rattle.refusals.specs.declared.verdicts.Verdict.TheVariants.{Fine, Refused}
+use Rattle.refusals.specs.Lines.{refusal, verdict}
+use Rattle.settling.specs.Refusals.{badSlack}
+use Rattle.settling.proofs.slack.slack_form.Statement.{statement}
+use Rattle.settling.proofs.slack.slack_form.Tie as tie
 
 -- 14 unless all three tests hold
 given : Bool → Verdict
@@ -35,51 +35,51 @@ module _ (n : ℕ) (delay : Float) (ts : List InputTime) (deadline : ℤ) where
 returns : tie.Need-returns
 unfolding given
 returns c =
-    let i = c .before in
-    let a = i .before .before .args in
-    c .refuse .ensures ∙ by (a .n) (a .delay) (a .times) (a .deadline) _ _ _
-    (sym (i .before .in-sixteenths .ensures) ∙ not-true _ (i .if1 .taken)) refl refl
+    let i = c.before in
+    let a = i.before.before.args in
+    c.refuse.ensures ∙ by a.n a.delay a.times a.deadline _ _ _
+    (sym i.before.in-sixteenths.ensures ∙ not-true _ i.if1.true) refl refl
 
 returns-2 : tie.Need-returns-2
 unfolding given
 returns-2 c =
-    let j = c .before in
-    let i = j .before .before in
-    let a = i .before .before .args in
-    c .refuse2 .ensures
-    ∙ by (a .n) (a .delay) (a .times) (a .deadline) _ _ _
-    (sym (i .before .in-sixteenths .ensures) ∙ not-false _ (i .if1 .left))
-    (sym (j .before .inputs-in-sixteenths .ensures) ∙ not-true _ (j .if2 .taken)) refl
+    let j = c.before in
+    let i = j.before.before in
+    let a = i.before.before.args in
+    c.refuse2.ensures
+    ∙ by a.n a.delay a.times a.deadline _ _ _
+    (sym i.before.in-sixteenths.ensures ∙ not-false _ i.if1.false)
+    (sym j.before.inputs-in-sixteenths.ensures ∙ not-true _ j.if2.true) refl
 
 returns-3 : tie.Need-returns-3
 unfolding given
 returns-3 c =
-    let k = c .before in
-    let j = k .before .before in
-    let i = j .before .before in
-    let a = i .before .before .args in
-    c .refuse3 .ensures
-    ∙ by (a .n) (a .delay) (a .times) (a .deadline) _ _ _
-    (sym (i .before .in-sixteenths .ensures) ∙ not-false _ (i .if1 .left))
-    (sym (j .before .inputs-in-sixteenths .ensures) ∙ not-false _ (j .if2 .left))
-    (ap deadlineOk (sym (toZ-ofZ (i .before .before .fits .deadline))) ∙ sym (k .before .deadline-ok .ensures)
-    ∙ not-true _ (k .if3 .taken))
+    let k = c.before in
+    let j = k.before.before in
+    let i = j.before.before in
+    let a = i.before.before.args in
+    c.refuse3.ensures
+    ∙ by a.n a.delay a.times a.deadline _ _ _
+    (sym i.before.in-sixteenths.ensures ∙ not-false _ i.if1.false)
+    (sym j.before.inputs-in-sixteenths.ensures ∙ not-false _ j.if2.false)
+    (ap deadlineOk (sym (to_z-of_z i.before.before.ranges.deadline)) ∙ sym k.before.deadline-ok.ensures
+    ∙ not-true _ k.if3.true)
 
 returns-4 : tie.Need-returns-4
 unfolding given
 returns-4 c =
-    let j = c .before .before in
-    let i = j .before .before in
-    let a = i .before .before .args in
-    by (a .n) (a .delay) (a .times) (a .deadline) _ _ _
-    (sym (i .before .in-sixteenths .ensures) ∙ not-false _ (i .if1 .left))
-    (sym (j .before .inputs-in-sixteenths .ensures) ∙ not-false _ (j .if2 .left))
-    (ap deadlineOk (sym (toZ-ofZ (i .before .before .fits .deadline))) ∙ sym (c .before .deadline-ok .ensures)
-    ∙ not-false _ (c .if3 .left))
+    let j = c.before.before in
+    let i = j.before.before in
+    let a = i.before.before.args in
+    by a.n a.delay a.times a.deadline _ _ _
+    (sym i.before.in-sixteenths.ensures ∙ not-false _ i.if1.false)
+    (sym j.before.inputs-in-sixteenths.ensures ∙ not-false _ j.if2.false)
+    (ap deadlineOk (sym (to_z-of_z i.before.before.ranges.deadline)) ∙ sym c.before.deadline-ok.ensures
+    ∙ not-false _ c.if3.false)
 
 pub slack-form-spec : {M : Type 1} → statement M
 slack-form-spec =
-    tie.close (tie.spec (λ c κs. c .pre .1) (λ c κs. search needs) returns
-    (λ c κs. (c .before .before .pre .0, c .before .before .pre .2)) (λ c κs. search needs) returns-2
-    (λ c κs. search needs)
-    (λ c κs. search needs) returns-3 returns-4)
+    tie.close (tie.spec (λ c κs. c.requires.1) (λ c κs. search rules) returns
+    (λ c κs. (c.before.before.requires.0, c.before.before.requires.2)) (λ c κs. search rules) returns-2
+    (λ c κs. search rules)
+    (λ c κs. search rules) returns-3 returns-4)

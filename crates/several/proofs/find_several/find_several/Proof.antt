@@ -1,77 +1,77 @@
 -- `find_several` meets its contract: what form and room refuse, else what the search finds. Assumes nothing.
-use mathlib.Core.Path.{_≡_, refl, ap, _∙_}
+use mathlib.Core.Path.{◌≡◌, refl, ap, ◌∙◌}
 use mathlib.Core.List.{List}
 use Prim.Native.Nat.{ℕ}
 use native.Mathlib.Omega.{arith}
-use borrow.Author.Needs.{needs}
-use Rattle·sheets.specs.declared.kinds.Edition.{Edition}
-use Rattle·sheets.specs.Edition.{firstEdition}
-use Rattle·refusals.specs.declared.verdicts.Verdict.{Verdict}
-use Rattle·refusals.specs.declared.verdicts.Verdict.the-variants.{Fine}
-use Rattle·refusals.specs.Lines.{Line, verdict}
-use Rattle·refusals.proofs.Lines.{left-to}
-use Rattle·refusals.proofs.Refusing.{form-refuses}
-use Rattle·finding.specs.FindBest.{findForm}
-use Rattle·finding.proofs.Ready.{Ready, ready}
-use Rattle·several·specs.specs.declared.find_several.FindSeveralAnswer.{FindSeveralAnswer}
-use Rattle·several·specs.specs.FindSeveral.{bestSeveral, severalSays, severalDone, severalNot, findSeveralOutcome}
-use Rattle·several·proofs.proofs.find_several.find_several.Statement.{statement}
-use Rattle·several·proofs.proofs.find_several.find_several.Tie as tie
+use borrow.Author.Rules.{rules}
+use Rattle.sheets.specs.declared.kinds.Edition.{Edition}
+use Rattle.sheets.specs.Edition.{firstEdition}
+use Rattle.refusals.specs.declared.verdicts.Verdict.{Verdict}
+use Rattle.refusals.specs.declared.verdicts.Verdict.TheVariants.{Fine}
+use Rattle.refusals.specs.Lines.{Line, verdict}
+use Rattle.refusals.proofs.Lines.{left-to}
+use Rattle.refusals.proofs.Refusing.{form-refuses}
+use Rattle.finding.specs.FindBest.{findForm}
+use Rattle.finding.proofs.Ready.{Ready, ready}
+use Rattle.several.specs.declared.find_several.FindSeveralAnswer.{FindSeveralAnswer}
+use Rattle.several.specs.FindSeveral.{bestSeveral, severalSays, severalDone, severalNot, findSeveralOutcome}
+use Rattle.several.proofs.find_several.find_several.Statement.{statement}
+use Rattle.several.proofs.find_several.find_several.Tie as tie
 
 -- the form is that of the first edition
 module _ (c : tie.After-find-form) where
   abbrev g : tie.Start
-  g = c .before .before .before .before .before
+  g = c.before.before.before.before.before
 
   abbrev ls : List Line
-  ls = findForm firstEdition (g .args .n) (g .args .k) (g .args .t .now) (g .args .work .now)
+  ls = findForm firstEdition g.args.n g.args.k g.args.t.now g.args.work.now
 
-  told : c .find-form .result ≡ verdict ls
+  told : c.find-form.result ≡ verdict ls
   told =
-      c .find-form .ensures
-      ∙ ap (λ (e : Edition). verdict (findForm e (g .args .n) (g .args .k) (g .args .t .now) (g .args .work .now)))
-      (c .before .before .first .ensures)
+      c.find-form.ensures
+      ∙ ap (λ (e : Edition). verdict (findForm e g.args.n g.args.k g.args.t.now g.args.work.now))
+      c.before.before.first.ensures
 
   -- both are in order
-  through : c .find-form .result ≡ Fine
-      → Ready firstEdition (g .args .n) (g .args .k) (g .args .t .now) (g .args .work .now)
-  through = ready firstEdition (g .args .n) (g .args .k) (g .args .t .now) (g .args .work .now) (c .find-form .result)
+  through : c.find-form.result ≡ Fine
+      → Ready firstEdition g.args.n g.args.k g.args.t.now g.args.work.now
+  through = ready firstEdition g.args.n g.args.k g.args.t.now g.args.work.now c.find-form.result
       told
 
 returns : tie.Need-returns
 unfolding findSeveralOutcome
 returns c =
-    let o = c .before in
-    let f = o .before .before in
-    let a = g f .args in
-    ap (λ (x : FindSeveralAnswer). record { answer = x; work = a .work .now }) (c .without .ensures)
-    ∙ form-refuses (ls f) (severalSays (a .n) (a .k) (a .t .now))
-    (severalDone (bestSeveral (a .n) (a .k) (a .t .now)) (a .work .now)) (λ (v : Verdict) (l : List ℕ). record {
+    let o = c.before in
+    let f = o.before.before in
+    let a = (g f).args in
+    ap (λ (x : FindSeveralAnswer). record { answer = x; work = a.work.now }) c.without.ensures
+    ∙ form-refuses (ls f) (severalSays a.n a.k a.t.now)
+    (severalDone (bestSeveral a.n a.k a.t.now) a.work.now) (λ (v : Verdict) (l : List ℕ). record {
       answer = record { verdict = v; first = 0; own = 0; shared = 0 };
       work = l;
-    }) (a .work .now) refl (f .find-form .result) (o .enum-told2 .given .0 .0) (told f) (o .enum-told2 .given .1)
+    }) a.work.now refl f.find-form.result o.enum-told2.given.0.0 (told f) o.enum-told2.given.1
 
 search-requires : tie.Need-search-requires
 search-requires c κs =
-    let w = through (c .before .before .before) (c .before .enum-told .given .1) in
-    (w .gate .most, omega (arith, w .gate .largest), w .gate .long, w .area)
+    let w = through c.before.before.before c.before.enum_told.given.1 in
+    (w.gate.most, omega (arith, w.gate.largest), w.gate.long, w.area)
 
 returns-2 : tie.Need-returns-2
 unfolding findSeveralOutcome
 returns-2 c =
-    let r = c .before .before in
-    let o = r .before .before in
-    let f = o .before .before in
-    let a = g f .args in
-    r .search .ensures
-    ∙ left-to (ls f) (severalSays (a .n) (a .k) (a .t .now))
-    (severalDone (bestSeveral (a .n) (a .k) (a .t .now)) (a .work .now)) (severalNot (a .work .now))
-    (f .find-form .result) (told f) (o .enum-told .given .1)
+    let r = c.before.before in
+    let o = r.before.before in
+    let f = o.before.before in
+    let a = (g f).args in
+    r.search.ensures
+    ∙ left-to (ls f) (severalSays a.n a.k a.t.now)
+    (severalDone (bestSeveral a.n a.k a.t.now) a.work.now) (severalNot a.work.now)
+    f.find-form.result (told f) o.enum_told.given.1
 
 pub find-several-spec : {M : Type 1} → statement M
 find-several-spec =
-    tie.close (tie.spec (λ c κs. search needs) (λ c κs. search needs) (λ c. search needs) (λ c. search needs)
-    (λ c κs. search needs) (λ c. search needs) returns
-    (λ c. omega (arith, through (c .before .before) (c .enum-told .given .1) .gate .most))
-    (λ c. omega (arith, through (c .before .before) (c .enum-told .given .1) .gate .largest)) search-requires
-    (λ c. search needs) returns-2)
+    tie.close (tie.spec (λ c κs. search rules) (λ c κs. search rules) (λ c. search rules) (λ c. search rules)
+    (λ c κs. search rules) (λ c. search rules) returns
+    (λ c. omega (arith, (through c.before.before c.enum_told.given.1).gate.most))
+    (λ c. omega (arith, (through c.before.before c.enum_told.given.1).gate.largest)) search-requires
+    (λ c. search rules) returns-2)

@@ -1,80 +1,80 @@
 -- `store_h` meets its contract. The loop's invariant: the bytes passed are H's. Assumes nothing.
-use mathlib.Core.Path.{_≡_, refl, sym, ap, _∙_, subst}
-use mathlib.Core.Bool.{Bool, _&&_}
-use mathlib.Core.List.{List, _++_}
-use Prim.Native.Nat.{ℕ, _-_, _^_, _≤_}
+use mathlib.Core.Path.{◌≡◌, refl, sym, ap, ◌∙◌, subst}
+use mathlib.Core.Bool.{Bool, ◌&&◌}
+use mathlib.Core.List.{List, ◌++◌}
+use Prim.Native.Nat.{ℕ, ◌-◌, ◌^◌, ◌≤◌}
 use native.Mathlib.Omega.{arith}
 use lib.Dec.{ltb}
 use lib.ListN.{length, drop, length-set}
-use lib.Pow.{pow-mono}
-use borrow.Author.Needs.{needs}
-use Rattle·bits.specs.Numbers.{bit}
-use Rattle·bits.specs.Lists.{listOf}
-use Rattle·tables.specs.Table.{tableLength, tableBit, bytesOf, tableOf}
-use Rattle·tables.proofs.Bytes.{written-more, length-bytes}
-use Rattle·columns.specs.declared.split.Split.{Split}
-use Rattle·splits.specs.Columns.{mostFirst}
-use Rattle·splits.specs.Pair.{inputsH, bitH, bytesH}
-use Rattle·columns.specs.Reading.{Chart}
-use Rattle·charts.proofs.Charting.{power}
-use Rattle·splitting·proofs.proofs.filling.store_h.Statement.{statement}
-use Rattle·splitting·proofs.proofs.filling.store_h.Tie as tie
+use lib.Pow.{pow_mono}
+use borrow.Author.Rules.{rules}
+use Rattle.bits.specs.Numbers.{bit}
+use Rattle.bits.specs.Lists.{list_of}
+use Rattle.tables.specs.Table.{tableLength, tableBit, bytes_of, table_of}
+use Rattle.tables.proofs.Bytes.{written-more, length-bytes}
+use Rattle.columns.specs.declared.split.Split.{Split}
+use Rattle.splits.specs.Columns.{mostFirst}
+use Rattle.splits.specs.Pair.{inputsH, bitH, bytesH}
+use Rattle.columns.specs.Reading.{Chart}
+use Rattle.charts.proofs.Charting.{power}
+use Rattle.splitting.proofs.filling.store_h.Statement.{statement}
+use Rattle.splitting.proofs.filling.store_h.Tie as tie
 
 -- H's bits, spare bits zero
 abbrev bits : List ℕ → Split → ℕ → ℕ → Bool
 bits t s r x =
-    ltb x (2 ^ inputsH (s .n) (tableBit t) (bit (s .own)) (bit (s .shared)) r)
-    && bitH (s .n) (tableBit t) (bit (s .own)) (bit (s .shared)) x
+    ltb x (2 ^ inputsH s.n (tableBit t) (bit s.own) (bit s.shared) r)
+    && bitH s.n (tableBit t) (bit s.own) (bit s.shared) x
 
-abbrev Inv-loop : tie.InvT-loop
-Inv-loop t s r seen end room₀ limit i₀ room i = (i ≤ end) × (length room ≡ length room₀)
-    × (room ≡ bytesOf i (bits t s r) ++ drop i room₀)
+abbrev invariant-loop : tie.invariant-loop
+invariant-loop t s r seen end room₀ limit i₀ room i = (i ≤ end) × (length room ≡ length room₀)
+    × (room ≡ bytes_of i (bits t s r) ++ drop i room₀)
 
-abbrev μ-loop : tie.MeasureT-loop
-μ-loop t s r seen end room₀ limit i₀ room i = end - i
+abbrev decreases-loop : tie.decreases-loop
+decreases-loop t s r seen end room₀ limit i₀ room i = end - i
 
-loop-holds : tie.Need-loop-holds Inv-loop μ-loop
-unfolding listOf
+loop-holds : tie.Need-loop-init invariant-loop decreases-loop
+unfolding list_of
 loop-holds c = (omega arith, refl, refl)
 
-h-byte-requires : tie.Need-h-byte-requires Inv-loop μ-loop
+h-byte-requires : tie.Need-h-byte-requires invariant-loop decreases-loop
 h-byte-requires c κs =
-    let g = c .before .before .before .before .before in
-    let p = g .pre .0 in
-    let e = sym (power (p .3)) in (
-      p .0,
-      p .1,
-      subst (λ (m : ℕ). Chart (g .args .s) (tableBit (g .args .t .now)) m (g .args .seen .now)) (sym e) (p .2),
-      omega (arith, e, pow-mono {i = g .args .r} {j = mostFirst} (p .3)),
+    let g = c.before.before.before.before.before in
+    let p = g.requires.0 in
+    let e = sym (power p.3) in (
+      p.0,
+      p.1,
+      subst (λ (m : ℕ). Chart g.args.s (tableBit g.args.t.now) m g.args.seen.now) (sym e) p.2,
+      omega (arith, e, pow_mono {i = g.args.r} {j = mostFirst} p.3),
       omega arith,
     )
 
-loop-again : tie.Need-loop-again Inv-loop μ-loop
+loop-again : tie.Need-loop-preserved invariant-loop decreases-loop
 loop-again c =
-    let q = c .before .before .loop in
-    let g = c .before .before .before .before .before .before in
-    let a = g .args in (
+    let q = c.before.before.loop in
+    let g = c.before.before.before.before.before.before in
+    let a = g.args in (
       omega arith,
-      length-set (q .room) (q .i) (c .h-byte .result) ∙ q .inv .1,
-      written-more (q .i) (bits (a .t .now) (a .s) (a .r)) (q .room) (a .room .now) (c .h-byte .result) (omega arith)
-          (q .inv .2) (c .h-byte .ensures (a .r) (sym (power (g .pre .0 .3)))),
+      length-set q.room q.i c.h-byte.result ∙ q.invariant.1,
+      written-more q.i (bits a.t.now a.s a.r) q.room a.room.now c.h-byte.result (omega arith)
+          q.invariant.2 (c.h-byte.ensures a.r (sym (power g.requires.0.3))),
     )
 
-returns : tie.Need-returns Inv-loop μ-loop
-unfolding bytesH tableOf
+returns : tie.Need-returns invariant-loop decreases-loop
+unfolding bytesH table_of
 returns c =
-    let q = c .before .loop in
-    let t = c .before .before .before .before .before in
-    let a = t .args in
-    let f = bits (a .t .now) (a .s) (a .r) in
-    let e : q .i ≡ a .end = omega arith in
-    let l = length-bytes (tableLength (inputsH (a .s .n) (tableBit (a .t .now)) (bit (a .s .own)) (bit (a .s .shared))
-    (a .r))) f in
-    q .inv .2 ∙ ap (λ (m : ℕ). bytesOf m f ++ drop m (a .room .now)) (e ∙ t .pre .1)
-    ∙ ap (λ (m : ℕ). bytesOf (tableLength (inputsH (a .s .n) (tableBit (a .t .now)) (bit (a .s .own))
-    (bit (a .s .shared)) (a .r))) f ++ drop m (a .room .now)) (sym l)
+    let q = c.before.loop in
+    let t = c.before.before.before.before.before in
+    let a = t.args in
+    let f = bits a.t.now a.s a.r in
+    let e : q.i ≡ a.end = omega arith in
+    let l = length-bytes (tableLength (inputsH a.s.n (tableBit a.t.now) (bit a.s.own) (bit a.s.shared)
+    a.r)) f in
+    q.invariant.2 ∙ ap (λ (m : ℕ). bytes_of m f ++ drop m a.room.now) (e ∙ t.requires.1)
+    ∙ ap (λ (m : ℕ). bytes_of (tableLength (inputsH a.s.n (tableBit a.t.now) (bit a.s.own)
+    (bit a.s.shared) a.r)) f ++ drop m a.room.now) (sym l)
 
 pub store-h-spec : {M : Type 1} → statement M
 store-h-spec =
-    tie.close (tie.spec Inv-loop μ-loop (λ c. search needs) loop-holds (λ c. search needs) h-byte-requires
-    (λ c. search needs) (λ c. search needs) (λ c. search needs) loop-again (λ c. search needs) returns)
+    tie.close (tie.spec invariant-loop decreases-loop (λ c. search rules) loop-holds (λ c. search rules) h-byte-requires
+    (λ c. search rules) (λ c. search rules) (λ c. search rules) loop-again (λ c. search rules) returns)

@@ -1,107 +1,107 @@
 -- `bad_sets` meets its contract: each return is one of the reasons of line 5. Assumes nothing.
-use mathlib.Core.Path.{_≡_, sym, ap₂, _∙_}
-use mathlib.Core.Bool.{false, not, _&&_}
-use Prim.Native.Nat.{ℕ, _+_, _^_, _<_}
+use mathlib.Core.Path.{◌≡◌, sym, ap₂, ◌∙◌}
+use mathlib.Core.Bool.{false, not, ◌&&◌}
+use Prim.Native.Nat.{ℕ, ◌+◌, ◌^◌, ◌<◌}
 use native.Mathlib.Omega.{arith}
 use lib.Dec.{leb, ltb}
-use lib.Pow.{pow-mono}
-use borrow.Author.Needs.{needs}
-use borrow.Author.Tests.{eq-eqb, ne-eqb}
-use Rattle·bits.specs.Numbers.{bit}
-use Rattle·bits.proofs.Machine.{shl-one}
-use Rattle·bits.proofs.Disjoint.{disjoint-and}
-use Rattle·bits.proofs.Sizes.{size-le}
-use Rattle·tables.specs.Table.{mostInputs}
-use Rattle·splits.specs.Columns.{mostFirst}
-use Rattle·splitting·proofs.proofs.Sets.{bad-first, high-own, high-shared, overlap, few-own, by-sizes}
-use Rattle·splitting·proofs.proofs.try_split.bad_sets.Statement.{statement}
-use Rattle·splitting·proofs.proofs.try_split.bad_sets.Tie as tie
+use lib.Pow.{pow_mono}
+use borrow.Author.Rules.{rules}
+use borrow.Author.Tests.{eq-eqb, ne_eqb}
+use Rattle.bits.specs.Numbers.{bit}
+use Rattle.bits.proofs.Machine.{shl_one}
+use Rattle.bits.proofs.Disjoint.{disjoint-and}
+use Rattle.bits.proofs.Sizes.{size-le}
+use Rattle.tables.specs.Table.{mostInputs}
+use Rattle.splits.specs.Columns.{mostFirst}
+use Rattle.splitting.proofs.Sets.{bad-first, high-own, high-shared, overlap, few-own, by-sizes}
+use Rattle.splitting.proofs.try_split.bad_sets.Statement.{statement}
+use Rattle.splitting.proofs.try_split.bad_sets.Tie as tie
 
 returns : tie.Need-returns
 returns c =
-    let a = c .before .before .args in
-    sym (bad-first (a .n) (a .k) (a .r) (a .own) (a .shared) (sym (c .before .outside .ensures) ∙ c .if1 .taken))
+    let a = c.before.before.args in
+    sym (bad-first a.n a.k a.r a.own a.shared (sym c.before.outside.ensures ∙ c.if1.true))
 
 -- r is 1 to 3
-good-first : (c : tie.Else1) → not (leb 1 (c .before .before .args .r) && leb (c .before .before .args .r) mostFirst)
+good-first : (c : tie.Else1) → not (leb 1 c.before.before.args.r && leb c.before.before.args.r mostFirst)
     ≡ false
-good-first c = sym (c .before .outside .ensures) ∙ c .if1 .left
+good-first c = sym c.before.outside.ensures ∙ c.if1.false
 
 returns-2 : tie.Need-returns-2
 returns-2 c =
-    let i = c .before in
-    let a = i .before .before .args in
-    sym (high-own (a .n) (a .k) (a .r) (a .own) (a .shared) (good-first i)
-    (omega (arith, c .if2 .taken, shl-one 64 (a .n) (omega arith))))
+    let i = c.before in
+    let a = i.before.before.args in
+    sym (high-own a.n a.k a.r a.own a.shared (good-first i)
+    (omega (arith, c.if2.true, shl_one 64 a.n (omega arith))))
 
 returns-3 : tie.Need-returns-3
 returns-3 c =
-    let i = c .before .before in
-    let a = i .before .before .args in
-    let p = shl-one 64 (a .n) (omega arith) in
-    sym (high-shared (a .n) (a .k) (a .r) (a .own) (a .shared) (good-first i) (omega arith)
-    (omega (arith, c .if3 .taken)))
+    let i = c.before.before in
+    let a = i.before.before.args in
+    let p = shl_one 64 a.n (omega arith) in
+    sym (high-shared a.n a.k a.r a.own a.shared (good-first i) (omega arith)
+    (omega (arith, c.if3.true)))
 
 returns-4 : tie.Need-returns-4
 returns-4 c =
-    let i = c .before .before .before in
-    let a = i .before .before .args in
-    let p = shl-one 64 (a .n) (omega arith) in
-    let l : a .own < 2 ^ a .n = omega arith in
-    sym (overlap (a .n) (a .k) (a .r) (a .own) (a .shared) (good-first i) l (omega arith)
-    (disjoint-and (a .n) (a .own) (a .shared) l ∙ ne-eqb _ 0 (c .if4 .taken)))
+    let i = c.before.before.before in
+    let a = i.before.before.args in
+    let p = shl_one 64 a.n (omega arith) in
+    let l : a.own < 2 ^ a.n = omega arith in
+    sym (overlap a.n a.k a.r a.own a.shared (good-first i) l (omega arith)
+    (disjoint-and a.n a.own a.shared l ∙ ne_eqb _ 0 c.if4.true))
 
-cast-members : tie.Need-cast-members
+cast-members : tie.Need-overflow-cast-members
 cast-members c =
-    let s = c .before .before .before .before .before in
-    let a = s .args in
-    omega (arith, shl-one 64 (a .n) (omega arith), pow-mono {i = a .n} {j = mostInputs} (s .pre))
+    let s = c.before.before.before.before.before in
+    let a = s.args in
+    omega (arith, shl_one 64 a.n (omega arith), pow_mono {i = a.n} {j = mostInputs} s.requires)
 
 returns-5 : tie.Need-returns-5
 returns-5 c =
-    let o = c .before .before in
-    let i = o .before .before .before in
-    let a = i .before .before .args in
-    let p = shl-one 64 (a .n) (omega arith) in
-    let l : a .own < 2 ^ a .n = omega arith in
-    sym (few-own (a .n) (a .k) (a .r) (a .own) (a .shared) (good-first i) l (omega arith)
-    (disjoint-and (a .n) (a .own) (a .shared) l ∙ eq-eqb _ 0 (o .if4 .left))
-    (omega (arith, c .before .members .ensures (a .n) l, c .if5 .taken)))
+    let o = c.before.before in
+    let i = o.before.before.before in
+    let a = i.before.before.args in
+    let p = shl_one 64 a.n (omega arith) in
+    let l : a.own < 2 ^ a.n = omega arith in
+    sym (few-own a.n a.k a.r a.own a.shared (good-first i) l (omega arith)
+    (disjoint-and a.n a.own a.shared l ∙ eq-eqb _ 0 o.if4.false)
+    (omega (arith, c.before.members.ensures a.n l, c.if5.true)))
 
-cast-members-2 : tie.Need-cast-members-2
+cast-members-2 : tie.Need-overflow-cast-members-2
 cast-members-2 c =
-    let s = c .before .before .before .before .before .before .before in
-    let a = s .args in
-    omega (arith, shl-one 64 (a .n) (omega arith), pow-mono {i = a .n} {j = mostInputs} (s .pre))
+    let s = c.before.before.before.before.before.before.before in
+    let a = s.args in
+    omega (arith, shl_one 64 a.n (omega arith), pow_mono {i = a.n} {j = mostInputs} s.requires)
 
-add-result : tie.Need-add-result
+add-result : tie.Need-overflow-add-result
 add-result c =
-    let o = c .before .before in
-    let a = o .before .before .before .before .before .before .args in
-    let p = shl-one 64 (a .n) (omega arith) in
+    let o = c.before.before in
+    let a = o.before.before.before.before.before.before.args in
+    let p = shl_one 64 a.n (omega arith) in
     omega (
       arith,
-      o .members .ensures (a .n) (omega arith),
-      c .members2 .ensures (a .n) (omega arith),
-      size-le (a .n) (bit (a .own)),
-      size-le (a .n) (bit (a .shared)),
+      o.members.ensures a.n (omega arith),
+      c.members2.ensures a.n (omega arith),
+      size-le a.n (bit a.own),
+      size-le a.n (bit a.shared),
     )
 
 returns-6 : tie.Need-returns-6
 returns-6 c =
-    let m = c .before .before .members in
-    let o = c .before .before .before in
-    let i = o .before .before .before in
-    let a = i .before .before .args in
-    let p = shl-one 64 (a .n) (omega arith) in
-    let l : a .own < 2 ^ a .n = omega arith in
-    let h : a .shared < 2 ^ a .n = omega arith in
-    ap₂ (λ (i j : ℕ). ltb (a .k) (i + j)) (m .ensures (a .n) l) (c .members2 .ensures (a .n) h)
-    ∙ sym (by-sizes (a .n) (a .k) (a .r) (a .own) (a .shared) (good-first i) l h
-    (disjoint-and (a .n) (a .own) (a .shared) l ∙ eq-eqb _ 0 (o .if4 .left))
-    (omega (arith, m .ensures (a .n) l, c .before .if5 .left)))
+    let m = c.before.before.members in
+    let o = c.before.before.before in
+    let i = o.before.before.before in
+    let a = i.before.before.args in
+    let p = shl_one 64 a.n (omega arith) in
+    let l : a.own < 2 ^ a.n = omega arith in
+    let h : a.shared < 2 ^ a.n = omega arith in
+    ap₂ (λ (i j : ℕ). ltb a.k (i + j)) (m.ensures a.n l) (c.members2.ensures a.n h)
+    ∙ sym (by-sizes a.n a.k a.r a.own a.shared (good-first i) l h
+    (disjoint-and a.n a.own a.shared l ∙ eq-eqb _ 0 o.if4.false)
+    (omega (arith, m.ensures a.n l, c.before.if5.false)))
 
 pub bad-sets-spec : {M : Type 1} → statement M
 bad-sets-spec =
-    tie.close (tie.spec (λ c κs. search needs) returns (λ c. search needs) returns-2 returns-3 returns-4 cast-members
-    (λ c κs. search needs) (λ c. search needs) returns-5 cast-members-2 (λ c κs. search needs) add-result returns-6)
+    tie.close (tie.spec (λ c κs. search rules) returns (λ c. search rules) returns-2 returns-3 returns-4 cast-members
+    (λ c κs. search rules) (λ c. search rules) returns-5 cast-members-2 (λ c κs. search rules) add-result returns-6)

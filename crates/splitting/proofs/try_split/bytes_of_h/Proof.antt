@@ -1,37 +1,37 @@
 -- `bytes_of_h` meets its contract: there are at most n own inputs. Assumes nothing.
-use mathlib.Core.Path.{ap, _∙_}
-use Prim.Native.Nat.{ℕ, _+_, _-_}
+use mathlib.Core.Path.{ap, ◌∙◌}
+use Prim.Native.Nat.{ℕ, ◌+◌, ◌-◌}
 use native.Mathlib.Omega.{arith}
-use lib.Pow.{pow-mono}
-use borrow.Author.Needs.{needs}
-use Rattle·bits.specs.Numbers.{bit}
-use Rattle·bits.proofs.Sizes.{size-le}
-use Rattle·tables.specs.Table.{mostInputs, tableLength}
-use Rattle·splitting·proofs.proofs.try_split.bytes_of_h.Statement.{statement}
-use Rattle·splitting·proofs.proofs.try_split.bytes_of_h.Tie as tie
+use lib.Pow.{pow_mono}
+use borrow.Author.Rules.{rules}
+use Rattle.bits.specs.Numbers.{bit}
+use Rattle.bits.proofs.Sizes.{size-le}
+use Rattle.tables.specs.Table.{mostInputs, tableLength}
+use Rattle.splitting.proofs.try_split.bytes_of_h.Statement.{statement}
+use Rattle.splitting.proofs.try_split.bytes_of_h.Tie as tie
 
-sub-length-for : tie.Need-sub-length-for
-sub-length-for c = let s = c .before in omega
-    (arith, c .members .ensures (s .args .n) (s .pre .1), size-le (s .args .n) (bit (s .args .own)))
+sub-length-for : tie.Need-overflow-sub-length-for
+sub-length-for c = let s = c.before in omega
+    (arith, c.members.ensures s.args.n s.requires.1, size-le s.args.n (bit s.args.own))
 
 length-for-requires : tie.Need-length-for-requires
-length-for-requires c κs = let s = c .before in omega
-    (arith, s .pre .0, s .pre .2, c .members .ensures (s .args .n) (s .pre .1))
+length-for-requires c κs = let s = c.before in omega
+    (arith, s.requires.0, s.requires.2, c.members.ensures s.args.n s.requires.1)
 
 returns : tie.Need-returns
 returns c =
-    let s = c .before .before in
-    let m = c .before .members in
-    let h = m .ensures (s .args .n) (s .pre .1) in (
-      c .length-for .ensures ∙ ap (λ (k : ℕ). tableLength (s .args .n + s .args .r - k)) h,
+    let s = c.before.before in
+    let m = c.before.members in
+    let h = m.ensures s.args.n s.requires.1 in (
+      c.length-for.ensures ∙ ap (λ (k : ℕ). tableLength (s.args.n + s.args.r - k)) h,
       omega (
         arith,
-        c .length-for .ensures,
-        pow-mono {i = s .args .n + s .args .r - m .result - 3} {j = mostInputs - 3}
-            (omega (arith, s .pre .0, s .pre .2, h)),
+        c.length-for.ensures,
+        pow_mono {i = s.args.n + s.args.r - m.result - 3} {j = mostInputs - 3}
+            (omega (arith, s.requires.0, s.requires.2, h)),
       ),
     )
 
 pub bytes-of-h-spec : {M : Type 1} → statement M
 bytes-of-h-spec =
-    tie.close (tie.spec (λ c. search needs) (λ c κs. search needs) sub-length-for length-for-requires returns)
+    tie.close (tie.spec (λ c. search rules) (λ c κs. search rules) sub-length-for length-for-requires returns)

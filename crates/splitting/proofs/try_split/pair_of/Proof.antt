@@ -1,143 +1,143 @@
 -- `pair_of` meets its contract: where the split breaks decides, and a possible split has its fixed pair. Assumes
 -- nothing.
-use mathlib.Core.Path.{_≡_, sym, ap, ap₂, _∙_}
+use mathlib.Core.Path.{◌≡◌, sym, ap, ap₂, ◌∙◌}
 use mathlib.Core.Bool.{Bool, true, false, not, cond}
-use mathlib.Core.List.{List, [], _∷_}
-use Prim.Native.Nat.{ℕ, _*_, _%_, _^_, _<_, _≤_}
+use mathlib.Core.List.{List, [], ◌∷◌}
+use Prim.Native.Nat.{ℕ, ◌*◌, ◌%◌, ◌^◌, ◌<◌, ◌≤◌}
 use native.Mathlib.Omega.{arith}
 use lib.Dec.{ltb}
 use lib.ListN.{length}
-use lib.Pow.{pow-mono}
-use borrow.Author.Needs.{needs}
+use lib.Pow.{pow_mono}
+use borrow.Author.Rules.{rules}
 use borrow.Author.Tests.{lt-ltb, le-ltb, not-true, not-false}
-use Rattle·bits.specs.Numbers.{bit}
-use Rattle·bits.proofs.Machine.{shl-one}
-use Rattle·tables.specs.Table.{tableBit}
-use Rattle·tables.proofs.Bytes.{length-holds}
-use Rattle·columns.specs.declared.split.Split.{Split}
-use Rattle·charts.specs.declared.pair.FirstCells.{FirstCells}
-use Rattle·columns.specs.declared.columns.Broken.{Broken}
-use Rattle·splits.specs.Columns.{mostFirst, columns, fewColumns, firstBroken}
-use Rattle·columns.specs.Broken.{brokenAt}
-use Rattle·columns.proofs.Breaking.{broken-some}
-use Rattle·refusals.specs.declared.verdicts.Verdict.{Verdict}
-use Rattle·refusals.specs.declared.verdicts.Verdict.the-variants.{Fine, Refused}
-use Rattle·refusals.specs.Lines.{refusal, naming, verdict, reply}
-use Rattle·splitting·specs.specs.TrySplit.{TryOutcome, tryDone, tryNot}
-use Rattle·splitting·proofs.proofs.Sets.{bytes-H}
-use Rattle·splitting·proofs.proofs.try_split.pair_of.Statement.{statement}
-use Rattle·splitting·proofs.proofs.try_split.pair_of.Tie as tie
+use Rattle.bits.specs.Numbers.{bit}
+use Rattle.bits.proofs.Machine.{shl_one}
+use Rattle.tables.specs.Table.{tableBit}
+use Rattle.tables.proofs.Bytes.{length-holds}
+use Rattle.columns.specs.declared.split.Split.{Split}
+use Rattle.charts.specs.declared.pair.FirstCells.{FirstCells}
+use Rattle.columns.specs.declared.columns.Broken.{Broken}
+use Rattle.splits.specs.Columns.{mostFirst, columns, fewColumns, firstBroken}
+use Rattle.columns.specs.Broken.{brokenAt}
+use Rattle.columns.proofs.Breaking.{broken-some}
+use Rattle.refusals.specs.declared.verdicts.Verdict.{Verdict}
+use Rattle.refusals.specs.declared.verdicts.Verdict.TheVariants.{Fine, Refused}
+use Rattle.refusals.specs.Lines.{refusal, naming, verdict, reply}
+use Rattle.splitting.specs.TrySplit.{TryOutcome, tryDone, tryNot}
+use Rattle.splitting.proofs.Sets.{bytes-H}
+use Rattle.splitting.proofs.try_split.pair_of.Statement.{statement}
+use Rattle.splitting.proofs.try_split.pair_of.Tie as tie
 
 module _ (s : Split) (r : ℕ) (t : List ℕ) where
   abbrev few : Bool
-  few = fewColumns (s .n) (tableBit t) (bit (s .own)) (bit (s .shared)) (2 ^ r)
+  few = fewColumns s.n (tableBit t) (bit s.own) (bit s.shared) (2 ^ r)
 
   abbrev first : ℕ
-  first = firstBroken (s .n) (tableBit t) (bit (s .own)) (bit (s .shared)) (2 ^ r)
+  first = firstBroken s.n (tableBit t) (bit s.own) (bit s.shared) (2 ^ r)
 
   -- what is answered as the test says
   abbrev answered : List ℕ → Bool → TryOutcome
   answered room b =
-      reply (verdict (naming 8 first (not b) ∷ [])) (tryDone (s .n) r (s .own) (s .shared) t room)
-      (tryNot (s .n) (s .own) (s .shared) t room)
+      reply (verdict (naming 8 first (not b) ∷ [])) (tryDone s.n r s.own s.shared t room)
+      (tryNot s.n s.own s.shared t room)
 
   -- where the split breaks, as the test says
   abbrev broken : Bool → Broken
   broken b = cond b (record { b = 0; columns = 0 })
-      (record { b = first; columns = length (columns (s .n) (tableBit t) (bit (s .own)) (bit (s .shared)) first) })
+      (record { b = first; columns = length (columns s.n (tableBit t) (bit s.own) (bit s.shared) first) })
 
   -- the limit as the code makes it
   module _ (most : r ≤ mostFirst) (w : Broken) (told : w
-      ≡ brokenAt (s .n) (tableBit t) (bit (s .own)) (bit (s .shared)) (1 * 2 ^ r % 2 ^ 64)) where
-    is : w ≡ brokenAt (s .n) (tableBit t) (bit (s .own)) (bit (s .shared)) (2 ^ r)
-    is = told ∙ ap (brokenAt (s .n) (tableBit t) (bit (s .own)) (bit (s .shared))) (shl-one 64 r (omega arith))
+      ≡ brokenAt s.n (tableBit t) (bit s.own) (bit s.shared) (1 * 2 ^ r % 2 ^ 64)) where
+    is : w ≡ brokenAt s.n (tableBit t) (bit s.own) (bit s.shared) (2 ^ r)
+    is = told ∙ ap (brokenAt s.n (tableBit t) (bit s.own) (bit s.shared)) (shl_one 64 r (omega arith))
 
-    test : ltb 0 (w .columns) ≡ not few
-    test = ap (λ (w : Broken). ltb 0 (w .columns)) is
-        ∙ broken-some (s .n) (tableBit t) (bit (s .own)) (bit (s .shared)) (2 ^ r)
+    test : ltb 0 w.columns ≡ not few
+    test = ap (λ (w : Broken). ltb 0 w.columns) is
+        ∙ broken-some s.n (tableBit t) (bit s.own) (bit s.shared) (2 ^ r)
 
-    breaks : 0 < w .columns → few ≡ false
-    breaks h = not-true few (sym test ∙ lt-ltb 0 (w .columns) h)
+    breaks : 0 < w.columns → few ≡ false
+    breaks h = not-true few (sym test ∙ lt-ltb 0 w.columns h)
 
-    holds : w .columns ≤ 0 → few ≡ true
-    holds h = not-false few (sym test ∙ le-ltb 0 (w .columns) h)
+    holds : w.columns ≤ 0 → few ≡ true
+    holds h = not-false few (sym test ∙ le-ltb 0 w.columns h)
 
     named : few ≡ false → w ≡ broken false
     named e = is ∙ ap broken e
 
 break-of-requires : tie.Need-break-of-requires
 break-of-requires c κs =
-    let s = c .before .before in
-    let p = s .pre .0 in (
+    let s = c.before.before in
+    let p = s.requires.0 in (
       (
-        p .0,
+        p.0,
         omega (
           arith,
-          shl-one 64 (s .args .r) (omega (arith, p .3)),
-          pow-mono {i = s .args .r} {j = mostFirst}
-              (p .3),
+          shl_one 64 s.args.r (omega (arith, p.3)),
+          pow_mono {i = s.args.r} {j = mostFirst}
+              p.3,
         ),
-        omega (arith, p .2, length-holds (s .args .s .n)),
+        omega (arith, p.2, length-holds s.args.s.n),
       ),
-      omega (arith, p .1 .most),
+      omega (arith, p.1.most),
     )
 
 returns : tie.Need-returns
 returns c =
-    let i = c .before .before .before in
-    let w = i .before .before in
-    let g = w .before .before .before in
-    let a = g .args in
-    let e = breaks (a .s) (a .r) (a .t .now) (g .pre .0 .3) _ (w .break-of .ensures) (i .if1 .taken) in
-    let q = named (a .s) (a .r) (a .t .now) (g .pre .0 .3) _ (w .break-of .ensures) e in
+    let i = c.before.before.before in
+    let w = i.before.before in
+    let g = w.before.before.before in
+    let a = g.args in
+    let e = breaks a.s a.r a.t.now g.requires.0.3 _ w.break-of.ensures i.if1.true in
+    let q = named a.s a.r a.t.now g.requires.0.3 _ w.break-of.ensures e in
     ap₂ (λ (v : Verdict) (k : ℕ). record {
-      answer = record { verdict = v; d = c .none .result; columns = k };
-      room = a .room .now;
+      answer = record { verdict = v; d = c.none.result; columns = k };
+      room = a.room.now;
     })
-    (c .before .refuse-at .ensures ∙ ap (λ (w : Broken). Refused (refusal 8 (w .b))) q)
-    (ap (λ (w : Broken). w .columns) q)
+    (c.before.refuse-at.ensures ∙ ap (λ (w : Broken). Refused (refusal 8 w.b)) q)
+    (ap (λ (w : Broken). w.columns) q)
     ∙ ap (λ (d : FirstCells). record {
       answer = record {
-        verdict = Refused (refusal 8 (first (a .s) (a .r) (a .t .now)));
+        verdict = Refused (refusal 8 (first a.s a.r a.t.now));
         d = d;
-        columns = broken (a .s) (a .r) (a .t .now) false .columns;
+        columns = (broken a.s a.r a.t.now false).columns;
       };
-      room = a .room .now;
-    }) (c .none .ensures)
-    ∙ ap (answered (a .s) (a .r) (a .t .now) (a .room .now)) (sym e)
+      room = a.room.now;
+    }) c.none.ensures
+    ∙ ap (answered a.s a.r a.t.now a.room.now) (sym e)
 
 bytes-of-h-requires : tie.Need-bytes-of-h-requires
-bytes-of-h-requires c κs = let p = c .before .before .before .before .before .pre .0
-    in (p .0 .most, p .0 .belowA, p .1 .more, p .3)
+bytes-of-h-requires c κs = let p = c.before.before.before.before.before.requires.0
+    in (p.0.most, p.0.belowA, p.1.more, p.3)
 
 put-pair-requires : tie.Need-put-pair-requires
 put-pair-requires c κs =
-    let b = c .before .bytes-of-h .ensures in
-    let i = c .before .before in
-    let w = i .before .before in
-    let s = w .before .before .before in
-    let p = s .pre .0 in (
-      (p .0, omega (arith, p .2, length-holds (s .args .s .n)), p .1, p .3, omega (arith, b .0, s .pre .1), b .1),
+    let b = c.before.bytes-of-h.ensures in
+    let i = c.before.before in
+    let w = i.before.before in
+    let s = w.before.before.before in
+    let p = s.requires.0 in (
+      (p.0, omega (arith, p.2, length-holds s.args.s.n), p.1, p.3, omega (arith, b.0, s.requires.1), b.1),
       (
-        b .0 ∙ bytes-H (p .1) (tableBit (s .args .t .now)),
-        holds (s .args .s) (s .args .r) (s .args .t .now) (p .3) _
-            (w .break-of .ensures) (omega arith),
+        b.0 ∙ bytes-H p.1 (tableBit s.args.t.now),
+        holds s.args.s s.args.r s.args.t.now p.3 _
+            w.break-of.ensures (omega arith),
       ),
     )
 
 returns-2 : tie.Need-returns-2
 returns-2 c =
-    let h = c .before .before in
-    let i = h .before .before .before in
-    let w = i .before .before in
-    let g = w .before .before .before in
-    let a = g .args in
+    let h = c.before.before in
+    let i = h.before.before.before in
+    let w = i.before.before in
+    let g = w.before.before.before in
+    let a = g.args in
     ap₂ (λ (d : FirstCells) (l : List ℕ). record { answer = record { verdict = Fine; d = d; columns = 0 }; room = l })
-    (h .put-pair .ensures .0) (h .put-pair .ensures .1)
-    ∙ ap (answered (a .s) (a .r) (a .t .now) (a .room .now))
-    (sym (holds (a .s) (a .r) (a .t .now) (g .pre .0 .3) _ (w .break-of .ensures) (omega (arith, i .if1 .left))))
+    h.put-pair.ensures.0 h.put-pair.ensures.1
+    ∙ ap (answered a.s a.r a.t.now a.room.now)
+    (sym (holds a.s a.r a.t.now g.requires.0.3 _ w.break-of.ensures (omega (arith, i.if1.false))))
 
 pub pair-of-spec : {M : Type 1} → statement M
 pair-of-spec =
-    tie.close (tie.spec (λ c. search needs) break-of-requires (λ c. search needs) (λ c κs. search needs)
-    (λ c κs. search needs) returns bytes-of-h-requires put-pair-requires (λ c. search needs) returns-2)
+    tie.close (tie.spec (λ c. search rules) break-of-requires (λ c. search rules) (λ c κs. search rules)
+    (λ c κs. search rules) returns bytes-of-h-requires put-pair-requires (λ c. search rules) returns-2)

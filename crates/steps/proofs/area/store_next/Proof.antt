@@ -1,28 +1,28 @@
 -- Both ways store the same. Assumes nothing.
 use native.Mathlib.Omega.{arith}
-use Rattle·columns.proofs.Reading.{free-lt}
-use Rattle·steps·proofs.proofs.area.store_next.Statement.{statement}
-use Rattle·steps·proofs.proofs.area.store_next.Tie as tie
+use Rattle.columns.proofs.Reading.{free-lt}
+use Rattle.steps.proofs.area.store_next.Statement.{statement}
+use Rattle.steps.proofs.area.store_next.Tie as tie
 
 parts-requires : tie.Need-parts-requires
-parts-requires c κs = let p = c .before .before .before .before .pre in (p .0 .most, free-lt _ (p .0))
+parts-requires c κs = let p = c.before.before.before.before.requires in (p.0.most, free-lt _ p.0)
 
 store-words-requires : tie.Need-store-words-requires
 store-words-requires c κs =
-    let b = c .before .before in
-    let i = b .before in
-    let p = i .before .before .before .before .pre in (
-      (p .0, p .1, p .2, p .3, p .4),
+    let b = c.before.before in
+    let i = b.before in
+    let p = i.before.before.before.before.requires in (
+      (p.0, p.1, p.2, p.3, p.4),
       (
-        omega (arith, i .if1 .taken),
+        omega (arith, i.if1.true),
         omega
-            (arith, c .before .if2 .taken, b .parts .ensures .0),
+            (arith, c.before.if2.true, b.parts.ensures.0),
       ),
     )
 
 pub store-next-spec : {M : Type 1} → statement M
 store-next-spec =
-    tie.close (tie.spec parts-requires store-words-requires (λ c. c .before .before .store-words .ensures .long)
-    (λ c. c .before .before .store-words .ensures)
-    (λ c κs. let p = c .before .before .before .before .before .pre in (p .0, p .1, p .2, p .3, p .4))
-    (λ c. c .before .before .store-bytes .ensures .long) (λ c. c .before .before .store-bytes .ensures))
+    tie.close (tie.spec parts-requires store-words-requires (λ c. c.before.before.store_words_lem.ensures.long)
+    (λ c. c.before.before.store_words_lem.ensures)
+    (λ c κs. let p = c.before.before.before.before.before.requires in (p.0, p.1, p.2, p.3, p.4))
+    (λ c. c.before.before.store_Bytes.ensures.long) (λ c. c.before.before.store_Bytes.ensures))

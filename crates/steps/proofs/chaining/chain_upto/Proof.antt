@@ -1,84 +1,84 @@
 -- Setting aside, following the chain and clearing, in turn. Assumes nothing.
-use mathlib.Core.Path.{_≡_, sym, ap, ap₂, _∙_, subst}
+use mathlib.Core.Path.{◌≡◌, sym, ap, ap₂, ◌∙◌, subst}
 use mathlib.Core.List.{List}
-use Prim.Native.Nat.{ℕ, _<_, _^_}
+use Prim.Native.Nat.{ℕ, ◌<◌, ◌^◌}
 use native.Mathlib.Omega.{arith}
 use lib.ListN.{replicate}
-use borrow.Author.Needs.{needs}
-use Rattle·bits.specs.Numbers.{bit}
-use Rattle·tables.specs.Table.{tableBit}
-use Rattle·tables.proofs.Keeping.{kept-lt}
-use Rattle·chains.specs.Chain.{pick, inputs}
-use Rattle·steps·specs.specs.Stage.{signalsOf}
-use Rattle·steps·specs.specs.Chaining.{Tells}
-use Rattle·tables.proofs.Work.{half-holds}
-use Rattle·steps·proofs.proofs.Loaded.{kept-few, kept-more, kept-chain}
-use Rattle·steps·proofs.proofs.chaining.chain_upto.Statement.{statement}
-use Rattle·steps·proofs.proofs.chaining.chain_upto.Tie as tie
+use borrow.Author.Rules.{rules}
+use Rattle.bits.specs.Numbers.{bit}
+use Rattle.tables.specs.Table.{tableBit}
+use Rattle.tables.proofs.Keeping.{kept-lt}
+use Rattle.chains.specs.Chain.{pick, inputs}
+use Rattle.steps.specs.Stage.{signalsOf}
+use Rattle.steps.specs.Chaining.{Tells}
+use Rattle.tables.proofs.Work.{half-holds}
+use Rattle.steps.proofs.Loaded.{kept-few, kept_more, kept-chain}
+use Rattle.steps.proofs.chaining.chain_upto.Statement.{statement}
+use Rattle.steps.proofs.chaining.chain_upto.Tie as tie
 
 set-aside-requires : tie.Need-set-aside-requires
 set-aside-requires c κs =
-    let g = c .before .before .before .before in
-    let a = g .args in (
-      g .pre .5,
-      g .pre .1,
-      subst (λ (m : ℕ). m < 2 ^ a .n) (sym (c .before .kept-of .ensures))
-          (kept-lt (a .n) (tableBit (a .t .now)) (g .pre .0)),
-      omega (arith, g .pre .5, g .pre .6, half-holds (a .n) (g .pre .1)),
+    let g = c.before.before.before.before in
+    let a = g.args in (
+      g.requires.5,
+      g.requires.1,
+      subst (λ (m : ℕ). m < 2 ^ a.n) (sym c.before.kept_of.ensures)
+          (kept-lt a.n (tableBit a.t.now) g.requires.0),
+      omega (arith, g.requires.5, g.requires.6, half-holds a.n g.requires.1),
     )
 
 -- the signals are those that are kept
 module _ (c : tie.After-pick) where
-  picked : signalsOf (c .pick .result)
-      ≡ pick (c .before .before .before .before .before .before .before .before .before .args .n)
-      (bit (c .before .before .before .before .before .before .kept-of .result))
-      (inputs (c .before .before .before .before .before .before .before .before .before .args .n))
-  picked = let e = c .before .inputs .ensures in
-      let m = c .before .before .before .before .before .before .kept-of .result in
-      c .pick .ensures .1 ∙ ap₂ (λ (k : ℕ) (l : List ℕ). pick k (bit m) l) (e .2) (e .1)
+  picked : signalsOf c.pick.result
+      ≡ pick c.before.before.before.before.before.before.before.before.before.args.n
+      (bit c.before.before.before.before.before.before.kept_of.result)
+      (inputs c.before.before.before.before.before.before.before.before.before.args.n)
+  picked = let e = c.before.inputs.ensures in
+      let m = c.before.before.before.before.before.before.kept_of.result in
+      c.pick.ensures.1 ∙ ap₂ (λ (k : ℕ) (l : List ℕ). pick k (bit m) l) e.2 e.1
 
 follow-requires : tie.Need-follow-requires
 follow-requires c κs =
-    let p = c .before in
-    let s = p .before .before .before .before in
-    let k = s .before .before in
-    let g = k .before .before .before in
-    let a = g .args in
-    let F = tableBit (a .t .now) in (
-      (g .pre .1, g .pre .2, g .pre .3, g .pre .4, omega (arith, s .set-aside .kept .1 .1 .1 .0, g .pre .6)),
+    let p = c.before in
+    let s = p.before.before.before.before in
+    let k = s.before.before in
+    let g = k.before.before.before in
+    let a = g.args in
+    let F = tableBit a.t.now in (
+      (g.requires.1, g.requires.2, g.requires.3, g.requires.4, omega (arith, s.set-aside.auto.1.1.1.0, g.requires.6)),
       (
-        p .pick .ensures .0,
-        kept-more (a .n) F (k .kept-of .result) (k .kept-of .ensures) (p .pick .result) (picked p) (g .pre .0),
-        kept-few (a .n) F (k .kept-of .result) (k .kept-of .ensures) (p .pick .result) (picked p),
+        p.pick.ensures.0,
+        kept_more a.n F k.kept_of.result k.kept_of.ensures p.pick.result (picked p) g.requires.0,
+        kept-few a.n F k.kept_of.result k.kept_of.ensures p.pick.result (picked p),
       ),
     )
 
-same-length : tie.Need-same-length
-same-length c =
-    let f = c .before .before .before .before .before .before in
-    c .before .before .clear .kept .0 ∙ f .follow .kept .1 .1 .1 .1 .0
-    ∙ f .before .before .before .before .before .before .set-aside .kept .1 .1 .1 .0
+same_length : tie.Need-same-length
+same_length c =
+    let f = c.before.before.before.before.before.before in
+    c.before.before.clear.auto.0 ∙ f.follow.auto.1.1.1.1.0
+    ∙ f.before.before.before.before.before.before.set-aside.auto.1.1.1.0
 
 returns : tie.Need-returns
 returns c =
-    let f = c .before .before .before .before .before .before in
-    let p = f .before .before in
-    let s = p .before .before .before .before in
-    let k = s .before .before in
-    let g = k .before .before .before in
-    let a = g .args in
-    let F = tableBit (a .t .now) in
+    let f = c.before.before.before.before.before.before in
+    let p = f.before.before in
+    let s = p.before.before.before.before in
+    let k = s.before.before in
+    let g = k.before.before.before in
+    let a = g.args in
+    let F = tableBit a.t.now in
     record {
-      told = subst (Tells (f .follow .result))
-          (kept-chain (a .n) F (k .kept-of .result) (k .kept-of .ensures) (p .pick .result) (picked p) (a .most) (a .k)
-          (s .set-aside .last .1 .1 .1 .0)
-          (g .pre .0) (omega (arith, g .pre .3)) (g .pre .1) (s .set-aside .ensures))
-          (f .follow .ensures);
-      cleared = c .before .before .clear .ensures ∙ ap (λ (m : ℕ). replicate m 0)
-          (f .follow .kept .1 .1 .1 .1 .0 ∙ s .set-aside .kept .1 .1 .1 .0);
+      told = subst (Tells f.follow.result)
+          (kept-chain a.n F k.kept_of.result k.kept_of.ensures p.pick.result (picked p) a.most a.k
+          s.set-aside.new.1.1.1.0
+          g.requires.0 (omega (arith, g.requires.3)) g.requires.1 s.set-aside.ensures)
+          f.follow.ensures;
+      cleared = c.before.before.clear.ensures ∙ ap (λ (m : ℕ). replicate m 0)
+          (f.follow.auto.1.1.1.1.0 ∙ s.set-aside.auto.1.1.1.0);
     }
 
 pub chain-upto-spec : {M : Type 1} → statement M
 chain-upto-spec =
-    tie.close (tie.spec (λ c κs. search needs) set-aside-requires (λ c κs. search needs) (λ c κs. search needs)
-    follow-requires (λ c κs. search needs) same-length returns)
+    tie.close (tie.spec (λ c κs. search rules) set-aside-requires (λ c κs. search rules) (λ c κs. search rules)
+    follow-requires (λ c κs. search rules) same_length returns)

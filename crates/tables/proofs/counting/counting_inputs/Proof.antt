@@ -1,31 +1,31 @@
 -- The support is a mask of n positions, and its members are those that count. Assumes nothing.
-use mathlib.Core.Path.{sym, ap, _∙_, subst}
-use Prim.Native.Nat.{ℕ, _^_, _<_}
+use mathlib.Core.Path.{sym, ap, ◌∙◌, subst}
+use Prim.Native.Nat.{ℕ, ◌^◌, ◌<◌}
 use native.Mathlib.Omega.{arith}
-use borrow.Author.Needs.{needs}
-use Rattle·bits.specs.Numbers.{bit}
-use Rattle·bits.specs.Sets.{size}
-use Rattle·bits.proofs.Numbers.{number-lt}
-use Rattle·bits.proofs.Sizes.{size-le}
-use Rattle·tables·specs.specs.Table.{tableBit}
-use Rattle·tables·specs.specs.Counting.{counts, support}
-use Rattle·tables·proofs.proofs.counting.counting_inputs.Statement.{statement}
-use Rattle·tables·proofs.proofs.counting.counting_inputs.Tie as tie
+use borrow.Author.Rules.{rules}
+use Rattle.bits.specs.Numbers.{bit}
+use Rattle.bits.specs.Sets.{size}
+use Rattle.bits.proofs.Numbers.{number_lt}
+use Rattle.bits.proofs.Sizes.{size-le}
+use Rattle.tables.specs.Table.{tableBit}
+use Rattle.tables.specs.Counting.{counts, support}
+use Rattle.tables.proofs.counting.counting_inputs.Statement.{statement}
+use Rattle.tables.proofs.counting.counting_inputs.Tie as tie
 
 returns : tie.Need-returns
 unfolding support
 returns c =
-    let s = c .before in
-    let a = s .before .before .args in
-    let is = s .support-of .ensures in
-    let below = subst (λ (m : ℕ). m < 2 ^ a .n) (sym is) (number-lt (a .n) (counts (a .n) (tableBit (a .t .now)))) in
-    let many = c .members .ensures (a .n) below in
+    let s = c.before in
+    let a = s.before.before.args in
+    let is = s.support-of.ensures in
+    let below = subst (λ (m : ℕ). m < 2 ^ a.n) (sym is) (number_lt a.n (counts a.n (tableBit a.t.now))) in
+    let many = c.members.ensures a.n below in
     record {
       is = is;
       below = below;
-      count = many ∙ ap (λ (m : ℕ). size (a .n) (bit m)) is;
-      few = omega (arith, size-le (a .n) (bit (s .support-of .result)));
+      count = many ∙ ap (λ (m : ℕ). size a.n (bit m)) is;
+      few = omega (arith, size-le a.n (bit s.support-of.result));
     }
 
 pub counting-inputs-spec : {M : Type 1} → statement M
-counting-inputs-spec = tie.close (tie.spec (λ c κs. search needs) (λ c κs. search needs) returns)
+counting-inputs-spec = tie.close (tie.spec (λ c κs. search rules) (λ c κs. search rules) returns)

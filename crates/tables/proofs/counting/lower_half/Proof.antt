@@ -1,15 +1,15 @@
 -- The turned pattern has 1 where input j is 0; from input 6 on nothing is promised. Assumes nothing.
 use native.Mathlib.Omega.{arith}
-use borrow.Author.Needs.{needs}
-use Rattle·bits.proofs.Inputs.{pattern-off}
-use Rattle·tables·proofs.proofs.counting.lower_half.Statement.{statement}
-use Rattle·tables·proofs.proofs.counting.lower_half.Tie as tie
+use borrow.Author.Rules.{rules}
+use Rattle.bits.proofs.Inputs.{pattern-off}
+use Rattle.tables.proofs.counting.lower_half.Statement.{statement}
+use Rattle.tables.proofs.counting.lower_half.Tie as tie
 
 returns : tie.Need-returns
-returns c six i h = pattern-off (c .before .before .args .j) (c .of-input .result) i h (c .of-input .ensures)
+returns c six i h = pattern-off c.before.before.args.j c.of-input.result i h c.of-input.ensures
 
 returns-2 : tie.Need-returns-2
 returns-2 c six = absurd (omega arith)
 
 pub lower-half-spec : {M : Type 1} → statement M
-lower-half-spec = tie.close (tie.spec (λ c κs. search needs) returns returns-2)
+lower-half-spec = tie.close (tie.spec (λ c κs. search rules) returns returns-2)

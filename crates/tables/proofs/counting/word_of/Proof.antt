@@ -1,38 +1,38 @@
 -- A table of fewer than 6 inputs has one word, cut off at 2 ^ n; of others each word is full. Assumes nothing.
-use mathlib.Core.Path.{_≡_, sym, ap, _∙_}
-use Prim.Native.Nat.{ℕ, _+_, _-_, _^_, _≤_}
+use mathlib.Core.Path.{◌≡◌, sym, ap, ◌∙◌}
+use Prim.Native.Nat.{ℕ, ◌+◌, ◌-◌, ◌^◌, ◌≤◌}
 use native.Mathlib.Omega.{arith}
-use lib.Pow.{pow-add, pow-mono}
-use Rattle·tables·specs.specs.Table.{tableBit}
-use Rattle·tables·specs.specs.Words.{gateWord}
-use Rattle·tables·proofs.proofs.Digits.{short-word, full-word}
-use Rattle·tables·proofs.proofs.counting.word_of.Statement.{statement}
-use Rattle·tables·proofs.proofs.counting.word_of.Tie as tie
+use lib.Pow.{pow-add, pow_mono}
+use Rattle.tables.specs.Table.{tableBit}
+use Rattle.tables.specs.Words.{gateWord}
+use Rattle.tables.proofs.Digits.{short-word, full-word}
+use Rattle.tables.proofs.counting.word_of.Statement.{statement}
+use Rattle.tables.proofs.counting.word_of.Tie as tie
 
 returns : tie.Need-returns
 returns c =
-    let a = c .before .before .before .args in
-    let one : a .w ≡ 0 = omega (arith, pow-mono {i = a .n - 6} {j = 0} (omega arith)) in
-    c .short-word .ensures ∙ short-word (a .n) (tableBit (a .t .now)) (omega arith)
-    ∙ ap (gateWord (a .n) (tableBit (a .t .now))) (sym one)
+    let a = c.before.before.before.args in
+    let one : a.w ≡ 0 = omega (arith, pow_mono {i = a.n - 6} {j = 0} (omega arith)) in
+    c.short-word.ensures ∙ short-word a.n (tableBit a.t.now) (omega arith)
+    ∙ ap (gateWord a.n (tableBit a.t.now)) (sym one)
 
 sixes : (n : ℕ) → 6 ≤ n → n ≡ 6 + (n - 6)
 sixes n h = omega arith
 
 table-word-requires : tie.Need-table-word-requires
-table-word-requires c κs = let g = c .before .before
+table-word-requires c κs = let g = c.before.before
     in omega (
       arith,
-      g .pre .0,
-      ap (λ (m : ℕ). 2 ^ m) (sixes (g .args .n) (omega arith))
-          ∙ pow-add 2 6 (g .args .n - 6),
-      g .pre .1,
+      g.pre.0,
+      ap (λ (m : ℕ). 2 ^ m) (sixes g.args.n (omega arith))
+          ∙ pow-add 2 6 (g.args.n - 6),
+      g.pre.1,
     )
 
 returns-2 : tie.Need-returns-2
-returns-2 c = let g = c .before .before .before in c .table-word .ensures
-    ∙ full-word (g .args .n) (tableBit (g .args .t .now)) (g .args .w) (omega arith) (g .pre .1)
+returns-2 c = let g = c.before.before.before in c.table-word.ensures
+    ∙ full-word g.args.n (tableBit g.args.t.now) g.args.w (omega arith) g.requires.1
 
 pub word-of-spec : {M : Type 1} → statement M
-word-of-spec = tie.close (tie.spec (λ c κs. let g = c .before .before in (omega arith, g .pre .0)) returns
+word-of-spec = tie.close (tie.spec (λ c κs. let g = c.before.before in (omega arith, g.requires.0)) returns
     table-word-requires returns-2)

@@ -1,23 +1,23 @@
 -- A shift takes the bits before p away, of a short table's one word and of a long table's. Assumes nothing.
 use native.Mathlib.Omega.{arith}
-use borrow.Author.Needs.{needs}
-use Rattle·tables·proofs.proofs.Joining.{stretch-short, stretch-long}
-use Rattle·tables·proofs.proofs.words.bits_from.Statement.{statement}
-use Rattle·tables·proofs.proofs.words.bits_from.Tie as tie
+use borrow.Author.Rules.{rules}
+use Rattle.tables.proofs.Joining.{stretch-short, stretch-long}
+use Rattle.tables.proofs.words.bits_from.Statement.{statement}
+use Rattle.tables.proofs.words.bits_from.Tie as tie
 
 returns : tie.Need-returns
 returns c =
-    let g = c .before .before .before in
-    λ k h. stretch-short (g .args .t .now) (g .args .p) (c .joined .result) k (g .pre .short (omega arith))
-    (c .joined .ensures) h
+    let g = c.before.before.before in
+    λ k h. stretch-short g.args.t.now g.args.p c.joined.result k (g.requires.short (omega arith))
+    c.joined.ensures h
 
 returns-2 : tie.Need-returns-2
 returns-2 c =
-    let g = c .before .before .before in
-    λ k h. stretch-long (g .args .t .now) (g .args .p) (c .joined2 .result) k (c .joined2 .ensures) h
+    let g = c.before.before.before in
+    λ k h. stretch-long g.args.t.now g.args.p c.joined2.result k c.joined2.ensures h
 
 pub bits-from-spec : {M : Type 1} → statement M
 bits-from-spec =
-    tie.close (tie.spec (λ c κs. search needs) (λ c. search needs) (λ c. search needs) returns (λ c. search needs)
-    (λ c. search needs) (λ c κs. let g = c .before .before in (g .pre .long (omega arith), omega arith))
-    (λ c. search needs) (λ c. search needs) returns-2)
+    tie.close (tie.spec (λ c κs. search rules) (λ c. search rules) (λ c. search rules) returns (λ c. search rules)
+    (λ c. search rules) (λ c κs. let g = c.before.before in (g.requires.long (omega arith), omega arith))
+    (λ c. search rules) (λ c. search rules) returns-2)

@@ -1,20 +1,20 @@
 -- What is left of a division by 2 ^ (2 ^ k) are the first 2 ^ k bits. Assumes nothing.
-use mathlib.Core.Path.{_≡_, ap, ap₂, _∙_}
+use mathlib.Core.Path.{◌≡◌, ap, ap₂, ◌∙◌}
 use mathlib.Core.List.{List}
-use Prim.Native.Nat.{ℕ, _+_, _*_, _%_, _^_, _<_}
+use Prim.Native.Nat.{ℕ, ◌+◌, ◌*◌, ◌%◌, ◌^◌, ◌<◌}
 use native.Mathlib.Nat.{zero-add}
 use native.Mathlib.Omega.{arith}
-use lib.Pow.{pow-mono, pow-pos}
+use lib.Pow.{pow_mono, pow_pos}
 use lib.ListN.{length}
-use borrow.Author.Needs.{needs}
-use Rattle·bits.specs.Numbers.{number}
-use Rattle·bits.proofs.Machine.{shl-one}
-use Rattle·bits.proofs.Numbers.{number-ext}
-use Rattle·tables·specs.specs.Table.{tableLength, tableBit}
-use Rattle·tables·proofs.proofs.Bytes.{length-holds, length-fits}
-use Rattle·tables·proofs.proofs.Digits.{first-bits}
-use Rattle·tables·proofs.proofs.words.short_word.Statement.{statement}
-use Rattle·tables·proofs.proofs.words.short_word.Tie as tie
+use borrow.Author.Rules.{rules}
+use Rattle.bits.specs.Numbers.{number}
+use Rattle.bits.proofs.Machine.{shl_one}
+use Rattle.bits.proofs.Numbers.{number-ext}
+use Rattle.tables.specs.Table.{tableLength, tableBit}
+use Rattle.tables.proofs.Bytes.{length-holds, length-fits}
+use Rattle.tables.proofs.Digits.{first-bits}
+use Rattle.tables.proofs.words.short_word.Statement.{statement}
+use Rattle.tables.proofs.words.short_word.Tie as tie
 
 -- the bytes that hold 2 ^ k bits, joined
 whole : (t : List ℕ) (len k r : ℕ) → len ≡ tableLength k → r ≡ number (8 * len) (λ i. tableBit t (8 * 0 + i)) → r
@@ -25,34 +25,34 @@ whole t len k r e is =
 
 joined-requires : tie.Need-joined-requires
 joined-requires c κs =
-    let g = c .before .before in
-    let e = c .length-for .ensures in (
-      omega (arith, e, length-fits (g .args .k) (length (g .args .t .now)) (g .pre .1)),
+    let g = c.before.before in
+    let e = c.length-for.ensures in (
+      omega (arith, e, length-fits g.args.k (length g.args.t.now) g.requires.1),
       omega
-          (arith, e, length-fits (g .args .k) 8 (pow-mono {i = g .args .k} {j = 6} (omega arith))),
+          (arith, e, length-fits g.args.k 8 (pow_mono {i = g.args.k} {j = 6} (omega arith))),
     )
 
 -- the number of bits, and 2 to that
 many : (k : ℕ) → k < 6 → 1 * 2 ^ k % 2 ^ 64 < 64
-many k h = omega (arith, shl-one 64 k (omega arith), pow-mono {i = k} {j = 5} (omega arith))
+many k h = omega (arith, shl_one 64 k (omega arith), pow_mono {i = k} {j = 5} (omega arith))
 
 end : (k : ℕ) → k < 6 → 1 * 2 ^ (1 * 2 ^ k % 2 ^ 64) % 2 ^ 64 ≡ 2 ^ (2 ^ k)
-end k h = shl-one 64 (1 * 2 ^ k % 2 ^ 64) (many k h) ∙ ap (λ (m : ℕ). 2 ^ m) (shl-one 64 k (omega arith))
+end k h = shl_one 64 (1 * 2 ^ k % 2 ^ 64) (many k h) ∙ ap (λ (m : ℕ). 2 ^ m) (shl_one 64 k (omega arith))
 
-shl-end : tie.Need-shl-end
-shl-end c = many (c .before .before .before .args .k) (omega arith)
+shl-end : tie.Need-overflow-shl-end
+shl-end c = many c.before.before.before.args.k (omega arith)
 
-rem-result : tie.Need-rem-result
-rem-result c = let k = c .before .before .before .args .k in omega (arith, end k (omega arith), pow-pos (2 ^ k))
+rem-result : tie.Need-nonzero-rem-result
+rem-result c = let k = c.before.before.before.args.k in omega (arith, end k (omega arith), pow_pos (2 ^ k))
 
 returns : tie.Need-returns
 returns c =
-    let a = c .before .before .before .args in
-    ap₂ (λ (x y : ℕ). x % y) (whole (a .t .now) _ (a .k) _ (c .before .length-for .ensures) (c .joined .ensures))
-    (end (a .k) (omega arith))
-    ∙ first-bits (2 ^ a .k) (8 * tableLength (a .k)) (tableBit (a .t .now)) (length-holds (a .k))
+    let a = c.before.before.before.args in
+    ap₂ (λ (x y : ℕ). x % y) (whole a.t.now _ a.k _ c.before.length-for.ensures c.joined.ensures)
+    (end a.k (omega arith))
+    ∙ first-bits (2 ^ a.k) (8 * tableLength a.k) (tableBit a.t.now) (length-holds a.k)
 
 pub short-word-spec : {M : Type 1} → statement M
 short-word-spec =
-    tie.close (tie.spec (λ c. search needs) (λ c κs. search needs) joined-requires (λ c. search needs) shl-end
+    tie.close (tie.spec (λ c. search rules) (λ c κs. search rules) joined-requires (λ c. search rules) shl-end
     rem-result returns)

@@ -1,18 +1,18 @@
 -- The word is eight bytes joined. Assumes nothing.
-use mathlib.Core.Path.{_≡_, ap, _∙_}
-use Prim.Native.Nat.{_+_, _*_}
+use mathlib.Core.Path.{◌≡◌, ap, ◌∙◌}
+use Prim.Native.Nat.{◌+◌, ◌*◌}
 use native.Mathlib.Omega.{arith}
-use borrow.Author.Needs.{needs}
-use Rattle·bits.proofs.Numbers.{number-ext}
-use Rattle·tables·specs.specs.Table.{tableBit}
-use Rattle·tables·proofs.proofs.words.table_word.Statement.{statement}
-use Rattle·tables·proofs.proofs.words.table_word.Tie as tie
+use borrow.Author.Rules.{rules}
+use Rattle.bits.proofs.Numbers.{number-ext}
+use Rattle.tables.specs.Table.{tableBit}
+use Rattle.tables.proofs.words.table_word.Statement.{statement}
+use Rattle.tables.proofs.words.table_word.Tie as tie
 
 returns : tie.Need-returns
 returns c =
-    let a = c .before .before .args in
-    c .joined .ensures ∙ number-ext 64 _ (λ i. tableBit (a .t .now) (64 * a .w + i))
-    (λ i _. let e : 8 * (8 * a .w) + i ≡ 64 * a .w + i = omega arith in ap (tableBit (a .t .now)) e)
+    let a = c.before.before.args in
+    c.joined.ensures ∙ number-ext 64 _ (λ i. tableBit a.t.now (64 * a.w + i))
+    (λ i _. let e : 8 * (8 * a.w) + i ≡ 64 * a.w + i = omega arith in ap (tableBit a.t.now) e)
 
 pub table-word-spec : {M : Type 1} → statement M
-table-word-spec = tie.close (tie.spec (λ c. search needs) (λ c κs. search needs) returns)
+table-word-spec = tie.close (tie.spec (λ c. search rules) (λ c κs. search rules) returns)

@@ -1,8 +1,8 @@
 -- Assumes nothing.
-use borrow.Author.Needs.{needs}
-use Rattle·bits.proofs.Machine.{test-bit}
-use Rattle·turning·proofs.proofs.ways.bit_of.Statement.{statement}
-use Rattle·turning·proofs.proofs.ways.bit_of.Tie as tie
+use borrow.Author.Rules.{rules}
+use Rattle.bits.proofs.Machine.{test_bit}
+use Rattle.turning.proofs.ways.bit_of.Statement.{statement}
+use Rattle.turning.proofs.ways.bit_of.Tie as tie
 
 pub bit-of-spec : {M : Type 1} → statement M
-bit-of-spec = tie.close (tie.spec (λ c. search needs) (λ c. test-bit (c .args .x) (c .args .j)))
+bit-of-spec = tie.close (tie.spec (λ c. search rules) (λ c. test_bit c.args.x c.args.j))

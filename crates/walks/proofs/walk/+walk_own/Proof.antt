@@ -1,37 +1,37 @@
 -- The cycle of calls {walk_own}, whose position falls. Each way out is one law of a walk, at what `tryA` answers.
 -- Assumes nothing.
-use mathlib.Core.Path.{refl, sym, ap, _∙_}
-use Prim.Native.Nat.{ℕ, _<_}
+use mathlib.Core.Path.{refl, sym, ap, ◌∙◌}
+use Prim.Native.Nat.{ℕ, ◌<◌}
 use native.Mathlib.Omega.{arith}
-use borrow.Author.Needs.{needs}
+use borrow.Author.Rules.{rules}
 use borrow.Fn.Kinds.{In}
 use borrow.Fn.PlainCycle.{Measures, is, falls, and}
-use Rattle·bits.specs.Numbers.{bit}
-use Rattle·tables.specs.Table.{tableBit}
-use Rattle·best.specs.Search.{tryB}
-use Rattle·best.specs.Answers.{answerOf}
-use Rattle·best.proofs.Tries.{tryA-is}
-use Rattle·best.proofs.Walks.{OfSize, ownTries, Turn, turn, walk-big, walk-leaf, walk-found, walk-next}
-use Rattle·best.proofs.Walks.{shared-start, start-whole}
-use Rattle·known.proofs.Keeping.{needs-part}
-use Rattle·walks·proofs.proofs.Pruning.{mask-fits, left-outside, own-crowded, own-more}
-use Rattle·walks·proofs.proofs.walk.walk_own.Reads as walk-own
-use Rattle·walks·proofs.proofs.walk.walk_own.Kinds as walk-own-kinds
-use Rattle·walks·proofs.proofs.walk.+walk_own.Lts-walk_own as walk-own-lts
-use Rattle·walks·proofs.proofs.walk.too_many.Reads as too-many-reads
-use Rattle·known.proofs.needed.needed.Reads as needed-reads
-use Rattle·walks·proofs.proofs.walk.walk_shared.Reads as walk-shared-reads
-use Rattle·walks·proofs.proofs.walk.+walk_own.{statement}
-use Rattle·walks·proofs.proofs.walk.+walk_own.Tie.{close}
+use Rattle.bits.specs.Numbers.{bit}
+use Rattle.tables.specs.Table.{tableBit}
+use Rattle.best.specs.Search.{tryB}
+use Rattle.best.specs.Answers.{answer_of}
+use Rattle.best.proofs.Tries.{tryA-is}
+use Rattle.best.proofs.Walks.{OfSize, ownTries, Turn, turn, walk-big, walk-leaf, walk-found, walk-next}
+use Rattle.best.proofs.Walks.{shared_start, start-whole}
+use Rattle.known.proofs.Keeping.{needs-part}
+use Rattle.walks.proofs.Pruning.{mask_fits, left-outside, own-crowded, own-more}
+use Rattle.walks.proofs.walk.walk_own.Reads as walk-own
+use Rattle.walks.proofs.walk.walk_own.Kinds as walk-own-kinds
+use Rattle.walks.proofs.walk.+walk_own.Lts-walk_own as walk-own-lts
+use Rattle.walks.proofs.walk.too_many.Reads as too-many-reads
+use Rattle.known.proofs.needed.needed.Reads as needed-reads
+use Rattle.walks.proofs.walk.walk_shared.Reads as walk-shared-reads
+use Rattle.walks.proofs.walk.+walk_own.{statement}
+use Rattle.walks.proofs.walk.+walk_own.Tie.{close}
 
 abbrev μ-walk-own : Measures 2 walk-own-kinds.ps ℕ
-μ-walk-own κs a = a .1 .1 .1 .1 .1 .1 .0
+μ-walk-own κs a = a.1.1.1.1.1.1.0
 
 abbrev walk-own-at : ℕ → In 2 walk-own-kinds.ps
 walk-own-at t = and 2 walk-own-kinds.ps (is 2 walk-own-kinds.ps μ-walk-own t) walk-own.Pre
 
 abbrev walk-own-below : ℕ → In 2 walk-own-kinds.ps
-walk-own-below t = and 2 walk-own-kinds.ps (falls 2 walk-own-kinds.ps _<_ μ-walk-own t) walk-own.Pre
+walk-own-below t = and 2 walk-own-kinds.ps (falls 2 walk-own-kinds.ps ◌<◌ μ-walk-own t) walk-own.Pre
 
 -- what its callees ask and tell
 abbrev callees : ℕ → walk-own-lts.Claims
@@ -49,95 +49,95 @@ callees t = (
 abbrev Entry : ℕ → Type 0
 Entry t = walk-own-lts.Start (callees t) (walk-own-at t) walk-own.Post
 
-abbrev tries : {t : ℕ} (s : Entry t) → OfSize (s .args .n)
-tries s = let a = s .args in ownTries (a .n) (a .r) (tableBit (a .t .now)) (a .q)
+abbrev tries : {t : ℕ} (s : Entry t) → OfSize s.args.n
+tries s = let a = s.args in ownTries a.n a.r (tableBit a.t.now) a.q
 
 -- k is from 1 to p: the highest open position is left out, then taken in
 abbrev Deciding : ℕ → Type 0
 Deciding t = walk-own-lts.Else3 (callees t) (walk-own-at t) walk-own.Post
 
 abbrev entry : {t : ℕ} → Deciding t → Entry t
-entry c = c .before .before .before .before .before .before .before
+entry c = c.before.before.before.before.before.before.before
 
-decided : {t : ℕ} (c : Deciding t) → let a = entry c .args in Turn (a .n) (a .p) (a .acc) (a .k)
+decided : {t : ℕ} (c : Deciding t) → let a = (entry c).args in Turn a.n a.p a.acc a.k
 decided c =
     let s = entry c in
-    turn (s .args .k) (s .pre .1 .1 .0) (omega (arith, c .before .before .before .if1 .left)) (c .if3 .left)
+    turn s.args.k s.pre.1.1.0 (omega (arith, c.before.before.before.if1.false)) c.if3.false
 
 pub +walk-own-spec : {M : Type 1} → statement M
 +walk-own-spec = close μ-walk-own λ t. walk-own-lts.spec (callees t) (walk-own-at t) walk-own.Post
     -- k is above p
-    (λ c. let s = c .before .before .before .before in
-    (sym (walk-big (tries s) (s .pre .1 .1 .0) (s .args .k) (c .if1 .taken)), s .pre .1 .0 .0))
+    (λ c. let s = c.before.before.before.before in
+    (sym (walk-big (tries s) s.requires.1.1.0 s.args.k c.if1.true), s.requires.1.0.0))
     -- the needed positions do not fit
-    (λ c. let s = c .before .before .before .before
-    in omega (arith, s .pre .1 .1 .2, s .pre .1 .1 .0 .within, s .pre .1 .1 .0 .most, c .if1 .left))
-    (λ c κs. search needs)
-    (λ c. let s = c .before .before .before .before .before .before in
-    let a = s .args in
-    let h = s .pre .1 .1 in (
-      sym (own-crowded (a .n) (a .r) (tableBit (a .t .now)) (a .need) (h .1) (h .0) (a .q) (a .k)
-          (c .before .too-many .ensures (c .if2 .taken))),
-      s .pre .1 .0 .0,
+    (λ c. let s = c.before.before.before.before
+    in omega (arith, s.pre.1.1.2, s.pre.1.1.0.within, s.pre.1.1.0.most, c.if1.false))
+    (λ c κs. search rules)
+    (λ c. let s = c.before.before.before.before.before.before in
+    let a = s.args in
+    let h = s.requires.1.1 in (
+      sym (own-crowded a.n a.r (tableBit a.t.now) a.need h.1 h.0 a.q a.k
+          (c.before.too_many.ensures c.if2.true)),
+      s.requires.1.0.0,
     ))
     -- k is 0: the own mask is made, and the walk over its shared masks begins
-    (λ c κs. let s = c .before .before .before .before .before .before .before .before in
-    let a = s .args in
-    let h = s .pre .1 .1 in (
-      s .pre .1 .0 .0,
+    (λ c κs. let s = c.before.before.before.before.before.before.before.before in
+    let a = s.args in
+    let h = s.requires.1.1 in (
+      s.requires.1.0.0,
       (
-        shared-start (h .0),
-        needs-part (bit (a .acc)) (a .need) _ (h .1),
-        left-outside (a .need)
-            (a .acc) (omega arith) (omega arith),
+        shared_start h.0,
+        needs-part (bit a.acc) a.need _ h.1,
+        left-outside a.need
+            a.acc (omega arith) (omega arith),
       ),
     ))
-    (λ c. search needs)
-    (λ c. let f = c .before .before in
-    let s = f .before .before .before .before .before .before .before .before .before in
-    let a = s .args in (
-      f .walk-shared .ensures .0 ∙ start-whole (a .n) (a .q) (λ q. tryB (a .n) (a .r) (tableBit (a .t .now)) q (a .acc))
-          ∙ sym (walk-leaf (tries s) (s .pre .1 .1 .0) (a .k) (f .before .before .if3 .taken)
-          ∙ tryA-is (a .n) (a .r) (tableBit (a .t .now)) _ (a .q) (a .acc) refl),
-      f .walk-shared .ensures .1,
+    (λ c. search rules)
+    (λ c. let f = c.before.before in
+    let s = f.before.before.before.before.before.before.before.before.before in
+    let a = s.args in (
+      f.walk-shared.ensures.0 ∙ start-whole a.n a.q (λ q. tryB a.n a.r (tableBit a.t.now) q a.acc)
+          ∙ sym (walk-leaf (tries s) s.requires.1.1.0 a.k f.before.before.if3.true
+          ∙ tryA-is a.n a.r (tableBit a.t.now) _ a.q a.acc refl),
+      f.walk-shared.ensures.1,
     ))
     -- the numbers of a turn fit
-    (λ c. search needs)
-    (λ c. search needs)
-    (λ c. search needs)
-    (λ c. record { fits = mask-fits (decided c .taken) })
-    (λ c. search needs)
+    (λ c. search rules)
+    (λ c. search rules)
+    (λ c. search rules)
+    (λ c. record { fits = mask_fits (decided c).taken })
+    (λ c. search rules)
     -- the masks without the position
-    (λ c κs. let d = decided (c .before) in
-    let s = entry (c .before) in
-    let h = s .pre .1 .1 in
-    (omega (arith, s .pre .0, d .down), (s .pre .1 .0, (d .out, h .1, h .2))))
-    (λ c. search needs)
-    (λ c. search needs)
-    (λ c. let f = c .before .before .before .before .before in
-    let s = entry (f .before .before) in (
-      sym (walk-found (tries s) (s .pre .1 .1 .0) (s .args .k) (decided (f .before .before)) _ _
-          (sym (f .walk-own .ensures .0) ∙ ap answerOf (c .before .without .given .1))),
-      f .walk-own .ensures .1,
+    (λ c κs. let d = decided c.before in
+    let s = entry c.before in
+    let h = s.pre.1.1 in
+    (omega (arith, s.pre.0, d.down), (s.pre.1.0, (d.out, h.1, h.2))))
+    (λ c. search rules)
+    (λ c. search rules)
+    (λ c. let f = c.before.before.before.before.before in
+    let s = entry f.before.before in (
+      sym (walk-found (tries s) s.pre.1.1.0 s.args.k (decided f.before.before) _ _
+          (sym f.walk-own.ensures.0 ∙ ap answer_of c.before.without.given.1)),
+      f.walk-own.ensures.1,
     ))
-    (λ c. search needs)
+    (λ c. search rules)
     -- the masks with the position, and what it needs
-    (λ c κs. let m = c .before .before .before .before .before .before in
+    (λ c κs. let m = c.before.before.before.before.before.before in
     let s = entry m in
-    (s .pre .1 .0 .1 .long, omega (arith, decided m .inside, s .pre .1 .1 .0 .most)))
-    (λ c κs. let f = c .before .before .before .before .before .before in
-    let d = decided (f .before .before) in
-    let s = entry (f .before .before) in
-    let b = s .pre .1 .0 .1 in
-    let h = s .pre .1 .1 in
-    let w = own-more (h .0) d (s .args .pairs .now) (s .args .need) _ b (h .1) (c .before .needed .ensures) in
-    (omega (arith, s .pre .0, d .down), ((f .walk-own .ensures .1, b), (d .taken, w, h .2))))
-    (λ c. search needs)
-    (λ c. let g = c .before .before in
-    let f = g .before .before .before .before .before .before .before in
-    let s = entry (f .before .before) in (
-      g .walk-own2 .ensures .0
-          ∙ sym (walk-next (tries s) (s .pre .1 .1 .0) (s .args .k) (decided (f .before .before))
-          (sym (f .walk-own .ensures .0) ∙ ap answerOf (g .before .before .before .enum-told .given .1))),
-      g .walk-own2 .ensures .1,
+    (s.pre.1.0.1.long, omega (arith, (decided m).inside, s.pre.1.1.0.most)))
+    (λ c κs. let f = c.before.before.before.before.before.before in
+    let d = decided f.before.before in
+    let s = entry f.before.before in
+    let b = s.pre.1.0.1 in
+    let h = s.pre.1.1 in
+    let w = own-more h.0 d s.args.pairs.now s.args.need _ b h.1 c.before.needed.ensures in
+    (omega (arith, s.pre.0, d.down), ((f.walk-own.ensures.1, b), (d.taken, w, h.2))))
+    (λ c. search rules)
+    (λ c. let g = c.before.before in
+    let f = g.before.before.before.before.before.before.before in
+    let s = entry f.before.before in (
+      g.walk-own2.ensures.0
+          ∙ sym (walk-next (tries s) s.pre.1.1.0 s.args.k (decided f.before.before)
+          (sym f.walk-own.ensures.0 ∙ ap answer_of g.before.before.before.enum_told.given.1)),
+      g.walk-own2.ensures.1,
     ))

@@ -1,14 +1,14 @@
 -- `walks::walk::too_many` meets its contract: the count of ones is the size. Assumes nothing.
 use native.Mathlib.Omega.{arith}
-use borrow.Author.Needs.{needs}
+use borrow.Author.Rules.{rules}
 use borrow.Author.Tests.{ltb-true}
-use Rattle·witness.proofs.Points.{said-no}
-use Rattle·walks·proofs.proofs.walk.too_many.Statement.{statement}
-use Rattle·walks·proofs.proofs.walk.too_many.Tie as tie
+use Rattle.witness.proofs.Points.{said-no}
+use Rattle.walks.proofs.walk.too_many.Statement.{statement}
+use Rattle.walks.proofs.walk.too_many.Tie as tie
 
 returns-2 : tie.Need-returns-2
-returns-2 c e = let a = c .before .before .args
-    in omega (arith, c .members .ensures 16 (omega arith), ltb-true (a .room) (c .members .result) e)
+returns-2 c e = let a = c.before.before.args
+    in omega (arith, c.members.ensures 16 (omega arith), ltb-true a.room c.members.result e)
 
 pub too-many-spec : {M : Type 1} → statement M
-too-many-spec = tie.close (tie.spec (λ c. said-no) (λ c κs. search needs) returns-2)
+too-many-spec = tie.close (tie.spec (λ c. said-no) (λ c κs. search rules) returns-2)

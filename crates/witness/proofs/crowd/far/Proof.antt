@@ -1,67 +1,64 @@
 -- `far` meets its contract: the four bits that it reads make the column, which is below 16. Assumes nothing.
-use mathlib.Core.Path.{_≡_, ap, _∙_}
-use Prim.Native.Nat.{_+_, _*_, _^_, _<_}
-use native.Mathlib.Omega.{arith}
-use mir.Val.{boolByte}
-use lib.Bits.{bitXor, xor-lt}
-use borrow.Author.Needs.{needs}
-use Rattle·bits.proofs.Building.{bool-digit}
-use Rattle·bits.proofs.Machine.{shl-one}
-use Rattle·tables.specs.Table.{tableBit}
-use Rattle·witness·specs.specs.Crowd.{columnOver}
-use Rattle·witness·proofs.proofs.Many.{column-lt}
-use Rattle·witness·proofs.proofs.crowd.far.Statement.{statement}
-use Rattle·witness·proofs.proofs.crowd.far.Tie as tie
+use Rattle.std.proofs.Common.{◌≡◌, ◌+◌, ◌*◌, ◌^◌, ◌<◌, ap, ◌∙◌, arith, rules}
+use mir.Val.{bool_byte}
+use lib.Bits.{bit_xor, xor_lt}
+use Rattle.bits.proofs.Building.{bool-digit}
+use Rattle.bits.proofs.Machine.{shl_one}
+use Rattle.tables.specs.Table.{tableBit}
+use Rattle.witness.specs.Crowd.{columnOver}
+use Rattle.witness.proofs.Many.{column-lt}
+use Rattle.witness.proofs.crowd.far.Statement.{statement}
+use Rattle.witness.proofs.crowd.far.Tie as tie
 
 -- the number of the column
-column : (c : tie.After-bit-at4) → let a = c .before .before .before .before .before .args in
-    boolByte (c .before .before .before .bit-at .result) + 2 * boolByte (c .before .before .bit-at2 .result)
-    + 4 * boolByte (c .before .bit-at3 .result)
-    + 8 * boolByte (c .bit-at4 .result) ≡ columnOver (tableBit (a .t .now)) (a .e) (a .f) (a .x)
+column : (c : tie.After-bit-at4) → let a = c.before.before.before.before.before.args in
+    bool_byte c.before.before.before.bit_at.result + 2 * bool_byte c.before.before.bit-at2.result
+    + 4 * bool_byte c.before.bit-at3.result
+    + 8 * bool_byte c.bit-at4.result ≡ columnOver (tableBit a.t.now) a.e a.f a.x
 column c =
     omega (
       arith,
-      bool-digit (c .before .before .before .bit-at .ensures),
-      bool-digit (c .before .before .bit-at2 .ensures),
-      bool-digit (c .before .bit-at3 .ensures),
-      bool-digit (c .bit-at4 .ensures),
+      bool-digit c.before.before.before.bit_at.ensures,
+      bool-digit c.before.before.bit-at2.ensures,
+      bool-digit c.before.bit-at3.ensures,
+      bool-digit c.bit-at4.ensures,
     )
 
-few : (c : tie.After-bit-at4) → boolByte (c .before .before .before .bit-at .result)
-    + 2 * boolByte (c .before .before .bit-at2 .result) + 4 * boolByte (c .before .bit-at3 .result)
-    + 8 * boolByte (c .bit-at4 .result) < 16
-few c = let a = c .before .before .before .before .before .args
-    in omega (arith, column c, column-lt (tableBit (a .t .now)) (a .e) (a .f) (a .x))
+few : (c : tie.After-bit-at4) → bool_byte c.before.before.before.bit_at.result
+    + 2 * bool_byte c.before.before.bit-at2.result + 4 * bool_byte c.before.bit-at3.result
+    + 8 * bool_byte c.bit-at4.result < 16
+few c = let a = c.before.before.before.before.before.args
+    in omega (arith, column c, column-lt (tableBit a.t.now) a.e a.f a.x)
 
 bit-at-requires-2 : tie.Need-bit-at-requires-2
-bit-at-requires-2 c κs = let s = c .before .before
-    in omega (arith, xor-lt (s .args .n) (s .args .x) (s .args .e) (s .pre .2) (s .pre .3), s .pre .1)
+bit-at-requires-2 c κs = let s = c.before.before
+    in omega (arith, xor_lt s.args.n s.args.x s.args.e s.pre.2 s.pre.3, s.pre.1)
 
 bit-at-requires-3 : tie.Need-bit-at-requires-3
-bit-at-requires-3 c κs = let s = c .before .before .before
-    in omega (arith, xor-lt (s .args .n) (s .args .x) (s .args .f) (s .pre .2) (s .pre .4), s .pre .1)
+bit-at-requires-3 c κs = let s = c.before.before.before
+    in omega (arith, xor_lt s.args.n s.args.x s.args.f s.pre.2 s.pre.4, s.pre.1)
 
 bit-at-requires-4 : tie.Need-bit-at-requires-4
 bit-at-requires-4 c κs =
-    let s = c .before .before .before .before in
-    let a = s .args in
+    let s = c.before.before.before.before in
+    let a = s.args in
     omega (
       arith,
-      xor-lt (a .n) (bitXor (a .x) (a .e)) (a .f) (xor-lt (a .n) (a .x) (a .e) (s .pre .2) (s .pre .3))
-          (s .pre .4),
-      s .pre .1,
+      xor_lt a.n (bit_xor a.x a.e) a.f (xor_lt a.n a.x a.e s.requires.2 s.requires.3)
+          s.requires.4,
+      s.requires.1,
     )
 
-cast-result : tie.Need-cast-result
+cast-result : tie.Need-overflow-cast-result
 cast-result c = record { fits = omega (arith, few c) }
 
 returns : tie.Need-returns
-returns c = shl-one 16 _ (few c) ∙ ap (λ m. 2 ^ m) (column c)
+returns c = shl_one 16 _ (few c) ∙ ap (λ m. 2 ^ m) (column c)
 
 pub far-spec : {M : Type 1} → statement M
 far-spec =
-    tie.close (tie.spec (λ c κs. search needs) (λ c. search needs) bit-at-requires-2 (λ c. search needs)
-    bit-at-requires-3 (λ c. search needs)
-    bit-at-requires-4 (λ c. search needs) (λ c. omega (arith, few c)) (λ c. omega (arith, few c))
+    tie.close (tie.spec (λ c κs. search rules) (λ c. search rules) bit-at-requires-2 (λ c. search rules)
+    bit-at-requires-3 (λ c. search rules)
+    bit-at-requires-4 (λ c. search rules) (λ c. omega (arith, few c)) (λ c. omega (arith, few c))
     (λ c. omega (arith, few c)) (λ c. omega (arith, few c))
     (λ c. omega (arith, few c)) (λ c. omega (arith, few c)) cast-result (λ c. omega (arith, few c)) returns)

@@ -1,24 +1,24 @@
 -- Both words lie in the table, and where they differ the bit changes. Assumes nothing.
-use mathlib.Core.Path.{ap₂, _∙_}
-use lib.Bits.{or-lt}
-use Rattle·tables.proofs.Pieces.{word-at}
-use Rattle·witness·specs.specs.Points.{differ}
-use Rattle·witness·proofs.proofs.Members.{bit-xor}
-use Rattle·witness·proofs.proofs.triple.change.Statement.{statement}
-use Rattle·witness·proofs.proofs.triple.change.Tie as tie
+use Rattle.std.proofs.Common.{◌∙◌, ap₂}
+use lib.Bits.{or_lt}
+use Rattle.tables.proofs.Pieces.{word_at}
+use Rattle.witness.specs.Points.{differ}
+use Rattle.witness.proofs.Members.{bit-xor}
+use Rattle.witness.proofs.triple.change.Statement.{statement}
+use Rattle.witness.proofs.triple.change.Tie as tie
 
 bits-from-requires : tie.Need-bits-from-requires
 bits-from-requires c κs =
-    let s = c .before in
-    word-at (s .args .n) (s .args .t .now) _ (s .pre .0 .long)
-    (or-lt (s .args .n) (s .args .x) (s .args .s) (s .pre .1) (s .pre .2))
+    let s = c.before in
+    word_at s.args.n s.args.t.now _ s.requires.0.long
+    (or_lt s.args.n s.args.x s.args.s s.requires.1 s.requires.2)
 
 bits-from-requires-2 : tie.Need-bits-from-requires-2
-bits-from-requires-2 c κs = let s = c .before .before
-    in word-at (s .args .n) (s .args .t .now) _ (s .pre .0 .long) (s .pre .1)
+bits-from-requires-2 c κs = let s = c.before.before
+    in word_at s.args.n s.args.t.now _ s.pre.0.long s.pre.1
 
 returns : tie.Need-returns
-returns c k h h′ = bit-xor _ _ k ∙ ap₂ differ (c .before .bits-from .ensures k h′) (c .bits-from2 .ensures k h)
+returns c k h h' = bit-xor _ _ k ∙ ap₂ differ (c.before.bits-from.ensures k h') (c.bits-from2.ensures k h)
 
 pub change-spec : {M : Type 1} → statement M
 change-spec = tie.close (tie.spec bits-from-requires bits-from-requires-2 returns)

@@ -1,60 +1,60 @@
 -- The free mask is what the two masks leave of all ones. Assumes nothing.
-use mathlib.Core.Path.{_≡_, refl, sym, _∙_, subst}
-use Prim.Native.Nat.{ℕ, _+_, _-_, _*_, _%_, _^_, _<_, _≤_}
+use mathlib.Core.Path.{◌≡◌, refl, sym, ◌∙◌, subst}
+use Prim.Native.Nat.{ℕ, ◌+◌, ◌-◌, ◌*◌, ◌%◌, ◌^◌, ◌<◌, ◌≤◌}
 use native.Mathlib.Omega.{arith}
-use borrow.Author.Needs.{needs}
-use Rattle·bits.specs.Numbers.{bit, number}
-use Rattle·bits.specs.Sets.{rest, Apart}
-use Rattle·bits.proofs.Masks.{mask-most}
-use Rattle·bits.proofs.Machine.{shl-one}
-use Rattle·bits.proofs.Numbers.{number-lt}
-use Rattle·tables.specs.Table.{mostInputs}
-use Rattle·columns·specs.specs.Reading.{highPart, lowPlaces}
-use Rattle·splits.proofs.Parts.{rest-sum}
-use Rattle·columns·proofs.proofs.split.Split.of.Statement.{statement}
-use Rattle·columns·proofs.proofs.split.Split.of.Tie as tie
+use borrow.Author.Rules.{rules}
+use Rattle.bits.specs.Numbers.{bit, number}
+use Rattle.bits.specs.Sets.{rest, Apart}
+use Rattle.bits.proofs.Masks.{mask-most}
+use Rattle.bits.proofs.Machine.{shl_one}
+use Rattle.bits.proofs.Numbers.{number_lt}
+use Rattle.tables.specs.Table.{mostInputs}
+use Rattle.columns.specs.Reading.{highPart, lowPlaces}
+use Rattle.splits.proofs.Parts.{rest_sum}
+use Rattle.columns.proofs.split.Split.of.Statement.{statement}
+use Rattle.columns.proofs.split.Split.of.Tie as tie
 
 -- 2 ^ n - 1 - own - shared, at a width of 32 bits
 module _ (n own shared : ℕ) (pre : (n ≤ mostInputs) × (own < 2 ^ n) × (shared < 2 ^ n) × Apart n (bit own) (bit shared))
   where
     sum : number n (rest (bit own) (bit shared)) + own + shared + 1 ≡ 1 * 2 ^ n % 4294967296
-    sum = rest-sum n own shared (pre .1) (pre .2) (pre .3) ∙ sym (shl-one 32 n (omega arith))
+    sum = rest_sum n own shared pre.1 pre.2 pre.3 ∙ sym (shl_one 32 n (omega arith))
 
-    left-is : 1 * 2 ^ n % 4294967296 - 1 - own - shared ≡ number n (rest (bit own) (bit shared))
-    left-is = omega (arith, sum)
+    left_is : 1 * 2 ^ n % 4294967296 - 1 - own - shared ≡ number n (rest (bit own) (bit shared))
+    left_is = omega (arith, sum)
 
-    left-lt : 1 * 2 ^ n % 4294967296 - 1 - own - shared < 2 ^ n
-    left-lt = subst (λ (m : ℕ). m < 2 ^ n) (sym left-is) (number-lt n (rest (bit own) (bit shared)))
+    left_lt : 1 * 2 ^ n % 4294967296 - 1 - own - shared < 2 ^ n
+    left_lt = subst (λ (m : ℕ). m < 2 ^ n) (sym left_is) (number_lt n (rest (bit own) (bit shared)))
 
-    high-lt : highPart (1 * 2 ^ n % 4294967296 - 1 - own - shared) < 2 ^ n
-    high-lt = omega (arith, left-lt)
+    high_lt : highPart (1 * 2 ^ n % 4294967296 - 1 - own - shared) < 2 ^ n
+    high_lt = omega (arith, left_lt)
 
 returns : tie.Need-returns
 unfolding lowPlaces
 returns c =
-    let p = c .before .before .pre in
-    let a = c .before .before .args in (
+    let p = c.before.before.requires in
+    let a = c.before.before.args in (
       record {
-        most = p .0;
-        belowA = p .1;
-        belowB = p .2;
-        apart = p .3;
-        free = left-is (a .n) (a .own) (a .shared) p;
-        words = c .before .parts .ensures .0;
-        low = c .subsets .ensures;
+        most = p.0;
+        belowA = p.1;
+        belowB = p.2;
+        apart = p.3;
+        free = left_is a.n a.own a.shared p;
+        words = c.before.parts.ensures.0;
+        low = c.subsets.ensures;
       },
       refl,
       refl,
       refl,
     )
 
-pub of-spec : {M : Type 1} → statement M
-of-spec =
-    tie.close (tie.spec (λ c. search needs)
-    (λ c. omega (arith, sum (c .args .n) (c .args .own) (c .args .shared) (c .pre)))
-    (λ c. omega (arith, sum (c .args .n) (c .args .own) (c .args .shared) (c .pre)))
-    (λ c. omega (arith, sum (c .args .n) (c .args .own) (c .args .shared) (c .pre)))
-    (λ c. omega (arith, left-lt (c .args .n) (c .args .own) (c .args .shared) (c .pre), mask-most (c .pre .0)))
-    (λ c. omega (arith, high-lt (c .args .n) (c .args .own) (c .args .shared) (c .pre), mask-most (c .pre .0)))
-    (λ c κs. (c .pre .0, high-lt (c .args .n) (c .args .own) (c .args .shared) (c .pre))) (λ c κs. search needs)
+pub of_spec : {M : Type 1} → statement M
+of_spec =
+    tie.close (tie.spec (λ c. search rules)
+    (λ c. omega (arith, sum c.args.n c.args.own c.args.shared c.requires))
+    (λ c. omega (arith, sum c.args.n c.args.own c.args.shared c.requires))
+    (λ c. omega (arith, sum c.args.n c.args.own c.args.shared c.requires))
+    (λ c. omega (arith, left_lt c.args.n c.args.own c.args.shared c.requires, mask-most c.requires.0))
+    (λ c. omega (arith, high_lt c.args.n c.args.own c.args.shared c.requires, mask-most c.requires.0))
+    (λ c κs. (c.requires.0, high_lt c.args.n c.args.own c.args.shared c.requires)) (λ c κs. search rules)
     returns)

@@ -1,17 +1,17 @@
 -- An empty sheet has no cells. Assumes nothing.
 use mathlib.Core.Path.{refl, ap}
 use native.Mathlib.Omega.{arith}
-use borrow.Author.Needs.{needs}
-use Rattle·sheets.specs.declared.kinds.Sheet.{Sheet}
-use Rattle·steps·proofs.proofs.pile.Pile.empty.Statement.{statement}
-use Rattle·steps·proofs.proofs.pile.Pile.empty.Tie as tie
+use borrow.Author.Rules.{rules}
+use Rattle.sheets.specs.declared.kinds.Sheet.{Sheet}
+use Rattle.steps.proofs.pile.Pile.empty.Statement.{statement}
+use Rattle.steps.proofs.pile.Pile.empty.Tie as tie
 
 returns : tie.Need-returns
 returns c = record {
   count = refl;
-  within = omega (arith, ap (λ (s : Sheet). s .count) (c .empty .ensures .0));
-  held = λ h. c .empty .ensures .1;
+  within = omega (arith, ap (λ (s : Sheet). s.count) c.empty.ensures.0);
+  held = λ h. c.empty.ensures.1;
 }
 
 pub empty-spec : {M : Type 1} → statement M
-empty-spec = tie.close (tie.spec (λ c κs. search needs) returns)
+empty-spec = tie.close (tie.spec (λ c κs. search rules) returns)

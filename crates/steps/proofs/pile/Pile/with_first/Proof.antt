@@ -1,73 +1,73 @@
 -- The cells are put on the pile in turn. Assumes nothing.
-use mathlib.Core.Path.{_≡_}
+use mathlib.Core.Path.{◌≡◌}
 use Prim.Native.Nat.{ℕ}
 use native.Mathlib.Omega.{arith}
-use borrow.Author.Needs.{needs}
-use Rattle·charts.specs.declared.pair.FirstCells.{FirstCells}
-use Rattle·charts.specs.Cells.{tableIn}
-use Rattle·sheets.specs.Network.{Cell}
-use Rattle·chains.specs.Chain.{lastCell}
-use Rattle·steps·specs.specs.declared.signals.Signals.{Signals}
-use Rattle·steps·specs.specs.Stage.{signalsOf}
-use Rattle·steps·proofs.proofs.Piling.{grown-same, grown-then, firsts-one, firsts-two, firsts-three}
-use Rattle·steps·proofs.proofs.pile.Pile.with_first.Statement.{statement}
-use Rattle·steps·proofs.proofs.pile.Pile.with_first.Tie as tie
+use borrow.Author.Rules.{rules}
+use Rattle.charts.specs.declared.pair.FirstCells.{FirstCells}
+use Rattle.charts.specs.Cells.{tableIn}
+use Rattle.sheets.specs.Network.{Cell}
+use Rattle.chains.specs.Chain.{lastCell}
+use Rattle.steps.specs.declared.signals.Signals.{Signals}
+use Rattle.steps.specs.Stage.{signalsOf}
+use Rattle.steps.proofs.Piling.{grown-same, grown-then, firsts-one, firsts-two, firsts-three}
+use Rattle.steps.proofs.pile.Pile.with_first.Statement.{statement}
+use Rattle.steps.proofs.pile.Pile.with_first.Tie as tie
 
 -- first cell t
-abbrev cellOf : Signals → FirstCells → ℕ → Cell
-cellOf read d t = lastCell (signalsOf read) (tableIn d t)
+abbrev cell_of : Signals → FirstCells → ℕ → Cell
+cell_of read d t = lastCell (signalsOf read) (tableIn d t)
 
 returns : tie.Need-returns
 returns c =
-    let w = c .before in
-    let g = w .before .before .before .before .before in
-    let a = g .args in
-    let h : a .r ≡ 1 = omega (arith, g .pre .0 .2, c .if1 .taken) in
-    grown-same (firsts-one (cellOf (a .read) (a .d)) (a .r) _ (w .before .cell .ensures .0) h) (w .with-cell .ensures)
+    let w = c.before in
+    let g = w.before.before.before.before.before in
+    let a = g.args in
+    let h : a.r ≡ 1 = omega (arith, g.requires.0.2, c.if1.true) in
+    grown-same (firsts-one (cell_of a.read a.d) a.r _ w.before.cell.ensures.0 h) w.with_cell.ensures
 
 returns-2 : tie.Need-returns-2
 returns-2 c =
-    let v = c .before in
-    let i = v .before .before in
-    let w = i .before in
-    let g = w .before .before .before .before .before in
-    let a = g .args in
-    let h : a .r ≡ 2 = omega (arith, i .if1 .left, c .if2 .taken) in
-    grown-same (firsts-two (cellOf (a .read) (a .d)) (a .r) _ (w .before .cell .ensures .0) _
-    (v .before .cell2 .ensures .0) h)
-    (grown-then (w .with-cell .ensures) (v .with-cell2 .ensures))
+    let v = c.before in
+    let i = v.before.before in
+    let w = i.before in
+    let g = w.before.before.before.before.before in
+    let a = g.args in
+    let h : a.r ≡ 2 = omega (arith, i.if1.false, c.if2.true) in
+    grown-same (firsts-two (cell_of a.read a.d) a.r _ w.before.cell.ensures.0 _
+    v.before.cell2.ensures.0 h)
+    (grown-then w.with_cell.ensures v.with-cell2.ensures)
 
 with-cell-requires-3 : tie.Need-with-cell-requires-3
 with-cell-requires-3 c κs =
-    let v = c .before .before in
-    let w = v .before .before .before in
-    let g = w .before .before .before .before .before in (
-      v .with-cell2 .ensures .within,
+    let v = c.before.before in
+    let w = v.before.before.before in
+    let g = w.before.before.before.before.before in (
+      v.with-cell2.ensures.within,
       omega (
         arith,
-        v .with-cell2 .ensures .count,
-        w .with-cell .ensures .count,
-        g .pre .0 .1,
-        c .before .if2 .left,
+        v.with-cell2.ensures.count,
+        w.with_cell.ensures.count,
+        g.requires.0.1,
+        c.before.if2.false,
       ),
     )
 
 returns-3 : tie.Need-returns-3
 returns-3 c =
-    let j = c .before .before in
-    let v = j .before in
-    let i = v .before .before in
-    let w = i .before in
-    let g = w .before .before .before .before .before in
-    let a = g .args in
-    let h : a .r ≡ 3 = omega (arith, g .pre .0 .3, j .if2 .left) in
+    let j = c.before.before in
+    let v = j.before in
+    let i = v.before.before in
+    let w = i.before in
+    let g = w.before.before.before.before.before in
+    let a = g.args in
+    let h : a.r ≡ 3 = omega (arith, g.requires.0.3, j.if2.false) in
     grown-same
-    (firsts-three (cellOf (a .read) (a .d)) (a .r) _ (w .before .cell .ensures .0) _ (v .before .cell2 .ensures .0) _
-    (c .before .cell3 .ensures .0) h)
-    (grown-then (grown-then (w .with-cell .ensures) (v .with-cell2 .ensures)) (c .with-cell3 .ensures))
+    (firsts-three (cell_of a.read a.d) a.r _ w.before.cell.ensures.0 _ v.before.cell2.ensures.0 _
+    c.before.cell3.ensures.0 h)
+    (grown-then (grown-then w.with_cell.ensures v.with-cell2.ensures) c.with-cell3.ensures)
 
 pub with-first-spec : {M : Type 1} → statement M
 with-first-spec =
-    tie.close (tie.spec (λ c κs. search needs) (λ c κs. search needs) returns (λ c κs. search needs)
-    (λ c κs. search needs)
-    returns-2 (λ c κs. search needs) with-cell-requires-3 returns-3)
+    tie.close (tie.spec (λ c κs. search rules) (λ c κs. search rules) returns (λ c κs. search rules)
+    (λ c κs. search rules)
+    returns-2 (λ c κs. search rules) with-cell-requires-3 returns-3)

@@ -1,33 +1,33 @@
 -- Place j holds j, by one test over the array. Assumes nothing.
-use mathlib.Core.Path.{_≡_, refl}
+use mathlib.Core.Path.{◌≡◌, refl}
 use mathlib.Core.Bool.{true}
-use mathlib.Core.List.{List, [], _∷_}
+use mathlib.Core.List.{List, [], ◌∷◌}
 use Prim.Native.Nat.{ℕ}
 use native.Mathlib.Omega.{arith}
 use lib.Dec.{eqb}
-use lib.ListN.{getD}
+use lib.ListN.{get_or}
 use borrow.Author.Tests.{eqb-true}
-use Rattle·bits.specs.Below.{every}
-use Rattle·bits.proofs.Below.{every-at}
-use Rattle·tables.specs.Table.{mostInputs}
-use Rattle·bits.proofs.Lists.{list-ext}
-use Rattle·steps·proofs.proofs.signals.Signals.inputs.Statement.{statement}
-use Rattle·steps·proofs.proofs.signals.Signals.inputs.Tie as tie
+use Rattle.bits.specs.Below.{every}
+use Rattle.bits.proofs.Below.{every-at}
+use Rattle.tables.specs.Table.{mostInputs}
+use Rattle.bits.proofs.Lists.{list_ext}
+use Rattle.steps.proofs.signals.Signals.inputs.Statement.{statement}
+use Rattle.steps.proofs.signals.Signals.inputs.Tie as tie
 
 places : List ℕ
 places = 0 ∷ 1 ∷ 2 ∷ 3 ∷ 4 ∷ 5 ∷ 6 ∷ 7 ∷ 8 ∷ 9 ∷ 10 ∷ 11 ∷ 12 ∷ 13 ∷ 14 ∷ 15 ∷ []
 
-rule : every mostInputs (λ j. eqb (getD places j 0) j) ≡ true
+rule : every mostInputs (λ j. eqb (get_or places j 0) j) ≡ true
 unfolding places
 rule = refl
 
 returns : tie.Need-returns
 unfolding places
 returns c = (
-  record { places = refl; few = c .pre },
-  list-ext (c .args .n) (λ j. getD places j 0) (λ j. j)
-      (λ j l. eqb-true (getD places j 0) j (every-at mostInputs (λ j. eqb (getD places j 0) j) rule j
-      (omega (arith, c .pre)))),
+  record { places = refl; few = c.requires },
+  list_ext c.args.n (λ j. get_or places j 0) (λ j. j)
+      (λ j l. eqb-true (get_or places j 0) j (every-at mostInputs (λ j. eqb (get_or places j 0) j) rule j
+      (omega (arith, c.requires)))),
   refl,
 )
 

@@ -1,22 +1,22 @@
 -- One place more is written. Assumes nothing.
-use mathlib.Core.Path.{refl, _∙_}
+use mathlib.Core.Path.{refl, ◌∙◌}
 use native.Mathlib.Omega.{arith}
 use lib.ListN.{length-set}
-use borrow.Author.Needs.{needs}
-use Rattle·bits.proofs.Lists.{list-set}
-use Rattle·steps·proofs.proofs.signals.Signals.with.Statement.{statement}
-use Rattle·steps·proofs.proofs.signals.Signals.with.Tie as tie
+use borrow.Author.Rules.{rules}
+use Rattle.bits.proofs.Lists.{list_set}
+use Rattle.steps.proofs.signals.Signals.with.Statement.{statement}
+use Rattle.steps.proofs.signals.Signals.with.Tie as tie
 
 returns : tie.Need-returns
 returns c =
-    let s = c .args .t1 in (
+    let s = c.args.t1 in (
       record {
-        places = length-set (s .at) (s .count) (c .args .signal) ∙ c .pre .0 .places;
-        few = omega (arith, c .pre .1);
+        places = length-set s.at s.count c.args.signal ∙ c.requires.0.places;
+        few = omega (arith, c.requires.1);
       },
-      list-set (λ x. x) (s .at) (s .count) (c .args .signal) 0 (omega (arith, c .pre .0 .places, c .pre .1)),
+      list_set (λ x. x) s.at s.count c.args.signal 0 (omega (arith, c.requires.0.places, c.requires.1)),
       refl,
     )
 
 pub with-spec : {M : Type 1} → statement M
-with-spec = tie.close (tie.spec (λ c. search needs) (λ c. search needs) returns)
+with-spec = tie.close (tie.spec (λ c. search rules) (λ c. search rules) returns)

@@ -1,21 +1,21 @@
 -- Each word by itself. Assumes nothing.
-use borrow.Author.Needs.{needs}
-use Rattle·tables·specs.specs.Table.{tableBit}
-use Rattle·tables·specs.specs.Words.{gateWord}
-use Rattle·tables·proofs.proofs.CellTables.{four-words}
-use Rattle·tables·proofs.proofs.cell.CellTable.first_of.Statement.{statement}
-use Rattle·tables·proofs.proofs.cell.CellTable.first_of.Tie as tie
+use borrow.Author.Rules.{rules}
+use Rattle.tables.specs.Table.{tableBit}
+use Rattle.tables.specs.Words.{gateWord}
+use Rattle.tables.proofs.CellTables.{four-words}
+use Rattle.tables.proofs.cell.CellTable.first_of.Statement.{statement}
+use Rattle.tables.proofs.cell.CellTable.first_of.Tie as tie
 
 returns : tie.Need-returns
 returns c =
-    let z = c .before in
-    let y = z .before in
-    let x = y .before in
-    let a = x .before .before .args in
-    four-words (gateWord (a .k) (tableBit (a .t .now))) (x .word-or-zero .ensures) (y .word-or-zero2 .ensures)
-    (z .word-or-zero3 .ensures) (c .word-or-zero4 .ensures)
+    let z = c.before in
+    let y = z.before in
+    let x = y.before in
+    let a = x.before.before.args in
+    four-words (gateWord a.k (tableBit a.t.now)) x.word-or-zero.ensures y.word-or-zero2.ensures
+    z.word-or-zero3.ensures c.word-or-zero4.ensures
 
 pub first-of-spec : {M : Type 1} → statement M
 first-of-spec =
-    tie.close (tie.spec (λ c κs. search needs) (λ c κs. search needs) (λ c κs. search needs) (λ c κs. search needs)
+    tie.close (tie.spec (λ c κs. search rules) (λ c κs. search rules) (λ c κs. search rules) (λ c κs. search rules)
     returns)
