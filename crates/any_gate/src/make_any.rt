@@ -1,8 +1,8 @@
 // Making a sheet for any gate: make's where there is one, else that of the chain with several first cells at a step or of
 // cofactors.
 ghost use Rattle.std.specs.Prelude.{◌≡◌};
-ghost use Rattle.sheets.specs.Edition.{IsEdition, firstEdition};
-ghost use Rattle.any_gate.specs.MakeAny.{anyOutcome};
+ghost use Rattle.sheets.specs.Edition.{IsEdition, first_edition};
+ghost use Rattle.any_gate.specs.MakeAny.{any_outcome};
 
 use making::make_sheet::{MakeAnswer, make_in, write_end};
 use refusals::verdicts::{Refusal, number_of};
@@ -21,7 +21,7 @@ pub fn any_in(
 ) -> MakeAnswer
     requires { IsEdition e }
     ensures { record { answer = result; sheet = sheet.new; work = work.new }
-        ≡ anyOutcome e d n k t.now sheet.old work.old }
+        ≡ any_outcome e d n k t.now sheet.old work.old }
 {
     let made = make_in(e, d, n, k, t, sheet, work);
     let verdict = made.verdict;
@@ -42,7 +42,7 @@ pub fn make_any(
     work: &mut [u8],
 ) -> MakeAnswer
     ensures { record { answer = result; sheet = sheet.new; work = work.new }
-        ≡ anyOutcome firstEdition desk n k t.now sheet.old work.old }
+        ≡ any_outcome first_edition desk n k t.now sheet.old work.old }
 {
     any_in(Edition::first(), desk, n, k, t, sheet, work)
 }

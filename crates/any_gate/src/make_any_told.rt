@@ -1,6 +1,6 @@
 // Making a sheet for any gate in a told edition.
 ghost use Rattle.std.specs.Prelude.{◌≡◌};
-ghost use Rattle.any_gate.specs.MakeAnyTold.{anyTold};
+ghost use Rattle.any_gate.specs.MakeAnyTold.{any_told};
 
 use crate::make_any::any_in;
 use making::make_sheet::MakeAnswer;
@@ -20,7 +20,7 @@ pub fn make_any_told(
     work: &mut [u8],
 ) -> MakeAnswer
     ensures { record { answer = result; sheet = sheet.new; work = work.new }
-        ≡ anyTold w desk n k t.now sheet.old work.old }
+        ≡ any_told w desk n k t.now sheet.old work.old }
 {
     let told = form::told(w, n);
     let Verdict::Fine = told else {

@@ -2,27 +2,27 @@
 // as one byte, then the sheet; after a refusal only that byte. What is handed over to be written is defined of the
 // bytes read alone (`written`, programs/specs/BenchProgram).
 ghost use Rattle.std.specs.Prelude.{◌≡◌, length};
-ghost use Rattle.tables.specs.Work.{workLength};
-ghost use Rattle.programs.specs.BenchProgram.{mostRead, mostWritten};
+ghost use Rattle.tables.specs.Work.{work_length};
+ghost use Rattle.programs.specs.BenchProgram.{most_read, most_written};
 
 use programs::bench_program::{MOST_READ, MOST_WRITTEN, answer_input};
 use streams::{read_input, write_output};
 use tables::WORK;
 
 fn input_room() -> [u8; MOST_READ]
-    ensures { mostRead ≡ length result }
+    ensures { most_read ≡ length result }
 {
     [0; MOST_READ]
 }
 
 fn output_room() -> [u8; MOST_WRITTEN]
-    ensures { mostWritten ≡ length result }
+    ensures { most_written ≡ length result }
 {
     [0; MOST_WRITTEN]
 }
 
 fn work_room() -> [u8; WORK]
-    ensures { workLength ≡ length result }
+    ensures { work_length ≡ length result }
 {
     [0; WORK]
 }

@@ -51,9 +51,9 @@ filled_more {a} {end} {f} {before} {after} {i} {at} {v} w l e q = record {
         ∙ get_or-set_same after at v 0 (omega (arith, w.long, w.room)) ∙ q ∙ ap f (sym r)
 
 -- what stands before a is as before
-pub filled-front : {a end : ℕ} {f : ℕ → ℕ} {before after : List ℕ} {i : ℕ} → Filled a end f before after i
+pub filled_front : {a end : ℕ} {f : ℕ → ℕ} {before after : List ℕ} {i : ℕ} → Filled a end f before after i
     → take a after ≡ take a before
-filled-front {a} {end} {f} {before} {after} w =
+filled_front {a} {end} {f} {before} {after} w =
     ext_get_or 0 (take a after) (take a before) (short ∙ sym (length-take-le a before (omega (arith, w.room))))
     (λ k l.
     let g : k < a = omega (arith, short) in
@@ -63,9 +63,9 @@ filled-front {a} {end} {f} {before} {after} w =
     short = length-take-le a after (omega (arith, w.long, w.room))
 
 -- to the end, from the front: the values, and behind them what was there
-pub filled-list : {end : ℕ} {f : ℕ → ℕ} {before after : List ℕ} {i : ℕ} → Filled 0 end f before after i → end ≤ i
+pub filled_list : {end : ℕ} {f : ℕ → ℕ} {before after : List ℕ} {i : ℕ} → Filled 0 end f before after i → end ≤ i
     → after ≡ list_of end f ++ drop end before
-filled-list {end} {f} {before} {after} w h = ext_get_or 0 after (l ++ r) long (λ k g. at k)
+filled_list {end} {f} {before} {after} w h = ext_get_or 0 after (l ++ r) long (λ k g. at k)
   where
     l : List ℕ
     l = list_of end f
@@ -93,8 +93,8 @@ filled-list {end} {f} {before} {after} w h = ext_get_or 0 after (l ++ r) long (�
     ]
 
 -- the whole list
-pub filled-whole : {end : ℕ} {f : ℕ → ℕ} {before after : List ℕ} {i : ℕ} → Filled 0 end f before after i → end ≤ i
+pub filled_whole : {end : ℕ} {f : ℕ → ℕ} {before after : List ℕ} {i : ℕ} → Filled 0 end f before after i → end ≤ i
     → length before ≤ end → after ≡ list_of end f
-filled-whole {end} {f} {before} w h l =
-    filled-list w h ∙ ap (λ (r : List ℕ). list_of end f ++ r) (drop_of_length-le before {i = end} l)
+filled_whole {end} {f} {before} w h l =
+    filled_list w h ∙ ap (λ (r : List ℕ). list_of end f ++ r) (drop_of_length-le before {i = end} l)
     ∙ append-nil (list_of end f)

@@ -11,10 +11,10 @@ use lib.Pow.{pow_pos}
 use Rattle.bits.specs.Numbers.{bit, val, number}
 use Rattle.bits.specs.Sets.{size, gather, spread}
 use Rattle.bits.proofs.Bools.{clash, and_left}
-use Rattle.bits.proofs.Numbers.{number-ext, number_bit, number-of, bit_below}
-use Rattle.bits.proofs.Sizes.{size-lt, size-ext}
-use Rattle.bits.proofs.Counting.{size-all}
-use Rattle.bits.proofs.Spreading.{mod-more, gather-bit, bit-spread, spread-lt}
+use Rattle.bits.proofs.Numbers.{number_ext, number_bit, number-of, bit_below}
+use Rattle.bits.proofs.Sizes.{size-lt, size_ext}
+use Rattle.bits.proofs.Counting.{size_all}
+use Rattle.bits.proofs.Spreading.{mod_more, gather-bit, bit-spread, spread-lt}
 
 -- numbers with the same bits are the same
 pub same_bits : (n x y : ℕ) → x < 2 ^ n → y < 2 ^ n → ((j : ℕ) → j < n → bit x j ≡ bit y j) → x ≡ y
@@ -51,10 +51,10 @@ gather-place n s x k w = ap (bit (gather n s x)) (sym w.rank) ∙ gather-bit n s
 
 -- ---- sizes
 
-size-within : (n : ℕ) (s : ℕ → Bool) (v : ℕ) → size n (λ j. s j && bit v (size j s)) ≡ size (size n s) (bit v)
+size_within : (n : ℕ) (s : ℕ → Bool) (v : ℕ) → size n (λ j. s j && bit v (size j s)) ≡ size (size n s) (bit v)
 unfolding size
-size-within zero s v = refl
-size-within (suc n) s v = go (s n) (size-within n s v)
+size_within zero s v = refl
+size_within (suc n) s v = go (s n) (size_within n s v)
   where
     go : (t : Bool) → size n (λ j. s j && bit v (size j s)) ≡ size (size n s) (bit v)
         → size n (λ j. s j && bit v (size j s)) + val (t && bit v (size n s)) ≡ size (size n s + val t) (bit v)
@@ -63,16 +63,16 @@ size-within (suc n) s v = go (s n) (size-within n s v)
     go false ih = omega (arith, ap (λ (k : ℕ). size k (bit v)) (add-zero (size n s)))
 
 pub size-spread : (n : ℕ) (s : ℕ → Bool) (v : ℕ) → size n (bit (spread n s v)) ≡ size (size n s) (bit v)
-size-spread n s v = size-ext n (bit (spread n s v)) (λ j. s j && bit v (size j s)) (λ j h. bit-spread n s v j h)
-    ∙ size-within n s v
+size-spread n s v = size_ext n (bit (spread n s v)) (λ j. s j && bit v (size j s)) (λ j h. bit-spread n s v j h)
+    ∙ size_within n s v
 
 -- ---- the order of masks
 
 -- spreading reads as many bits as there are members
-pub spread-low : (n : ℕ) (s : ℕ → Bool) (v w : ℕ) → ((k : ℕ) → k < size n s → bit v k ≡ bit w k) → spread n s v
+pub spread_low : (n : ℕ) (s : ℕ → Bool) (v w : ℕ) → ((k : ℕ) → k < size n s → bit v k ≡ bit w k) → spread n s v
     ≡ spread n s w
 unfolding spread
-spread-low n s v w h = number-ext n (λ j. s j && bit v (size j s)) (λ j. s j && bit w (size j s))
+spread_low n s v w h = number_ext n (λ j. s j && bit v (size j s)) (λ j. s j && bit w (size j s))
     (λ j l. go j l (s j) refl)
   where
     go : (j : ℕ) → j < n → (t : Bool) → s j ≡ t → (t && bit v (size j s)) ≡ (t && bit w (size j s))
@@ -81,7 +81,7 @@ spread-low n s v w h = number-ext n (λ j. s j && bit v (size j s)) (λ j. s j &
 
 -- a number is its top digit and the rest
 top : (k v : ℕ) → v < 2 ^ (k + 1) → v % 2 ^ k + val (bit v k) * 2 ^ k ≡ v
-top k v h = mod-more v k ∙ mod-eq_of_lt h
+top k v h = mod_more v k ∙ mod-eq_of_lt h
 
 -- numbers compare by their top digits, then by the rest
 digits : (p v w : ℕ) (s t : Bool) → v < p → w < p → v + val s * p ≤ w + val t * p → (x y q : ℕ) → x < q
@@ -91,17 +91,17 @@ digits p v w true false hv hw h x y q l f = absurd (omega arith)
 digits p v w false true hv hw h x y q l f = omega arith
 digits p v w false false hv hw h x y q l f = omega (arith, f (omega arith))
 
-pub spread-rises : (n : ℕ) (s : ℕ → Bool) (v w : ℕ) → v < 2 ^ size n s → w < 2 ^ size n s → v ≤ w → spread n s v
+pub spread_rises : (n : ℕ) (s : ℕ → Bool) (v w : ℕ) → v < 2 ^ size n s → w < 2 ^ size n s → v ≤ w → spread n s v
     ≤ spread n s w
 unfolding spread number size
-spread-rises zero s v w p q h = omega arith
-spread-rises (suc n) s v w p q h = go (s n) (spread-rises n s) p q
+spread_rises zero s v w p q h = omega arith
+spread_rises (suc n) s v w p q h = go (s n) (spread_rises n s) p q
   where
     k : ℕ
     k = size n s
 
     rest_of : (u : ℕ) → u < 2 ^ (k + 1) → spread n s (u % 2 ^ k) ≡ spread n s u
-    rest_of u b = spread-low n s (u % 2 ^ k) u (λ j l. sym (bit_below (u % 2 ^ k) (val (bit u k)) k j l)
+    rest_of u b = spread_low n s (u % 2 ^ k) u (λ j l. sym (bit_below (u % 2 ^ k) (val (bit u k)) k j l)
         ∙ ap (λ (m : ℕ). bit m j) (top k u b))
 
     go : (t : Bool) → ((v w : ℕ) → v < 2 ^ k → w < 2 ^ k → v ≤ w → spread n s v ≤ spread n s w)
@@ -122,13 +122,13 @@ spread-rises (suc n) s v w p q h = go (s n) (spread-rises n s) p q
 
 -- ---- masks inside a set
 
-pub spread-inside : (n : ℕ) (s : ℕ → Bool) (v j : ℕ) → j < n → bit (spread n s v) j ≡ true → s j ≡ true
-spread-inside n s v j h e = and_left (s j) (bit v (size j s)) (sym (bit-spread n s v j h) ∙ e)
+pub spread_inside : (n : ℕ) (s : ℕ → Bool) (v j : ℕ) → j < n → bit (spread n s v) j ≡ true → s j ≡ true
+spread_inside n s v j h e = and_left (s j) (bit v (size j s)) (sym (bit-spread n s v j h) ∙ e)
 
 -- a mask of members is what its gathered bits spread to
-pub inside-spread : (n : ℕ) (s : ℕ → Bool) (m : ℕ) → m < 2 ^ n → ((j : ℕ) → j < n → bit m j ≡ true → s j ≡ true)
+pub inside_spread : (n : ℕ) (s : ℕ → Bool) (m : ℕ) → m < 2 ^ n → ((j : ℕ) → j < n → bit m j ≡ true → s j ≡ true)
     → spread n s (gather n s m) ≡ m
-inside-spread n s m l h =
+inside_spread n s m l h =
     same_bits n (spread n s (gather n s m)) m (spread-lt n s (gather n s m)) l
     (λ j b. bit-spread n s (gather n s m) j b ∙ go j b (s j) (bit m j) refl refl)
   where
@@ -140,12 +140,12 @@ inside-spread n s m l h =
 -- ---- where every position is a member
 
 module _ (n : ℕ) (s : ℕ → Bool) (all : (j : ℕ) → j < n → s j ≡ true) where
-  pub size-full : size n s ≡ n
-  size-full = size-ext n s (λ j. true) all ∙ size-all n
+  pub size_full : size n s ≡ n
+  size_full = size_ext n s (λ j. true) all ∙ size_all n
 
-  pub spread-full : (v : ℕ) → v < 2 ^ n → spread n s v ≡ v
-  spread-full v h =
+  pub spread_full : (v : ℕ) → v < 2 ^ n → spread n s v ≡ v
+  spread_full v h =
       same_bits n (spread n s v) v (spread-lt n s v) h (λ j b.
       bit-spread n s v j b
       ∙ ap₂ (λ (t : Bool) (q : ℕ). t && bit v q) (all j b)
-      (size-ext j s (λ i. true) (λ i c. all i (omega arith)) ∙ size-all j))
+      (size_ext j s (λ i. true) (λ i c. all i (omega arith)) ∙ size_all j))

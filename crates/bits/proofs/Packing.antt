@@ -7,10 +7,10 @@ use native.Mathlib.Nat.{le_refl}
 use native.Mathlib.Omega.{arith}
 use lib.Bits.{bit_and, and_zero_r}
 use Rattle.bits.specs.Numbers.{bit, val, number}
-use Rattle.bits.specs.Sets.{maskWidth, size, gather, spread}
-use Rattle.bits.proofs.Sizes.{size-le, size-more}
-use Rattle.bits.proofs.Spreading.{gather-lt, gather-more, spread-lt, spread-more}
-use Rattle.bits.proofs.Building.{bit-digit, added, added-fits}
+use Rattle.bits.specs.Sets.{mask_width, size, gather, spread}
+use Rattle.bits.proofs.Sizes.{size-le, size_more}
+use Rattle.bits.proofs.Spreading.{gather-lt, gather_more, spread-lt, spread_more}
+use Rattle.bits.proofs.Building.{bit-digit, added, added_fits}
 
 module _ (m j : ℕ) where
   -- 1 where j is a member, else 0
@@ -25,11 +25,11 @@ module _ (m j : ℕ) where
       go false = and_zero_r (x / 2 ^ i)
 
   module _ {k : ℕ} (count : k ≡ size j (bit m)) where
-    pub count-more : k + member ≡ size (j + 1) (bit m)
-    count-more = ap₂ ◌+◌ count (bit-digit m j) ∙ sym (size-more j (bit m))
+    pub count_more : k + member ≡ size (j + 1) (bit m)
+    count_more = ap₂ ◌+◌ count (bit-digit m j) ∙ sym (size_more j (bit m))
 
     pub count_most : k + member ≤ j + 1
-    count_most = omega (arith, count-more, size-le (j + 1) (bit m))
+    count_most = omega (arith, count_more, size-le (j + 1) (bit m))
 
 -- a number made of bits of x at the mask's members: at position j, after k members, bit `from j k` goes to place
 -- `to j k`
@@ -45,7 +45,7 @@ gathering m x = record {
   none = refl;
   near = λ j k h. h;
   below = λ j. gather-lt j (bit m) x;
-  more = λ j. gather-more j (bit m) x;
+  more = λ j. gather_more j (bit m) x;
 }
 
 pub spreading : (m x : ℕ) → Packing m x (λ j. spread j (bit m) x) (λ j k. k) (λ j k. j)
@@ -54,7 +54,7 @@ spreading m x = record {
   none = refl;
   near = λ j k h. le_refl j;
   below = λ j. spread-lt j (bit m) x;
-  more = λ j. spread-more j (bit m) x;
+  more = λ j. spread_more j (bit m) x;
 }
 
 -- how far a loop over n positions is: r is made of those below j, k of them members
@@ -79,22 +79,22 @@ module _ {m x : ℕ} {P : ℕ → ℕ} {from to : ℕ → ℕ → ℕ} (p : Pack
         let is : r ≡ P n = q.made ∙ ap P e in
         (is, omega (arith, p.below n))
 
-    module _ (narrow : n ≤ maskWidth) (inside : j < n) where
+    module _ (narrow : n ≤ mask_width) (inside : j < n) where
       abbrev one : Bool
       one = bit m j && bit x (from j k)
 
       place : to j k < 32
       place = omega (arith, p.near j k q.few)
 
-      pub packed-fits : r + bit_and (x / 2 ^ from j k) (member m j) * 2 ^ to j k % 2 ^ 32 < 2 ^ 32
-      packed-fits = added-fits 32 one place under (digit m j x (from j k))
+      pub packed_fits : r + bit_and (x / 2 ^ from j k) (member m j) * 2 ^ to j k % 2 ^ 32 < 2 ^ 32
+      packed_fits = added_fits 32 one place under (digit m j x (from j k))
 
       pub packed_more : Packed n m P (r + bit_and (x / 2 ^ from j k) (member m j) * 2 ^ to j k % 2 ^ 32) (k + member m j)
           (j + 1)
       packed_more = record {
         within = omega arith;
         few = count_most m j q.count;
-        count = count-more m j q.count;
+        count = count_more m j q.count;
         made = added 32 one place under (digit m j x (from j k))
             ∙ ap₂ (λ (y i : ℕ). y + val (bit m j && bit x (from j i)) * 2 ^ to j i) q.made q.count
             ∙ sym (p.more j);

@@ -6,18 +6,18 @@ use Rattle.turning.specs.Ways.{Reachable}
 use Rattle.turning.specs.Reach.{reaches}
 
 -- a three-input table is a byte
-abbrev pub tableCount : ℕ
-tableCount = 256
+abbrev pub table_count : ℕ
+table_count = 256
 
 -- e is the least number reachable from f
 pub record LeastReachable (f e : ℕ) : Type 0 where
-  pub table : e < tableCount
+  pub table : e < table_count
   pub reachable : Reachable f e
-  pub least : (g : ℕ) → g < tableCount → Reachable f g → e ≤ g
+  pub least : (g : ℕ) → g < table_count → Reachable f g → e ≤ g
 
 -- what the book says of f
 unfoldable pub entry : ℕ → ℕ
-entry f = least tableCount (reaches f)
+entry f = least table_count (reaches f)
 
 -- how many different numbers a list has
 abbrev pub different : List ℕ → ℕ

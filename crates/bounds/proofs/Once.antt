@@ -14,17 +14,17 @@ use borrow.Author.Tests.{eq-eqb, ne_eqb, eqb-true, eqb-false}
 use Rattle.bits.specs.Numbers.{bit, val, number}
 use Rattle.bits.specs.Sets.{size}
 use Rattle.bits.proofs.Bools.{clash, or_left, or_right, false_of}
-use Rattle.bits.proofs.Sizes.{size-ext}
+use Rattle.bits.proofs.Sizes.{size_ext}
 use Rattle.bits.proofs.Counting.{size_none, size-one, size-or, size-part}
 use Rattle.tables.specs.Counting.{support}
-use Rattle.tables.proofs.Depending.{support-counting}
+use Rattle.tables.proofs.Depending.{support_counting}
 use Rattle.splits.specs.Columns.{member}
 use Rattle.sheets.specs.Network.{Cell, packed, output, run, Wired, Gives, Carries}
 use Rattle.networks.proofs.Values.{size-member}
-use Rattle.fewest.proofs.Reach.{needed, needed-most, counted-needed}
+use Rattle.fewest.proofs.Reach.{needed, needed_most, counted-needed}
 use Rattle.trees.specs.Tree.{Tree, input, node, value, uses, TreeOf}
-use Rattle.trees.proofs.Graft.{graft, value-graft, uses-graft, uses-none}
-use Rattle.trees.proofs.Prune.{computes-tree}
+use Rattle.trees.proofs.Graft.{graft, value_graft, uses_graft, uses-none}
+use Rattle.trees.proofs.Prune.{computes_tree}
 use Rattle.trees.proofs.Members.{val-le}
 
 -- what cells from signal suc i on give, as a tree over the signals before: it reads what they need, none of it twice
@@ -39,10 +39,10 @@ record Two (i : ℕ) (l : List ℕ) (N : ℕ → Bool) : Type 0 where
   a : ℕ
   b : ℕ
   are : l ≡ a ∷ b ∷ []
-  belowA : a < i
-  belowB : b < i
+  below_a : a < i
+  below_b : b < i
   apart : a ≡ b → ⊥
-  newA : N a ≡ false
+  new_a : N a ≡ false
   new_b : N b ≡ false
 
 -- ---- one cell more: c gives signal i and stands before cells that give the tree t and need N
@@ -65,21 +65,21 @@ module _ (i : ℕ) (c : Cell) (N : ℕ → Bool) (p : Two i c.signals N) (t : Tr
   put : ℕ → Tree
   put s = by (eqb s i) s
 
-  gate-gives : (v : ℕ → Bool) → gate (v a) (v b) ≡ output c v
+  gate_gives : (v : ℕ → Bool) → gate (v a) (v b) ≡ output c v
   unfolding gate output number
-  gate-gives v = ap (λ (l : List ℕ). bit c.table (packed l v)) (sym p.are)
+  gate_gives v = ap (λ (l : List ℕ). bit c.table (packed l v)) (sym p.are)
 
   put-value : (v : ℕ → Bool) (s : ℕ) → value (put s) v ≡ cond (eqb s i) (output c v) (v s)
   unfolding put by
   put-value v s = go (eqb s i)
     where
       go : (cell : Bool) → value (by cell s) v ≡ cond cell (output c v) (v s)
-      go true = gate-gives v
+      go true = gate_gives v
       go false = refl
 
   -- the node reads either of its two signals once
-  pair-once : (q : ℕ) → val (eqb a q) + val (eqb b q) ≤ 1
-  pair-once q = go (eqb a q) (eqb b q) refl refl
+  pair_once : (q : ℕ) → val (eqb a q) + val (eqb b q) ≤ 1
+  pair_once q = go (eqb a q) (eqb b q) refl refl
     where
       go : (s t : Bool) → eqb a q ≡ s → eqb b q ≡ t → val s + val t ≤ 1
       go true true e f = absurd (p.apart (eqb-true a q e ∙ sym (eqb-true b q f)))
@@ -88,18 +88,18 @@ module _ (i : ℕ) (c : Cell) (N : ℕ → Bool) (p : Two i c.signals N) (t : Tr
       go false false e f = omega arith
 
   -- they are read in place of the cell's own
-  put-read : (q : ℕ) → N q ≡ false → uses q (graft put t) ≤ 1
+  put_read : (q : ℕ) → N q ≡ false → uses q (graft put t) ≤ 1
   unfolding put by
-  put-read q new = omega (
+  put_read q new = omega (
     arith,
-    uses-graft put t q i (λ j r. go j r (eqb j i) refl),
+    uses_graft put t q i (λ j r. go j r (eqb j i) refl),
     once i,
     val-le (N i) true
         (λ _. refl),
   )
     where
       go : (j : ℕ) → 1 ≤ uses j t → (cell : Bool) → eqb j i ≡ cell → uses q (by cell j) ≤ val (eqb j i)
-      go j r true e = omega (arith, pair-once q, ap val e)
+      go j r true e = omega (arith, pair_once q, ap val e)
       go j r false e = omega (
         arith,
         ap val (ne_eqb j q
@@ -109,7 +109,7 @@ module _ (i : ℕ) (c : Cell) (N : ℕ → Bool) (p : Two i c.signals N) (t : Tr
   -- another signal is read as often as before
   put_other : (q : ℕ) → (a ≡ q → ⊥) → (b ≡ q → ⊥) → uses q (graft put t) ≤ uses q t
   unfolding put by
-  put_other q f g = uses-graft put t q q (λ j _. go j (eqb j i))
+  put_other q f g = uses_graft put t q q (λ j _. go j (eqb j i))
     where
       go : (j : ℕ) (cell : Bool) → uses q (by cell j) ≤ val (eqb j q)
       go j true = omega (arith, ap val (ne_eqb a q f), ap val (ne_eqb b q g))
@@ -119,8 +119,8 @@ module _ (i : ℕ) (c : Cell) (N : ℕ → Bool) (p : Two i c.signals N) (t : Tr
   put-once q = omega (arith, go (eqb q a) (eqb q b) refl refl, ap (λ (l : List ℕ). val (N q || member q l)) p.are)
     where
       go : (s t' : Bool) → eqb q a ≡ s → eqb q b ≡ t' → uses q (graft put t) ≤ val (N q || (s || (t' || false)))
-      go true t' e f = omega (arith, put-read q (ap N (eqb-true q a e) ∙ p.newA), ap val (or_right (N q) true refl))
-      go false true e f = omega (arith, put-read q (ap N (eqb-true q b f) ∙ p.new_b), ap val (or_right (N q) true refl))
+      go true t' e f = omega (arith, put_read q (ap N (eqb-true q a e) ∙ p.new_a), ap val (or_right (N q) true refl))
+      go false true e f = omega (arith, put_read q (ap N (eqb-true q b f) ∙ p.new_b), ap val (or_right (N q) true refl))
       go false false e f =
           omega (
             arith,
@@ -131,14 +131,14 @@ module _ (i : ℕ) (c : Cell) (N : ℕ → Bool) (p : Two i c.signals N) (t : Tr
           )
 
   -- and the cell's own no more, nor any after
-  put-within : (q : ℕ) → i ≤ q → uses q (graft put t) ≡ 0
+  put_within : (q : ℕ) → i ≤ q → uses q (graft put t) ≡ 0
   unfolding put by
-  put-within q l = uses-none put t q (λ j r. go j r (eqb j i) refl)
+  put_within q l = uses-none put t q (λ j r. go j r (eqb j i) refl)
     where
       go : (j : ℕ) → 1 ≤ uses j t → (cell : Bool) → eqb j i ≡ cell → uses q (by cell j) ≡ 0
       go j r true e =
-          let x = ap val (ne_eqb a q (λ z. omega (arith, p.belowA))) in
-          let y = ap val (ne_eqb b q (λ z. omega (arith, p.belowB))) in
+          let x = ap val (ne_eqb a q (λ z. omega (arith, p.below_a))) in
+          let y = ap val (ne_eqb b q (λ z. omega (arith, p.below_b))) in
           omega (arith, x, y)
       go j r false e = ap val (ne_eqb j q (λ z. elim (dec_lt j (suc i)) [
         | yes g ↦ eqb-false j i e (omega arith)
@@ -177,18 +177,18 @@ module _ (i : ℕ) (c : Cell) (cs : List Cell) (few : length c.signals ≤ 2)
         a = a;
         b = b;
         are = e;
-        belowA = low-at 0 (omega arith);
-        belowB = low-at 1 (omega arith);
+        below_a = low_at_lem 0 (omega arith);
+        below_b = low_at_lem 1 (omega arith);
         apart = λ q. not-one a (λ s m. both s (rw e at m)
             (λ f. or_right (N s) (eqb s a) (eq-eqb s a (eqb-true s b f ∙ sym q))) (λ f. or_right (N s) (eqb s a) f));
-        newA = false_of (N a) (λ n. not-one b (λ s m. both s (rw e at m) (λ f. or_right (N s) (eqb s b) f)
+        new_a = false_of (N a) (λ n. not-one b (λ s m. both s (rw e at m) (λ f. or_right (N s) (eqb s b) f)
             (λ f. or_left (N s) (eqb s b) (ap N (eqb-true s a f) ∙ n))));
         new_b = false_of (N b) (λ n. not-one a (λ s m. both s (rw e at m)
             (λ f. or_left (N s) (eqb s a) (ap N (eqb-true s b f) ∙ n)) (λ f. or_right (N s) (eqb s a) f)));
       }
         where
-          low-at : (j : ℕ) → j < 2 → get_or (a ∷ b ∷ []) j 0 < suc i
-          low-at = rw e at low
+          low_at_lem : (j : ℕ) → j < 2 → get_or (a ∷ b ∷ []) j 0 < suc i
+          low_at_lem = rw e at low
 
           both : {P : Type 0} (s : ℕ) → member s (a ∷ b ∷ []) ≡ true → (eqb s b ≡ true → P) → (eqb s a ≡ true → P) → P
           both {P} s m f g = cases (eqb s a) (eqb s b) refl refl m
@@ -214,14 +214,14 @@ grown i (c ∷ cs) w h = go (needed (suc (suc i)) cs (suc i)) refl (grown (suc i
     N = needed (suc (suc i)) cs
 
     most : size (suc i) N + val (N (suc i)) ≤ length cs + 1
-    most = omega (arith, needed-most 2 (suc (suc i)) cs w.2)
+    most = omega (arith, needed_most 2 (suc (suc i)) cs w.2)
 
     go : (t : Bool) → N (suc i) ≡ t → (length cs < size (suc (suc i)) N → Grown (suc i) cs) → Grown i (c ∷ cs)
     go false e ih =
         absurd (omega (
           arith,
           most,
-          size-ext (suc i) (needed (suc i) (c ∷ cs)) N
+          size_ext (suc i) (needed (suc i) (c ∷ cs)) N
               (λ s _. ap (λ (t : Bool). N s || (t && member s c.signals)) e ∙ or-false (N s)),
         ))
     go true e ih = from (two i c cs w.0 w.1 N (omega (arith, most, ap val e)) more) (ih enough)
@@ -232,7 +232,7 @@ grown i (c ∷ cs) w h = go (needed (suc (suc i)) cs (suc i)) refl (grown (suc i
         more : suc (length cs) < size (suc i) (λ s. N s || member s c.signals)
         more = omega (
           arith,
-          size-ext (suc i) (needed (suc i) (c ∷ cs)) (λ s. N s || member s c.signals)
+          size_ext (suc i) (needed (suc i) (c ∷ cs)) (λ s. N s || member s c.signals)
               (λ s _. same s),
         )
 
@@ -251,11 +251,11 @@ grown i (c ∷ cs) w h = go (needed (suc (suc i)) cs (suc i)) refl (grown (suc i
         from p g = record {
           tree = graft σ g.tree;
           once = λ s. omega (arith, put-once (suc i) c N p g.tree g.once g.within s, ap val (same s));
-          within = put-within (suc i) c N p g.tree g.once g.within;
+          within = put_within (suc i) c N p g.tree g.once g.within;
           gives = λ o v _.
               g.gives (output c v) (λ s. cond (eqb s (suc i)) (output c v) (v s))
               (ap (λ (t : Bool). cond t (output c v) (v (suc i))) (sym (eq-eqb (suc i) (suc i) refl)))
-              ∙ sym (value-graft σ g.tree v (λ s. cond (eqb s (suc i)) (output c v) (v s))
+              ∙ sym (value_graft σ g.tree v (λ s. cond (eqb s (suc i)) (output c v) (v s))
               (λ s _. put-value (suc i) c N p g.tree g.once g.within v s));
         }
           where
@@ -263,10 +263,10 @@ grown i (c ∷ cs) w h = go (needed (suc (suc i)) cs (suc i)) refl (grown (suc i
             σ = put (suc i) c N p g.tree g.once g.within
 
 -- ---- m cells of two inputs that carry a table of which more than m inputs count are a tree of it
-pub network-tree : (n m : ℕ) (F : ℕ → Bool) → Carries n 2 m F → m < size n (bit (support n F)) → (t : Tree)
+pub network_tree : (n m : ℕ) (F : ℕ → Bool) → Carries n 2 m F → m < size n (bit (support n F)) → (t : Tree)
     × TreeOf n F t
 unfolding run
-network-tree n m F C h = go n C.cells C.network (omega (arith, C.count))
+network_tree n m F C h = go n C.cells C.network (omega (arith, C.count))
   where
     go : (k : ℕ) (cs : List Cell) → Gives k 2 F cs → length cs < size k (bit (support k F)) → (t : Tree) × TreeOf k F t
     go zero cs N l = absurd (omega (
@@ -280,11 +280,11 @@ network-tree n m F C h = go n C.cells C.network (omega (arith, C.count))
         from (grown k (c ∷ cs) N.wired (omega (
           arith,
           size-part (suc k) (bit (support (suc k) F)) (needed (suc k) (c ∷ cs)) (λ j b e.
-              counted-needed (suc k) 2 F c cs N j b (support-counting (suc k) F j b e)),
+              counted-needed (suc k) 2 F c cs N j b (support_counting (suc k) F j b e)),
         )))
       where
         from : Grown k (c ∷ cs) → (t : Tree) × TreeOf (suc k) F t
-        from g = computes-tree (suc k) F g.tree (record {
+        from g = computes_tree (suc k) F g.tree (record {
           most = λ j. omega (arith, g.once j, val-le (needed (suc k) (c ∷ cs) j) true (λ _. refl));
           within = g.within;
           computes = λ x b. sym (g.gives (bit x k) (bit x) refl) ∙ N.gives x b;

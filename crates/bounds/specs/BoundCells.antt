@@ -1,17 +1,17 @@
 -- Ask for a lower bound on the cells of a table: one number. Beside the told edition its lines are find's form and
 -- room; nothing that the table says is refused.
 use Rattle.std.specs.Prelude.{List, ℕ}
-use Rattle.tables.specs.Table.{tableBit}
+use Rattle.tables.specs.Table.{table_bit}
 use Rattle.sheets.specs.declared.kinds.Edition.{Edition}
-use Rattle.sheets.specs.Edition.{editionOf}
+use Rattle.sheets.specs.Edition.{edition_of}
 use Rattle.refusals.specs.declared.verdicts.Refusal.{Refusal}
 use Rattle.refusals.specs.declared.verdicts.Verdict.TheVariants.{Fine, Refused}
 use Rattle.refusals.specs.Lines.{Line, verdict, reply}
-use Rattle.refusals.specs.Refusals.{toldLines}
-use Rattle.refusals.specs.Lent.{workAfter}
-use Rattle.finding.specs.FindBest.{findForm}
+use Rattle.refusals.specs.Refusals.{told_lines}
+use Rattle.refusals.specs.Lent.{work_after}
+use Rattle.finding.specs.FindBest.{find_form}
 use Rattle.bounds.specs.declared.bound_cells.BoundAnswer.{BoundAnswer}
-use Rattle.bounds.specs.Least.{cellBound}
+use Rattle.bounds.specs.Least.{cell_bound}
 
 -- the answer, and the work area afterwards
 pub record BoundOutcome : Type 0 where
@@ -19,24 +19,24 @@ pub record BoundOutcome : Type 0 where
   pub work : List ℕ
 
 -- done: the bound
-abbrev pub boundDone : ℕ → ℕ → List ℕ → List ℕ → BoundOutcome
-boundDone n K t work = record {
-  answer = record { verdict = Fine; least = cellBound n K (tableBit t) };
-  work = workAfter Fine work;
+abbrev pub bound_done : ℕ → ℕ → List ℕ → List ℕ → BoundOutcome
+bound_done n K t work = record {
+  answer = record { verdict = Fine; least = cell_bound n K (table_bit t) };
+  work = work_after Fine work;
 }
 
 -- refused: 0
-abbrev pub boundNot : List ℕ → Refusal → BoundOutcome
-boundNot work r = record { answer = record { verdict = Refused r; least = 0 }; work = workAfter (Refused r) work }
+abbrev pub bound_not : List ℕ → Refusal → BoundOutcome
+bound_not work r = record { answer = record { verdict = Refused r; least = 0 }; work = work_after (Refused r) work }
 
 -- in the edition e, by find's form and room: 1 to 4, and 6 of the work area
-abbrev pub boundIn : Edition → ℕ → ℕ → List ℕ → List ℕ → BoundOutcome
-boundIn e n K t work = reply (verdict (findForm e n K t work)) (boundDone n K t work) (boundNot work)
+abbrev pub bound_in : Edition → ℕ → ℕ → List ℕ → List ℕ → BoundOutcome
+bound_in e n K t work = reply (verdict (find_form e n K t work)) (bound_done n K t work) (bound_not work)
 
 -- the lines of the call: 1, 2 of the edition with the number w, and those
-abbrev pub boundLines : ℕ → ℕ → ℕ → List ℕ → List ℕ → List Line
-boundLines w n K t work = toldLines w n (findForm (editionOf w) n K t work)
+abbrev pub bound_lines : ℕ → ℕ → ℕ → List ℕ → List ℕ → List Line
+bound_lines w n K t work = told_lines w n (find_form (edition_of w) n K t work)
 
 -- what is to be returned and left, whatever is handed over
-unfoldable pub boundOutcome : ℕ → ℕ → ℕ → List ℕ → List ℕ → BoundOutcome
-boundOutcome w n K t work = reply (verdict (boundLines w n K t work)) (boundDone n K t work) (boundNot work)
+unfoldable pub bound_outcome : ℕ → ℕ → ℕ → List ℕ → List ℕ → BoundOutcome
+bound_outcome w n K t work = reply (verdict (bound_lines w n K t work)) (bound_done n K t work) (bound_not work)

@@ -3,9 +3,9 @@ use Rattle.std.specs.Prelude.{Bool, true, false, cond, ℕ, ◌+◌, ◌-◌, �
 use Rattle.bits.specs.Numbers.{bit, number}
 use Rattle.bits.specs.Sets.{size}
 use Rattle.best.specs.Search.{Answer}
-use Rattle.best.specs.Counting.{bestCounting}
+use Rattle.best.specs.Counting.{best_counting}
 use Rattle.chains.specs.Chain.{Made, stuck, made}
-use Rattle.chains.specs.Aside.{sheetAside}
+use Rattle.chains.specs.Aside.{sheet_aside}
 use Rattle.finding.specs.FindBest.{own_of}
 use Rattle.bounds.specs.Bound.{counted}
 
@@ -14,22 +14,22 @@ abbrev pub reaching : ℕ → ℕ → ℕ
 reaching c K = (c + K - 3) / (K - 1)
 
 -- c of n inputs count, which are more than K: two cells do where H of the best split is left with at most K inputs
-abbrev pub bySplit : ℕ → ℕ → ℕ → Answer → ℕ
-bySplit n K c a = cond (leb (c + 1) (K + size n (bit (own_of a)))) 2 (max 3 (reaching c K))
+abbrev pub by_split : ℕ → ℕ → ℕ → Answer → ℕ
+by_split n K c a = cond (leb (c + 1) (K + size n (bit (own_of a)))) 2 (max 3 (reaching c K))
 
 -- with cells of two inputs: a chain that comes to its end has one cell fewer than inputs count
-abbrev pub byChain : ℕ → Made → ℕ
-byChain c stuck = c
-byChain c (made cs) = c - 1
+abbrev pub by_chain : ℕ → Made → ℕ
+by_chain c stuck = c
+by_chain c (made cs) = c - 1
 
 -- the bound on cells of size K for the table F of n inputs
-unfoldable pub cellBound : ℕ → ℕ → (ℕ → Bool) → ℕ
-cellBound n K F =
+unfoldable pub cell_bound : ℕ → ℕ → (ℕ → Bool) → ℕ
+cell_bound n K F =
     let c = counted n F in
     elim (leb c K) [
       | true ↦ 1
       | false ↦ elim (eqb K 2) [
-        | true ↦ byChain c (sheetAside n 2 (number (2 ^ n) F))
-        | false ↦ bySplit n K c (bestCounting n 1 F K)
+        | true ↦ by_chain c (sheet_aside n 2 (number (2 ^ n) F))
+        | false ↦ by_split n K c (best_counting n 1 F K)
       ]
     ]

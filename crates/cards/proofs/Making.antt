@@ -12,7 +12,7 @@ use lib.Seq.{ext_get_or, get_or-set_same, get_or-set_other, set_out, get_or-take
 use borrow.Author.Tests.{eqb-true, eqb-false}
 use Rattle.bits.specs.Lists.{list_of}
 use Rattle.cards.specs.declared.stores.Store.{Store}
-use Rattle.cards.specs.Card.{desks, deskBytes, cardBytes, base, holder, ownBytes}
+use Rattle.cards.specs.Card.{desks, desk_bytes, card_bytes, base, holder, own_bytes}
 use Rattle.cards.specs.Stores.{storing, stored, upward, onto}
 
 -- ---- all of some stores
@@ -46,20 +46,20 @@ module _ (P : Store → Type 0) where
   every_drop (suc k) [] a = tt
   every_drop (suc k) (t ∷ u) a = every_drop k u a.1
 
-  pub every-at : (u : List Store) (d : Store) (i : ℕ) → Every P u → i < length u → P (get_or u i d)
-  every-at [] d i a h = absurd (not-suc-le-zero h)
-  every-at (t ∷ u) d zero a h = a.0
-  every-at (t ∷ u) d (suc i) a h = every-at u d i a.1 (omega arith)
+  pub every_at : (u : List Store) (d : Store) (i : ℕ) → Every P u → i < length u → P (get_or u i d)
+  every_at [] d i a h = absurd (not-suc-le-zero h)
+  every_at (t ∷ u) d zero a h = a.0
+  every_at (t ∷ u) d (suc i) a h = every_at u d i a.1 (omega arith)
 
 -- ---- stores one after another
 
-pub made-append : (u w : List Store) (c : List ℕ) → stored (u ++ w) c ≡ stored w (stored u c)
-made-append [] w c = refl
-made-append (t ∷ u) w c = made-append u w (set c t.place t.byte)
+pub made_append : (u w : List Store) (c : List ℕ) → stored (u ++ w) c ≡ stored w (stored u c)
+made_append [] w c = refl
+made_append (t ∷ u) w c = made_append u w (set c t.place t.byte)
 
-pub made-length : (u : List Store) (c : List ℕ) → length (stored u c) ≡ length c
-made-length [] c = refl
-made-length (t ∷ u) c = made-length u (set c t.place t.byte) ∙ length-set c t.place t.byte
+pub made_length : (u : List Store) (c : List ℕ) → length (stored u c) ≡ length c
+made_length [] c = refl
+made_length (t ∷ u) c = made_length u (set c t.place t.byte) ∙ length-set c t.place t.byte
 
 -- a byte to which no store goes stays
 pub untouched : (u : List Store) (c : List ℕ) (a : ℕ) → Every (λ t. a ≡ t.place → ⊥) u → get_or (stored u c) a 0
@@ -72,32 +72,32 @@ untouched (t ∷ u) c a h = untouched u (set c t.place t.byte) a h.1
 
 module _ (a : ℕ) (f : ℕ → ℕ) where
   -- before them and past them nothing changes
-  pub upward-out : (k b : ℕ) (c : List ℕ) → ((j : ℕ) → j < k → b ≡ a + j → ⊥) → get_or (stored (upward a k f) c) b 0
+  pub upward_out : (k b : ℕ) (c : List ℕ) → ((j : ℕ) → j < k → b ≡ a + j → ⊥) → get_or (stored (upward a k f) c) b 0
       ≡ get_or c b 0
-  upward-out k b c h = untouched (upward a k f) c b
+  upward_out k b c h = untouched (upward a k f) c b
       (every-list (λ t. b ≡ t.place → ⊥) k (λ j. storing (a + j) (f j)) h)
 
   -- and there they leave the values
-  pub upward-in : (k j : ℕ) (c : List ℕ) → j < k → a + k ≤ length c → get_or (stored (upward a k f) c) (a + j) 0 ≡ f j
+  pub upward_in : (k j : ℕ) (c : List ℕ) → j < k → a + k ≤ length c → get_or (stored (upward a k f) c) (a + j) 0 ≡ f j
   unfolding list_of
-  upward-in zero j c h g = absurd (not-suc-le-zero h)
-  upward-in (suc k) j c h g =
-      ap (λ (l : List ℕ). get_or l (a + j) 0) (made-append (upward a k f) (storing (a + k) (f k) ∷ []) c)
+  upward_in zero j c h g = absurd (not-suc-le-zero h)
+  upward_in (suc k) j c h g =
+      ap (λ (l : List ℕ). get_or l (a + j) 0) (made_append (upward a k f) (storing (a + k) (f k) ∷ []) c)
       ∙ elim (dec_lt j k) [
         | yes l ↦ get_or-set_other (stored (upward a k f) c) (a + k) (a + j) (f k) 0 (λ q. omega arith)
-            ∙ upward-in k j c l (omega arith)
+            ∙ upward_in k j c l (omega arith)
         | no l ↦ let q : j ≡ k = omega arith in
             ap (λ (i : ℕ). get_or (set (stored (upward a k f) c) (a + k) (f k)) (a + i) 0) q
-            ∙ get_or-set_same (stored (upward a k f) c) (a + k) (f k) 0 (omega (arith, made-length (upward a k f) c))
+            ∙ get_or-set_same (stored (upward a k f) c) (a + k) (f k) 0 (omega (arith, made_length (upward a k f) c))
             ∙ ap f (sym q)
       ]
 
 -- ---- a byte is decided by the stores into its own desk
 
 -- a store leaves two cards that agree at j agreeing at j
-set-agree : (c e : List ℕ) (p b j : ℕ) → length c ≡ length e → get_or c j 0 ≡ get_or e j 0 → get_or (set c p b) j 0
+set_agree : (c e : List ℕ) (p b j : ℕ) → length c ≡ length e → get_or c j 0 ≡ get_or e j 0 → get_or (set c p b) j 0
     ≡ get_or (set e p b) j 0
-set-agree c e p b j l h = go (eqb j p) refl
+set_agree c e p b j l h = go (eqb j p) refl
   where
     go : (t : Bool) → eqb j p ≡ t → get_or (set c p b) j 0 ≡ get_or (set e p b) j 0
     go false q = get_or-set_other c p j b 0 (eqb-false j p q) ∙ h ∙ sym (get_or-set_other e p j b 0 (eqb-false j p q))
@@ -114,11 +114,11 @@ agree [] c e j l h = h
 agree (t ∷ u) c e j l h =
     agree u (set c t.place t.byte) (set e t.place t.byte) j
     (length-set c t.place t.byte ∙ l ∙ sym (length-set e t.place t.byte))
-    (set-agree c e t.place t.byte j l h)
+    (set_agree c e t.place t.byte j l h)
 
-by-own : (u : List Store) (c : List ℕ) (j : ℕ) → get_or (stored u c) j 0 ≡ get_or (stored (onto (holder j) u) c) j 0
-by-own [] c j = refl
-by-own (t ∷ u) c j = go (eqb (holder t.place) (holder j)) refl (by-own u (set c t.place t.byte) j)
+by_own : (u : List Store) (c : List ℕ) (j : ℕ) → get_or (stored u c) j 0 ≡ get_or (stored (onto (holder j) u) c) j 0
+by_own [] c j = refl
+by_own (t ∷ u) c j = go (eqb (holder t.place) (holder j)) refl (by_own u (set c t.place t.byte) j)
   where
     go : (r : Bool) → eqb (holder t.place) (holder j) ≡ r
         → get_or (stored u (set c t.place t.byte)) j 0
@@ -134,31 +134,31 @@ by-own (t ∷ u) c j = go (eqb (holder t.place) (holder j)) refl (by-own u (set 
 -- two lists of stores that each desk sees alike make the same card
 pub alike : (u w : List Store) (c : List ℕ) → ((d : ℕ) → onto d u ≡ onto d w) → stored u c ≡ stored w c
 alike u w c h =
-    ext_get_or 0 (stored u c) (stored w c) (made-length u c ∙ sym (made-length w c))
-    (λ j l. by-own u c j ∙ ap (λ (v : List Store). get_or (stored v c) j 0) (h (holder j)) ∙ sym (by-own w c j))
+    ext_get_or 0 (stored u c) (stored w c) (made_length u c ∙ sym (made_length w c))
+    (λ j l. by_own u c j ∙ ap (λ (v : List Store). get_or (stored v c) j 0) (h (holder j)) ∙ sym (by_own w c j))
 
 -- ---- a desk's own bytes
 
-pub own_at : (c : List ℕ) (d j : ℕ) → j < deskBytes → get_or (ownBytes c d) j 0 ≡ get_or c (base d + j) 0
-own_at c d j h = get_or-take deskBytes (drop (base d) c) j 0 h ∙ get_or-drop (base d) c j 0
+pub own_at : (c : List ℕ) (d j : ℕ) → j < desk_bytes → get_or (own_bytes c d) j 0 ≡ get_or c (base d + j) 0
+own_at c d j h = get_or-take desk_bytes (drop (base d) c) j 0 h ∙ get_or-drop (base d) c j 0
 
-pub own-length : (c : List ℕ) (d : ℕ) → length c ≡ cardBytes → d ≤ desks → length (ownBytes c d) ≡ deskBytes
-own-length c d h g = length-take-le deskBytes (drop (base d) c) (omega (arith, length-drop (base d) c))
+pub own_length : (c : List ℕ) (d : ℕ) → length c ≡ card_bytes → d ≤ desks → length (own_bytes c d) ≡ desk_bytes
+own_length c d h g = length-take-le desk_bytes (drop (base d) c) (omega (arith, length-drop (base d) c))
 
 -- two cards that agree on them have the same
-pub own-ext : (c e : List ℕ) (d : ℕ) → length c ≡ cardBytes → length e ≡ cardBytes → d ≤ desks
-    → ((j : ℕ) → j < deskBytes → get_or c (base d + j) 0 ≡ get_or e (base d + j) 0) → ownBytes c d ≡ ownBytes e d
-own-ext c e d h g m a =
-    ext_get_or 0 (ownBytes c d) (ownBytes e d) (own-length c d h m ∙ sym (own-length e d g m))
-    (λ j l. let i : j < deskBytes = omega (arith, own-length c d h m) in own_at c d j i ∙ a j i ∙ sym (own_at e d j i))
+pub own_ext : (c e : List ℕ) (d : ℕ) → length c ≡ card_bytes → length e ≡ card_bytes → d ≤ desks
+    → ((j : ℕ) → j < desk_bytes → get_or c (base d + j) 0 ≡ get_or e (base d + j) 0) → own_bytes c d ≡ own_bytes e d
+own_ext c e d h g m a =
+    ext_get_or 0 (own_bytes c d) (own_bytes e d) (own_length c d h m ∙ sym (own_length e d g m))
+    (λ j l. let i : j < desk_bytes = omega (arith, own_length c d h m) in own_at c d j i ∙ a j i ∙ sym (own_at e d j i))
 
-pub held_by : (d j : ℕ) → 1 ≤ d → j < deskBytes → holder (base d + j) ≡ d
+pub held_by : (d j : ℕ) → 1 ≤ d → j < desk_bytes → holder (base d + j) ≡ d
 held_by d j h g = omega arith
 
 -- they are as its own stores alone leave them
-pub own-made : (u : List Store) (c : List ℕ) (d : ℕ) → length c ≡ cardBytes → 1 ≤ d → d ≤ desks
-    → ownBytes (stored u c) d
-    ≡ ownBytes (stored (onto d u) c) d
-own-made u c d h l m =
-    own-ext (stored u c) (stored (onto d u) c) d (made-length u c ∙ h) (made-length (onto d u) c ∙ h) m
-    (λ j g. by-own u c (base d + j) ∙ ap (λ (f : ℕ). get_or (stored (onto f u) c) (base d + j) 0) (held_by d j l g))
+pub own_made : (u : List Store) (c : List ℕ) (d : ℕ) → length c ≡ card_bytes → 1 ≤ d → d ≤ desks
+    → own_bytes (stored u c) d
+    ≡ own_bytes (stored (onto d u) c) d
+own_made u c d h l m =
+    own_ext (stored u c) (stored (onto d u) c) d (made_length u c ∙ h) (made_length (onto d u) c ∙ h) m
+    (λ j g. by_own u c (base d + j) ∙ ap (λ (f : ℕ). get_or (stored (onto f u) c) (base d + j) 0) (held_by d j l g))

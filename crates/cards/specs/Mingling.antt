@@ -2,8 +2,8 @@
 use Rattle.std.specs.Prelude.{◌≡◌, cond, List, [], ◌∷◌, ◌++◌, ℕ, eqb}
 use Rattle.cards.specs.declared.stores.Store.{Store}
 use Rattle.refusals.specs.Lines.{verdict, reply}
-use Rattle.cards.specs.Stores.{loadStores}
-use Rattle.cards.specs.LoadDesk.{loadLines, loadOutcome}
+use Rattle.cards.specs.Stores.{load_stores}
+use Rattle.cards.specs.LoadDesk.{load_lines, load_outcome}
 
 -- a load that is asked for
 pub record Load : Type 0 where
@@ -13,21 +13,21 @@ pub record Load : Type 0 where
 
 -- its stores
 abbrev pub stores_of : Load → List Store
-stores_of l = loadStores l.desk l.inputs l.sheet
+stores_of l = load_stores l.desk l.inputs l.sheet
 
 -- the stores of loads one after another
-abbrev pub storesInTurn : List Load → List Store
-storesInTurn [] = []
-storesInTurn (l ∷ ls) = stores_of l ++ storesInTurn ls
+abbrev pub stores_in_turn : List Load → List Store
+stores_in_turn [] = []
+stores_in_turn (l ∷ ls) = stores_of l ++ stores_in_turn ls
 
 -- the loads of desk d, in their order
-abbrev pub loadsOf : ℕ → List Load → List Load
-loadsOf d [] = []
-loadsOf d (l ∷ ls) = cond (eqb l.desk d) (l ∷ loadsOf d ls) (loadsOf d ls)
+abbrev pub loads_of : ℕ → List Load → List Load
+loads_of d [] = []
+loads_of d (l ∷ ls) = cond (eqb l.desk d) (l ∷ loads_of d ls) (loads_of d ls)
 
 -- what waits at each desk: the stores of its own loads, one load after another
 abbrev pub waiting : List Load → ℕ → List Store
-waiting ls d = storesInTurn (loadsOf d ls)
+waiting ls d = stores_in_turn (loads_of d ls)
 
 -- what waits when the first at desk d is gone, and r is left there
 abbrev pub left : (ℕ → List Store) → ℕ → List Store → ℕ → List Store
@@ -45,9 +45,9 @@ pub data Mingling : (ℕ → List Store) → List Store → Type 0 where
 abbrev pub accepted : List ℕ → List Load → List Load
 accepted c [] = []
 accepted c (l ∷ ls) =
-    reply (verdict (loadLines c l.desk l.inputs l.sheet)) (l ∷ accepted c ls) (λ r. accepted c ls)
+    reply (verdict (load_lines c l.desk l.inputs l.sheet)) (l ∷ accepted c ls) (λ r. accepted c ls)
 
 -- the card after one call of a load after another, refused ones too
 abbrev pub called : List Load → List ℕ → List ℕ
 called [] c = c
-called (l ∷ ls) c = called ls (loadOutcome c l.desk l.inputs l.sheet).card
+called (l ∷ ls) c = called ls (load_outcome c l.desk l.inputs l.sheet).card

@@ -1,13 +1,13 @@
 // The stores of a load: what the i-th of them is, and the loop that makes them in their order.
 ghost use Rattle.std.specs.Prelude.{◌≡◌, ◌-◌, ◌<◌, ◌≤◌, length, take, drop};
-ghost use Rattle.cards.specs.Card.{desks, placeBytes, cardBytes};
-ghost use Rattle.cards.specs.Stores.{placeByte, statusByte, storeCount, storeAt, loadStores, stored};
+ghost use Rattle.cards.specs.Card.{desks, place_bytes, card_bytes};
+ghost use Rattle.cards.specs.Stores.{place_byte, status_byte, store_count, store_at, load_stores, stored};
 
 use crate::sizes::{DESK, INPUTS, MARK};
 use sheets::kinds::Sheet;
 
 // One byte goes to one place of a card.
-#[derive(Drop)]
+#[derive(Clone, Copy)]
 pub struct Store {
     pub place: usize,
     pub byte: u8,
@@ -15,7 +15,7 @@ pub struct Store {
 
 // Byte j of the record places: zero past the sheet's end.
 fn place_byte(s: &[u8], j: usize) -> u8
-    ensures { result ≡ placeByte s.now j }
+    ensures { result ≡ place_byte s.now j }
 {
     if s.len() <= j {
         return 0;
@@ -25,8 +25,8 @@ fn place_byte(s: &[u8], j: usize) -> u8
 
 // Byte j of the status record past its mark.
 fn status_byte(n: u8, s: &[u8], j: usize) -> u8
-    requires { length s.now ≤ placeBytes }
-    ensures { result ≡ statusByte n s.now j }
+    requires { length s.now ≤ place_bytes }
+    ensures { result ≡ status_byte n s.now j }
 {
     if j == 0 {
         return n;
@@ -39,8 +39,8 @@ fn status_byte(n: u8, s: &[u8], j: usize) -> u8
 
 // Store i of a load of the sheet s, of n inputs, onto desk d.
 fn store_at(d: usize, n: u8, s: &[u8], i: usize) -> Store
-    requires { (1 ≤ d) × (d ≤ desks) × (length s.now ≤ placeBytes) × (i < storeCount) }
-    ensures { result ≡ storeAt d n s.now i }
+    requires { (1 ≤ d) × (d ≤ desks) × (length s.now ≤ place_bytes) × (i < store_count) }
+    ensures { result ≡ store_at d n s.now i }
 {
     let base = DESK * (d - 1);
     if i == 0 {
@@ -69,10 +69,10 @@ fn store_at(d: usize, n: u8, s: &[u8], i: usize) -> Store
 
 // Makes the stores of a load from `first` up to `end`.
 pub fn make_stores(card: &mut [u8], d: usize, n: u8, s: &[u8], first: usize, end: usize)
-    requires { (length card.old ≡ cardBytes) × (1 ≤ d) × (d ≤ desks) × (length s.now ≤ placeBytes)
-        × (first ≤ end) × (end ≤ storeCount) }
+    requires { (length card.old ≡ card_bytes) × (1 ≤ d) × (d ≤ desks) × (length s.now ≤ place_bytes)
+        × (first ≤ end) × (end ≤ store_count) }
     ensures { card.new
-        ≡ stored (take (end - first) (drop first (loadStores d n s.now))) card.old }
+        ≡ stored (take (end - first) (drop first (load_stores d n s.now))) card.old }
 {
     let mut i = first;
     while i < end {

@@ -41,11 +41,11 @@ pick_at (suc n) s l p h e = ⊎_elim (λ q. old q (s n) (pick_at n s l p q e)) (
     new q false f = absurd (clash f refl)
 
 -- what stands behind does not matter
-pick-front : (n : ℕ) (s : ℕ → Bool) (l m : List ℕ) → n ≤ length l → pick n s (l ++ m) ≡ pick n s l
+pick_front : (n : ℕ) (s : ℕ → Bool) (l m : List ℕ) → n ≤ length l → pick n s (l ++ m) ≡ pick n s l
 unfolding pick
-pick-front zero s l m h = refl
-pick-front (suc n) s l m h =
-    ap₂ (λ (r : List ℕ) (x : ℕ). cond (s n) (r ++ (x ∷ [])) r) (pick-front n s l m (omega arith))
+pick_front zero s l m h = refl
+pick_front (suc n) s l m h =
+    ap₂ (λ (r : List ℕ) (x : ℕ). cond (s n) (r ++ (x ∷ [])) r) (pick_front n s l m (omega arith))
     (get_or-append l m 0 n h)
 
 pub pick-pick : (n : ℕ) (S s t : ℕ → Bool) (l : List ℕ) → ((j : ℕ) → j < n → S j ≡ true → s j ≡ t (size j S))
@@ -65,7 +65,7 @@ pick-pick (suc n) S s t l m inside = go (S n) refl
     go true e ih =
         ap (λ (k : ℕ). pick k t (pick n S l ++ (x ∷ []))) (add-one (size n S))
         ∙ ap₂ (λ (r : List ℕ) (y : ℕ). cond (t (size n S)) (r ++ (y ∷ [])) r)
-        (pick-front (size n S) t (pick n S l) (x ∷ []) (omega (arith, pick-length n S l))
+        (pick_front (size n S) t (pick n S l) (x ∷ []) (omega (arith, pick-length n S l))
         ∙ ih)
         (ap (λ (j : ℕ). get_or (pick n S l ++ (x ∷ [])) j 0) (sym (pick-length n S l))
         ∙ get_or-append_seam (pick n S l) x [] 0)

@@ -14,7 +14,7 @@ use Rattle.bits.specs.Numbers.{bit}
 use Rattle.bits.specs.Lists.{list_of}
 use Rattle.bits.proofs.Below.{below_suc}
 use Rattle.bits.proofs.Lists.{length-list}
-use Rattle.bits.proofs.Numbers.{number-ext}
+use Rattle.bits.proofs.Numbers.{number_ext}
 use Rattle.sheets.specs.Network.{Cell, output}
 use Rattle.networks.specs.Signals.{values}
 use Rattle.chains.proofs.Lists.{AllBelow}
@@ -40,23 +40,23 @@ module _ (i : ℕ) (f : ℕ → Cell) (v : ℕ → Bool) (low : (t : ℕ) → Al
       ap (λ (g : ℕ → Bool). g s) (values-append i (list_of r f) (f r ∷ []) v)
       ∙ ap (λ (n : ℕ). cond (eqb s (i + n)) (output (f r) (w r)) (w r s)) (length-list r f)
 
-  pub after-old : (r s : ℕ) → s < i → w r s ≡ v s
+  pub after_old : (r s : ℕ) → s < i → w r s ≡ v s
   unfolding list_of values
-  after-old zero s h = refl
-  after-old (suc r) s h =
+  after_old zero s h = refl
+  after_old (suc r) s h =
       one_more r s ∙ ap (λ (t : Bool). cond t (output (f r) (w r)) (w r s)) (ne_eqb s (i + r) (omega arith))
-      ∙ after-old r s h
+      ∙ after_old r s h
 
   same-output : (r t : ℕ) → output (f t) (w r) ≡ output (f t) v
   unfolding output
   same-output r t =
-      ap (bit (f t).table) (number-ext (length (f t).signals) (λ j. w r (get_or (f t).signals j 0))
+      ap (bit (f t).table) (number_ext (length (f t).signals) (λ j. w r (get_or (f t).signals j 0))
       (λ j. v (get_or (f t).signals j 0))
-      (λ j h. after-old r (get_or (f t).signals j 0) (low t j h)))
+      (λ j h. after_old r (get_or (f t).signals j 0) (low t j h)))
 
-  pub after-new : (r t : ℕ) → t < r → w r (i + t) ≡ output (f t) v
-  after-new zero t h = absurd (not-suc-le-zero h)
-  after-new (suc r) t h = one_more r (i + t) ∙ ⊎_elim (old (after-new r t)) new (below_suc {j = t} {n = r} h)
+  pub after_new : (r t : ℕ) → t < r → w r (i + t) ≡ output (f t) v
+  after_new zero t h = absurd (not-suc-le-zero h)
+  after_new (suc r) t h = one_more r (i + t) ∙ ⊎_elim (old (after_new r t)) new (below_suc {j = t} {n = r} h)
     where
       old : (t < r → w r (i + t) ≡ output (f t) v) → t < r
           → cond (eqb (i + t) (i + r)) (output (f r) (w r)) (w r (i + t)) ≡ output (f t) v

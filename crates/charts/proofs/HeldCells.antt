@@ -5,15 +5,15 @@ use Prim.Native.Nat.{ℕ, ◌≤◌}
 use native.Mathlib.Omega.{arith}
 use lib.Pow.{pow_mono}
 use Rattle.bits.specs.Sets.{size}
-use Rattle.tables.specs.Cells.{cellWords, tableNumber}
-use Rattle.tables.proofs.CellTables.{words-joined}
-use Rattle.splits.specs.Split.{readsD}
-use Rattle.splits.specs.Pair.{tableD}
-use Rattle.charts.specs.Cells.{bitD, heldD}
+use Rattle.tables.specs.Cells.{cell_words, table_number}
+use Rattle.tables.proofs.CellTables.{words_joined}
+use Rattle.splits.specs.Split.{reads_d}
+use Rattle.splits.specs.Pair.{table_d}
+use Rattle.charts.specs.Cells.{bit_d, held_d}
 
-pub table-D : (n : ℕ) (F : ℕ → Bool) (A B : ℕ → Bool) (t : ℕ) → size n (readsD A B) ≤ 8
-    → tableNumber (heldD n F A B t) ≡ tableD n F A B t
-unfolding tableD
+pub table-D : (n : ℕ) (F : ℕ → Bool) (A B : ℕ → Bool) (t : ℕ) → size n (reads_d A B) ≤ 8
+    → table_number (held_d n F A B t) ≡ table_d n F A B t
+unfolding table_d
 table-D n F A B t h =
-    words-joined cellWords (size n (readsD A B)) (bitD n F A B t)
-    (omega (arith, pow_mono {i = size n (readsD A B)} {j = 8} h))
+    words_joined cell_words (size n (reads_d A B)) (bit_d n F A B t)
+    (omega (arith, pow_mono {i = size n (reads_d A B)} {j = 8} h))

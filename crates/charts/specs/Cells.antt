@@ -4,37 +4,37 @@ use Rattle.charts.specs.declared.pair.FirstCells.{FirstCells}
 use Rattle.bits.specs.Numbers.{bit}
 use Rattle.bits.specs.Sets.{size}
 use Rattle.tables.specs.declared.cell.CellTable.{CellTable}
-use Rattle.tables.specs.Cells.{heldTable, noTable, tableNumber}
-use Rattle.splits.specs.Split.{readsD}
+use Rattle.tables.specs.Cells.{held_table, no_table_lem, table_number}
+use Rattle.splits.specs.Split.{reads_d}
 use Rattle.splits.specs.Pair.{code_at}
 
 -- first cell t gives bit t of the code
-abbrev pub bitD : ℕ → (ℕ → Bool) → (ℕ → Bool) → (ℕ → Bool) → ℕ → ℕ → Bool
-bitD n F A B t v = bit (code_at n F A B v) t
+abbrev pub bit_d : ℕ → (ℕ → Bool) → (ℕ → Bool) → (ℕ → Bool) → ℕ → ℕ → Bool
+bit_d n F A B t v = bit (code_at n F A B v) t
 
 -- its table as it is held
-abbrev pub heldD : ℕ → (ℕ → Bool) → (ℕ → Bool) → (ℕ → Bool) → ℕ → CellTable
-heldD n F A B t = heldTable (size n (readsD A B)) (bitD n F A B t)
+abbrev pub held_d : ℕ → (ℕ → Bool) → (ℕ → Bool) → (ℕ → Bool) → ℕ → CellTable
+held_d n F A B t = held_table (size n (reads_d A B)) (bit_d n F A B t)
 
 -- the table of first cell t, of r: those from r up are 0
-abbrev pub firstTable : ℕ → (ℕ → Bool) → (ℕ → Bool) → (ℕ → Bool) → ℕ → ℕ → CellTable
-firstTable n F A B r t = cond (ltb t r) (heldD n F A B t) noTable
+abbrev pub first_table : ℕ → (ℕ → Bool) → (ℕ → Bool) → (ℕ → Bool) → ℕ → ℕ → CellTable
+first_table n F A B r t = cond (ltb t r) (held_d n F A B t) no_table_lem
 
 -- all of them
-abbrev pub firstCells : ℕ → (ℕ → Bool) → (ℕ → Bool) → (ℕ → Bool) → ℕ → FirstCells
-firstCells n F A B r = record {
-  first = firstTable n F A B r 0;
-  second = firstTable n F A B r 1;
-  third = firstTable n F A B r 2;
+abbrev pub first_cells : ℕ → (ℕ → Bool) → (ℕ → Bool) → (ℕ → Bool) → ℕ → FirstCells
+first_cells n F A B r = record {
+  first = first_table n F A B r 0;
+  second = first_table n F A B r 1;
+  third = first_table n F A B r 2;
 }
 
 -- none is there
-abbrev pub noCells : FirstCells
-noCells = record { first = noTable; second = noTable; third = noTable }
+abbrev pub no_cells : FirstCells
+no_cells = record { first = no_table_lem; second = no_table_lem; third = no_table_lem }
 
 -- the table of first cell t among those handed back, as a number
-abbrev pub tableIn : FirstCells → ℕ → ℕ
-tableIn d zero = tableNumber d.first
-tableIn d (suc zero) = tableNumber d.second
-tableIn d (suc (suc zero)) = tableNumber d.third
-tableIn d (suc (suc (suc t))) = 0
+abbrev pub table_in : FirstCells → ℕ → ℕ
+table_in d zero = table_number d.first
+table_in d (suc zero) = table_number d.second
+table_in d (suc (suc zero)) = table_number d.third
+table_in d (suc (suc (suc t))) = 0

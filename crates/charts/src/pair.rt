@@ -2,13 +2,13 @@
 ghost use Rattle.std.specs.Prelude.{◌≡◌, true, ◌&&◌, ℕ, ◌+◌, ◌*◌, ◌^◌, ◌<◌, ◌≤◌, ltb, length, get_or};
 ghost use Rattle.bits.specs.Numbers.{bit};
 ghost use Rattle.bits.specs.Sets.{size, gather};
-ghost use Rattle.tables.specs.Table.{mostInputs, tableBit, byte_of};
-ghost use Rattle.tables.specs.Words.{gateWord};
-ghost use Rattle.tables.specs.Cells.{cellWords};
-ghost use Rattle.splits.specs.Columns.{fewColumns, mostFirst, mostColumns};
-ghost use Rattle.splits.specs.Pair.{code_at, bitH, inputsH};
-ghost use Rattle.charts.specs.Cells.{bitD, heldD, firstTable, firstCells, noCells};
-ghost use Rattle.columns.specs.Reading.{Held, Chart, readFrom, firstReads, lastReads, chartRoom};
+ghost use Rattle.tables.specs.Table.{most_inputs, table_bit, byte_of};
+ghost use Rattle.tables.specs.Words.{gate_word};
+ghost use Rattle.tables.specs.Cells.{cell_words};
+ghost use Rattle.splits.specs.Columns.{few_columns, most_first, most_columns};
+ghost use Rattle.splits.specs.Pair.{code_at, bit_h, inputs_h};
+ghost use Rattle.charts.specs.Cells.{bit_d, held_d, first_table, first_cells, no_cells};
+ghost use Rattle.columns.specs.Reading.{Held, Chart, read_from, first_reads, last_reads, chart_room};
 
 use bits::sets::{gather_in, next, parts, spread_out};
 use columns::columns::{look_through, place};
@@ -18,7 +18,7 @@ use tables::cell::CellTable;
 use tables::fixed::word_over;
 
 // The tables of 1, 2 or 3 first cells; those that are not there are 0.
-#[derive(Drop)]
+#[derive(Clone, Copy)]
 pub struct FirstCells {
     pub first: CellTable,
     pub second: CellTable,
@@ -28,7 +28,7 @@ pub struct FirstCells {
 impl FirstCells {
     // None is there.
     pub fn none() -> FirstCells
-        ensures { result ≡ noCells }
+        ensures { result ≡ no_cells }
     {
         FirstCells {
             first: CellTable::zero(),
@@ -44,7 +44,7 @@ const CHART: usize = 128;
 
 // Room for the chart of a split, nothing charted yet.
 pub fn blank() -> [u16; CHART]
-    ensures { (length result ≡ chartRoom) × ((i : ℕ) → get_or result i 0 ≡ 0) }
+    ensures { (length result ≡ chart_room) × ((i : ℕ) → get_or result i 0 ≡ 0) }
 {
     [0; CHART]
 }
@@ -52,10 +52,10 @@ pub fn blank() -> [u16; CHART]
 // For each shared assignment b, the numbers that stand for its columns: place b * limit + d of `seen` stands for column
 // d.
 pub fn chart(t: &[u8], s: Split, limit: usize, seen: &mut [u16])
-    requires held { Held s × (limit ≤ mostColumns) × (2 ^ s.n ≤ 8 * length t.now) }
+    requires held { Held s × (limit ≤ most_columns) × (2 ^ s.n ≤ 8 * length t.now) }
     requires shared_in_bounds { (limit * 2 ^ size s.n (bit s.shared) ≤ length seen.old) × ((i : ℕ) → get_or seen.old i 0 ≡ 0) }
-    requires limit_value { fewColumns s.n (tableBit t.now) (bit s.own) (bit s.shared) limit ≡ true }
-    ensures { Chart s (tableBit t.now) limit seen.new }
+    requires limit_value { few_columns s.n (table_bit t.now) (bit s.own) (bit s.shared) limit ≡ true }
+    ensures { Chart s (table_bit t.now) limit seen.new }
 {
     let many = parts(s.n, s.shared);
     let mut base: u32 = 0;
@@ -73,10 +73,10 @@ pub fn chart(t: &[u8], s: Split, limit: usize, seen: &mut [u16])
 // The number of x's column among the different columns of its shared assignment: what the first cells give there, made
 // into one number.
 fn code_at<'a>(t: &'a [u8], s: Split, limit: usize, seen: &'a [u16], x: u32) -> usize
-    requires held { Held s × (x ≡ readFrom s x) × (2 ^ s.n ≤ 8 * length t.now) × (limit ≤ mostColumns) }
-    requires chart { Chart s (tableBit t.now) limit seen.now }
-    requires limit_value { fewColumns s.n (tableBit t.now) (bit s.own) (bit s.shared) limit ≡ true }
-    ensures { result ≡ code_at s.n (tableBit t.now) (bit s.own) (bit s.shared) (gather s.n (firstReads s) x) }
+    requires held { Held s × (x ≡ read_from s x) × (2 ^ s.n ≤ 8 * length t.now) × (limit ≤ most_columns) }
+    requires chart { Chart s (table_bit t.now) limit seen.now }
+    requires limit_value { few_columns s.n (table_bit t.now) (bit s.own) (bit s.shared) limit ≡ true }
+    ensures { result ≡ code_at s.n (table_bit t.now) (bit s.own) (bit s.shared) (gather s.n (first_reads s) x) }
 {
     let base = x & (s.shared as u32);
     let from = (gather_in(s.n, s.shared, x) as usize) * limit;
@@ -86,11 +86,11 @@ fn code_at<'a>(t: &'a [u8], s: Split, limit: usize, seen: &'a [u16], x: u32) -> 
 
 // First cell `which` at the assignment x of own and shared inputs: that bit of the number of its column.
 fn d_bit<'a>(t: &'a [u8], s: Split, limit: usize, seen: &'a [u16], which: u32, x: u32) -> bool
-    requires held { Held s × (x ≡ readFrom s x) × (2 ^ s.n ≤ 8 * length t.now) × (limit ≤ mostColumns) }
-    requires chart { Chart s (tableBit t.now) limit seen.now × (which < mostFirst) }
-    requires limit_value { fewColumns s.n (tableBit t.now) (bit s.own) (bit s.shared) limit ≡ true }
-    ensures { result ≡ bit (code_at s.n (tableBit t.now) (bit s.own) (bit s.shared)
-        (gather s.n (firstReads s) x)) which }
+    requires held { Held s × (x ≡ read_from s x) × (2 ^ s.n ≤ 8 * length t.now) × (limit ≤ most_columns) }
+    requires chart { Chart s (table_bit t.now) limit seen.now × (which < most_first) }
+    requires limit_value { few_columns s.n (table_bit t.now) (bit s.own) (bit s.shared) limit ≡ true }
+    ensures { result ≡ bit (code_at s.n (table_bit t.now) (bit s.own) (bit s.shared)
+        (gather s.n (first_reads s) x)) which }
 {
     let code = code_at(t, s, limit, seen, x);
     (code >> which) & 1 == 1
@@ -110,11 +110,11 @@ fn bits_left(many: u32, from: u32) -> u32
 
 // Word w of the table of first cell `which`, read with the chart of the columns.
 fn d_word<'a>(t: &'a [u8], s: Split, limit: usize, seen: &'a [u16], which: u32, w: u32) -> u64
-    requires held { Held s × (w < cellWords) × (2 ^ s.n ≤ 8 * length t.now) × (limit ≤ mostColumns) }
-    requires chart { Chart s (tableBit t.now) limit seen.now × (which < mostFirst) }
-    requires limit_value { fewColumns s.n (tableBit t.now) (bit s.own) (bit s.shared) limit ≡ true }
-    ensures { result ≡ gateWord (size s.n (firstReads s))
-        (bitD s.n (tableBit t.now) (bit s.own) (bit s.shared) which) w }
+    requires held { Held s × (w < cell_words) × (2 ^ s.n ≤ 8 * length t.now) × (limit ≤ most_columns) }
+    requires chart { Chart s (table_bit t.now) limit seen.now × (which < most_first) }
+    requires limit_value { few_columns s.n (table_bit t.now) (bit s.own) (bit s.shared) limit ≡ true }
+    ensures { result ≡ gate_word (size s.n (first_reads s))
+        (bit_d s.n (table_bit t.now) (bit s.own) (bit s.shared) which) w }
 {
     let both = s.own + s.shared;
     let many = parts(s.n, both);
@@ -136,10 +136,10 @@ fn d_word<'a>(t: &'a [u8], s: Split, limit: usize, seen: &'a [u16], which: u32, 
 
 // The table of first cell `which`.
 fn table_of<'a>(t: &'a [u8], s: Split, limit: usize, seen: &'a [u16], which: u32) -> CellTable
-    requires held { Held s × (2 ^ s.n ≤ 8 * length t.now) × (limit ≤ mostColumns) }
-    requires chart { Chart s (tableBit t.now) limit seen.now × (which < mostFirst) }
-    requires limit_value { fewColumns s.n (tableBit t.now) (bit s.own) (bit s.shared) limit ≡ true }
-    ensures { result ≡ heldD s.n (tableBit t.now) (bit s.own) (bit s.shared) which }
+    requires held { Held s × (2 ^ s.n ≤ 8 * length t.now) × (limit ≤ most_columns) }
+    requires chart { Chart s (table_bit t.now) limit seen.now × (which < most_first) }
+    requires limit_value { few_columns s.n (table_bit t.now) (bit s.own) (bit s.shared) limit ≡ true }
+    ensures { result ≡ held_d s.n (table_bit t.now) (bit s.own) (bit s.shared) which }
 {
     CellTable {
         words: [
@@ -153,10 +153,10 @@ fn table_of<'a>(t: &'a [u8], s: Split, limit: usize, seen: &'a [u16], which: u32
 
 // The same, or 0 where there are only r first cells.
 fn table_or_zero<'a>(t: &'a [u8], s: Split, r: u32, seen: &'a [u16], which: u32) -> CellTable
-    requires held { Held s × (2 ^ s.n ≤ 8 * length t.now) × (r ≤ mostFirst) }
-    requires chart { Chart s (tableBit t.now) (2 ^ r) seen.now }
-    requires r_value { fewColumns s.n (tableBit t.now) (bit s.own) (bit s.shared) (2 ^ r) ≡ true }
-    ensures { result ≡ firstTable s.n (tableBit t.now) (bit s.own) (bit s.shared) r which }
+    requires held { Held s × (2 ^ s.n ≤ 8 * length t.now) × (r ≤ most_first) }
+    requires chart { Chart s (table_bit t.now) (2 ^ r) seen.now }
+    requires r_value { few_columns s.n (table_bit t.now) (bit s.own) (bit s.shared) (2 ^ r) ≡ true }
+    ensures { result ≡ first_table s.n (table_bit t.now) (bit s.own) (bit s.shared) r which }
 {
     if r <= which {
         return CellTable::zero();
@@ -166,10 +166,10 @@ fn table_or_zero<'a>(t: &'a [u8], s: Split, r: u32, seen: &'a [u16], which: u32)
 
 // The tables of r first cells.
 pub fn first_cells<'a>(t: &'a [u8], s: Split, r: u32, seen: &'a [u16]) -> FirstCells
-    requires held { Held s × (2 ^ s.n ≤ 8 * length t.now) × (r ≤ mostFirst) }
-    requires chart { Chart s (tableBit t.now) (2 ^ r) seen.now }
-    requires r_value { fewColumns s.n (tableBit t.now) (bit s.own) (bit s.shared) (2 ^ r) ≡ true }
-    ensures { result ≡ firstCells s.n (tableBit t.now) (bit s.own) (bit s.shared) r }
+    requires held { Held s × (2 ^ s.n ≤ 8 * length t.now) × (r ≤ most_first) }
+    requires chart { Chart s (table_bit t.now) (2 ^ r) seen.now }
+    requires r_value { few_columns s.n (table_bit t.now) (bit s.own) (bit s.shared) (2 ^ r) ≡ true }
+    ensures { result ≡ first_cells s.n (table_bit t.now) (bit s.own) (bit s.shared) r }
 {
     FirstCells {
         first: table_or_zero(t, s, r, seen, 0),
@@ -181,9 +181,9 @@ pub fn first_cells<'a>(t: &'a [u8], s: Split, r: u32, seen: &'a [u16]) -> FirstC
 // The last cell's bit at its assignment i: shared and free inputs first, then the first cells' outputs. Past its last
 // assignment, where the outputs would name a column from the limit on, stands 0: a spare bit.
 pub fn h_bit<'a>(t: &'a [u8], s: Split, limit: usize, seen: &'a [u16], i: u32) -> bool
-    requires { Held s × (2 ^ s.n ≤ 8 * length t.now) × Chart s (tableBit t.now) limit seen.now × (limit ≤ mostColumns) }
-    ensures { result ≡ (ltb i (limit * 2 ^ size s.n (lastReads s))
-        && bitH s.n (tableBit t.now) (bit s.own) (bit s.shared) i) }
+    requires { Held s × (2 ^ s.n ≤ 8 * length t.now) × Chart s (table_bit t.now) limit seen.now × (limit ≤ most_columns) }
+    ensures { result ≡ (ltb i (limit * 2 ^ size s.n (last_reads s))
+        && bit_h s.n (table_bit t.now) (bit s.own) (bit s.shared) i) }
 {
     let beside = s.shared + s.free;
     let many = parts(s.n, beside);
@@ -199,11 +199,11 @@ pub fn h_bit<'a>(t: &'a [u8], s: Split, limit: usize, seen: &'a [u16], i: u32) -
 
 // Byte i of the last cell's table, spare bits zero, for 2 ^ r columns at most.
 pub fn h_byte<'a>(t: &'a [u8], s: Split, limit: usize, seen: &'a [u16], i: u32) -> u8
-    requires { Held s × (2 ^ s.n ≤ 8 * length t.now) × Chart s (tableBit t.now) limit seen.now × (limit ≤ mostColumns)
-        × (i < 2 ^ mostInputs) }
+    requires { Held s × (2 ^ s.n ≤ 8 * length t.now) × Chart s (table_bit t.now) limit seen.now × (limit ≤ most_columns)
+        × (i < 2 ^ most_inputs) }
     ensures { (r : ℕ) → limit ≡ 2 ^ r
-        → result ≡ byte_of (inputsH s.n (tableBit t.now) (bit s.own) (bit s.shared) r)
-        (bitH s.n (tableBit t.now) (bit s.own) (bit s.shared)) i }
+        → result ≡ byte_of (inputs_h s.n (table_bit t.now) (bit s.own) (bit s.shared) r)
+        (bit_h s.n (table_bit t.now) (bit s.own) (bit s.shared)) i }
 {
     let mut b: u8 = 0;
     let mut j: u32 = 0;
@@ -217,11 +217,11 @@ pub fn h_byte<'a>(t: &'a [u8], s: Split, limit: usize, seen: &'a [u16], i: u32) 
 // Word i of the last cell's table, where nothing is shared and the free inputs make whole words: those of each column
 // stand side by side, and past the last column 0.
 pub fn h_word<'a>(t: &'a [u8], s: Split, limit: usize, seen: &'a [u16], i: u32) -> u64
-    requires { Held s × (2 ^ s.n ≤ 8 * length t.now) × Chart s (tableBit t.now) limit seen.now × (s.shared ≡ 0)
+    requires { Held s × (2 ^ s.n ≤ 8 * length t.now) × Chart s (table_bit t.now) limit seen.now × (s.shared ≡ 0)
         × (64 ≤ 2 ^ size s.n (bit s.free)) }
     ensures { (r : ℕ) → limit ≡ 2 ^ r
-        → result ≡ gateWord (inputsH s.n (tableBit t.now) (bit s.own) (bit s.shared) r)
-        (bitH s.n (tableBit t.now) (bit s.own) (bit s.shared)) i }
+        → result ≡ gate_word (inputs_h s.n (table_bit t.now) (bit s.own) (bit s.shared) r)
+        (bit_h s.n (table_bit t.now) (bit s.own) (bit s.shared)) i }
 {
     let each = parts(s.n, s.free) / 64;
     let d = (i / each) as usize;

@@ -7,37 +7,37 @@ use native.Mathlib.Omega.{arith}
 use borrow.Author.Tests.{eq-eqb, ne_eqb, lt-ltb, le-ltb}
 use Rattle.bits.specs.Numbers.{bit}
 use Rattle.bits.specs.Sets.{size}
-use Rattle.splits.specs.Columns.{mostFirst}
+use Rattle.splits.specs.Columns.{most_first}
 use Rattle.best.specs.Search.{Answer, none, split, above, best}
-use Rattle.best.proofs.Best.{best-split, is-above, not-above}
+use Rattle.best.proofs.Best.{best_split, is_above, not-above}
 use Rattle.choices.specs.declared.over.Chosen.{Chosen}
-use Rattle.choices.specs.Search.{Choice, nothing, choice, better, sparing, firstOver, bestUpTo}
+use Rattle.choices.specs.Search.{Choice, nothing, choice, better, sparing, first_over, best_up_to}
 use Rattle.choices.specs.Chosen.{choice_of, OwnBelow, SplitBelow, Spares, Floor}
-use Rattle.choices.proofs.Best.{upto-best}
-use Rattle.choices.proofs.Sparing.{is-sparing, not-sparing, spare-better, floor-beside, one_more}
+use Rattle.choices.proofs.Best.{upto_best}
+use Rattle.choices.proofs.Sparing.{is_sparing, not-sparing, spare_better, floor_beside, one_more}
 
 -- without first cells it is nothing, else a choice
-pub is-nothing : (c : Chosen) → c.first ≡ 0 → choice_of c ≡ nothing
-is-nothing c h = ap (λ (b : Bool). cond b nothing (choice c.first c.own c.shared)) (eq-eqb c.first 0 h)
+pub is_nothing_lem : (c : Chosen) → c.first ≡ 0 → choice_of c ≡ nothing
+is_nothing_lem c h = ap (λ (b : Bool). cond b nothing (choice c.first c.own c.shared)) (eq-eqb c.first 0 h)
 
-pub is-choice : (c : Chosen) → (c.first ≡ 0 → ⊥) → choice_of c ≡ choice c.first c.own c.shared
-is-choice c h = ap (λ (b : Bool). cond b nothing (choice c.first c.own c.shared)) (ne_eqb c.first 0 h)
+pub is_choice : (c : Chosen) → (c.first ≡ 0 → ⊥) → choice_of c ≡ choice c.first c.own c.shared
+is_choice c h = ap (λ (b : Bool). cond b nothing (choice c.first c.own c.shared)) (ne_eqb c.first 0 h)
 
 pub own_below : (n : ℕ) (c : Chosen) → (c.first ≡ 0 → ⊥) → OwnBelow n (choice_of c) → c.own < 2 ^ n
-own_below n c h w = subst (OwnBelow n) (is-choice c h) w
+own_below n c h w = subst (OwnBelow n) (is_choice c h) w
 
 -- ---- a split A, B with r first cells comes in
 module _ (n r : ℕ) (some : 1 ≤ r) (c : Chosen) (A B : ℕ) where
   abbrev fresh : Chosen
   fresh = record { first = r; own = A; shared = B }
 
-  is-fresh : choice_of fresh ≡ choice r A B
-  is-fresh = is-choice fresh (λ z. omega arith)
+  is_fresh : choice_of fresh ≡ choice r A B
+  is_fresh = is_choice fresh (λ z. omega arith)
 
   -- where there was nothing it is taken
-  pub taken-first : c.first ≡ 0 → choice_of (record { first = r; own = A; shared = B })
+  pub taken_first : c.first ≡ 0 → choice_of (record { first = r; own = A; shared = B })
       ≡ better n r (choice_of c) (split A B)
-  taken-first h = is-fresh ∙ ap (λ (c : Choice). better n r c (split A B)) (sym (is-nothing c h))
+  taken_first h = is_fresh ∙ ap (λ (c : Choice). better n r c (split A B)) (sym (is_nothing_lem c h))
 
   module _ (h : c.first ≡ 0 → ⊥) where
     abbrev by : Bool → Choice
@@ -47,55 +47,55 @@ module _ (n r : ℕ) (some : 1 ≤ r) (c : Chosen) (A B : ℕ) where
     pub taken : size n (bit c.own) + r < size n (bit A) + c.first
         → choice_of (record { first = r; own = A; shared = B }) ≡ better n r (choice_of c) (split A B)
     taken l =
-        is-fresh ∙ ap by (sym (lt-ltb (size n (bit c.own) + r) (size n (bit A) + c.first) l))
-        ∙ ap (λ (c : Choice). better n r c (split A B)) (sym (is-choice c h))
+        is_fresh ∙ ap by (sym (lt-ltb (size n (bit c.own) + r) (size n (bit A) + c.first) l))
+        ∙ ap (λ (c : Choice). better n r c (split A B)) (sym (is_choice c h))
 
     -- and where not, the choice so far stays
     pub stays : size n (bit A) + c.first ≤ size n (bit c.own) + r → choice_of c ≡ better n r (choice_of c) (split A B)
     stays l =
-        is-choice c h ∙ ap by (sym (le-ltb (size n (bit c.own) + r) (size n (bit A) + c.first) l))
-        ∙ ap (λ (c : Choice). better n r c (split A B)) (sym (is-choice c h))
+        is_choice c h ∙ ap by (sym (le-ltb (size n (bit c.own) + r) (size n (bit A) + c.first) l))
+        ∙ ap (λ (c : Choice). better n r c (split A B)) (sym (is_choice c h))
 
 -- ---- how many own inputs a split must have more than, beside it
 module _ (n r low : ℕ) (c : Chosen) (h : c.first ≡ 0 → ⊥) (s : Spares n low (choice_of c)) where
-  pub kept-spares : low + c.first < size n (bit c.own)
-  kept-spares = subst (Spares n low) (is-choice c h) s
+  pub kept_spares : low + c.first < size n (bit c.own)
+  kept_spares = subst (Spares n low) (is_choice c h) s
 
   pub floor-kept : Floor n r low (choice_of c) (size n (bit c.own) - c.first + r)
   floor-kept =
-      subst (λ (d : Choice). Floor n r low d (size n (bit c.own) - c.first + r)) (sym (is-choice c h))
-      (floor-beside n r low c.first c.own c.shared kept-spares)
+      subst (λ (d : Choice). Floor n r low d (size n (bit c.own) - c.first + r)) (sym (is_choice c h))
+      (floor_beside n r low c.first c.own c.shared kept_spares)
 
 -- what is kept of the best over r names n positions at most, and spares enough
-module _ (n K low : ℕ) (F : ℕ → Bool) (m : ℕ) (c : Chosen) (is : choice_of c ≡ sparing n low (bestUpTo n F K m)) where
+module _ (n K low : ℕ) (F : ℕ → Bool) (m : ℕ) (c : Chosen) (is : choice_of c ≡ sparing n low (best_up_to n F K m)) where
   abbrev Held : Choice → Type 0
   Held d = OwnBelow n d × Spares n low d
 
   pub held : OwnBelow n (choice_of c) × Spares n low (choice_of c)
-  held = subst Held (sym is) (go (bestUpTo n F K m) refl)
+  held = subst Held (sym is) (go (best_up_to n F K m) refl)
     where
-      go : (d : Choice) → bestUpTo n F K m ≡ d → Held (sparing n low d)
+      go : (d : Choice) → best_up_to n F K m ≡ d → Held (sparing n low d)
       go nothing e = (tt, tt)
       go (choice q A B) e = elim (dec_lt (low + q) (size n (bit A))) [
-        | yes l ↦ subst Held (sym (is-sparing n low q A B l))
-            (((upto-best n K F m q A B).0 e).works.candidate.belowA, l)
+        | yes l ↦ subst Held (sym (is_sparing n low q A B l))
+            (((upto_best n K F m q A B).0 e).works.candidate.below_a, l)
         | no l ↦ subst Held (sym (not-sparing n low q A B (omega arith))) (tt, tt)
       ]
 
 -- ---- the loop over r: the best over those before r, if its |A| - r is more than `low`
 pub record Chose (n K m low : ℕ) (F : ℕ → Bool) (c : Chosen) (r : ℕ) : Type 0 where
-  pub best : choice_of c ≡ sparing n low (bestUpTo n F K (r - 1))
-  pub few : c.first ≤ mostFirst
+  pub best : choice_of c ≡ sparing n low (best_up_to n F K (r - 1))
+  pub few : c.first ≤ most_first
   pub some : 1 ≤ r
   pub most : r ≤ m + 1
 
 pub chose_none : {n K m low : ℕ} {F : ℕ → Bool} → Chose n K m low F (record { first = 0; own = 0; shared = 0 }) 1
-unfolding firstOver
+unfolding first_over
 chose_none = record { best = refl; few = omega arith; some = omega arith; most = omega arith }
 
 module _ {n K m low : ℕ} {F : ℕ → Bool} {c : Chosen} {r : ℕ} (w : Chose n K m low F c r) where
-  pub chose-below : OwnBelow n (choice_of c) × Spares n low (choice_of c)
-  chose-below = held n K low F (r - 1) c w.best
+  pub chose_below : OwnBelow n (choice_of c) × Spares n low (choice_of c)
+  chose_below = held n K low F (r - 1) c w.best
 
   -- what is found with r first cells
   module _ (f : ℕ) (a : Answer) (is : a ≡ above n f (best n r F K)) where
@@ -105,23 +105,23 @@ module _ {n K m low : ℕ} {F : ℕ → Bool} {c : Chosen} {r : ℕ} (w : Chose 
         go : (b : Answer) → best n r F K ≡ b → SplitBelow n (above n f b)
         go none e = tt
         go (split A B) e = elim (dec_lt f (size n (bit A))) [
-          | yes l ↦ subst (SplitBelow n) (sym (is-above n f A B l)) (best-split n r F K A B e).candidate.belowA
+          | yes l ↦ subst (SplitBelow n) (sym (is_above n f A B l)) (best_split n r F K A B e).candidate.below_a
           | no l ↦ subst (SplitBelow n) (sym (not-above n f A B (omega arith))) tt
         ]
 
-    pub chose-more : Floor n r low (choice_of c) f → (c' : Chosen) → r ≤ m → (choice_of c' ≡ better n r (choice_of c) a)
-        × (c'.first ≤ mostFirst)
+    pub chose_more : Floor n r low (choice_of c) f → (c' : Chosen) → r ≤ m → (choice_of c' ≡ better n r (choice_of c) a)
+        × (c'.first ≤ most_first)
         → Chose n K m low F c' (r + 1)
-    chose-more fl c' h e = let q : r ≡ r + 1 - 1 = omega arith in record {
+    chose_more fl c' h e = let q : r ≡ r + 1 - 1 = omega arith in record {
       best = e.0 ∙ ap (better n r (choice_of c)) is ∙ fl.enough (best n r F K)
           ∙ ap (λ (d : Choice). better n r d (above n (low + r) (best n r F K))) w.best
-          ∙ sym (spare-better n low r (bestUpTo n F K (r - 1)) (best n r F K))
-          ∙ ap (sparing n low) (one_more n K F r w.some ∙ ap (bestUpTo n F K) q);
+          ∙ sym (spare_better n low r (best_up_to n F K (r - 1)) (best n r F K))
+          ∙ ap (sparing n low) (one_more n K F r w.some ∙ ap (best_up_to n F K) q);
       few = e.1;
       some = omega arith;
       most = omega arith;
     }
 
-  pub chose-all : m < r → choice_of c ≡ sparing n low (bestUpTo n F K m)
-  chose-all h = let q : r - 1 ≡ m = omega (arith, w.most) in w.best
-      ∙ ap (λ (i : ℕ). sparing n low (bestUpTo n F K i)) q
+  pub chose_all : m < r → choice_of c ≡ sparing n low (best_up_to n F K m)
+  chose_all h = let q : r - 1 ≡ m = omega (arith, w.most) in w.best
+      ∙ ap (λ (i : ℕ). sparing n low (best_up_to n F K i)) q

@@ -12,32 +12,32 @@ use Rattle.bits.specs.Sets.{Apart, size, gather}
 use Rattle.bits.proofs.Numbers.{bit_below, bit-number, number_lt}
 use Rattle.bits.proofs.Spreading.{gather_ext}
 use Rattle.tables.specs.Counting.{AlikeBut, Ignores}
-use Rattle.splits.specs.Split.{readsH, inputH, Possible}
-use Rattle.splits.specs.Pair.{bitH}
-use Rattle.splits.proofs.Asked.{code, code-small, code-sees, gives, input-lt, input-high}
-use Rattle.splits.proofs.Respect.{possible-of}
+use Rattle.splits.specs.Split.{reads_h, input_h, Possible}
+use Rattle.splits.specs.Pair.{bit_h}
+use Rattle.splits.proofs.Asked.{code, code_small, code_sees, gives, input_lt, input_high}
+use Rattle.splits.proofs.Respect.{possible_of}
 
 module _ (n : ℕ) (F : ℕ → Bool) (A B : ℕ → Bool) (apart : Apart n A B) (u : ℕ) (P : Possible n F A B (suc u)) (t : ℕ)
     (lt : t < suc u)
-    (idle : Ignores (size n (readsH A B) + suc u) (bitH n F A B) (size n (readsH A B) + t)) where
+    (idle : Ignores (size n (reads_h A B) + suc u) (bit_h n F A B) (size n (reads_h A B) + t)) where
   abbrev k : ℕ
-  k = size n (readsH A B)
+  k = size n (reads_h A B)
 
   abbrev H : ℕ → Bool
-  H = bitH n F A B
+  H = bit_h n F A B
 
   abbrev given : ℕ → ℕ
   given = code n F A B apart (suc u) P
 
   -- codes that are alike but for output t, behind the same inputs
-  codes-alike : (x c d : ℕ) → ((s : ℕ) → s < suc u → (s ≡ t → ⊥) → bit c s ≡ bit d s)
-      → AlikeBut (k + suc u) (k + t) (inputH n A B x c) (inputH n A B x d)
-  codes-alike x c d same i h ne = elim (dec_lt i k) [
-    | yes g ↦ bit_below (gather n (readsH A B) x) c k i g ∙ sym (bit_below (gather n (readsH A B) x) d k i g)
+  codes_alike : (x c d : ℕ) → ((s : ℕ) → s < suc u → (s ≡ t → ⊥) → bit c s ≡ bit d s)
+      → AlikeBut (k + suc u) (k + t) (input_h n A B x c) (input_h n A B x d)
+  codes_alike x c d same i h ne = elim (dec_lt i k) [
+    | yes g ↦ bit_below (gather n (reads_h A B) x) c k i g ∙ sym (bit_below (gather n (reads_h A B) x) d k i g)
     | no g ↦ let e : i ≡ k + (i - k) = omega arith in
-        ap (bit (inputH n A B x c)) e ∙ input-high n F A B apart (suc u) P x c (i - k)
+        ap (bit (input_h n A B x c)) e ∙ input_high n F A B apart (suc u) P x c (i - k)
         ∙ same (i - k) (omega arith) (λ z. ne (e ∙ ap (λ (m : ℕ). k + m) z))
-        ∙ sym (ap (bit (inputH n A B x d)) e ∙ input-high n F A B apart (suc u) P x d (i - k))
+        ∙ sym (ap (bit (input_h n A B x d)) e ∙ input_high n F A B apart (suc u) P x d (i - k))
   ]
 
   -- the places of u outputs among u + 1, all but t; and u outputs put there, with any value at t
@@ -73,11 +73,11 @@ module _ (n : ℕ) (F : ℕ → Bool) (A B : ℕ → Bool) (apart : Apart n A B)
   pub one_less : Possible n F A B u
   unfolding left
   one_less =
-      possible-of n F A B u (λ s x. bit (given x) (skip s)) (λ d x. H (inputH n A B x (number (suc u) (filled d))))
-      (λ s x y h. ap (λ (d : ℕ). bit d (skip s)) (code-sees n F A B apart (suc u) P x y h))
-      (λ d x y h. ap (λ (g : ℕ). H (g + number (suc u) (filled d) * 2 ^ k)) (gather_ext n (readsH A B) x y h))
+      possible_of n F A B u (λ s x. bit (given x) (skip s)) (λ d x. H (input_h n A B x (number (suc u) (filled d))))
+      (λ s x y h. ap (λ (d : ℕ). bit d (skip s)) (code_sees n F A B apart (suc u) P x y h))
+      (λ d x y h. ap (λ (g : ℕ). H (g + number (suc u) (filled d) * 2 ^ k)) (gather_ext n (reads_h A B) x y h))
       (λ x h. gives n F A B apart (suc u) P x h
-      ∙ idle (inputH n A B x (given x)) (inputH n A B x (number (suc u) (filled (left x))))
-      (input-lt n F A B apart (suc u) P x (given x) (code-small n F A B apart (suc u) P x))
-      (input-lt n F A B apart (suc u) P x (number (suc u) (filled (left x))) (number_lt (suc u) (filled (left x))))
-      (codes-alike x (given x) (number (suc u) (filled (left x))) (back x)))
+      ∙ idle (input_h n A B x (given x)) (input_h n A B x (number (suc u) (filled (left x))))
+      (input_lt n F A B apart (suc u) P x (given x) (code_small n F A B apart (suc u) P x))
+      (input_lt n F A B apart (suc u) P x (number (suc u) (filled (left x))) (number_lt (suc u) (filled (left x))))
+      (codes_alike x (given x) (number (suc u) (filled (left x))) (back x)))

@@ -12,29 +12,29 @@ use Rattle.bits.specs.Sets.{size}
 use Rattle.bits.proofs.Below.{below_suc}
 use Rattle.best.specs.Best.{Ahead}
 use Rattle.best.specs.Search.{Answer, none, split}
-use Rattle.best.proofs.Order.{ahead-antisym}
+use Rattle.best.proofs.Order.{ahead_antisym}
 use Rattle.choices.specs.Best.{AheadOver, FirstOf}
-use Rattle.choices.specs.Search.{Choice, nothing, choice, better, firstOver}
+use Rattle.choices.specs.Search.{Choice, nothing, choice, better, first_over}
 
 -- ---- the order
 
-over-antisym : (n r A B r' A' B' : ℕ) → AheadOver n r A B r' A' B' → AheadOver n r' A' B' r A B → (r ≡ r') × (A ≡ A')
+over_antisym : (n r A B r' A' B' : ℕ) → AheadOver n r A B r' A' B' → AheadOver n r' A' B' r A B → (r ≡ r') × (A ≡ A')
     × (B ≡ B')
-over-antisym n r A B r' A' B' p q =
+over_antisym n r A B r' A' B' p q =
     let a : size n (bit A') + r ≡ size n (bit A) + r' = omega (arith, p.largest, q.largest) in
     let e : r ≡ r' = omega (arith, p.least a, q.least (sym a)) in
-    let w = ahead-antisym n A B A' B' (p.inOrder a (sym e)) (q.inOrder (sym a) e) in
+    let w = ahead_antisym n A B A' B' (p.in_order a (sym e)) (q.in_order (sym a) e) in
     (e, w.0, w.1)
 
 -- what has the larger |A| - r comes before
 pub smaller : (n : ℕ) {r A B r' A' B' : ℕ} → size n (bit A') + r < size n (bit A) + r' → AheadOver n r A B r' A' B'
-smaller n h = record { largest = omega arith; least = λ e. absurd (omega arith); inOrder = λ e q. absurd (omega arith) }
+smaller n h = record { largest = omega arith; least = λ e. absurd (omega arith); in_order_lem = λ e q. absurd (omega arith) }
 
 -- only one is first
-pub first-unique : (n : ℕ) (Work : ℕ → ℕ → ℕ → Type 0) (r A B r' A' B' : ℕ) → FirstOf n Work r A B
+pub first_unique : (n : ℕ) (Work : ℕ → ℕ → ℕ → Type 0) (r A B r' A' B' : ℕ) → FirstOf n Work r A B
     → FirstOf n Work r' A' B'
     → (r ≡ r') × (A ≡ A') × (B ≡ B')
-first-unique n Work r A B r' A' B' p q = over-antisym n r A B r' A' B' (p.ahead r' A' B' q.works)
+first_unique n Work r A B r' A' B' p q = over_antisym n r A B r' A' B' (p.ahead r' A' B' q.works)
     (q.ahead r A B p.works)
 
 -- what an answer of one r says of those that are right for it
@@ -73,8 +73,8 @@ module _ (n : ℕ) (Work : ℕ → ℕ → ℕ → ℕ → Type 0) (Right : ℕ 
     own k = up.work (omega arith) (omega arith) k
 
     -- r's own best comes before all of its r
-    same-r : {A B A' B' : ℕ} → Ahead n A B A' B' → AheadOver n (suc m) A B (suc m) A' B'
-    same-r h = record { largest = omega (arith, h.largestA); least = λ e. omega arith; inOrder = λ e q. h }
+    same_r : {A B A' B' : ℕ} → Ahead n A B A' B' → AheadOver n (suc m) A B (suc m) A' B'
+    same_r h = record { largest = omega (arith, h.largest_a); least = λ e. omega arith; in_order_lem = λ e q. h }
 
     next : (c : Choice) (a : Answer) → Tells m c → Says n Right (suc m) a → Tells (suc m) (better n (suc m) c a)
     next nothing none t s = by (λ r A B. ⊥) t s
@@ -84,7 +84,7 @@ module _ (n : ℕ) (Work : ℕ → ℕ → ℕ → ℕ → Type 0) (Right : ℕ 
     }
     next nothing (split A B) t s = record {
       works = own s.0;
-      ahead = by (AheadOver n (suc m) A B) (λ r' A' B' k. absurd (t r' A' B' k)) (λ A' B' k. same-r (s.1 A' B' k));
+      ahead = by (AheadOver n (suc m) A B) (λ r' A' B' k. absurd (t r' A' B' k)) (λ A' B' k. same_r (s.1 A' B' k));
     }
     next (choice r C D) (split A B) t s = go (ltb (size n (bit C) + suc m) (size n (bit A) + r)) refl
       where
@@ -97,7 +97,7 @@ module _ (n : ℕ) (Work : ℕ → ℕ → ℕ → ℕ → Type 0) (Right : ℕ 
               works = own s.0;
               ahead = by (AheadOver n (suc m) A B)
                   (λ r' A' B' k. smaller n (omega (arith, (t.ahead r' A' B' k).largest)))
-                  (λ A' B' k. same-r (s.1 A' B' k));
+                  (λ A' B' k. same_r (s.1 A' B' k));
             }
         go false e =
             let l : size n (bit A) + r ≤ size n (bit C) + suc m = ltb-false (size n (bit C) + suc m)
@@ -105,45 +105,45 @@ module _ (n : ℕ) (Work : ℕ → ℕ → ℕ → ℕ → Type 0) (Right : ℕ 
             record {
               works = lift t.works;
               ahead = by (AheadOver n r C D) t.ahead (λ A' B' k. record {
-                largest = omega (arith, (s.1 A' B' k).largestA);
+                largest = omega (arith, (s.1 A' B' k).largest_a);
                 least = λ q. omega (arith, up.most t.works);
-                inOrder = λ q h. absurd (omega (arith, up.most t.works));
+                in_order_lem = λ q h. absurd (omega (arith, up.most t.works));
               });
             }
 
-  tells : (m : ℕ) → Tells m (firstOver n f m)
-  unfolding firstOver
+  tells : (m : ℕ) → Tells m (first_over n f m)
+  unfolding first_over
   tells zero = λ r A B k. omega (arith, up.some k, up.most k)
-  tells (suc m) = next m (firstOver n f m) (f (suc m)) (tells m) (says (suc m))
+  tells (suc m) = next m (first_over n f m) (f (suc m)) (tells m) (says (suc m))
 
   -- the answer is the first, and the first is the answer
-  pub first-best : (m r A B : ℕ) → (firstOver n f m ≡ choice r A B) ↔ FirstOf n (Work m) r A B
-  first-best m r A B = (λ e. subst (Tells m) e (tells m), λ b. go (firstOver n f m) (tells m) b)
+  pub first_best : (m r A B : ℕ) → (first_over n f m ≡ choice r A B) ↔ FirstOf n (Work m) r A B
+  first_best m r A B = (λ e. subst (Tells m) e (tells m), λ b. go (first_over n f m) (tells m) b)
     where
       go : (c : Choice) → Tells m c → FirstOf n (Work m) r A B → c ≡ choice r A B
       go nothing t b = absurd (t r A B b.works)
-      go (choice r' A' B') t b = let w = first-unique n (Work m) r' A' B' r A B t b in let x = w.0 in let y = w.1
+      go (choice r' A' B') t b = let w = first_unique n (Work m) r' A' B' r A B t b in let x = w.0 in let y = w.1
           in let z = w.2 in cc
 
   -- there is none exactly where nothing works, for any r
-  pub first-none : (m : ℕ) → (firstOver n f m ≡ nothing) ↔ ((r A B : ℕ) → Work m r A B → ⊥)
-  first-none m = (λ e. subst (Tells m) e (tells m), λ never. go (firstOver n f m) (tells m) never)
+  pub first-none : (m : ℕ) → (first_over n f m ≡ nothing) ↔ ((r A B : ℕ) → Work m r A B → ⊥)
+  first-none m = (λ e. subst (Tells m) e (tells m), λ never. go (first_over n f m) (tells m) never)
     where
       go : (c : Choice) → Tells m c → ((r A B : ℕ) → Work m r A B → ⊥) → c ≡ nothing
       go nothing t never = refl
       go (choice r A B) t never = absurd (never r A B t.works)
 
   -- the first comes before all of its own r
-  pub first-own : (m r A B : ℕ) → FirstOf n (Work m) r A B → (A' B' : ℕ) → Right r A' B' → Ahead n A B A' B'
-  first-own m r A B b A' B' k = record {
-    largestA = omega (arith, o.largest);
-    smallestB = λ a. (same a).smallestB a;
-    leastA = λ a. (same a).leastA a;
-    leastB = λ a. (same a).leastB a;
+  pub first_own : (m r A B : ℕ) → FirstOf n (Work m) r A B → (A' B' : ℕ) → Right r A' B' → Ahead n A B A' B'
+  first_own m r A B b A' B' k = record {
+    largest_a = omega (arith, o.largest);
+    smallest_b = λ a. (same a).smallest_b a;
+    least_a = λ a. (same a).least_a a;
+    least_b = λ a. (same a).least_b a;
   }
     where
       o : AheadOver n r A B r A' B'
       o = b.ahead r A' B' (up.work (up.some b.works) (up.most b.works) k)
 
       same : size n (bit A') ≡ size n (bit A) → Ahead n A B A' B'
-      same a = o.inOrder (omega arith) refl
+      same a = o.in_order (omega arith) refl

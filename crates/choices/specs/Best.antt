@@ -3,7 +3,7 @@ use Rattle.std.specs.Prelude.{◌≡◌, Bool, ℕ, ◌+◌, ◌≤◌}
 use Rattle.bits.specs.Numbers.{bit}
 use Rattle.bits.specs.Sets.{size}
 use Rattle.tables.specs.Counting.{Counting}
-use Rattle.splits.specs.Split.{readsD, Possible}
+use Rattle.splits.specs.Split.{reads_d, Possible}
 use Rattle.best.specs.Best.{Candidate, Ahead}
 
 -- A and B are a candidate for r first cells, one at least and m at most, and it is possible
@@ -18,14 +18,14 @@ pub record Works (n K m : ℕ) (F : ℕ → Bool) (r A B : ℕ) : Type 0 where
   pub some : 1 ≤ r
   pub most : r ≤ m
   pub candidate : Candidate n K r A B
-  pub counting : Counting n F (readsD (bit A) (bit B))
+  pub counting : Counting n F (reads_d (bit A) (bit B))
   pub possible : Possible n F (bit A) (bit B) r
 
 -- r, A, B comes before r', A', B' or is the same: the largest |A| - r; then the least r; then document 01's order
 pub record AheadOver (n r A B r' A' B' : ℕ) : Type 0 where
   pub largest : size n (bit A') + r ≤ size n (bit A) + r'
   pub least : size n (bit A') + r ≡ size n (bit A) + r' → r ≤ r'
-  pub inOrder : size n (bit A') + r ≡ size n (bit A) + r' → r' ≡ r → Ahead n A B A' B'
+  pub in_order_lem : size n (bit A') + r ≡ size n (bit A) + r' → r' ≡ r → Ahead n A B A' B'
 
 -- of all that work, the one that comes before all others
 pub record FirstOf (n : ℕ) (Work : ℕ → ℕ → ℕ → Type 0) (r A B : ℕ) : Type 0 where

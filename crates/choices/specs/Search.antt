@@ -3,7 +3,7 @@ use Rattle.std.specs.Prelude.{Bool, cond, ℕ, zero, suc, ◌+◌, ltb}
 use Rattle.bits.specs.Numbers.{bit}
 use Rattle.bits.specs.Sets.{size, spread}
 use Rattle.best.specs.Search.{Answer, none, split, best}
-use Rattle.best.specs.Counting.{bestCounting}
+use Rattle.best.specs.Counting.{best_counting}
 
 -- how many first cells, the own and the shared mask; or nothing
 pub data Choice : Type 0 where
@@ -23,19 +23,19 @@ sparing n low nothing = nothing
 sparing n low (choice r A B) = cond (ltb (low + r) (size n (bit A))) (choice r A B) nothing
 
 -- the best of what f answers for 1, 2, .., m first cells
-unfoldable pub firstOver : ℕ → (ℕ → Answer) → ℕ → Choice
-firstOver n f zero = nothing
-firstOver n f (suc m) = better n (suc m) (firstOver n f m) (f (suc m))
+unfoldable pub first_over : ℕ → (ℕ → Answer) → ℕ → Choice
+first_over n f zero = nothing
+first_over n f (suc m) = better n (suc m) (first_over n f m) (f (suc m))
 
 -- the best with up to m first cells
-abbrev pub bestUpTo : ℕ → (ℕ → Bool) → ℕ → ℕ → Choice
-bestUpTo n F K m = firstOver n (λ r. best n r F K) m
+abbrev pub best_up_to : ℕ → (ℕ → Bool) → ℕ → ℕ → Choice
+best_up_to n F K m = first_over n (λ r. best n r F K) m
 
 -- the same over the inputs that count
-abbrev pub bestOver : ℕ → (ℕ → Bool) → ℕ → ℕ → Choice
-bestOver n F K m = firstOver n (λ r. bestCounting n r F K) m
+abbrev pub best_over : ℕ → (ℕ → Bool) → ℕ → ℕ → Choice
+best_over n F K m = first_over n (λ r. best_counting n r F K) m
 
 -- the masks of a choice over the members of s, spread back to the members
-abbrev pub spreadChoice : ℕ → (ℕ → Bool) → Choice → Choice
-spreadChoice n s nothing = nothing
-spreadChoice n s (choice r A B) = choice r (spread n s A) (spread n s B)
+abbrev pub spread_choice : ℕ → (ℕ → Bool) → Choice → Choice
+spread_choice n s nothing = nothing
+spread_choice n s (choice r A B) = choice r (spread n s A) (spread n s B)

@@ -1,10 +1,10 @@
 // The best split over how many first cells there are, over the inputs that count.
 ghost use Rattle.std.specs.Prelude.{◌≡◌, ◌≤◌, length, replicate};
 ghost use Rattle.bits.specs.Numbers.{bit};
-ghost use Rattle.tables.specs.Table.{mostInputs, tableLength, tableBit};
+ghost use Rattle.tables.specs.Table.{most_inputs, table_length, table_bit};
 ghost use Rattle.tables.specs.Counting.{CountingIn};
-ghost use Rattle.splits.specs.Columns.{mostFirst};
-ghost use Rattle.choices.specs.Search.{bestOver, spreadChoice};
+ghost use Rattle.splits.specs.Columns.{most_first};
+ghost use Rattle.choices.specs.Search.{best_over, spread_choice};
 ghost use Rattle.choices.specs.Chosen.{choice_of};
 
 use crate::over::{Chosen, find_upto};
@@ -15,8 +15,8 @@ use tables::counting::CountingInputs;
 
 // Masks over the members of a mask, spread back to the members.
 fn spread_back(n: u32, mask: u16, found: Chosen) -> Chosen
-    requires { n ≤ mostInputs }
-    ensures { choice_of result ≡ spreadChoice n (bit mask) (choice_of found) }
+    requires { n ≤ most_inputs }
+    ensures { choice_of result ≡ spread_choice n (bit mask) (choice_of found) }
 {
     let a = spread_mask(n, mask, found.own);
     let b = spread_mask(n, mask, found.shared);
@@ -30,9 +30,9 @@ fn spread_back(n: u32, mask: u16, found: Chosen) -> Chosen
 // The best split with 1, 2 or 3 first cells of k inputs over the inputs that count, in a work area, which is then
 // cleared.
 pub fn find_over(t: &[u8], n: u32, counting: CountingInputs, k: u32, work: &mut [u8]) -> Chosen
-    requires { (length t.now ≡ tableLength n) × (n ≤ mostInputs) × CountingIn n (tableBit t.now) counting
-        × (k ≤ mostInputs) × (length t.now ≤ length work.old) }
-    ensures { (choice_of result ≡ bestOver n (tableBit t.now) k mostFirst)
+    requires { (length t.now ≡ table_length n) × (n ≤ most_inputs) × CountingIn n (table_bit t.now) counting
+        × (k ≤ most_inputs) × (length t.now ≤ length work.old) }
+    ensures { (choice_of result ≡ best_over n (table_bit t.now) k most_first)
         × (work.new ≡ replicate (length work.old) 0) }
 {
     set_aside(t, n, counting.mask, work);

@@ -11,79 +11,79 @@ use lib.Seq.{take_all, length-take-le, get_or-take}
 use lib.Pow.{pow_mono}
 use borrow.Author.Tests.{ne_eqb}
 use Rattle.bits.proofs.Bools.{clash}
-use Rattle.tables.specs.Table.{mostInputs, tableLength, tableBit}
-use Rattle.sheets.specs.Edition.{recordSize, mostRecords, firstEdition}
+use Rattle.tables.specs.Table.{most_inputs, table_length, table_bit}
+use Rattle.sheets.specs.Edition.{record_size, most_records, first_edition}
 use Rattle.sheets.specs.Network.{Carries}
-use Rattle.sheets.proofs.Keeping.{first-edition}
-use Rattle.tables.specs.Work.{workLength}
+use Rattle.sheets.proofs.Keeping.{first_edition_lem}
+use Rattle.tables.specs.Work.{work_length}
 use Rattle.refusals.specs.declared.verdicts.Refusal.{Refusal}
 use Rattle.refusals.specs.declared.verdicts.Verdict.{Verdict}
 use Rattle.refusals.specs.declared.verdicts.Verdict.TheVariants.{Fine, Refused}
 use Rattle.refusals.specs.Lines.{InOrder, refusal, verdict, number_of, reply}
-use Rattle.refusals.specs.Refusals.{badInputs, badCell, badTable, badDesk, gateLines, shortSheet}
-use Rattle.making.specs.Refusals.{chainStuck}
+use Rattle.refusals.specs.Refusals.{bad_inputs, bad_cell, bad_table, bad_desk, gate_lines, short_sheet}
+use Rattle.making.specs.Refusals.{chain_stuck}
 use Rattle.refusals.proofs.Lines.{here, later, decides, held}
 use Rattle.refusals.proofs.Lent.{both_long}
 use Rattle.refusals.proofs.Tests.{inside}
-use Rattle.running.specs.RunSheet.{runOwn}
-use Rattle.rebuilding.specs.RebuildTable.{rebuildOwn}
-use Rattle.making.specs.MakeSheet.{MakeOutcome, sheetFor, cells_in, makeLines, makeDone, makeNot, makeOutcome}
-use Rattle.programs.specs.BenchProgram.{mostRead, asked, shown, programOutcome, written}
-use Rattle.claims.specs.Words.{AllBytes, recordsOf}
-use Rattle.claims.proofs.Made.{make-says}
-use Rattle.claims.proofs.MakeSheet.{made-fewest}
-use Rattle.claims.proofs.Desks.{made-runs-own, made-rebuilds-own}
+use Rattle.running.specs.RunSheet.{run_own}
+use Rattle.rebuilding.specs.RebuildTable.{rebuild_own}
+use Rattle.making.specs.MakeSheet.{MakeOutcome, sheet_for, cells_in, make_lines, make_done, make_not, make_outcome}
+use Rattle.programs.specs.BenchProgram.{most_read, asked, shown, program_outcome, written}
+use Rattle.claims.specs.Words.{AllBytes, records_of}
+use Rattle.claims.proofs.Made.{make_says}
+use Rattle.claims.proofs.MakeSheet.{made_fewest}
+use Rattle.claims.proofs.Desks.{made_runs_own, made_rebuilds_own}
 
 -- no gate has a table longer than 8,192 bytes
-too_long : (n : ℕ) (t : List ℕ) → (badInputs n).holds ≡ false → tableLength mostInputs < length t
-    → (badTable n t).holds ≡ true
-too_long n t s h =
-    let most = (inside 1 n mostInputs s).1 in
-    ap not (ne_eqb (length t) (tableLength n)
-    (λ q. omega (arith, h, q, pow_mono {i = n - 3} {j = mostInputs - 3} (omega (arith, most)))))
+too_long_lem : (n : ℕ) (t : List ℕ) → (bad_inputs n).holds ≡ false → table_length most_inputs < length t
+    → (bad_table n t).holds ≡ true
+too_long_lem n t s h =
+    let most = (inside 1 n most_inputs s).1 in
+    ap not (ne_eqb (length t) (table_length n)
+    (λ q. omega (arith, h, q, pow_mono {i = n - 3} {j = most_inputs - 3} (omega (arith, most)))))
 
 -- ---- what follows the bytes that are kept changes nothing
 
 -- the refusal of a table that is too long: n or K may be out of range before it
-abbrev longRefusal : Bool → Bool → Refusal
-longRefusal inputs cell = cond inputs (refusal 1 0) (cond cell (refusal 2 0) (refusal 3 0))
+abbrev long_refusal : Bool → Bool → Refusal
+long_refusal inputs cell = cond inputs (refusal 1 0) (cond cell (refusal 2 0) (refusal 3 0))
 
-long-refused : (n K : ℕ) (t sheet work : List ℕ) → tableLength mostInputs < length t
-    → makeOutcome firstEdition 0 n K t sheet work
-    ≡ makeNot sheet work (longRefusal (badInputs n).holds (badCell firstEdition K).holds)
-unfolding makeOutcome
-long-refused n K t sheet work h =
-    ap (λ (v : Verdict). reply v (makeDone firstEdition 0 (cells_in (sheetFor n K t)) sheet work) (makeNot sheet work))
-    (go (badInputs n).holds (badCell firstEdition K).holds refl refl)
+long_refused : (n K : ℕ) (t sheet work : List ℕ) → table_length most_inputs < length t
+    → make_outcome first_edition 0 n K t sheet work
+    ≡ make_not sheet work (long_refusal (bad_inputs n).holds (bad_cell first_edition K).holds)
+unfolding make_outcome
+long_refused n K t sheet work h =
+    ap (λ (v : Verdict). reply v (make_done first_edition 0 (cells_in (sheet_for n K t)) sheet work) (make_not sheet work))
+    (go (bad_inputs n).holds (bad_cell first_edition K).holds refl refl)
   where
-    go : (a b : Bool) → (badInputs n).holds ≡ a → (badCell firstEdition K).holds ≡ b
-        → verdict (makeLines firstEdition 0 n K t sheet work) ≡ Refused (longRefusal a b)
-    go true b p q = sym (decides (makeLines firstEdition 0 n K t sheet work) (here p))
-    go false true p q = sym (decides (makeLines firstEdition 0 n K t sheet work) (later p (here q)))
+    go : (a b : Bool) → (bad_inputs n).holds ≡ a → (bad_cell first_edition K).holds ≡ b
+        → verdict (make_lines first_edition 0 n K t sheet work) ≡ Refused (long_refusal a b)
+    go true b p q = sym (decides (make_lines first_edition 0 n K t sheet work) (here p))
+    go false true p q = sym (decides (make_lines first_edition 0 n K t sheet work) (later p (here q)))
     go false false p q =
-        sym (decides (makeLines firstEdition 0 n K t sheet work) (later p (later q (here (too_long n t p h)))))
+        sym (decides (make_lines first_edition 0 n K t sheet work) (later p (later q (here (too_long_lem n t p h)))))
 
 -- n, K, 8,192 bytes and one more are kept: the answer is that of the whole input, however long it is
-pub asked-kept : (input : List ℕ) → asked (take mostRead input) ≡ asked input
+pub asked-kept : (input : List ℕ) → asked (take most_read input) ≡ asked input
 unfolding asked
-asked-kept input = elim (dec_lt mostRead (length input)) [
-  | no h ↦ ap asked (take_all mostRead input (omega arith))
+asked-kept input = elim (dec_lt most_read (length input)) [
+  | no h ↦ ap asked (take_all most_read input (omega arith))
   | yes h ↦
-      let sheet : List ℕ = replicate (recordSize * mostRecords) 0 in
-      let work : List ℕ = replicate workLength 0 in
-      let inputs : get_or (take mostRead input) 0 0 ≡ get_or input 0 0 = get_or-take mostRead input 0 0 (omega arith) in
-      let cell : get_or (take mostRead input) 1 0 ≡ get_or input 1 0 = get_or-take mostRead input 1 0 (omega arith) in
-      long-refused (get_or (take mostRead input) 0 0) (get_or (take mostRead input) 1 0) (drop 2 (take mostRead input))
+      let sheet : List ℕ = replicate (record_size * most_records) 0 in
+      let work : List ℕ = replicate work_length 0 in
+      let inputs : get_or (take most_read input) 0 0 ≡ get_or input 0 0 = get_or-take most_read input 0 0 (omega arith) in
+      let cell : get_or (take most_read input) 1 0 ≡ get_or input 1 0 = get_or-take most_read input 1 0 (omega arith) in
+      long_refused (get_or (take most_read input) 0 0) (get_or (take most_read input) 1 0) (drop 2 (take most_read input))
       sheet work
-      (omega (arith, length-drop 2 (take mostRead input), length-take-le mostRead input (omega arith)))
-      ∙ ap₂ (λ (n K : ℕ). makeNot sheet work (longRefusal (badInputs n).holds (badCell firstEdition K).holds))
+      (omega (arith, length-drop 2 (take most_read input), length-take-le most_read input (omega arith)))
+      ∙ ap₂ (λ (n K : ℕ). make_not sheet work (long_refusal (bad_inputs n).holds (bad_cell first_edition K).holds))
       inputs cell
-      ∙ sym (long-refused (get_or input 0 0) (get_or input 1 0) (drop 2 input) sheet work
+      ∙ sym (long_refused (get_or input 0 0) (get_or input 1 0) (drop 2 input) sheet work
       (omega (arith, length-drop 2 input)))
 ]
 
 -- so what is written is a definition of the bytes that are kept
-pub written-kept : (input : List ℕ) → written (take mostRead input) ≡ written input
+pub written-kept : (input : List ℕ) → written (take most_read input) ≡ written input
 written-kept input = ap (λ (o : MakeOutcome). take (shown o).count (shown o).out) (asked-kept input)
 
 module _ (input : List ℕ) where
@@ -98,63 +98,63 @@ module _ (input : List ℕ) where
   t = drop 2 input
 
   abbrev sheet : List ℕ
-  sheet = replicate (recordSize * mostRecords) 0
+  sheet = replicate (record_size * most_records) 0
 
   abbrev work : List ℕ
-  work = replicate workLength 0
+  work = replicate work_length 0
 
   -- the answer number, then the records that make wrote
-  pub written_is : written input ≡ number_of (asked input).answer.verdict ∷ recordsOf firstEdition (asked input)
-  written_is = let one : 1 + recordSize * (asked input).answer.count
-      ≡ suc (recordSize * (asked input).answer.count) = omega arith in
-      ap (λ (k : ℕ). take k (programOutcome input).out) one
+  pub written_is : written input ≡ number_of (asked input).answer.verdict ∷ records_of first_edition (asked input)
+  written_is = let one : 1 + record_size * (asked input).answer.count
+      ≡ suc (record_size * (asked input).answer.count) = omega arith in
+      ap (λ (k : ℕ). take k (program_outcome input).out) one
 
-  says : (asked input).answer.verdict ≡ verdict (makeLines firstEdition 0 n K t sheet work)
+  says : (asked input).answer.verdict ≡ verdict (make_lines first_edition 0 n K t sheet work)
   unfolding asked
-  says = make-says firstEdition 0 n K t sheet work
+  says = make_says first_edition 0 n K t sheet work
 
-  rooms : (shortSheet firstEdition sheet work).holds ≡ false
-  rooms = both_long firstEdition sheet work (le_of_eq (sym (length-replicate {A = ℕ} (recordSize * mostRecords) 0)))
-      (le_of_eq (sym (length-replicate {A = ℕ} workLength 0)))
+  rooms : (short_sheet first_edition sheet work).holds ≡ false
+  rooms = both_long first_edition sheet work (le_of_eq (sym (length-replicate {A = ℕ} (record_size * most_records) 0)))
+      (le_of_eq (sym (length-replicate {A = ℕ} work_length 0)))
 
   -- 6 is never given
-  pub never-six : number_of (asked input).answer.verdict ≡ 6 → ⊥
-  never-six h =
-      clash (held (gateLines firstEdition n K t ++ (badDesk 0 ∷ [])) (shortSheet firstEdition sheet work)
-      (chainStuck (sheetFor n K t) ∷ []) 6 refl refl (λ z. omega arith) (ap number_of (sym says) ∙ h)).0 rooms
+  pub never_six : number_of (asked input).answer.verdict ≡ 6 → ⊥
+  never_six h =
+      clash (held (gate_lines first_edition n K t ++ (bad_desk 0 ∷ [])) (short_sheet first_edition sheet work)
+      (chain_stuck (sheet_for n K t) ∷ []) 6 refl refl (λ z. omega arith) (ap number_of (sym says) ∙ h)).0 rooms
 
   -- a table longer than 8,192 bytes is 3 where n and K are in range, whatever follows
-  pub long-table : InOrder (badInputs n ∷ badCell firstEdition K ∷ []) → tableLength mostInputs < length (drop 2 input)
+  pub long_table : InOrder (bad_inputs n ∷ bad_cell first_edition K ∷ []) → table_length most_inputs < length (drop 2 input)
       → number_of (asked input).answer.verdict ≡ 3
-  long-table s h =
-      ap number_of (says ∙ sym (decides (makeLines firstEdition 0 n K t sheet work)
-      (later s.0 (later s.1.0 (here (too_long n t s.0 h))))))
+  long_table s h =
+      ap number_of (says ∙ sym (decides (make_lines first_edition 0 n K t sheet work)
+      (later s.0 (later s.1.0 (here (too_long_lem n t s.0 h))))))
 
   -- ---- done: the first byte is 0, and the bytes behind it are a sheet
 
   module _ (done : (asked input).answer.verdict ≡ Fine) where
     -- demand 2: run, they give the table's own bit at every assignment
-    pub written-runs : (x : ℕ) → x < 2 ^ get_or input 0 0
-        → runOwn firstEdition (get_or input 0 0) (drop 1 (written input)) x
-        ≡ record { verdict = Fine; bit = tableBit (drop 2 input) x }
+    pub written_runs : (x : ℕ) → x < 2 ^ get_or input 0 0
+        → run_own first_edition (get_or input 0 0) (drop 1 (written input)) x
+        ≡ record { verdict = Fine; bit = table_bit (drop 2 input) x }
     unfolding asked
-    written-runs x h = rw written_is (made-runs-own firstEdition first-edition 0 n K t sheet work done x h)
+    written_runs x h = rw written_is (made_runs_own first_edition first_edition_lem 0 n K t sheet work done x h)
 
     -- and rebuilt, the table that was read
-    pub written-rebuilds : AllBytes (drop 2 input) → (table : List ℕ) → length table ≡ tableLength (get_or input 0 0)
-        → rebuildOwn firstEdition (get_or input 0 0) (drop 1 (written input)) table
+    pub written_rebuilds : AllBytes (drop 2 input) → (table : List ℕ) → length table ≡ table_length (get_or input 0 0)
+        → rebuild_own first_edition (get_or input 0 0) (drop 1 (written input)) table
         ≡ record { verdict = Fine; table = drop 2 input }
     unfolding asked
-    written-rebuilds b table h = rw written_is (made-rebuilds-own firstEdition first-edition 0 n K t sheet work done b
+    written_rebuilds b table h = rw written_is (made_rebuilds_own first_edition first_edition_lem 0 n K t sheet work done b
         table h)
 
   -- demand 3: form in order (6 can't be wrong), and one or two cells carry the table: it is done, and no fewer cells
   -- carry it than records are written
-  pub written-fewest : InOrder (gateLines firstEdition (get_or input 0 0) (get_or input 1 0) (drop 2 input)) → (m : ℕ)
-      → Carries (get_or input 0 0) (get_or input 1 0) m (tableBit (drop 2 input)) → m ≤ 2
+  pub written_fewest : InOrder (gate_lines first_edition (get_or input 0 0) (get_or input 1 0) (drop 2 input)) → (m : ℕ)
+      → Carries (get_or input 0 0) (get_or input 1 0) m (table_bit (drop 2 input)) → m ≤ 2
       → ((asked input).answer.verdict ≡ Fine) × ((m' : ℕ)
-      → Carries (get_or input 0 0) (get_or input 1 0) m' (tableBit (drop 2 input)) → (asked input).answer.count ≤ m')
+      → Carries (get_or input 0 0) (get_or input 1 0) m' (table_bit (drop 2 input)) → (asked input).answer.count ≤ m')
   unfolding asked
-  written-fewest s m c h =
-      let w = made-fewest firstEdition 0 n K t sheet work
-      (s.0, (s.1.0, (s.1.1.0, (s.1.1.1.0, (refl, (rooms, tt)))))) first-edition m c h in (w.0, w.2)
+  written_fewest s m c h =
+      let w = made_fewest first_edition 0 n K t sheet work
+      (s.0, (s.1.0, (s.1.1.0, (s.1.1.1.0, (refl, (rooms, tt)))))) first_edition_lem m c h in (w.0, w.2)

@@ -11,32 +11,32 @@ use Rattle.bits.specs.Numbers.{number}
 use Rattle.bits.specs.Below.{least}
 use Rattle.bits.specs.Sets.{size, disjoint, gather, spread}
 use Rattle.bits.specs.Lists.{list_of}
-use Rattle.tables.specs.Table.{spareClear, table_of}
+use Rattle.tables.specs.Table.{spare_clear, table_of}
 use Rattle.tables.specs.Cells.{joined}
-use Rattle.tables.specs.Counting.{counts, support, kept, tableOver}
-use Rattle.splits.specs.Columns.{firsts, assign, column, columns, fewColumns, firstBroken}
-use Rattle.splits.specs.Pair.{code, code_at, tableD, bitH, tableH, bytesH}
-use Rattle.best.specs.Search.{first, tryB, tryA, best}
-use Rattle.best.specs.Counting.{bestCounting}
+use Rattle.tables.specs.Counting.{counts, support, kept, table_over}
+use Rattle.splits.specs.Columns.{firsts, assign, column, columns, few_columns, first_broken}
+use Rattle.splits.specs.Pair.{code, code_at, table_d, bit_h, table_h, bytes_h}
+use Rattle.best.specs.Search.{first, try_b, try_a, best}
+use Rattle.best.specs.Counting.{best_counting}
 use Rattle.sheets.specs.Network.{output, run}
-use Rattle.sheets.specs.Record.{cell_of, spareOk, byteOk, keeps}
-use Rattle.sheets.specs.Sheet.{cellsFrom, sheetBit, rebuilt}
-use Rattle.sheets.specs.Writing.{recordByte, encode}
-use Rattle.choices.specs.Search.{firstOver}
+use Rattle.sheets.specs.Record.{cell_of, spare_ok, byte_ok, keeps}
+use Rattle.sheets.specs.Sheet.{cells_from, sheet_bit, rebuilt}
+use Rattle.sheets.specs.Writing.{record_byte, encode}
+use Rattle.choices.specs.Search.{first_over}
 use Rattle.chains.specs.Chain.{pick, step}
-use Rattle.chains.specs.Aside.{keptSignals, keptTable, chainAside, cellsAside}
-use Rattle.splitting.specs.TrySplit.{tryOutcome}
-use Rattle.finding.specs.FindBest.{findOutcome}
-use Rattle.sheets.specs.Desk.{deskOf}
-use Rattle.running.specs.RunSheet.{runOutcome}
-use Rattle.rebuilding.specs.RebuildTable.{rebuildOutcome}
-use Rattle.making.specs.MakeSheet.{makeOutcome}
+use Rattle.chains.specs.Aside.{kept_signals, kept_table, chain_aside, cells_aside}
+use Rattle.splitting.specs.TrySplit.{try_outcome}
+use Rattle.finding.specs.FindBest.{find_outcome}
+use Rattle.sheets.specs.Desk.{desk_of}
+use Rattle.running.specs.RunSheet.{run_outcome}
+use Rattle.rebuilding.specs.RebuildTable.{rebuild_outcome}
+use Rattle.making.specs.MakeSheet.{make_outcome}
 use Rattle.programs.specs.BenchProgram.{asked}
 use Rattle.values.specs.Formula.{value}
 use Rattle.formulas.specs.Reading.{reader, text_of}
-use Rattle.formulas.specs.ReadFormula.{readIn}
+use Rattle.formulas.specs.ReadFormula.{read_in}
 use Rattle.printing.specs.Print.{in_turn, printed}
-use Rattle.printing.specs.WriteFormula.{writeOutcome}
+use Rattle.printing.specs.WriteFormula.{write_outcome}
 use Rattle.claims.specs.Questions.{Question, trying, finding, making, running, rebuilding, parsing, printing}
 use Rattle.claims.specs.Questions.{reading, Example, answers, expected}
 
@@ -65,8 +65,8 @@ abbrev pub and3 : List ℕ
 and3 = two 0 1 0x08 (two 2 3 0x08 [])
 
 -- (c&(a&b))
-abbrev pub andText : List ℕ
-andText = 40 ∷ 99 ∷ 38 ∷ 40 ∷ 97 ∷ 38 ∷ 98 ∷ 41 ∷ 41 ∷ []
+abbrev pub and_text : List ℕ
+and_text = 40 ∷ 99 ∷ 38 ∷ 40 ∷ 97 ∷ 38 ∷ 98 ∷ 41 ∷ 41 ∷ []
 
 pub listing : List Example
 listing =
@@ -138,14 +138,14 @@ listing =
     ∷ running 3 and3 8 gets (11 ∷ 0 ∷ 0 ∷ [])
     ∷ running 3 and3 7 gets (0 ∷ 1 ∷ 0 ∷ [])
     -- E8: table 80's sheet prints (c&(a&b)), which reads as table 80
-    ∷ printing 3 and3 gets (0 ∷ 0 ∷ andText)
-    ∷ parsing 3 andText (0xAA ∷ []) gets (0 ∷ 0 ∷ 0x80 ∷ [])
+    ∷ printing 3 and3 gets (0 ∷ 0 ∷ and_text)
+    ∷ parsing 3 and_text (0xAA ∷ []) gets (0 ∷ 0 ∷ 0x80 ∷ [])
     ∷ []
 
 pub examples : answers listing ≡ expected listing
-unfolding listing asked deskOf readIn text_of reader value writeOutcome in_turn printed tryOutcome findOutcome
-    makeOutcome runOutcome rebuildOutcome cellsAside chainAside step firstOver keptSignals keptTable kept support counts
-    tableOver bestCounting pick list_of best first tryA tryB disjoint fewColumns firstBroken tableD tableH bytesH code_at
-    code bitH columns column assign firsts number size gather spread least spareClear table_of joined output run cell_of
-    spareOk byteOk keeps cellsFrom sheetBit rebuilt recordByte encode
+unfolding listing asked desk_of read_in text_of reader value write_outcome in_turn printed try_outcome find_outcome
+    make_outcome run_outcome rebuild_outcome cells_aside chain_aside step first_over kept_signals kept_table kept support counts
+    table_over best_counting pick list_of best first try_a try_b disjoint few_columns first_broken table_d table_h bytes_h code_at
+    code bit_h columns column assign firsts number size gather spread least spare_clear table_of joined output run cell_of
+    spare_ok byte_ok keeps cells_from sheet_bit rebuilt record_byte encode
 examples = refl

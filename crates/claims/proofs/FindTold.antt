@@ -7,95 +7,95 @@ use mathlib.Core.List.{List}
 use Prim.Native.Nat.{ℕ, ◌≤◌}
 use lib.ListN.{length, replicate, drop}
 use Rattle.bits.specs.Numbers.{bit}
-use Rattle.tables.specs.Table.{tableBit}
+use Rattle.tables.specs.Table.{table_bit}
 use Rattle.tables.specs.Counting.{Counting}
-use Rattle.splits.specs.Split.{readsD, Possible}
+use Rattle.splits.specs.Split.{reads_d, Possible}
 use Rattle.best.specs.Best.{Candidate}
 use Rattle.best.specs.Counting.{BestCounting}
 use Rattle.sheets.specs.declared.kinds.Edition.{Edition}
-use Rattle.sheets.specs.Edition.{firstEdition, editionOf}
-use Rattle.sheets.proofs.Keeping.{edition-one}
+use Rattle.sheets.specs.Edition.{first_edition, edition_of}
+use Rattle.sheets.proofs.Keeping.{edition_one}
 use Rattle.refusals.specs.declared.verdicts.Refusal.{Refusal}
 use Rattle.refusals.specs.declared.verdicts.Verdict.{Verdict}
 use Rattle.refusals.specs.declared.verdicts.Verdict.TheVariants.{Fine, Refused}
 use Rattle.refusals.specs.Lines.{verdict, number_of, reply}
-use Rattle.refusals.specs.Refusals.{badEdition, toldForm}
-use Rattle.refusals.specs.Lent.{workAfter}
-use Rattle.refusals.proofs.Lines.{in_order, passed}
-use Rattle.refusals.proofs.Lent.{work-found}
-use Rattle.refusals.proofs.Told.{told-known}
+use Rattle.refusals.specs.Refusals.{bad_edition, told_form}
+use Rattle.refusals.specs.Lent.{work_after}
+use Rattle.refusals.proofs.Lines.{in_order_lem, passed}
+use Rattle.refusals.proofs.Lent.{work_found}
+use Rattle.refusals.proofs.Told.{told_known}
 use Rattle.finding.specs.declared.find_best.FindAnswer.{FindAnswer}
-use Rattle.finding.specs.FindBest.{FindOutcome, bestFor, findLines, findDone, findNot, findOutcome}
-use Rattle.finding.specs.FindTold.{findToldLines, findTold}
+use Rattle.finding.specs.FindBest.{FindOutcome, best_for, find_lines, find_done, find_not, find_outcome}
+use Rattle.finding.specs.FindTold.{find_told_lines, find_told}
 use Rattle.claims.specs.Words.{ByLines}
-use Rattle.claims.proofs.Verdicts.{says-verdict, is-refused, area-left, by_lines, work-cleared}
-use Rattle.claims.proofs.FindBest.{found-best, none-possible}
+use Rattle.claims.proofs.Verdicts.{says_verdict, is_refused_lem, area_left, by_lines, work_cleared}
+use Rattle.claims.proofs.FindBest.{found_best, none_possible}
 
 module _ (w n K : ℕ) (t work : List ℕ) where
-  says : (findTold w n K t work).answer.verdict ≡ verdict (findToldLines w n K t work)
-  says = says-verdict (λ (o : FindOutcome). o.answer.verdict) (findDone (bestFor n K t) work) (findNot work) refl
-      (λ r. refl) (verdict (findToldLines w n K t work))
+  says : (find_told w n K t work).answer.verdict ≡ verdict (find_told_lines w n K t work)
+  says = says_verdict (λ (o : FindOutcome). o.answer.verdict) (find_done (best_for n K t) work) (find_not work) refl
+      (λ r. refl) (verdict (find_told_lines w n K t work))
 
-  left : (findTold w n K t work).work ≡ workAfter (findTold w n K t work).answer.verdict work
+  left : (find_told w n K t work).work ≡ work_after (find_told w n K t work).answer.verdict work
   left =
-      area-left (λ (o : FindOutcome). o.answer.verdict) (findDone (bestFor n K t) work) (findNot work) refl
+      area_left (λ (o : FindOutcome). o.answer.verdict) (find_done (best_for n K t) work) (find_not work) refl
       (λ r. refl) (λ (o : FindOutcome). o.work) work refl (λ r. refl)
-      (verdict (findToldLines w n K t work))
+      (verdict (find_told_lines w n K t work))
 
   -- the verdict is that of 1, of 2 for the edition, and of lines 1 to 4 and 6 to 8 in that edition
-  pub find-told-lines : ByLines (findTold w n K t work).answer.verdict (findToldLines w n K t work)
-  find-told-lines = by_lines (findToldLines w n K t work) refl (findTold w n K t work).answer.verdict says
+  pub find_told_lines_lem : ByLines (find_told w n K t work).answer.verdict (find_told_lines w n K t work)
+  find_told_lines_lem = by_lines (find_told_lines w n K t work) refl (find_told w n K t work).answer.verdict says
 
   -- refused: both masks are 0
-  pub find-told-refused : (r : Refusal) → (findTold w n K t work).answer.verdict ≡ Refused r
-      → ((findTold w n K t work).answer.own ≡ 0) × ((findTold w n K t work).answer.shared ≡ 0)
-  find-told-refused r h =
-      let q = is-refused (λ (o : FindOutcome). o.answer.verdict) (findDone (bestFor n K t) work) (findNot work) refl
-      (λ u. refl) (verdict (findToldLines w n K t work)) r h in
+  pub find_told_refused : (r : Refusal) → (find_told w n K t work).answer.verdict ≡ Refused r
+      → ((find_told w n K t work).answer.own ≡ 0) × ((find_told w n K t work).answer.shared ≡ 0)
+  find_told_refused r h =
+      let q = is_refused_lem (λ (o : FindOutcome). o.answer.verdict) (find_done (best_for n K t) work) (find_not work) refl
+      (λ u. refl) (verdict (find_told_lines w n K t work)) r h in
       (ap (λ o. o.answer.own) q, ap (λ o. o.answer.shared) q)
 
   -- 1 to 7 leave the work area as found
-  pub find-told-keeps : 1 ≤ number_of (findTold w n K t work).answer.verdict
-      → number_of (findTold w n K t work).answer.verdict ≤ 7 → (findTold w n K t work).work ≡ work
-  find-told-keeps h g = left ∙ work-found (findTold w n K t work).answer.verdict work h g
+  pub find_told-keeps : 1 ≤ number_of (find_told w n K t work).answer.verdict
+      → number_of (find_told w n K t work).answer.verdict ≤ 7 → (find_told w n K t work).work ≡ work
+  find_told-keeps h g = left ∙ work_found (find_told w n K t work).answer.verdict work h g
 
   -- after 0 or 8 the whole of it is zeros
-  pub find-told-clears : (number_of (findTold w n K t work).answer.verdict ≡ 0)
-      ⊎ (number_of (findTold w n K t work).answer.verdict ≡ 8)
-      → (findTold w n K t work).work ≡ replicate (length work) 0
-  find-told-clears h = left ∙ work-cleared (findTold w n K t work).answer.verdict work h
+  pub find_told_clears : (number_of (find_told w n K t work).answer.verdict ≡ 0)
+      ⊎ (number_of (find_told w n K t work).answer.verdict ≡ 8)
+      → (find_told w n K t work).work ≡ replicate (length work) 0
+  find_told_clears h = left ∙ work_cleared (find_told w n K t work).answer.verdict work h
 
   -- two outcomes that keep the promise are equal: the answer, and the work area afterwards
-  pub find-told-once : (a a' : FindAnswer) (l l' : List ℕ) → record { answer = a; work = l } ≡ findTold w n K t work
-      → record { answer = a'; work = l' } ≡ findTold w n K t work
+  pub find_told-once : (a a' : FindAnswer) (l l' : List ℕ) → record { answer = a; work = l } ≡ find_told w n K t work
+      → record { answer = a'; work = l' } ≡ find_told w n K t work
       → (a ≡ a') × (l ≡ l')
-  find-told-once a a' l l' p q = (ap (λ o. o.answer) (p ∙ sym q), ap (λ o. o.work) (p ∙ sym q))
+  find_told-once a a' l l' p q = (ap (λ o. o.answer) (p ∙ sym q), ap (λ o. o.work) (p ∙ sym q))
 
   -- told an edition that there is, it is find in that edition
-  pub find-told-is : (badEdition w).holds ≡ false → findTold w n K t work ≡ findOutcome (editionOf w) n K t work
-  unfolding findOutcome
-  find-told-is known = ap (λ (v : Verdict). reply v (findDone (bestFor n K t) work) (findNot work))
-      (told-known w n (drop 1 (findLines (editionOf w) n K t work)) known)
+  pub find_told_is : (bad_edition w).holds ≡ false → find_told w n K t work ≡ find_outcome (edition_of w) n K t work
+  unfolding find_outcome
+  find_told_is known = ap (λ (v : Verdict). reply v (find_done (best_for n K t) work) (find_not work))
+      (told_known w n (drop 1 (find_lines (edition_of w) n K t work)) known)
 
   -- ---- demand 3, with either edition's K
 
   -- done: the masks are the best of all possible splits among the inputs that count
-  pub told-best : (findTold w n K t work).answer.verdict ≡ Fine
-      → BestCounting n K 1 (tableBit t) (findTold w n K t work).answer.own (findTold w n K t work).answer.shared
-  told-best done =
-      let is = find-told-is (in_order (findToldLines w n K t work) (sym says ∙ done)).1.0 in
-      subst (λ (o : FindOutcome). BestCounting n K 1 (tableBit t) o.answer.own o.answer.shared) (sym is)
-      (found-best (editionOf w) n K t work (ap (λ (o : FindOutcome). o.answer.verdict) (sym is) ∙ done))
+  pub told_best : (find_told w n K t work).answer.verdict ≡ Fine
+      → BestCounting n K 1 (table_bit t) (find_told w n K t work).answer.own (find_told w n K t work).answer.shared
+  told_best done =
+      let is = find_told_is (in_order_lem (find_told_lines w n K t work) (sym says ∙ done)).1.0 in
+      subst (λ (o : FindOutcome). BestCounting n K 1 (table_bit t) o.answer.own o.answer.shared) (sym is)
+      (found_best (edition_of w) n K t work (ap (λ (o : FindOutcome). o.answer.verdict) (sym is) ∙ done))
 
   -- refused as 8: no candidate among the inputs that count is possible
-  pub told-none-possible : number_of (findTold w n K t work).answer.verdict ≡ 8 → (A B : ℕ) → Candidate n K 1 A B
-      → Counting n (tableBit t) (readsD (bit A) (bit B))
-      → Possible n (tableBit t) (bit A) (bit B) 1 → ⊥
-  told-none-possible h =
-      let is = find-told-is (passed (toldForm w n) (findLines (editionOf w) n K t work) 8 refl
+  pub told-none_possible : number_of (find_told w n K t work).answer.verdict ≡ 8 → (A B : ℕ) → Candidate n K 1 A B
+      → Counting n (table_bit t) (reads_d (bit A) (bit B))
+      → Possible n (table_bit t) (bit A) (bit B) 1 → ⊥
+  told-none_possible h =
+      let is = find_told_is (passed (told_form w n) (find_lines (edition_of w) n K t work) 8 refl
       (ap number_of (sym says) ∙ h)).0.1.0 in
-      none-possible (editionOf w) n K t work (ap (λ (o : FindOutcome). number_of o.answer.verdict) (sym is) ∙ h)
+      none_possible (edition_of w) n K t work (ap (λ (o : FindOutcome). number_of o.answer.verdict) (sym is) ∙ h)
 
 -- told 1 it is document 01's call
-pub find-told-one : (n K : ℕ) (t work : List ℕ) → findTold 1 n K t work ≡ findOutcome firstEdition n K t work
-find-told-one n K t work = find-told-is 1 n K t work refl ∙ ap (λ (e : Edition). findOutcome e n K t work) edition-one
+pub find_told-one : (n K : ℕ) (t work : List ℕ) → find_told 1 n K t work ≡ find_outcome first_edition n K t work
+find_told-one n K t work = find_told_is 1 n K t work refl ∙ ap (λ (e : Edition). find_outcome e n K t work) edition_one

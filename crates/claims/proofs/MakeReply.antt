@@ -9,40 +9,40 @@ use Rattle.refusals.specs.declared.verdicts.Refusal.{Refusal}
 use Rattle.refusals.specs.declared.verdicts.Verdict.{Verdict}
 use Rattle.refusals.specs.declared.verdicts.Verdict.TheVariants.{Fine, Refused}
 use Rattle.refusals.specs.Lines.{reply}
-use Rattle.refusals.specs.Lent.{workAfter}
+use Rattle.refusals.specs.Lent.{work_after}
 use Rattle.making.specs.declared.make_sheet.MakeAnswer.{MakeAnswer}
-use Rattle.making.specs.MakeSheet.{MakeOutcome, makeDone, makeNot}
-use Rattle.claims.proofs.Verdicts.{says-verdict, is-done, is-refused, area-left}
+use Rattle.making.specs.MakeSheet.{MakeOutcome, make_done, make_not}
+use Rattle.claims.proofs.Verdicts.{says_verdict, is_done, is_refused_lem, area_left}
 
 module _ (e : Edition) (d : ℕ) (cs : List Cell) (sheet work : List ℕ) (v : Verdict) where
   abbrev done : MakeOutcome
-  done = makeDone e d cs sheet work
+  done = make_done e d cs sheet work
 
   -- what comes of the verdict v
   abbrev made : MakeOutcome
-  made = reply v (makeDone e d cs sheet work) (makeNot sheet work)
+  made = reply v (make_done e d cs sheet work) (make_not sheet work)
 
   abbrev says : MakeOutcome → Verdict
   says o = o.answer.verdict
 
   -- the verdict is v
-  pub reply-says : says made ≡ v
-  reply-says = says-verdict says done (makeNot sheet work) refl (λ r. refl) v
+  pub reply_says : says made ≡ v
+  reply_says = says_verdict says done (make_not sheet work) refl (λ r. refl) v
 
   -- done
-  pub reply-done : says made ≡ Fine → made ≡ done
-  reply-done = is-done says done (makeNot sheet work) refl (λ r. refl) v
+  pub reply_done : says made ≡ Fine → made ≡ done
+  reply_done = is_done says done (make_not sheet work) refl (λ r. refl) v
 
   -- refused: the count is 0, and the sheet is as it was lent
-  pub reply-refused : (r : Refusal) → says made ≡ Refused r → (made.answer.count ≡ 0) × (made.sheet ≡ sheet)
-  reply-refused r h =
-      let q = is-refused says done (makeNot sheet work) refl (λ r. refl) v r h in
+  pub reply_refused : (r : Refusal) → says made ≡ Refused r → (made.answer.count ≡ 0) × (made.sheet ≡ sheet)
+  reply_refused r h =
+      let q = is_refused_lem says done (make_not sheet work) refl (λ r. refl) v r h in
       (ap (λ o. o.answer.count) q, ap (λ o. o.sheet) q)
 
   -- the work area is left as the verdict says
-  pub reply-left : made.work ≡ workAfter (says made) work
+  pub reply-left : made.work ≡ work_after (says made) work
   reply-left =
-      area-left says done (makeNot sheet work) refl (λ r. refl) (λ (o : MakeOutcome). o.work) work refl (λ r. refl) v
+      area_left says done (make_not sheet work) refl (λ r. refl) (λ (o : MakeOutcome). o.work) work refl (λ r. refl) v
 
 -- two outcomes that are one are equal in each part
 pub parts-once : (o : MakeOutcome) (a a' : MakeAnswer) (l l' w w' : List ℕ)

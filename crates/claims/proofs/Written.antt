@@ -6,105 +6,105 @@ use mathlib.Core.List.{List}
 use Prim.Native.Nat.{ℕ, ◌*◌, ◌^◌, ◌<◌, ◌≤◌}
 use lib.ListN.{length, drop}
 use lib.Seq.{take_at}
-use Rattle.tables.specs.Table.{tableLength, tableBit}
+use Rattle.tables.specs.Table.{table_length, table_bit}
 use Rattle.sheets.specs.declared.kinds.Edition.{Edition}
-use Rattle.sheets.specs.Edition.{IsEdition, mostRecords, mostDesk}
+use Rattle.sheets.specs.Edition.{IsEdition, most_records, most_desk}
 use Rattle.sheets.specs.Network.{Cell, Gives}
-use Rattle.sheets.specs.Sheet.{records, sheetCells, Good}
-use Rattle.sheets.specs.Writing.{FitsFrom, sheetBytes}
+use Rattle.sheets.specs.Sheet.{records, sheet_cells, Good}
+use Rattle.sheets.specs.Writing.{FitsFrom, sheet_bytes}
 use Rattle.sheets.specs.Reading.{AllRead, EachRead}
-use Rattle.sheets.proofs.Wholes.{length-sheet, cells-back}
+use Rattle.sheets.proofs.Wholes.{length-sheet, cells_back}
 use Rattle.sheets.proofs.Unread.{written_read}
-use Rattle.chains.proofs.Written.{written-bit, written-table, written-good}
+use Rattle.chains.proofs.Written.{written-bit, written-table, written_good}
 use Rattle.refusals.specs.declared.verdicts.Verdict.TheVariants.{Fine}
 use Rattle.refusals.specs.Lines.{number_of}
 use Rattle.refusals.proofs.Tests.{Sound}
 use Rattle.refusals.proofs.Sheets.{counted}
-use Rattle.running.specs.RunSheet.{runForm, runOutcome}
-use Rattle.rebuilding.specs.RebuildTable.{rebuildForm, rebuildOutcome}
-use Rattle.making.specs.MakeSheet.{MakeOutcome, makeDone}
-use Rattle.claims.specs.Words.{AllBytes, recordsOf, networkOf}
-use Rattle.claims.proofs.Tables.{table-back}
-use Rattle.claims.proofs.Sheets.{good-run, good-rebuild, read-never}
-use Rattle.claims.proofs.RunSheet.{run-says}
-use Rattle.claims.proofs.RebuildTable.{rebuild-says}
+use Rattle.running.specs.RunSheet.{run_form, run_outcome}
+use Rattle.rebuilding.specs.RebuildTable.{rebuild_form, rebuild_outcome}
+use Rattle.making.specs.MakeSheet.{MakeOutcome, make_done}
+use Rattle.claims.specs.Words.{AllBytes, records_of, network_of}
+use Rattle.claims.proofs.Tables.{table_back}
+use Rattle.claims.proofs.Sheets.{good_run, good_rebuild, read_never}
+use Rattle.claims.proofs.RunSheet.{run_says}
+use Rattle.claims.proofs.RebuildTable.{rebuild_says}
 
 module _ (e : Edition) (d n K : ℕ) (t sheet work : List ℕ) (o : MakeOutcome) where
   pub record IsWritten : Type 0 where
     pub gate : Sound e n K t
-    pub desk : d ≤ mostDesk
+    pub desk : d ≤ most_desk
     pub cells : List Cell
-    pub outcome : o ≡ makeDone e d cells sheet work
+    pub outcome : o ≡ make_done e d cells sheet work
     pub fits : FitsFrom e n cells
-    pub give : Gives n K (tableBit t) cells
+    pub give : Gives n K (table_bit t) cells
     pub read : AllRead n cells
-    pub few : length cells ≤ mostRecords
+    pub few : length cells ≤ most_records
 
   module _ (w : IsWritten) where
     -- the first bytes are the sheet of these cells
-    pub outcome-records : recordsOf e o ≡ sheetBytes e d w.cells
-    outcome-records =
-        ap (recordsOf e) w.outcome
-        ∙ take_at (sheetBytes e d w.cells) (drop (length (sheetBytes e d w.cells)) sheet)
+    pub outcome_records : records_of e o ≡ sheet_bytes e d w.cells
+    outcome_records =
+        ap (records_of e) w.outcome
+        ∙ take_at (sheet_bytes e d w.cells) (drop (length (sheet_bytes e d w.cells)) sheet)
         (e.size * length w.cells) (length-sheet e d w.cells)
 
     module _ (ok : IsEdition e) where
-      pub outcome-good : Good e d n (sheetBytes e d w.cells) (length w.cells)
-      outcome-good = written-good e ok d n K (tableBit t) w.cells w.fits w.give w.few
+      pub outcome_good : Good e d n (sheet_bytes e d w.cells) (length w.cells)
+      outcome_good = written_good e ok d n K (table_bit t) w.cells w.fits w.give w.few
 
       -- each record but the last is read
-      pub outcome-read : EachRead e n (sheetBytes e d w.cells) (length w.cells)
-      outcome-read = written_read e ok d n w.cells w.fits w.read
+      pub outcome_read : EachRead e n (sheet_bytes e d w.cells) (length w.cells)
+      outcome_read = written_read e ok d n w.cells w.fits w.read
 
       -- read as a network, they are the cells
-      pub outcome-network : networkOf e o ≡ w.cells
-      outcome-network = ap₂ (sheetCells e) outcome-records (ap (λ o. o.answer.count) w.outcome)
-          ∙ cells-back e d ok n w.cells w.fits
+      pub outcome_network : network_of e o ≡ w.cells
+      outcome_network = ap₂ (sheet_cells e) outcome_records (ap (λ o. o.answer.count) w.outcome)
+          ∙ cells_back e d ok n w.cells w.fits
 
       -- running them at any assignment gives the table's own bit (`written-bit`, chains)
-      pub outcome-runs : (x : ℕ) → x < 2 ^ n → runOutcome e d n (recordsOf e o) x
-          ≡ record { verdict = Fine; bit = tableBit t x }
-      outcome-runs x h =
+      pub outcome_runs : (x : ℕ) → x < 2 ^ n → run_outcome e d n (records_of e o) x
+          ≡ record { verdict = Fine; bit = table_bit t x }
+      outcome_runs x h =
           let cs = w.cells in
-          ap (λ (s : List ℕ). runOutcome e d n s x) outcome-records
-          ∙ good-run e ok d n (sheetBytes e d cs) (length cs) w.gate.some w.gate.most outcome-good outcome-read
+          ap (λ (s : List ℕ). run_outcome e d n s x) outcome_records
+          ∙ good_run e ok d n (sheet_bytes e d cs) (length cs) w.gate.some w.gate.most outcome_good outcome_read
           x h
           ∙ ap (λ (b : Bool). record { verdict = Fine; bit = b })
-          (written-bit e ok d n K (tableBit t) cs w.fits w.give x h)
+          (written-bit e ok d n K (table_bit t) cs w.fits w.give x h)
 
       -- rebuilding from them, into any lent table of the right length, gives the table back, byte for byte
       -- (`written-table`, chains)
-      pub outcome-rebuilds : AllBytes t → (table : List ℕ) → length table ≡ tableLength n
-          → rebuildOutcome e d n (recordsOf e o) table ≡ record { verdict = Fine; table = t }
-      outcome-rebuilds bytes table h =
+      pub outcome_rebuilds : AllBytes t → (table : List ℕ) → length table ≡ table_length n
+          → rebuild_outcome e d n (records_of e o) table ≡ record { verdict = Fine; table = t }
+      outcome_rebuilds bytes table h =
           let cs = w.cells in
-          ap (λ (s : List ℕ). rebuildOutcome e d n s table) outcome-records
-          ∙ good-rebuild e ok d n (sheetBytes e d cs) (length cs) w.gate.some w.gate.most outcome-good
-          outcome-read table h
+          ap (λ (s : List ℕ). rebuild_outcome e d n s table) outcome_records
+          ∙ good_rebuild e ok d n (sheet_bytes e d cs) (length cs) w.gate.some w.gate.most outcome_good
+          outcome_read table h
           ∙ ap (λ (l : List ℕ). record { verdict = Fine; table = l })
-          (written-table e ok d n K (tableBit t) cs w.fits w.give
-          ∙ table-back n (tableBit t) t bytes w.gate.long w.gate.spare (λ x l. refl))
+          (written-table e ok d n K (table_bit t) cs w.fits w.give
+          ∙ table_back n (table_bit t) t bytes w.gate.long w.gate.spare (λ x l. refl))
 
       -- each record but the last is read: neither run, at any assignment, nor rebuild, into any lent table, refuses
       -- them as 15
-      pub outcome-each-read : EachRead e n (recordsOf e o) (records e (recordsOf e o))
-      outcome-each-read = rw (
-        outcome-records,
-        counted e d n (sheetBytes e d w.cells) ok (length w.cells)
-            outcome-good,
-      ) outcome-read
+      pub outcome_each_read : EachRead e n (records_of e o) (records e (records_of e o))
+      outcome_each_read = rw (
+        outcome_records,
+        counted e d n (sheet_bytes e d w.cells) ok (length w.cells)
+            outcome_good,
+      ) outcome_read
 
-      pub outcome-never-unread : (x : ℕ) (table : List ℕ)
-          → (number_of (runOutcome e d n (recordsOf e o) x).verdict ≡ 15 → ⊥)
-          × (number_of (rebuildOutcome e d n (recordsOf e o) table).verdict ≡ 15 → ⊥)
-      outcome-never-unread x table =
-          let s = recordsOf e o in (
-            read-never e n s (runForm e d n s x) refl (runOutcome e d n s x).verdict (run-says e d n s x)
-                outcome-each-read,
-            read-never e n s (rebuildForm e d n s table) refl (rebuildOutcome e d n s table).verdict
-                (rebuild-says e d n s table) outcome-each-read,
+      pub outcome_never_unread : (x : ℕ) (table : List ℕ)
+          → (number_of (run_outcome e d n (records_of e o) x).verdict ≡ 15 → ⊥)
+          × (number_of (rebuild_outcome e d n (records_of e o) table).verdict ≡ 15 → ⊥)
+      outcome_never_unread x table =
+          let s = records_of e o in (
+            read_never e n s (run_form e d n s x) refl (run_outcome e d n s x).verdict (run_says e d n s x)
+                outcome_each_read,
+            read_never e n s (rebuild_form e d n s table) refl (rebuild_outcome e d n s table).verdict
+                (rebuild_says e d n s table) outcome_each_read,
           )
 
       -- they are a network of cells of at most K inputs, each reading signals given before it, that gives the table
-      pub outcome-gives : Gives n K (tableBit t) (networkOf e o)
-      outcome-gives = rw outcome-network w.give
+      pub outcome_gives : Gives n K (table_bit t) (network_of e o)
+      outcome_gives = rw outcome_network w.give

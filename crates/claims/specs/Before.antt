@@ -4,72 +4,72 @@
 -- the desk 0.
 use Rattle.std.specs.Prelude.{List, [], ◌∷◌, ◌++◌, ℕ, ◌^◌, leb}
 use Rattle.bits.specs.Numbers.{number}
-use Rattle.tables.specs.Table.{tableBit}
+use Rattle.tables.specs.Table.{table_bit}
 use Rattle.best.specs.Search.{best}
 use Rattle.sheets.specs.declared.kinds.Edition.{Edition}
 use Rattle.sheets.specs.Sheet.{records}
-use Rattle.splits.specs.Columns.{mostFirst}
-use Rattle.chains.specs.Chain.{sheetOf}
-use Rattle.chains.specs.Aside.{cellsAside, sheetAside}
+use Rattle.splits.specs.Columns.{most_first}
+use Rattle.chains.specs.Chain.{sheet_of}
+use Rattle.chains.specs.Aside.{cells_aside, sheet_aside}
 use Rattle.cofactors.specs.Any.{Any, either}
-use Rattle.refusals.specs.Numbers.{ofNothing}
+use Rattle.refusals.specs.Numbers.{of_nothing}
 use Rattle.refusals.specs.Lines.{line, verdict, reply}
-use Rattle.refusals.specs.Refusals.{gateLines, shortSheet, noneBest}
-use Rattle.making.specs.Refusals.{chainStuck}
+use Rattle.refusals.specs.Refusals.{gate_lines, short_sheet, none_best}
+use Rattle.making.specs.Refusals.{chain_stuck}
 use Rattle.refusals.specs.declared.verdicts.Verdict.{Verdict}
-use Rattle.finding.specs.FindBest.{FindOutcome, findForm, findDone, findNot}
+use Rattle.finding.specs.FindBest.{FindOutcome, find_form, find_done, find_not}
 use Rattle.running.specs.declared.run_sheet.RunAnswer.{RunAnswer}
-use Rattle.running.specs.RunSheet.{runForm, runDone, runNot}
-use Rattle.rebuilding.specs.RebuildTable.{RebuildOutcome, rebuildForm, rebuildDone, rebuildNot}
-use Rattle.making.specs.MakeSheet.{MakeOutcome, sheetFor, cells_in, makeForm, makeDone, makeNot}
-use Rattle.any_gate.specs.MakeAny.{cellsAny, anySays}
+use Rattle.running.specs.RunSheet.{run_form, run_done, run_not}
+use Rattle.rebuilding.specs.RebuildTable.{RebuildOutcome, rebuild_form, rebuild_done, rebuild_not}
+use Rattle.making.specs.MakeSheet.{MakeOutcome, sheet_for, cells_in, make_form, make_done, make_not}
+use Rattle.any_gate.specs.MakeAny.{cells_any, any_says}
 use Rattle.comparing.specs.declared.shorter.Kept.{Kept}
-use Rattle.inspection.specs.CheckSheet.{tableLines, againstLines, checkOutcome}
-use Rattle.comparing.specs.Shorter.{whichKept}
+use Rattle.inspection.specs.CheckSheet.{table_lines, against_lines, check_outcome}
+use Rattle.comparing.specs.Shorter.{which_kept}
 
 -- 7 where n is at most K, and the best split of the whole table
-abbrev pub findBefore : Edition → ℕ → ℕ → List ℕ → List ℕ → FindOutcome
-findBefore e n K t work =
-    let a = best n 1 (tableBit t) K in
-    reply (verdict (findForm e n K t work ++ (line ofNothing (leb n K) ∷ noneBest a ∷ []))) (findDone a work) (findNot work)
+abbrev pub find_before : Edition → ℕ → ℕ → List ℕ → List ℕ → FindOutcome
+find_before e n K t work =
+    let a = best n 1 (table_bit t) K in
+    reply (verdict (find_form e n K t work ++ (line of_nothing (leb n K) ∷ none_best a ∷ []))) (find_done a work) (find_not work)
 
 -- the chain of the whole table
-abbrev pub makeBefore : Edition → ℕ → ℕ → ℕ → List ℕ → List ℕ → List ℕ → MakeOutcome
-makeBefore e d n K t sheet work =
-    let c = sheetOf n K (number (2 ^ n) (tableBit t)) in
-    reply (verdict (makeForm e d n K t sheet work ++ (chainStuck c ∷ []))) (makeDone e d (cells_in c) sheet work)
-    (makeNot sheet work)
+abbrev pub make_before : Edition → ℕ → ℕ → ℕ → List ℕ → List ℕ → List ℕ → MakeOutcome
+make_before e d n K t sheet work =
+    let c = sheet_of n K (number (2 ^ n) (table_bit t)) in
+    reply (verdict (make_form e d n K t sheet work ++ (chain_stuck c ∷ []))) (make_done e d (cells_in c) sheet work)
+    (make_not sheet work)
 
 -- by 1, 9, 10 and 11 alone
-abbrev pub runBefore : Edition → ℕ → ℕ → List ℕ → ℕ → RunAnswer
-runBefore e d n s x = reply (verdict (runForm e d n s x)) (runDone e n s x) runNot
+abbrev pub run_before : Edition → ℕ → ℕ → List ℕ → ℕ → RunAnswer
+run_before e d n s x = reply (verdict (run_form e d n s x)) (run_done e n s x) run_not
 
 -- by 1, 3, 9 and 10 alone
-abbrev pub rebuildBefore : Edition → ℕ → ℕ → List ℕ → List ℕ → RebuildOutcome
-rebuildBefore e d n s table = reply (verdict (rebuildForm e d n s table)) (rebuildDone e n s) (rebuildNot table)
+abbrev pub rebuild_before : Edition → ℕ → ℕ → List ℕ → List ℕ → RebuildOutcome
+rebuild_before e d n s table = reply (verdict (rebuild_form e d n s table)) (rebuild_done e n s) (rebuild_not table)
 
 -- by 1, 3, 4, 9, 10 and 12 alone
-abbrev pub checkBefore : Edition → ℕ → ℕ → List ℕ → List ℕ → Verdict
-checkBefore e d n t s = verdict (tableLines n t ++ againstLines e d n t s)
+abbrev pub check_before : Edition → ℕ → ℕ → List ℕ → List ℕ → Verdict
+check_before e d n t s = verdict (table_lines n t ++ against_lines e d n t s)
 
 -- without line 5
-abbrev pub makeDeskless : Edition → ℕ → ℕ → List ℕ → List ℕ → List ℕ → MakeOutcome
-makeDeskless e n K t sheet work =
-    let c = sheetFor n K t in
-    reply (verdict (gateLines e n K t ++ (shortSheet e sheet work ∷ chainStuck c ∷ [])))
-    (makeDone e 0 (cells_in c) sheet work) (makeNot sheet work)
+abbrev pub make_deskless : Edition → ℕ → ℕ → List ℕ → List ℕ → List ℕ → MakeOutcome
+make_deskless e n K t sheet work =
+    let c = sheet_for n K t in
+    reply (verdict (gate_lines e n K t ++ (short_sheet e sheet work ∷ chain_stuck c ∷ [])))
+    (make_done e 0 (cells_in c) sheet work) (make_not sheet work)
 
 -- both sheets for bench use
-abbrev pub keptDeskless : Edition → ℕ → List ℕ → List ℕ → List ℕ → Kept
-keptDeskless e n t x y = whichKept (checkOutcome e 0 n t x) (checkOutcome e 0 n t y) (records e x) (records e y)
+abbrev pub kept_deskless : Edition → ℕ → List ℕ → List ℕ → List ℕ → Kept
+kept_deskless e n t x y = which_kept (check_outcome e 0 n t x) (check_outcome e 0 n t y) (records e x) (records e y)
 
 -- make's chain, or the chain with several first cells
-abbrev pub anyBeforeFor : ℕ → ℕ → List ℕ → Any
-anyBeforeFor n K t =
-    either (sheetAside n K (number (2 ^ n) (tableBit t))) (cellsAside mostFirst n K (number (2 ^ n) (tableBit t)))
+abbrev pub any_before_for : ℕ → ℕ → List ℕ → Any
+any_before_for n K t =
+    either (sheet_aside n K (number (2 ^ n) (table_bit t))) (cells_aside most_first n K (number (2 ^ n) (table_bit t)))
 
-abbrev pub anyBefore : Edition → ℕ → ℕ → ℕ → List ℕ → List ℕ → List ℕ → MakeOutcome
-anyBefore e d n K t sheet work =
-    let a = anyBeforeFor n K t in
-    reply (verdict (makeForm e d n K t sheet work ++ anySays a)) (makeDone e d (cellsAny a) sheet work)
-    (makeNot sheet work)
+abbrev pub any_before : Edition → ℕ → ℕ → ℕ → List ℕ → List ℕ → List ℕ → MakeOutcome
+any_before e d n K t sheet work =
+    let a = any_before_for n K t in
+    reply (verdict (make_form e d n K t sheet work ++ any_says a)) (make_done e d (cells_any a) sheet work)
+    (make_not sheet work)

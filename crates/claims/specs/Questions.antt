@@ -2,21 +2,21 @@
 -- afterwards.
 use Rattle.std.specs.Prelude.{List, [], ◌∷◌, ℕ, ◌*◌, replicate, take}
 use Rattle.bits.specs.Numbers.{val}
-use Rattle.tables.specs.Cells.{tableNumber}
-use Rattle.sheets.specs.Edition.{recordSize, mostRecords, firstEdition}
-use Rattle.tables.specs.Work.{workLength}
-use Rattle.refusals.specs.Lines.{number_of, placeOf}
-use Rattle.splitting.specs.TrySplit.{TryOutcome, tryOutcome}
-use Rattle.finding.specs.FindBest.{FindOutcome, findOutcome}
+use Rattle.tables.specs.Cells.{table_number}
+use Rattle.sheets.specs.Edition.{record_size, most_records, first_edition}
+use Rattle.tables.specs.Work.{work_length}
+use Rattle.refusals.specs.Lines.{number_of, place_of}
+use Rattle.splitting.specs.TrySplit.{TryOutcome, try_outcome}
+use Rattle.finding.specs.FindBest.{FindOutcome, find_outcome}
 use Rattle.running.specs.declared.run_sheet.RunAnswer.{RunAnswer}
-use Rattle.running.specs.RunSheet.{runOwn}
-use Rattle.rebuilding.specs.RebuildTable.{RebuildOutcome, rebuildOwn}
-use Rattle.making.specs.MakeSheet.{MakeOutcome, makeOutcome}
+use Rattle.running.specs.RunSheet.{run_own}
+use Rattle.rebuilding.specs.RebuildTable.{RebuildOutcome, rebuild_own}
+use Rattle.making.specs.MakeSheet.{MakeOutcome, make_outcome}
 use Rattle.programs.specs.BenchProgram.{written}
-use Rattle.formulas.specs.Text.{mostText}
-use Rattle.formulas.specs.ReadFormula.{ReadOutcome, readOutcome}
-use Rattle.printing.specs.WriteFormula.{WriteOutcome, writeOwn}
-use Rattle.claims.specs.Words.{recordsOf}
+use Rattle.formulas.specs.Text.{most_text}
+use Rattle.formulas.specs.ReadFormula.{ReadOutcome, read_outcome}
+use Rattle.printing.specs.WriteFormula.{WriteOutcome, write_own}
+use Rattle.claims.specs.Words.{records_of}
 
 -- what the bench can be asked
 pub data Question : Type 0 where
@@ -37,56 +37,56 @@ pub data Question : Type 0 where
   reading : List ℕ → Question
 
 -- the lent sheet, preset to AA
-abbrev pub lentSheet : List ℕ
-lentSheet = replicate (recordSize * mostRecords) 0xAA
+abbrev pub lent_sheet : List ℕ
+lent_sheet = replicate (record_size * most_records) 0xAA
 
 -- the lent work area, preset to AA
-abbrev pub lentWork : List ℕ
-lentWork = replicate workLength 0xAA
+abbrev pub lent_work : List ℕ
+lent_work = replicate work_length 0xAA
 
 -- the lent room for a text, preset to AA
-abbrev pub lentText : List ℕ
-lentText = replicate mostText 0xAA
+abbrev pub lent_text : List ℕ
+lent_text = replicate most_text 0xAA
 
 -- the number, D, where it broke and how many columns there are, the room
-abbrev pub sayTry : TryOutcome → List ℕ
-sayTry o =
-    number_of o.answer.verdict ∷ tableNumber o.answer.d.first ∷ placeOf o.answer.verdict
+abbrev pub say_try : TryOutcome → List ℕ
+say_try o =
+    number_of o.answer.verdict ∷ table_number o.answer.d.first ∷ place_of o.answer.verdict
     ∷ o.answer.columns ∷ o.room
 
 -- the number and the masks
-abbrev pub sayFind : FindOutcome → List ℕ
-sayFind o = number_of o.answer.verdict ∷ o.answer.own ∷ o.answer.shared ∷ []
+abbrev pub say_find : FindOutcome → List ℕ
+say_find o = number_of o.answer.verdict ∷ o.answer.own ∷ o.answer.shared ∷ []
 
 -- of the sheet, the records that were written
-abbrev pub sayMake : MakeOutcome → List ℕ
-sayMake o = number_of o.answer.verdict ∷ o.answer.count ∷ recordsOf firstEdition o
+abbrev pub say_make : MakeOutcome → List ℕ
+say_make o = number_of o.answer.verdict ∷ o.answer.count ∷ records_of first_edition o
 
 -- the number, the bit, the index
-abbrev pub sayRun : RunAnswer → List ℕ
-sayRun a = number_of a.verdict ∷ val a.bit ∷ placeOf a.verdict ∷ []
+abbrev pub say_run : RunAnswer → List ℕ
+say_run a = number_of a.verdict ∷ val a.bit ∷ place_of a.verdict ∷ []
 
 -- the number, the index, the table
-abbrev pub sayRebuild : RebuildOutcome → List ℕ
-sayRebuild o = number_of o.verdict ∷ placeOf o.verdict ∷ o.table
+abbrev pub say_rebuild : RebuildOutcome → List ℕ
+say_rebuild o = number_of o.verdict ∷ place_of o.verdict ∷ o.table
 
 -- the number, the place, the table
-abbrev pub sayRead : ReadOutcome → List ℕ
-sayRead o = number_of o.verdict ∷ placeOf o.verdict ∷ o.table
+abbrev pub say_read : ReadOutcome → List ℕ
+say_read o = number_of o.verdict ∷ place_of o.verdict ∷ o.table
 
 -- the number and the place; of the room, the text that was written
-abbrev pub sayWrite : WriteOutcome → List ℕ
-sayWrite o = number_of o.answer.verdict ∷ placeOf o.answer.verdict ∷ take o.answer.length o.room
+abbrev pub say_write : WriteOutcome → List ℕ
+say_write o = number_of o.answer.verdict ∷ place_of o.answer.verdict ∷ take o.answer.length o.room
 
 -- what the definitions answer, in the first edition; what is made is for bench use
 abbrev pub answer : Question → List ℕ
-answer (trying n K A B t room) = sayTry (tryOutcome firstEdition n K 1 A B t room)
-answer (finding n K t) = sayFind (findOutcome firstEdition n K t lentWork)
-answer (making n K t) = sayMake (makeOutcome firstEdition 0 n K t lentSheet lentWork)
-answer (running n s x) = sayRun (runOwn firstEdition n s x)
-answer (rebuilding n s table) = sayRebuild (rebuildOwn firstEdition n s table)
-answer (parsing n text table) = sayRead (readOutcome n text table)
-answer (printing n s) = sayWrite (writeOwn firstEdition n s lentText)
+answer (trying n K A B t room) = say_try (try_outcome first_edition n K 1 A B t room)
+answer (finding n K t) = say_find (find_outcome first_edition n K t lent_work)
+answer (making n K t) = say_make (make_outcome first_edition 0 n K t lent_sheet lent_work)
+answer (running n s x) = say_run (run_own first_edition n s x)
+answer (rebuilding n s table) = say_rebuild (rebuild_own first_edition n s table)
+answer (parsing n text table) = say_read (read_outcome n text table)
+answer (printing n s) = say_write (write_own first_edition n s lent_text)
 answer (reading input) = written input
 
 -- an example: what is asked, and what is to be answered

@@ -5,7 +5,7 @@ use Rattle.splits.specs.Columns.{columns}
 use Rattle.sheets.specs.declared.kinds.Edition.{Edition}
 use Rattle.sheets.specs.Network.{Cell}
 use Rattle.sheets.specs.Record.{Keeps}
-use Rattle.sheets.specs.Sheet.{recordAt, records, sheetCells}
+use Rattle.sheets.specs.Sheet.{record_at, records, sheet_cells}
 use Rattle.refusals.specs.declared.verdicts.Verdict.{Verdict}
 use Rattle.refusals.specs.declared.verdicts.Verdict.TheVariants.{Fine}
 use Rattle.refusals.specs.Lines.{Line, InOrder, Given, number_of, line_at}
@@ -34,19 +34,19 @@ abbrev pub AllBytes : List ℕ → Type 0
 AllBytes t = (i : ℕ) → i < length t → get_or t i 0 < 256
 
 -- the records that make wrote: so many of the first bytes of the lent sheet, as they are afterwards
-abbrev pub recordsOf : Edition → MakeOutcome → List ℕ
-recordsOf e o = take (e.size * o.answer.count) o.sheet
+abbrev pub records_of : Edition → MakeOutcome → List ℕ
+records_of e o = take (e.size * o.answer.count) o.sheet
 
 -- the network that these bytes say
-abbrev pub networkOf : Edition → MakeOutcome → List Cell
-networkOf e o = sheetCells e (recordsOf e o) o.answer.count
+abbrev pub network_of : Edition → MakeOutcome → List Cell
+network_of e o = sheet_cells e (records_of e o) o.answer.count
 
 -- record i of a sheet is the first that breaks the record rules (the desk's byte is d; it may read only signals below
 -- n + i)
 pub record FirstBad (e : Edition) (d n : ℕ) (s : List ℕ) (i : ℕ) : Type 0 where
   pub within : i < records e s
-  pub breaks : Keeps e d (n + i) (recordAt e s i) → ⊥
-  pub before : (j : ℕ) → j < i → Keeps e d (n + j) (recordAt e s j)
+  pub breaks : Keeps e d (n + i) (record_at e s i) → ⊥
+  pub before : (j : ℕ) → j < i → Keeps e d (n + j) (record_at e s j)
 
 -- b is the least assignment of B with more than m different columns, and has k of them
 pub record Breaks (n : ℕ) (F : ℕ → Bool) (A B : ℕ → Bool) (m b k : ℕ) : Type 0 where
@@ -60,5 +60,5 @@ pub record Breaks (n : ℕ) (F : ℕ → Bool) (A B : ℕ → Bool) (m b k : ℕ
 pub record OtherDesk (e : Edition) (o o' : MakeOutcome) : Type 0 where
   pub answer : o.answer ≡ o'.answer
   pub work : o.work ≡ o'.work
-  pub bytes : (i j : ℕ) → (j ≡ e.most + 1 → ⊥) → recordAt e (recordsOf e o) i j ≡ recordAt e (recordsOf e o') i j
+  pub bytes : (i j : ℕ) → (j ≡ e.most + 1 → ⊥) → record_at e (records_of e o) i j ≡ record_at e (records_of e o') i j
   pub rest : drop (e.size * o.answer.count) o.sheet ≡ drop (e.size * o'.answer.count) o'.sheet

@@ -10,12 +10,12 @@ use borrow.Author.Tests.{eq-eqb, ne_eqb, eqb-true}
 use Rattle.bits.specs.Numbers.{bit, number, flipped}
 use Rattle.bits.specs.Sets.{Apart, rest, size, gather, spread}
 use Rattle.bits.proofs.Bools.{clash, iff, beq_same, same-beq}
-use Rattle.bits.proofs.Below.{every-at, every-all}
-use Rattle.bits.proofs.Numbers.{number_lt, bit-number, number-ext, bit-zero}
+use Rattle.bits.proofs.Below.{every_at, every_all}
+use Rattle.bits.proofs.Numbers.{number_lt, bit-number, number_ext, bit-zero}
 use Rattle.bits.proofs.Members.{same_bits}
 use Rattle.bits.proofs.Spreading.{gather-lt, spread-gather, bit-spread, spread-lt}
-use Rattle.bits.proofs.Single.{single, plus-bit, plus-lt}
-use Rattle.bits.proofs.Sums.{sum-mask}
+use Rattle.bits.proofs.Single.{single, plus_bit, plus_lt}
+use Rattle.bits.proofs.Sums.{sum_mask}
 use Rattle.columns.specs.declared.split.Split.{Split}
 use Rattle.columns.specs.Reading.{Held, Without, alike}
 use Rattle.clauses.specs.Swapping.{swapped, unchanged, swappable}
@@ -39,21 +39,21 @@ module _ (n p q : ℕ) (pq : p < q) (qn : q < n) where
   at_p : (u v : Bool) (r : ℕ) → bit (at u v r) p ≡ u
   at_p u v r = bit_at u v r p (omega arith) ∙ simp (eq-eqb p p refl)
 
-  at-q : (u v : Bool) (r : ℕ) → bit (at u v r) q ≡ v
-  at-q u v r =
+  at_q_lem : (u v : Bool) (r : ℕ) → bit (at u v r) q ≡ v
+  at_q_lem u v r =
       bit_at u v r q qn ∙ simp (ne_eqb q p (λ e. omega arith), eq-eqb q q refl)
 
   -- swapped, it has the two the other way round
   swap_at : (f u v : Bool) (r : ℕ) → swapped n f p q (at u v r) ≡ at (flipped f v) (flipped f u) r
   unfolding swapped at
   swap_at f u v r =
-      number-ext n (λ j. cond (eqb j p) (flipped f (bit (at u v r) q)) (cond (eqb j q) (flipped f (bit (at u v r) p))
+      number_ext n (λ j. cond (eqb j p) (flipped f (bit (at u v r) q)) (cond (eqb j q) (flipped f (bit (at u v r) p))
       (bit (at u v r) j))) (with (flipped f v) (flipped f u) r) (λ j l. go j l (eqb j p) (eqb j q) refl refl)
     where
       go : (j : ℕ) → j < n → (s t : Bool) → eqb j p ≡ s → eqb j q ≡ t
           → cond s (flipped f (bit (at u v r) q)) (cond t (flipped f (bit (at u v r) p)) (bit (at u v r) j))
           ≡ cond s (flipped f v) (cond t (flipped f u) (bit r j))
-      go j l true t e d = ap (flipped f) (at-q u v r)
+      go j l true t e d = ap (flipped f) (at_q_lem u v r)
       go j l false true e d = ap (flipped f) (at_p u v r)
       go j l false false e d = bit_at u v r j l ∙ simp (e, d)
 
@@ -76,11 +76,11 @@ module _ (n p q : ℕ) (pq : p < q) (qn : q < n) where
     -- a start that has u at p, v at q and nothing else, with what is beside
     module _ (m : ℕ) (u v : Bool) (ml : m < 2 ^ n)
         (mb : (j : ℕ) → j < n → bit m j ≡ cond (eqb j p) u (cond (eqb j q) v false)) where
-      start-at : (k : ℕ) → m + spread n (bit L) k ≡ at u v (spread n (bit L) k)
+      start_at : (k : ℕ) → m + spread n (bit L) k ≡ at u v (spread n (bit L) k)
       unfolding at
-      start-at k =
-          sum-mask n m r ml (spread-lt n (bit L) k) (λ j l e. apart j l e (eqb j p) (eqb j q) refl refl)
-          ∙ number-ext n (λ j. bit m j || bit r j) (with u v r) (λ j l. ap (λ (t : Bool). t || bit r j) (mb j l)
+      start_at k =
+          sum_mask n m r ml (spread-lt n (bit L) k) (λ j l e. apart j l e (eqb j p) (eqb j q) refl refl)
+          ∙ number_ext n (λ j. bit m j || bit r j) (with u v r) (λ j l. ap (λ (t : Bool). t || bit r j) (mb j l)
           ∙ go j l (eqb j p) (eqb j q) refl refl)
         where
           r : ℕ
@@ -118,14 +118,14 @@ module _ (n p q : ℕ) (pq : p < q) (qn : q < n) where
       there true r = swap_at true false false r
       there false r = swap_at false true false r
 
-      pub columns-tell : alike n F L x y ≡ unchanged n F f p q
+      pub columns_tell : alike n F L x y ≡ unchanged n F f p q
       unfolding alike unchanged
-      columns-tell = iff (alike n F L x y) (unchanged n F f p q) to from
+      columns_tell = iff (alike n F L x y) (unchanged n F f p q) to from
         where
           to : alike n F L x y ≡ true → unchanged n F f p q ≡ true
-          to h = every-all (2 ^ n) (λ w. beq (F (swapped n f p q w)) (F w)) (λ w l.
+          to h = every_all (2 ^ n) (λ w. beq (F (swapped n f p q w)) (F w)) (λ w l.
               let k = gather n (bit L) w in
-              let e = beq_same (F (x + spread n (bit L) k)) (F (y + spread n (bit L) k)) (every-at (2 ^ size n (bit L))
+              let e = beq_same (F (x + spread n (bit L) k)) (F (y + spread n (bit L) k)) (every_at (2 ^ size n (bit L))
               (λ c. beq (F (x + spread n (bit L) c)) (F (y + spread n (bit L) c))) h k (gather-lt n (bit L) w)) in
               same-beq (F (swapped n f p q w)) (F w) (
               ap (λ (z : ℕ). F (swapped n f p q z)) (whole w l) ∙ ap F (swap_at f (bit w p) (bit w q) (beside w))
@@ -133,10 +133,10 @@ module _ (n p q : ℕ) (pq : p < q) (qn : q < n) where
               ∙ sym (ap F (whole w l))))
 
           from : unchanged n F f p q ≡ true → alike n F L x y ≡ true
-          from h = every-all (2 ^ size n (bit L)) (λ c. beq (F (x + spread n (bit L) c)) (F (y + spread n (bit L) c)))
+          from h = every_all (2 ^ size n (bit L)) (λ c. beq (F (x + spread n (bit L) c)) (F (y + spread n (bit L) c)))
               (λ k l.
               let r = spread n (bit L) k in
-              let e = beq_same (F (swapped n f p q (at (not f) false r))) (F (at (not f) false r)) (every-at (2 ^ n)
+              let e = beq_same (F (swapped n f p q (at (not f) false r))) (F (at (not f) false r)) (every_at (2 ^ n)
               (λ w. beq (F (swapped n f p q w)) (F w)) h (at (not f) false r) (at_lt (not f) false r)) in
               same-beq (F (x + r)) (F (y + r)) (
               ap F (first k) ∙ sym e ∙ ap F (there f r) ∙ sym (ap F (second k))))
@@ -146,30 +146,30 @@ module _ (n p q x y : ℕ) (pq : p < q) (qn : q < n) (ex : x ≡ 2 ^ p) (ey : y 
   single-bit : (i : ℕ) → i < n → (j : ℕ) → j < n → bit (2 ^ i) j ≡ eqb j i
   single-bit i li j l = ap (λ (m : ℕ). bit m j) (sym (single n i li)) ∙ bit-number n (λ k. eqb k i) j l
 
-  x-bit : (j : ℕ) → j < n → bit x j ≡ eqb j p
-  x-bit j l = ap (λ (m : ℕ). bit m j) ex ∙ single-bit p (omega arith) j l
+  x_bit : (j : ℕ) → j < n → bit x j ≡ eqb j p
+  x_bit j l = ap (λ (m : ℕ). bit m j) ex ∙ single-bit p (omega arith) j l
 
   x_lt : x < 2 ^ n
   x_lt = omega (arith, ex, single n p (omega arith), number_lt n (λ k. eqb k p))
 
-  y-bit : (j : ℕ) → j < n → bit y j ≡ eqb j q
-  y-bit j l = ap (λ (m : ℕ). bit m j) ey ∙ single-bit q qn j l
+  y_bit : (j : ℕ) → j < n → bit y j ≡ eqb j q
+  y_bit j l = ap (λ (m : ℕ). bit m j) ey ∙ single-bit q qn j l
 
-  y-lt : y < 2 ^ n
-  y-lt = omega (arith, ey, single n q qn, number_lt n (λ k. eqb k q))
+  y_lt : y < 2 ^ n
+  y_lt = omega (arith, ey, single n q qn, number_lt n (λ k. eqb k q))
 
-  x-off : bit x q ≡ false
-  x-off = x-bit q qn ∙ ne_eqb q p (λ e. omega arith)
+  x_off : bit x q ≡ false
+  x_off = x_bit q qn ∙ ne_eqb q p (λ e. omega arith)
 
   pub both-lt : x + y < 2 ^ n
-  both-lt = omega (arith, ey, plus-lt n x q x_lt qn x-off)
+  both-lt = omega (arith, ey, plus_lt n x q x_lt qn x_off)
 
   both-bit : (j : ℕ) → j < n → bit (x + y) j ≡ (eqb j p || eqb j q)
   both-bit j l =
-      ap (λ (m : ℕ). bit (x + m) j) ey ∙ plus-bit n x q x_lt qn x-off j l ∙ ap (λ (t : Bool). t || eqb j q) (x-bit j l)
+      ap (λ (m : ℕ). bit (x + m) j) ey ∙ plus_bit n x q x_lt qn x_off j l ∙ ap (λ (t : Bool). t || eqb j q) (x_bit j l)
 
-  pub none-shared : Apart n (bit (x + y)) (bit 0)
-  none-shared j l e = absurd (clash e (bit-zero j))
+  pub none_shared : Apart n (bit (x + y)) (bit 0)
+  none_shared j l e = absurd (clash e (bit-zero j))
 
   module _ (s : Split) (h : Held s) (en : s.n ≡ n) (eo : s.own ≡ x + y) (es : s.shared ≡ 0) where
     off : (j : ℕ) → j < n → bit s.free j ≡ not (eqb j p || eqb j q)
@@ -193,16 +193,16 @@ module _ (n p q x y : ℕ) (pq : p < q) (qn : q < n) (ex : x ≡ 2 ^ p) (ey : y 
           go j l e false true d f = absurd (clash e (off j l ∙ simp (d, f)))
           go j l e false false d f = mb j l ∙ simp (d, f)
 
-    bits-x : (j : ℕ) → j < n → bit x j ≡ cond (eqb j p) true (cond (eqb j q) false false)
-    bits-x j l = x-bit j l ∙ go (eqb j p) (eqb j q)
+    bits_x : (j : ℕ) → j < n → bit x j ≡ cond (eqb j p) true (cond (eqb j q) false false)
+    bits_x j l = x_bit j l ∙ go (eqb j p) (eqb j q)
       where
         go : (a b : Bool) → a ≡ cond a true (cond b false false)
         go true b = refl
         go false true = refl
         go false false = refl
 
-    bits-y : (j : ℕ) → j < n → bit y j ≡ cond (eqb j p) false (cond (eqb j q) true false)
-    bits-y j l = y-bit j l ∙ go (eqb j p) (eqb j q) refl refl
+    bits_y : (j : ℕ) → j < n → bit y j ≡ cond (eqb j p) false (cond (eqb j q) true false)
+    bits_y j l = y_bit j l ∙ go (eqb j p) (eqb j q) refl refl
       where
         go : (a b : Bool) → eqb j p ≡ a → eqb j q ≡ b → b ≡ cond a false (cond b true false)
         go true true e f = let z : p ≡ q = sym (eqb-true j p e) ∙ eqb-true j q f in absurd (omega arith)
@@ -226,11 +226,11 @@ module _ (n p q x y : ℕ) (pq : p < q) (qn : q < n) (ex : x ≡ 2 ^ p) (ey : y 
         go false true = refl
         go false false = refl
 
-    pub apart-x : Without s.n s.free x
-    apart-x = apart x true false x_lt bits-x
+    pub apart_x : Without s.n s.free x
+    apart_x = apart x true false x_lt bits_x
 
-    pub apart-y : Without s.n s.free y
-    apart-y = apart y false true y-lt bits-y
+    pub apart_y : Without s.n s.free y
+    apart_y = apart y false true y_lt bits_y
 
     pub apart_none : Without s.n s.free 0
     apart_none = apart 0 false false (pow_pos n) bits_none
@@ -242,20 +242,20 @@ module _ (n p q x y : ℕ) (pq : p < q) (qn : q < n) (ex : x ≡ 2 ^ p) (ey : y 
     pub swaps : (F : ℕ → Bool) → alike s.n F s.free x y ≡ unchanged n F false p q
     swaps F =
         ap (λ (k : ℕ). alike k F s.free x y) en
-        ∙ columns-tell n p q pq qn s.free off F false x y (start-at n p q pq qn s.free off x true false x_lt bits-x)
-        (start-at n p q pq qn s.free off y false true y-lt bits-y)
+        ∙ columns_tell n p q pq qn s.free off F false x y (start_at n p q pq qn s.free off x true false x_lt bits_x)
+        (start_at n p q pq qn s.free off y false true y_lt bits_y)
 
     pub flips : (F : ℕ → Bool) → alike s.n F s.free 0 (x + y) ≡ unchanged n F true p q
     flips F =
         ap (λ (k : ℕ). alike k F s.free 0 (x + y)) en
-        ∙ columns-tell n p q pq qn s.free off F true 0 (x + y)
-        (start-at n p q pq qn s.free off 0 false false (pow_pos n) bits_none)
-        (start-at n p q pq qn s.free off (x + y) true true both-lt bits-both)
+        ∙ columns_tell n p q pq qn s.free off F true 0 (x + y)
+        (start_at n p q pq qn s.free off 0 false false (pow_pos n) bits_none)
+        (start_at n p q pq qn s.free off (x + y) true true both-lt bits-both)
 
-    pub told-yes : (F : ℕ → Bool) {r : Bool} → r ≡ alike s.n F s.free x y → r ≡ true → true ≡ swappable n F p q
-    told-yes F {r} e t = sym (ap (λ (b : Bool). b || unchanged n F true p q) (sym (swaps F) ∙ sym e ∙ t))
+    pub told_yes : (F : ℕ → Bool) {r : Bool} → r ≡ alike s.n F s.free x y → r ≡ true → true ≡ swappable n F p q
+    told_yes F {r} e t = sym (ap (λ (b : Bool). b || unchanged n F true p q) (sym (swaps F) ∙ sym e ∙ t))
 
-    pub told-no : (F : ℕ → Bool) {r w : Bool} → r ≡ alike s.n F s.free x y → r ≡ false
+    pub told_no : (F : ℕ → Bool) {r w : Bool} → r ≡ alike s.n F s.free x y → r ≡ false
         → w ≡ alike s.n F s.free 0 (x + y) → w ≡ swappable n F p q
-    told-no F {r} {w} e t d =
+    told_no F {r} {w} e t d =
         d ∙ flips F ∙ sym (ap (λ (b : Bool). b || unchanged n F true p q) (sym (swaps F) ∙ sym e ∙ t))

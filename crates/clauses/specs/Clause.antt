@@ -25,14 +25,14 @@ those zero s f = []
 those (suc n) s f = cond (s n) (those n s f ++ (f n ∷ [])) (those n s f)
 
 -- the rows a and b differ at the input p
-abbrev pub rowsDiffer : (ℕ → ℕ) → ℕ → ℕ → ℕ → Bool
-rowsDiffer row a b p = not (beq (bit (row a) p) (bit (row b) p))
+abbrev pub rows_differ : (ℕ → ℕ) → ℕ → ℕ → ℕ → Bool
+rows_differ row a b p = not (beq (bit (row a) p) (bit (row b) p))
 
 -- kind 5: cell i differs, so an input that it reads does, or a cell
 abbrev pub causes : Size → (ℕ → ℕ) → ℕ → ℕ → ℕ → List Literal
 causes z row i a b =
     Denied (Differ i a b)
-    ∷ (those z.inputs (rowsDiffer row a b) (λ p. Said (Reads i p)) ++ list_of i (λ j. Said (Apart i j a b)))
+    ∷ (those z.inputs (rows_differ row a b) (λ p. Said (Reads i p)) ++ list_of i (λ j. Said (Apart i j a b)))
 
 -- kind 10: the later cells that may read cell i
 abbrev pub readers : Size → ℕ → List Literal
@@ -68,28 +68,28 @@ clause q (Both p r i) = Denied (Same p r i) ∷ Denied (Reads i r) ∷ Said (Sam
 clause q (Neither p r i) = Denied (Same p r i) ∷ Said (Reads i p) ∷ Said (Same p r (i + 1)) ∷ []
 
 -- a cell, two rows, two inputs in order
-abbrev pub isCell : Size → ℕ → Bool
-isCell z i = ltb i z.cells
+abbrev pub is_cell : Size → ℕ → Bool
+is_cell z i = ltb i z.cells
 
-abbrev pub areRows : Size → ℕ → ℕ → Bool
-areRows z a b = ltb a z.rows && ltb b z.rows
+abbrev pub are_rows : Size → ℕ → ℕ → Bool
+are_rows z a b = ltb a z.rows && ltb b z.rows
 
-abbrev pub areInputs : Size → ℕ → ℕ → Bool
-areInputs z p r = ltb p r && ltb r z.inputs
+abbrev pub are_inputs : Size → ℕ → ℕ → Bool
+are_inputs z p r = ltb p r && ltb r z.inputs
 
 -- in order: what the fields name exists, and of kind 11 the two inputs of the table F are swappable
-unfoldable pub inOrder : Size → (ℕ → Bool) → Given → Bool
-inOrder z F (OneMore i p t) = isCell z i && (ltb p (z.inputs + i) && leb t z.cell)
-inOrder z F (AsMany i p t) = isCell z i && (ltb p (z.inputs + i) && leb t (z.cell + 1))
-inOrder z F (None i) = isCell z i
-inOrder z F (Most i) = isCell z i
-inOrder z F (Cause i a b) = isCell z i && areRows z a b
-inOrder z F (Read i j a b) = isCell z i && (ltb j i && areRows z a b)
-inOrder z F (Differs i j a b) = isCell z i && (ltb j i && areRows z a b)
-inOrder z F (Even i a b s) = isCell z i && (areRows z a b && leb s 3)
-inOrder z F (Table a b) = areRows z a b
-inOrder z F (Used i) = ltb (i + 1) z.cells
-inOrder z F (Swap p r) = areInputs z p r && swappable z.inputs F p r
-inOrder z F (Sorted p r i) = areInputs z p r && isCell z i
-inOrder z F (Both p r i) = areInputs z p r && isCell z i
-inOrder z F (Neither p r i) = areInputs z p r && isCell z i
+unfoldable pub in_order_lem : Size → (ℕ → Bool) → Given → Bool
+in_order_lem z F (OneMore i p t) = is_cell z i && (ltb p (z.inputs + i) && leb t z.cell)
+in_order_lem z F (AsMany i p t) = is_cell z i && (ltb p (z.inputs + i) && leb t (z.cell + 1))
+in_order_lem z F (None i) = is_cell z i
+in_order_lem z F (Most i) = is_cell z i
+in_order_lem z F (Cause i a b) = is_cell z i && are_rows z a b
+in_order_lem z F (Read i j a b) = is_cell z i && (ltb j i && are_rows z a b)
+in_order_lem z F (Differs i j a b) = is_cell z i && (ltb j i && are_rows z a b)
+in_order_lem z F (Even i a b s) = is_cell z i && (are_rows z a b && leb s 3)
+in_order_lem z F (Table a b) = are_rows z a b
+in_order_lem z F (Used i) = ltb (i + 1) z.cells
+in_order_lem z F (Swap p r) = are_inputs z p r && swappable z.inputs F p r
+in_order_lem z F (Sorted p r i) = are_inputs z p r && is_cell z i
+in_order_lem z F (Both p r i) = are_inputs z p r && is_cell z i
+in_order_lem z F (Neither p r i) = are_inputs z p r && is_cell z i

@@ -2,13 +2,13 @@
 ghost use Rattle.std.specs.Prelude.{◌≡◌, ◌+◌, ◌*◌, ◌<◌, get_or};
 ghost use Rattle.bits.specs.Lists.{byte_at};
 ghost use Rattle.clauses.specs.declared.given.Given.TheVariants.{None};
-ghost use Rattle.clauses.specs.Step.{kindsOf, givenAt, length_of};
+ghost use Rattle.clauses.specs.Step.{kinds_of, given_at, length_of};
 
 use crate::given::Given;
 use crate::numbers::byte_behind;
 
 // Bytes and rows, by how far behind its kind a step has them.
-#[derive(Drop)]
+#[derive(Clone, Copy)]
 pub struct Fields {
     pub b1: u8,
     pub b2: u8,
@@ -33,7 +33,7 @@ fn row_behind(c: &[u8], at: usize, k: usize) -> u16
 
 // The step of a kind that has these fields; of another kind there is nothing to say.
 fn given_of(kind: u8, x: Fields) -> Given
-    ensures { result ≡ get_or (kindsOf x) kind (None 0) }
+    ensures { result ≡ get_or (kinds_of x) kind (None 0) }
 {
     if kind == 1 {
         return Given::OneMore(x.b1, x.b2, x.b3);
@@ -82,7 +82,7 @@ fn given_of(kind: u8, x: Fields) -> Given
 
 // The step at a place, if its kind is from 1 to 14.
 pub fn given_at(c: &[u8], at: usize) -> Given
-    ensures { result ≡ givenAt c.now at }
+    ensures { result ≡ given_at c.now at }
 {
     let x = Fields {
         b1: byte_behind(c, at, 1),

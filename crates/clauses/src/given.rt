@@ -1,14 +1,14 @@
 // The steps of kinds 1 to 14: each names a clause by its fields.
 ghost use Rattle.std.specs.Prelude.{◌≡◌, ◌&&◌, ◌+◌, leb, ltb, length};
-ghost use Rattle.tables.specs.Table.{tableBit, tableLength};
+ghost use Rattle.tables.specs.Table.{table_bit, table_length};
 ghost use Rattle.clauses.specs.Variables.{IsSize};
-ghost use Rattle.clauses.specs.Clause.{inOrder};
+ghost use Rattle.clauses.specs.Clause.{in_order};
 
 use crate::swaps::can_swap;
 use crate::variables::Size;
 
 // In the order of their kinds, 1 to 14. Cells, signals, inputs and counts have a byte, rows two.
-#[derive(Drop)]
+#[derive(Clone, Copy)]
 pub enum Given {
     // i, p, t: who reads at least t of the signals below p, and p too, reads at least t + 1 of those below p + 1
     OneMore(u8, u8, u8),
@@ -98,8 +98,8 @@ fn are_cells(z: Size, i: u8, j: u8, a: u16, b: u16) -> bool
 
 // Whether a step is in order.
 pub fn in_order(z: Size, t: &[u8], g: Given) -> bool
-    requires { IsSize z × (length t.now ≡ tableLength z.inputs) }
-    ensures { result ≡ inOrder z (tableBit t.now) g }
+    requires { IsSize z × (length t.now ≡ table_length z.inputs) }
+    ensures { result ≡ in_order z (table_bit t.now) g }
 {
     match g {
         Given::OneMore(i, p, t) => {

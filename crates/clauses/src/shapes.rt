@@ -1,11 +1,11 @@
 // The clause of a step as literals: at most three of them, or one of two lists.
 ghost use Rattle.std.specs.Prelude.{◌≡◌, true, ℕ, ◌<◌, length};
 ghost use Rattle.std.specs.Bool.{beq};
-ghost use Rattle.tables.specs.Table.{tableBit, tableLength};
+ghost use Rattle.tables.specs.Table.{table_bit, table_length};
 ghost use Rattle.clauses.specs.Variables.{IsSize};
-ghost use Rattle.clauses.specs.Clause.{clause, inOrder, evenly, as_table};
-ghost use Rattle.clauses.specs.Step.{row_at, questionIn};
-ghost use Rattle.clauses.specs.Shapes.{literalsIn, HasRows};
+ghost use Rattle.clauses.specs.Clause.{clause, in_order, evenly, as_table};
+ghost use Rattle.clauses.specs.Step.{row_at, question_in};
+ghost use Rattle.clauses.specs.Shapes.{literals_in, HasRows};
 
 use crate::given::Given;
 use crate::numbers::two_at;
@@ -13,7 +13,7 @@ use crate::variables::{Literal, Size, Variable};
 use tables::bit_at;
 
 // A clause of one, two or three literals; why a cell differs at two rows; the cells that may read one.
-#[derive(Drop)]
+#[derive(Clone, Copy)]
 pub enum Shape {
     One(Literal),
     Two(Literal, Literal),
@@ -32,9 +32,9 @@ pub fn row_at(z: Size, c: &[u8], a: usize) -> u32
 
 // Whether the table's bits at two rows are the same.
 fn same_bits<'a>(z: Size, c: &'a [u8], t: &'a [u8], a: usize, b: usize) -> bool
-    requires { IsSize z × HasRows z c.now × (length t.now ≡ tableLength z.inputs) × (a < z.rows) × (b < z.rows) }
-    ensures { result ≡ beq (tableBit t.now (row_at c.now a))
-        (tableBit t.now (row_at c.now b)) }
+    requires { IsSize z × HasRows z c.now × (length t.now ≡ table_length z.inputs) × (a < z.rows) × (b < z.rows) }
+    ensures { result ≡ beq (table_bit t.now (row_at c.now a))
+        (table_bit t.now (row_at c.now b)) }
 {
     let x = bit_at(t, row_at(z, c, a));
     let y = bit_at(t, row_at(z, c, b));
@@ -46,7 +46,7 @@ fn same_bits<'a>(z: Size, c: &'a [u8], t: &'a [u8], a: usize, b: usize) -> bool
 
 // Kind 8.
 fn even_shape(d: Variable, x: Variable, y: Variable, s: u8) -> Shape
-    ensures { (z : Size) (row : ℕ → ℕ) → literalsIn z row result ≡ evenly d x y s }
+    ensures { (z : Size) (row : ℕ → ℕ) → literals_in z row result ≡ evenly d x y s }
 {
     if s == 0 {
         return Shape::Three(Literal::Denied(d), Literal::Said(x), Literal::Said(y));
@@ -62,7 +62,7 @@ fn even_shape(d: Variable, x: Variable, y: Variable, s: u8) -> Shape
 
 // Kind 9.
 fn table_shape(same: bool, x: Variable) -> Shape
-    ensures { (z : Size) (row : ℕ → ℕ) → literalsIn z row result ≡ as_table same x }
+    ensures { (z : Size) (row : ℕ → ℕ) → literals_in z row result ≡ as_table same x }
 {
     if same {
         return Shape::One(Literal::Denied(x));
@@ -72,9 +72,9 @@ fn table_shape(same: bool, x: Variable) -> Shape
 
 // The clause of a step that is in order.
 pub fn shape_of<'a>(z: Size, c: &'a [u8], t: &'a [u8], g: Given) -> Shape
-    requires { IsSize z × HasRows z c.now × (length t.now ≡ tableLength z.inputs)
-        × (inOrder z (tableBit t.now) g ≡ true) }
-    ensures { literalsIn z (row_at c.now) result ≡ clause (questionIn z t.now c.now) g }
+    requires { IsSize z × HasRows z c.now × (length t.now ≡ table_length z.inputs)
+        × (in_order z (table_bit t.now) g ≡ true) }
+    ensures { literals_in z (row_at c.now) result ≡ clause (question_in z t.now c.now) g }
 {
     match g {
         Given::OneMore(i, p, k) => {

@@ -1,11 +1,11 @@
 // The variables, and their numbers.
 ghost use Rattle.std.specs.Prelude.{◌≡◌, ◌+◌, ◌*◌, ◌<◌};
-ghost use Rattle.clauses.specs.Variables.{IsSize, Named, number_of, literalOf, variableOf, variables, numberLimit};
-ghost use Rattle.clauses.specs.Variables.{differFrom, apartFrom, sameFrom};
+ghost use Rattle.clauses.specs.Variables.{IsSize, Named, number_of, literal_of, variable_of, variables, number_limit};
+ghost use Rattle.clauses.specs.Variables.{differ_from, apart_from, same_from};
 ghost use Rattle.clauses.specs.declared.variables.Variable.TheVariants.{Reads, Many, Differ, Apart, Same};
 
 // What a certificate speaks of: n inputs, cells of at most K inputs, m cells, and how many rows the certificate names.
-#[derive(Drop)]
+#[derive(Clone, Copy)]
 pub struct Size {
     pub inputs: usize,
     pub cell: usize,
@@ -16,7 +16,7 @@ pub struct Size {
 // What is said of a network, i and j being cells, p and q signals, a and b rows: cell i reads signal p; cell i reads at
 // least t of the signals below p; cell i gives different bits at the rows a and b; cell i reads cell j, and that one
 // does; the inputs p and q are swappable, and each cell below i reads both or neither.
-#[derive(Drop)]
+#[derive(Clone, Copy)]
 pub enum Variable {
     Reads(usize, usize),
     Many(usize, usize, usize),
@@ -26,7 +26,7 @@ pub enum Variable {
 }
 
 // A variable, said or denied.
-#[derive(Drop)]
+#[derive(Clone, Copy)]
 pub enum Literal {
     Said(Variable),
     Denied(Variable),
@@ -35,7 +35,7 @@ pub enum Literal {
 // Where the variables begin that say at which rows a cell differs.
 fn differ_from(z: Size) -> usize
     requires { IsSize z }
-    ensures { result ≡ differFrom z }
+    ensures { result ≡ differ_from z }
 {
     z.cells * (z.inputs + z.cells) + z.cells * (z.inputs + z.cells + 1) * (z.cell + 2)
 }
@@ -43,7 +43,7 @@ fn differ_from(z: Size) -> usize
 // Where those begin that say at which rows a cell that it reads does.
 fn apart_from(z: Size) -> usize
     requires { IsSize z }
-    ensures { result ≡ apartFrom z }
+    ensures { result ≡ apart_from z }
 {
     differ_from(z) + z.cells * z.rows * z.rows
 }
@@ -51,7 +51,7 @@ fn apart_from(z: Size) -> usize
 // Where those begin that say which inputs the same cells read.
 fn same_from(z: Size) -> usize
     requires { IsSize z }
-    ensures { result ≡ sameFrom z }
+    ensures { result ≡ same_from z }
 {
     apart_from(z) + z.cells * z.cells * z.rows * z.rows
 }
@@ -59,7 +59,7 @@ fn same_from(z: Size) -> usize
 // How many there are in all.
 pub fn all_variables(z: Size) -> usize
     requires { IsSize z }
-    ensures { (result ≡ variables z) × (result < numberLimit) }
+    ensures { (result ≡ variables z) × (result < number_limit) }
 {
     same_from(z) + z.inputs * z.inputs * (z.cells + 1)
 }
@@ -120,8 +120,8 @@ fn number_of(z: Size, x: Variable) -> usize
 
 // The number of a literal.
 pub fn literal_of(z: Size, l: Literal) -> usize
-    requires { IsSize z × Named z (variableOf l) }
-    ensures { (result ≡ literalOf z l) × (result < 2 * variables z) }
+    requires { IsSize z × Named z (variable_of l) }
+    ensures { (result ≡ literal_of z l) × (result < 2 * variables z) }
 {
     match l {
         Literal::Said(x) => {

@@ -14,39 +14,39 @@ use borrow.Author.Tests.{leb-true, le-leb, ltb-true, lt-ltb}
 use Rattle.bits.specs.Numbers.{bit, number}
 use Rattle.bits.specs.Sets.{size}
 use Rattle.bits.proofs.Bools.{and_left, and_right, false_of}
-use Rattle.tables.specs.Counting.{support, kept, tableOver}
-use Rattle.tables.proofs.Over.{over-gather}
-use Rattle.tables.proofs.Keeping.{kept-sees, two-kept, some-kept}
+use Rattle.tables.specs.Counting.{support, kept, table_over}
+use Rattle.tables.proofs.Over.{over_gather}
+use Rattle.tables.proofs.Keeping.{kept_sees, two-kept, some_kept}
 use Rattle.sheets.specs.declared.kinds.Edition.{Edition}
-use Rattle.sheets.specs.Edition.{mostRecords}
+use Rattle.sheets.specs.Edition.{most_records}
 use Rattle.sheets.specs.Network.{Cell, Gives}
 use Rattle.sheets.specs.Writing.{FitsFrom}
 use Rattle.sheets.specs.Reading.{AllRead}
 use Rattle.chains.specs.Chain.{pick, Made, stuck, made, inputs}
-use Rattle.chains.proofs.Lists.{AllBelow, Rising, pick-length, pick-below, pick-rising, packed-pick, inputs-length}
-use Rattle.chains.proofs.Lists.{inputs-at, inputs-below, inputs-rising}
-use Rattle.chains.proofs.Aside.{signals-are, table_is}
-use Rattle.cofactors.specs.Cofactors.{cofactorCells, cofactorCount, mostSelecting, hasCofactors, cofactorsOf}
-use Rattle.cofactors.specs.Cofactors.{cofactorsAside}
+use Rattle.chains.proofs.Lists.{AllBelow, Rising, pick-length, pick_below, pick-rising, packed-pick, inputs-length}
+use Rattle.chains.proofs.Lists.{inputs_at, inputs_below, inputs-rising}
+use Rattle.chains.proofs.Aside.{signals_are, table_is}
+use Rattle.cofactors.specs.Cofactors.{cofactor_cells, cofactor_count, most_selecting, has_cofactors, cofactors_of}
+use Rattle.cofactors.specs.Cofactors.{cofactors_aside}
 use Rattle.cofactors.specs.Chosen.{Near}
-use Rattle.cofactors.proofs.Cofactors.{cofactors-give, cofactors-fit, cofactors-wired, cofactors-read}
-use Rattle.cofactors.proofs.Count.{cofactors-count, count_most}
+use Rattle.cofactors.proofs.Cofactors.{cofactors_give, cofactors_fit, cofactors_wired, cofactors_read}
+use Rattle.cofactors.proofs.Count.{cofactors_count, count_most}
 
-near-true : (K c : ℕ) → hasCofactors K c ≡ true → Near K c
-near-true K c h = record {
-  more = ltb-true K c (and_left (ltb K c) (leb c (K + mostSelecting K)) h);
-  few = leb-true c (K + mostSelecting K) (and_right (ltb K c) (leb c (K + mostSelecting K)) h);
+near_true : (K c : ℕ) → has_cofactors K c ≡ true → Near K c
+near_true K c h = record {
+  more = ltb-true K c (and_left (ltb K c) (leb c (K + most_selecting K)) h);
+  few = leb-true c (K + most_selecting K) (and_right (ltb K c) (leb c (K + most_selecting K)) h);
 }
 
-true-near : (K c : ℕ) → Near K c → hasCofactors K c ≡ true
-true-near K c w = ap₂ ◌&&◌ (lt-ltb K c w.more) (le-leb c (K + mostSelecting K) w.few)
+true_near : (K c : ℕ) → Near K c → has_cofactors K c ≡ true
+true_near K c w = ap₂ ◌&&◌ (lt-ltb K c w.more) (le-leb c (K + most_selecting K) w.few)
 
 module _ (n K : ℕ) (F : ℕ → Bool) (two : 2 ≤ K) where
   abbrev l : List ℕ
   l = pick n (bit (kept n F)) (inputs n)
 
   abbrev U : ℕ
-  U = tableOver n (bit (kept n F)) F
+  U = table_over n (bit (kept n F)) F
 
   -- how many inputs count
   abbrev c : ℕ
@@ -61,58 +61,58 @@ module _ (n K : ℕ) (F : ℕ → Bool) (two : 2 ≤ K) where
 
   pub near-kept : K < size n (bit (support n F)) → length (pick n (bit (kept n F)) (inputs n))
       ≡ size n (bit (support n F))
-  near-kept h = kept-count ∙ ap (λ (s : ℕ). size n (bit s)) (some-kept n F (omega arith))
+  near-kept h = kept-count ∙ ap (λ (s : ℕ). size n (bit s)) (some_kept n F (omega arith))
 
-  pub aside-is : cofactorsAside n K (number (2 ^ n) F) ≡ cofactorsOf K n (pick n (bit (kept n F)) (inputs n))
-      (tableOver n (bit (kept n F)) F)
-  unfolding cofactorsAside
-  aside-is = ap₂ (cofactorsOf K n) (signals-are n F) (table_is n F)
+  pub aside_is : cofactors_aside n K (number (2 ^ n) F) ≡ cofactors_of K n (pick n (bit (kept n F)) (inputs n))
+      (table_over n (bit (kept n F)) F)
+  unfolding cofactors_aside
+  aside_is = ap₂ (cofactors_of K n) (signals_are n F) (table_is n F)
 
-  by-test : (b : Bool) → hasCofactors K (length l) ≡ b → cofactorsAside n K (number (2 ^ n) F)
-      ≡ cond b (made (cofactorCells K n l U)) stuck
-  unfolding cofactorsOf
-  by-test b e = aside-is ∙ ap (λ (b : Bool). cond b (made (cofactorCells K n l U)) stuck) e
+  by_test : (b : Bool) → has_cofactors K (length l) ≡ b → cofactors_aside n K (number (2 ^ n) F)
+      ≡ cond b (made (cofactor_cells K n l U)) stuck
+  unfolding cofactors_of
+  by_test b e = aside_is ∙ ap (λ (b : Bool). cond b (made (cofactor_cells K n l U)) stuck) e
 
   -- there is one where so few inputs more than K are kept
-  pub kept-made : Near K (size n (bit (kept n F))) → cofactorsAside n K (number (2 ^ n) F)
-      ≡ made (cofactorCells K n (pick n (bit (kept n F)) (inputs n)) (tableOver n (bit (kept n F)) F))
-  kept-made w = by-test true (true-near K (length l) (subst (Near K) (sym kept-count) w))
+  pub kept-made : Near K (size n (bit (kept n F))) → cofactors_aside n K (number (2 ^ n) F)
+      ≡ made (cofactor_cells K n (pick n (bit (kept n F)) (inputs n)) (table_over n (bit (kept n F)) F))
+  kept-made w = by_test true (true_near K (length l) (subst (Near K) (sym kept-count) w))
 
-  pub kept-stuck : (Near K (size n (bit (kept n F))) → ⊥) → cofactorsAside n K (number (2 ^ n) F) ≡ stuck
-  kept-stuck h = by-test false (false_of (hasCofactors K (length l)) (λ e. h (subst (Near K) kept-count
-      (near-true K (length l) e))))
+  pub kept_stuck : (Near K (size n (bit (kept n F))) → ⊥) → cofactors_aside n K (number (2 ^ n) F) ≡ stuck
+  kept_stuck h = by_test false (false_of (has_cofactors K (length l)) (λ e. h (subst (Near K) kept-count
+      (near_true K (length l) e))))
 
   -- and so where so few more count
-  pub near-made : Near K (size n (bit (support n F))) → cofactorsAside n K (number (2 ^ n) F)
-      ≡ made (cofactorCells K n (pick n (bit (kept n F)) (inputs n)) (tableOver n (bit (kept n F)) F))
+  pub near-made : Near K (size n (bit (support n F))) → cofactors_aside n K (number (2 ^ n) F)
+      ≡ made (cofactor_cells K n (pick n (bit (kept n F)) (inputs n)) (table_over n (bit (kept n F)) F))
   near-made w = kept-made (subst (Near K) (sym (near-kept w.more) ∙ kept-count) w)
 
   -- and nowhere else
-  pub made-near : (cs : List Cell) → cofactorsAside n K (number (2 ^ n) F) ≡ made cs
+  pub made-near : (cs : List Cell) → cofactors_aside n K (number (2 ^ n) F) ≡ made cs
       → Near K (size n (bit (support n F)))
-      × (cs ≡ cofactorCells K n (pick n (bit (kept n F)) (inputs n)) (tableOver n (bit (kept n F)) F))
-  made-near cs e = go (hasCofactors K (length l)) refl
+      × (cs ≡ cofactor_cells K n (pick n (bit (kept n F)) (inputs n)) (table_over n (bit (kept n F)) F))
+  made-near cs e = go (has_cofactors K (length l)) refl
     where
-      go : (b : Bool) → hasCofactors K (length (pick n (bit (kept n F)) (inputs n))) ≡ b
+      go : (b : Bool) → has_cofactors K (length (pick n (bit (kept n F)) (inputs n))) ≡ b
           → Near K (size n (bit (support n F)))
-          × (cs ≡ cofactorCells K n (pick n (bit (kept n F)) (inputs n)) (tableOver n (bit (kept n F)) F))
+          × (cs ≡ cofactor_cells K n (pick n (bit (kept n F)) (inputs n)) (table_over n (bit (kept n F)) F))
       go true q =
-          let w = near-true K (length l) q in
-          let z = by-test true q in
-          let same : made cs ≡ made (cofactorCells K n l U) = sym e ∙ z in
+          let w = near_true K (length l) q in
+          let z = by_test true q in
+          let same : made cs ≡ made (cofactor_cells K n l U) = sym e ∙ z in
           (subst (Near K) (kept_near (omega (arith, w.more, kept-count))) w, cc)
-      go false q = let z = by-test false q in let y : ◌≡◌ {A = ℕ} 0 1 = cc in absurd (omega arith)
+      go false q = let z = by_test false q in let y : ◌≡◌ {A = ℕ} 0 1 = cc in absurd (omega arith)
 
-  pub far-stuck : K + mostSelecting K < size n (bit (support n F)) → cofactorsAside n K (number (2 ^ n) F) ≡ stuck
-  far-stuck h = go (cofactorsAside n K (number (2 ^ n) F)) refl
+  pub far_stuck : K + most_selecting K < size n (bit (support n F)) → cofactors_aside n K (number (2 ^ n) F) ≡ stuck
+  far_stuck h = go (cofactors_aside n K (number (2 ^ n) F)) refl
     where
-      go : (x : Made) → cofactorsAside n K (number (2 ^ n) F) ≡ x → x ≡ stuck
+      go : (x : Made) → cofactors_aside n K (number (2 ^ n) F) ≡ x → x ≡ stuck
       go stuck e = refl
       go (made cs) e = absurd (omega (arith, (made-near cs e).0.few))
 
-  pub stuck-far : cofactorsAside n K (number (2 ^ n) F) ≡ stuck → K < size n (bit (support n F))
-      → K + mostSelecting K < size n (bit (support n F))
-  stuck-far e h = elim (dec_lt (K + mostSelecting K) c) [
+  pub stuck_far : cofactors_aside n K (number (2 ^ n) F) ≡ stuck → K < size n (bit (support n F))
+      → K + most_selecting K < size n (bit (support n F))
+  stuck_far e h = elim (dec_lt (K + most_selecting K) c) [
     | yes g ↦ g
     | no g ↦
         let m = near-made (record { more = h; few = omega arith }) in
@@ -121,9 +121,9 @@ module _ (n K : ℕ) (F : ℕ → Bool) (two : 2 ≤ K) where
   ]
 
   -- ---- its cells
-  module _ (p : 1 ≤ n) (cs : List Cell) (is : cofactorsAside n K (number (2 ^ n) F) ≡ made cs) where
+  module _ (p : 1 ≤ n) (cs : List Cell) (is : cofactors_aside n K (number (2 ^ n) F) ≡ made cs) where
     abbrev low : AllBelow n l
-    low = pick-below n (bit (kept n F)) (inputs n) n (λ j h. inputs-below n j (omega (arith, inputs-length n)))
+    low = pick_below n (bit (kept n F)) (inputs n) n (λ j h. inputs_below n j (omega (arith, inputs-length n)))
 
     abbrev rises : Rising l
     rises = pick-rising n (bit (kept n F)) (inputs n) (omega (arith, inputs-length n)) (inputs-rising n)
@@ -134,37 +134,37 @@ module _ (n K : ℕ) (F : ℕ → Bool) (two : 2 ≤ K) where
     more : K < length l
     more = omega (arith, near.more, near-kept near.more)
 
-    cells_are : cofactorCells K n l U ≡ cs
+    cells_are : cofactor_cells K n l U ≡ cs
     cells_are = sym (made-near cs is).1
 
     -- as many as is said
-    pub aside-count : length cs ≡ cofactorCount K (size n (bit (support n F)) - K)
-    aside-count =
+    pub aside_count : length cs ≡ cofactor_count K (size n (bit (support n F)) - K)
+    aside_count =
         let e = near-kept near.more in
-        ap length (sym cells_are) ∙ cofactors-count K n l U more (omega (arith, near.few))
-        ∙ ap (λ (m : ℕ). cofactorCount K (m - K)) e
+        ap length (sym cells_are) ∙ cofactors_count K n l U more (omega (arith, near.few))
+        ∙ ap (λ (m : ℕ). cofactor_count K (m - K)) e
 
-    pub aside-few : (3 ≤ length cs) × (length cs ≤ mostRecords)
-    aside-few =
+    pub aside_few : (3 ≤ length cs) × (length cs ≤ most_records)
+    aside_few =
         let s = c - K in
         let m = count_most K s (omega (arith, near.more)) (omega (arith, near.few)) in
-        (omega (arith, aside-count, m.0), omega (arith, aside-count, m.1))
+        (omega (arith, aside_count, m.0), omega (arith, aside_count, m.1))
 
     -- their network gives the table's bit at every assignment
-    pub aside-gives : Gives n K F cs
-    aside-gives = subst (Gives n K F) cells_are (record {
-      some = omega (arith, ap length cells_are, aside-few.0);
-      wired = cofactors-wired K n l U two more low rises;
+    pub aside_gives : Gives n K F cs
+    aside_gives = subst (Gives n K F) cells_are (record {
+      some = omega (arith, ap length cells_are, aside_few.0);
+      wired = cofactors_wired K n l U two more low rises;
       gives = λ x h.
-          cofactors-give K n l U two more low rises (bit x) false
-          ∙ ap (bit U) (packed-pick n (bit (kept n F)) (inputs n) (bit x) x (λ j g. ap (bit x) (sym (inputs-at n j g))))
-          ∙ over-gather n F (bit (kept n F)) (kept-sees n F) x h;
+          cofactors_give K n l U two more low rises (bit x) false
+          ∙ ap (bit U) (packed-pick n (bit (kept n F)) (inputs n) (bit x) x (λ j g. ap (bit x) (sym (inputs_at n j g))))
+          ∙ over_gather n F (bit (kept n F)) (kept_sees n F) x h;
     })
 
     -- each fits its record, in every edition whose records hold K signals
-    pub aside-fits : (e : Edition) → K ≤ e.most → FitsFrom e n cs
-    aside-fits e h = subst (FitsFrom e n) cells_are (cofactors-fit K n l U two more low rises e h)
+    pub aside_fits : (e : Edition) → K ≤ e.most → FitsFrom e n cs
+    aside_fits e h = subst (FitsFrom e n) cells_are (cofactors_fit K n l U two more low rises e h)
 
     -- each but the last is read by a later one
-    pub aside-read : AllRead n cs
-    aside-read = subst (AllRead n) cells_are (cofactors-read K n l U two more low rises)
+    pub aside_read : AllRead n cs
+    aside_read = subst (AllRead n) cells_are (cofactors_read K n l U two more low rises)

@@ -16,19 +16,19 @@ use Rattle.sheets.specs.Reading.{reads}
 use Rattle.chains.proofs.Each.{Each, each_append}
 use Rattle.chains.proofs.Read.{reads-append}
 use Rattle.networks.specs.Signals.{values}
-use Rattle.networks.proofs.Values.{values-below}
+use Rattle.networks.proofs.Values.{values_below}
 use Rattle.chains.proofs.Running.{values-append}
 use Rattle.cofactors.specs.Cofactors.{join_of}
 
 -- the answer of a network is its last cell's signal
-pub run-last : (o : Bool) (i : ℕ) (cs : List Cell) (v : ℕ → Bool) (s : ℕ) → suc s ≡ i + length cs → i ≤ s
+pub run_last : (o : Bool) (i : ℕ) (cs : List Cell) (v : ℕ → Bool) (s : ℕ) → suc s ≡ i + length cs → i ≤ s
     → run o i cs v ≡ values i cs v s
 unfolding run values
-run-last o i [] v s e h = absurd (omega arith)
-run-last o i (c ∷ []) v s e h =
+run_last o i [] v s e h = absurd (omega arith)
+run_last o i (c ∷ []) v s e h =
     sym (ap (λ (b : Bool). cond b (output c v) (v s)) (eq-eqb s i (omega arith)))
-run-last o i (c ∷ d ∷ cs) v s e h =
-    run-last (output c v) (suc i) (d ∷ cs) (λ s. cond (eqb s i) (output c v) (v s)) s (omega arith) (omega arith)
+run_last o i (c ∷ d ∷ cs) v s e h =
+    run_last (output c v) (suc i) (d ∷ cs) (λ s. cond (eqb s i) (output c v) (v s)) s (omega arith) (omega arith)
 
 module _ (p : ℕ) (h : ℕ → List Cell) (each : (g : ℕ) → length (h g) ≡ p) where
   pub length-join : (m : ℕ) → length (join_of m h) ≡ p * m
@@ -37,12 +37,12 @@ module _ (p : ℕ) (h : ℕ → List Cell) (each : (g : ℕ) → length (h g) �
   length-join (suc m) = length-append (join_of m h) (h m) ∙ ap₂ (λ (a b : ℕ). a + b) (length-join m) (each m)
       ∙ sym (mul-suc p m)
 
-  pub each-join : (P : ℕ → Cell → Type 0) (i m : ℕ) → ((g : ℕ) → g < m → Each P (i + p * g) (h g))
+  pub each_join : (P : ℕ → Cell → Type 0) (i m : ℕ) → ((g : ℕ) → g < m → Each P (i + p * g) (h g))
       → Each P i (join_of m h)
   unfolding join_of
-  each-join P i zero k = tt
-  each-join P i (suc m) k =
-      each_append P i (join_of m h) (h m) (each-join P i m (λ g l. k g (omega arith)))
+  each_join P i zero k = tt
+  each_join P i (suc m) k =
+      each_append P i (join_of m h) (h m) (each_join P i m (λ g l. k g (omega arith)))
       (subst (λ (j : ℕ). Each P (i + j) (h m)) (sym (length-join m)) (k m (omega arith)))
 
   -- the last cell of group g gives E g, whatever the groups before it left, as long as that is v below i
@@ -61,12 +61,12 @@ module _ (p : ℕ) (h : ℕ → List Cell) (each : (g : ℕ) → length (h g) �
     where
       old : (g < m → values i (join_of m h) v (i + p * g + (p - 1)) ≡ E g) → g < m
           → values (i + p * m) (h m) (values i (join_of m h) v) (i + p * g + (p - 1)) ≡ E g
-      old ih l = values-below (i + p * m) (h m) (values i (join_of m h) v) (i + p * g + (p - 1))
+      old ih l = values_below (i + p * m) (h m) (values i (join_of m h) v) (i + p * g + (p - 1))
           (omega (arith, mul-suc p g, mul-le-mul_left p l)) ∙ ih l
 
       new : g ≡ m → values (i + p * m) (h m) (values i (join_of m h) v) (i + p * g + (p - 1)) ≡ E g
       new q = ap (λ (j : ℕ). values (i + p * m) (h m) (values i (join_of m h) v) (i + p * j + (p - 1))) q
-          ∙ k m (omega arith) (values i (join_of m h) v) (λ s l. values-below i (join_of m h) v s l) ∙ ap E (sym q)
+          ∙ k m (omega arith) (values i (join_of m h) v) (λ s l. values_below i (join_of m h) v s l) ∙ ap E (sym q)
 
   -- what a group reads is read
   pub reads-join : (s g m : ℕ) → g < m → reads s (h g) ≤ reads s (join_of m h)

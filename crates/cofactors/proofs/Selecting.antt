@@ -20,11 +20,11 @@ use Rattle.sheets.specs.declared.kinds.Edition.{Edition}
 use Rattle.sheets.specs.Network.{Cell, packed, output}
 use Rattle.sheets.specs.Writing.{Fits}
 use Rattle.sheets.specs.Reading.{times, reads}
-use Rattle.sheets.proofs.Unread.{times-at}
+use Rattle.sheets.proofs.Unread.{times_at}
 use Rattle.chains.proofs.Each.{Each}
 use Rattle.chains.proofs.Lists.{packed-append, packed-list}
 use Rattle.networks.specs.Signals.{values}
-use Rattle.cofactors.specs.Cofactors.{selector, selecting, cellsEach}
+use Rattle.cofactors.specs.Cofactors.{selector, selecting, cells_each}
 
 -- cells of K inputs have room for w selecting signals and those that they select from; or they have two inputs, and
 -- three of them select by one signal
@@ -32,7 +32,7 @@ abbrev pub Suits : Bool → ℕ → ℕ → Type 0
 Suits true K w = w + 2 ^ w ≤ K
 Suits false K w = (w ≡ 1) × (2 ≤ K)
 
-pub selecting-length : (one : Bool) (w i : ℕ) (q f : ℕ → ℕ) → length (selecting one w i q f) ≡ cellsEach one
+pub selecting-length : (one : Bool) (w i : ℕ) (q f : ℕ → ℕ) → length (selecting one w i q f) ≡ cells_each one
 selecting-length true w i q f = refl
 selecting-length false w i q f = refl
 
@@ -49,8 +49,8 @@ module _ (w : ℕ) (q f : ℕ → ℕ) where
   at_first j h = get_or-append (list_of w q) (list_of (2 ^ w) f) 0 j (omega (arith, length-list w q))
       ∙ list_at w q j 0 h
 
-  at-then : (t : ℕ) → t < 2 ^ w → get_or signals (w + t) 0 ≡ f t
-  at-then t h =
+  at_then : (t : ℕ) → t < 2 ^ w → get_or signals (w + t) 0 ≡ f t
+  at_then t h =
       ap (λ (k : ℕ). get_or signals (k + t) 0) (sym (length-list w q))
       ∙ get_or-append-add (list_of w q) (list_of (2 ^ w) f) t 0 ∙ list_at (2 ^ w) f t 0 h
 
@@ -77,18 +77,18 @@ module _ (w : ℕ) (q f : ℕ → ℕ) where
       number_lt w (λ t. v (q t)),
     )
 
-    one-gives : bit (selector w) (packed signals v) ≡ v (f a)
-    one-gives =
+    one_gives : bit (selector w) (packed signals v) ≡ v (f a)
+    one_gives =
         let la = number_lt w (λ t. v (q t)) in
         ap (bit (selector w)) together
         ∙ bit-number (2 ^ (w + 2 ^ w)) (λ x. bit (x / 2 ^ w) (x % 2 ^ w)) (b * 2 ^ w + a) within
         ∙ ap₂ bit (high b w la) (low b w la) ∙ bit-number (2 ^ w) (λ t. v (f t)) a la
 
 -- ---- cells of two inputs
-two-give : (v : ℕ → Bool) (x y T : ℕ) → output (record { signals = x ∷ y ∷ []; table = T }) v
+two_give : (v : ℕ → Bool) (x y T : ℕ) → output (record { signals = x ∷ y ∷ []; table = T }) v
     ≡ bit T (val (v x) + val (v y) * 2)
 unfolding output number
-two-give v x y T = let e : 0 + val (v x) * 1 + val (v y) * 2 ≡ val (v x) + val (v y) * 2 = omega arith in ap (bit T) e
+two_give v x y T = let e : 0 + val (v x) * 1 + val (v y) * 2 ≡ val (v x) + val (v y) * 2 = omega arith in ap (bit T) e
 
 gates : (s a b : Bool) → bit 14 (val (bit 4 (val s + val a * 2)) + val (bit 8 (val s + val b * 2)) * 2)
     ≡ cond s b a
@@ -101,17 +101,17 @@ gates false true false = refl
 gates false false true = refl
 gates false false false = refl
 
-three-give : (i : ℕ) (q f : ℕ → ℕ) (v : ℕ → Bool) → q 0 < i → f 0 < i → f 1 < i
+three_give : (i : ℕ) (q f : ℕ → ℕ) (v : ℕ → Bool) → q 0 < i → f 0 < i → f 1 < i
     → values i (selecting false 1 i q f) v (i + 2) ≡ cond (v (q 0)) (v (f 1)) (v (f 0))
 unfolding values
-three-give i q f v lq la lb =
+three_give i q f v lq la lb =
     ap (λ (t : Bool). cond t (output (record { signals = i ∷ suc i ∷ []; table = 14 }) v2) (v2 (i + 2)))
     (eq-eqb (i + 2) (suc (suc i)) (omega arith))
-    ∙ two-give v2 i (suc i) 14
+    ∙ two_give v2 i (suc i) 14
     ∙ ap₂ (λ (a b : Bool). bit 14 (val a + val b * 2))
     (ap (λ (t : Bool). cond t o2 (v1 i)) (ne_eqb i (suc i) (omega arith)) ∙ ap (λ (t : Bool). cond t o1 (v i))
-    (eq-eqb i i refl) ∙ two-give v (q 0) (f 0) 4)
-    (ap (λ (t : Bool). cond t o2 (v1 (suc i))) (eq-eqb (suc i) (suc i) refl) ∙ two-give v1 (q 0) (f 1) 8
+    (eq-eqb i i refl) ∙ two_give v (q 0) (f 0) 4)
+    (ap (λ (t : Bool). cond t o2 (v1 (suc i))) (eq-eqb (suc i) (suc i) refl) ∙ two_give v1 (q 0) (f 1) 8
     ∙ ap₂ (λ (a b : Bool). bit 8 (val a + val b * 2)) (old (q 0) lq) (old (f 1) lb))
     ∙ gates (v (q 0)) (v (f 0)) (v (f 1))
   where
@@ -141,15 +141,15 @@ picked q f v = go (v (q 0))
 -- ---- the signal that they give
 pub selects : (one : Bool) (K w i : ℕ) (q f : ℕ → ℕ) (v : ℕ → Bool) → Suits one K w → ((t : ℕ) → t < w → q t < i)
     → ((t : ℕ) → t < 2 ^ w → f t < i)
-    → values i (selecting one w i q f) v (i + (cellsEach one - 1)) ≡ v (f (number w (λ t. v (q t))))
+    → values i (selecting one w i q f) v (i + (cells_each one - 1)) ≡ v (f (number w (λ t. v (q t))))
 unfolding values output
 selects true K w i q f v u lq lf =
     let e : i + 0 ≡ i = omega arith in
     ap (λ (b : Bool). cond b (bit (selector w) (packed (list_of w q ++ list_of (2 ^ w) f) v)) (v (i + 0)))
     (eq-eqb (i + 0) i e)
-    ∙ one-gives w q f v
+    ∙ one_gives w q f v
 selects false K w i q f v u lq lf =
-    three-give i q f v (lq 0 (omega (arith, u.0))) (lf 0 (pow_pos w)) (lf 1 (subst (λ (k : ℕ). 1 < 2 ^ k) (sym u.0)
+    three_give i q f v (lq 0 (omega (arith, u.0))) (lf 0 (pow_pos w)) (lf 1 (subst (λ (k : ℕ). 1 < 2 ^ k) (sym u.0)
     (lit< tt)))
     ∙ picked q f v ∙ ap (λ (k : ℕ). v (f (number k (λ t. v (q t))))) (sym u.0)
 
@@ -161,9 +161,9 @@ pub record Ordered (i n a b : ℕ) (q f : ℕ → ℕ) : Type 0 where
   pub climbs : (t : ℕ) → t + 1 < b → f t < f (t + 1)
   pub below : (t : ℕ) → t < b → f t < i
 
-one-fits : (e : Edition) (K w i n : ℕ) (q f : ℕ → ℕ) → K ≤ e.most → w + 2 ^ w ≤ K → Ordered i n w (2 ^ w) q f
+one_fits : (e : Edition) (K w i n : ℕ) (q f : ℕ → ℕ) → K ≤ e.most → w + 2 ^ w ≤ K → Ordered i n w (2 ^ w) q f
     → Fits e i (record { signals = list_of w q ++ list_of (2 ^ w) f; table = selector w })
-one-fits e K w i n q f k u o = record {
+one_fits e K w i n q f k u o = record {
   some = omega (arith, long w q f, pow_pos w);
   most = omega (arith, long w q f);
   known = known;
@@ -175,7 +175,7 @@ one-fits e K w i n q f k u o = record {
     -- place j from w on
     then : (j : ℕ) → w ≤ j → j < w + 2 ^ w → get_or (list_of w q ++ list_of (2 ^ w) f) j 0 ≡ f (j - w)
     then j h g = ap (λ (m : ℕ). get_or (list_of w q ++ list_of (2 ^ w) f) m 0) (let e : j ≡ w + (j - w) = omega arith in e)
-        ∙ at-then w q f (j - w) (omega arith)
+        ∙ at_then w q f (j - w) (omega arith)
 
     known : (j : ℕ) → j < length (list_of w q ++ list_of (2 ^ w) f) → get_or (list_of w q ++ list_of (2 ^ w) f) j 0 < i
     known j h = elim (dec_lt j w) [
@@ -224,10 +224,10 @@ two_fits e i x y T k a b c = record { some = omega arith; most = k; known = know
     rising zero h = a
     rising (suc j) h = absurd (omega arith)
 
-pub selecting-fits : (one : Bool) (e : Edition) (K w i n : ℕ) (q f : ℕ → ℕ) → K ≤ e.most → Suits one K w
+pub selecting_fits : (one : Bool) (e : Edition) (K w i n : ℕ) (q f : ℕ → ℕ) → K ≤ e.most → Suits one K w
     → Ordered i n w (2 ^ w) q f → Each (Fits e) i (selecting one w i q f)
-selecting-fits true e K w i n q f k u o = (one-fits e K w i n q f k u o, tt)
-selecting-fits false e K w i n q f k u o =
+selecting_fits true e K w i n q f k u o = (one_fits e K w i n q f k u o, tt)
+selecting_fits false e K w i n q f k u o =
     let h : 1 < 2 ^ w = subst (λ (k : ℕ). 1 < 2 ^ k) (sym u.0) (lit< tt) in
     let a = o.first 0 (omega (arith, u.0)) in
     let b = o.from 0 (pow_pos w) in
@@ -246,28 +246,28 @@ selecting-fits false e K w i n q f k u o =
 pub selecting-reads : (one : Bool) (K w i : ℕ) (q f : ℕ → ℕ) (t : ℕ) → Suits one K w → t < 2 ^ w
     → 1 ≤ reads (f t) (selecting one w i q f)
 selecting-reads true K w i q f t u h =
-    let e = times-at (list_of w q ++ list_of (2 ^ w) f) (w + t) (omega (arith, long w q f)) in
+    let e = times_at (list_of w q ++ list_of (2 ^ w) f) (w + t) (omega (arith, long w q f)) in
     let g : 1 ≤ times (f t) (list_of w q ++ list_of (2 ^ w) f) =
-    subst (λ (s : ℕ). 1 ≤ times s (list_of w q ++ list_of (2 ^ w) f)) (at-then w q f t h) e in
+    subst (λ (s : ℕ). 1 ≤ times s (list_of w q ++ list_of (2 ^ w) f)) (at_then w q f t h) e in
     omega arith
-selecting-reads false K w i q f zero u h = omega (arith, times-at (q 0 ∷ f 0 ∷ []) 1 (lit< tt))
-selecting-reads false K w i q f (suc zero) u h = omega (arith, times-at (q 0 ∷ f 1 ∷ []) 1 (lit< tt))
+selecting-reads false K w i q f zero u h = omega (arith, times_at (q 0 ∷ f 0 ∷ []) 1 (lit< tt))
+selecting-reads false K w i q f (suc zero) u h = omega (arith, times_at (q 0 ∷ f 1 ∷ []) 1 (lit< tt))
 selecting-reads false K w i q f (suc (suc t)) u h =
     let g : suc (suc t) < 2 = subst (λ (k : ℕ). suc (suc t) < 2 ^ k) u.0 h in absurd (omega arith)
 
 -- and each of their own signals but the last
-pub selecting-own : (one : Bool) (w i : ℕ) (q f : ℕ → ℕ) (s : ℕ) → i ≤ s → s + 1 < i + cellsEach one
+pub selecting_own : (one : Bool) (w i : ℕ) (q f : ℕ → ℕ) (s : ℕ) → i ≤ s → s + 1 < i + cells_each one
     → 1 ≤ reads s (selecting one w i q f)
-selecting-own true w i q f s h g = absurd (omega arith)
-selecting-own false w i q f s h g = elim (dec_lt i s) [
+selecting_own true w i q f s h g = absurd (omega arith)
+selecting_own false w i q f s h g = elim (dec_lt i s) [
   | yes l ↦
       let e : suc i ≡ s = omega arith in
       let r : 1 ≤ times s (i ∷ suc i ∷ []) = subst (λ (x : ℕ). 1 ≤ times x (i ∷ suc i ∷ [])) e
-      (times-at (i ∷ suc i ∷ []) 1 (lit< tt)) in
+      (times_at (i ∷ suc i ∷ []) 1 (lit< tt)) in
       omega arith
   | no l ↦
       let e : i ≡ s = omega arith in
       let r : 1 ≤ times s (i ∷ suc i ∷ []) = subst (λ (x : ℕ). 1 ≤ times x (i ∷ suc i ∷ [])) e
-      (times-at (i ∷ suc i ∷ []) 0 (lit< tt)) in
+      (times_at (i ∷ suc i ∷ []) 0 (lit< tt)) in
       omega arith
 ]

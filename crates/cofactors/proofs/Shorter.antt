@@ -8,7 +8,7 @@ use native.Mathlib.Omega.{arith}
 use lib.Dec.{leb}
 use lib.ListN.{length}
 use borrow.Author.Tests.{leb-true, leb-false}
-use Rattle.sheets.specs.Edition.{mostRecords}
+use Rattle.sheets.specs.Edition.{most_records}
 use Rattle.sheets.specs.Network.{Cell}
 use Rattle.chains.specs.Chain.{Made, stuck, made}
 use Rattle.cofactors.specs.Any.{Any, sheet, unsplit, overlong, shorter, either}
@@ -39,9 +39,9 @@ module _ (x y : Made) where
           pick false e = inr e
 
   -- where it has many cells and the second never has, there is no second
-  pub shorter-long : (m : ℕ) (cs : List Cell) → shorter x y ≡ made cs → m < length cs
+  pub shorter_long : (m : ℕ) (cs : List Cell) → shorter x y ≡ made cs → m < length cs
       → ((ds : List Cell) → y ≡ made ds → length ds ≤ m) → (x ≡ made cs) × (y ≡ stuck)
-  shorter-long m cs e h few = go x y e few
+  shorter_long m cs e h few = go x y e few
     where
       go : (x y : Made) → shorter x y ≡ made cs → ((ds : List Cell) → y ≡ made ds → length ds ≤ m)
           → (x ≡ made cs) × (y ≡ stuck)
@@ -56,8 +56,8 @@ module _ (x y : Made) where
           pick false q e = let d : ys ≡ cs = cc in omega (arith, f ys refl, ap length d)
 
   -- it has no more cells than the second
-  pub shorter-few : (ds : List Cell) → y ≡ made ds → (cs : List Cell) × (shorter x y ≡ made cs) × (length cs ≤ length ds)
-  shorter-few ds e = go x
+  pub shorter_few : (ds : List Cell) → y ≡ made ds → (cs : List Cell) × (shorter x y ≡ made cs) × (length cs ≤ length ds)
+  shorter_few ds e = go x
     where
       go : (x : Made) → (cs : List Cell) × (shorter x y ≡ made cs) × (length cs ≤ length ds)
       go stuck = (ds, e, omega arith)
@@ -87,16 +87,16 @@ module _ (x y : Made) where
 -- ---- how an answer comes about, from what make's chain and the others make
 module _ (one more : Made) where
   pub data Came : Any → Type 0 where
-    by-make : (cs : List Cell) → one ≡ made cs → Came (sheet cs)
-    by-more : (cs : List Cell) → one ≡ stuck → more ≡ made cs → length cs ≤ mostRecords → Came (sheet cs)
-    too_long : (cs : List Cell) → one ≡ stuck → more ≡ made cs → mostRecords < length cs → Came overlong
-    no-split : one ≡ stuck → more ≡ stuck → Came unsplit
+    by_make_lem : (cs : List Cell) → one ≡ made cs → Came (sheet cs)
+    by_more : (cs : List Cell) → one ≡ stuck → more ≡ made cs → length cs ≤ most_records → Came (sheet cs)
+    too_long_lem : (cs : List Cell) → one ≡ stuck → more ≡ made cs → most_records < length cs → Came overlong
+    no_split : one ≡ stuck → more ≡ stuck → Came unsplit
 
 pub came : (one more : Made) → Came one more (either one more)
-came (made cs) x = by-make cs refl
-came stuck stuck = no-split refl refl
-came stuck (made cs) = go (leb (length cs) mostRecords) refl
+came (made cs) x = by_make_lem cs refl
+came stuck stuck = no_split refl refl
+came stuck (made cs) = go (leb (length cs) most_records) refl
   where
-    go : (t : Bool) → leb (length cs) mostRecords ≡ t → Came stuck (made cs) (cond t (sheet cs) overlong)
-    go true q = by-more cs refl refl (leb-true (length cs) mostRecords q)
-    go false q = too_long cs refl refl (leb-false (length cs) mostRecords q)
+    go : (t : Bool) → leb (length cs) most_records ≡ t → Came stuck (made cs) (cond t (sheet cs) overlong)
+    go true q = by_more cs refl refl (leb-true (length cs) most_records q)
+    go false q = too_long_lem cs refl refl (leb-false (length cs) most_records q)

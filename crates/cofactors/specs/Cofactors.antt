@@ -5,7 +5,7 @@ use Rattle.bits.specs.Numbers.{bit, number}
 use Rattle.bits.specs.Lists.{list_of}
 use Rattle.sheets.specs.Network.{Cell}
 use Rattle.chains.specs.Chain.{Made, stuck, made, inputs}
-use Rattle.chains.specs.Aside.{keptSignals, keptTable}
+use Rattle.chains.specs.Aside.{kept_signals, kept_table}
 
 -- ---- the cofactors
 
@@ -31,9 +31,9 @@ selecting false w i q f =
     ∷ record { signals = i ∷ suc i ∷ []; table = 14 } ∷ []
 
 -- how many those are
-abbrev pub cellsEach : Bool → ℕ
-cellsEach true = 1
-cellsEach false = 3
+abbrev pub cells_each : Bool → ℕ
+cells_each true = 1
+cells_each false = 3
 
 -- ---- level by level
 
@@ -54,56 +54,56 @@ unfoldable pub levels : Bool → ℕ → List ℕ → (ℕ → ℕ) → (ℕ →
 levels one i [] q f = []
 levels one i (w ∷ ws) q f =
     let m = 2 ^ total ws in
-    let p = cellsEach one in
+    let p = cells_each one in
     join_of m (λ g. selecting one w (i + p * g) q (λ t. f (2 ^ w * g + t)))
     ++ levels one (i + p * m) ws (λ t. q (w + t)) (λ g. i + p * g + (p - 1))
 
 -- s selecting signals, one on each level; or two, and on the last level what is left
-abbrev pub byOnes : ℕ → List ℕ
-byOnes zero = []
-byOnes (suc s) = 1 ∷ byOnes s
+abbrev pub by_ones : ℕ → List ℕ
+by_ones zero = []
+by_ones (suc s) = 1 ∷ by_ones s
 
-abbrev pub byTwos : ℕ → List ℕ
-byTwos zero = []
-byTwos (suc zero) = 1 ∷ []
-byTwos (suc (suc s)) = 2 ∷ byTwos s
+abbrev pub by_twos : ℕ → List ℕ
+by_twos zero = []
+by_twos (suc zero) = 1 ∷ []
+by_twos (suc (suc s)) = 2 ∷ by_twos s
 
 -- with K at least 6 a cell has room for two selecting signals and four others
 abbrev pub widths : ℕ → ℕ → List ℕ
-widths K s = cond (leb 6 K) (byTwos s) (byOnes s)
+widths K s = cond (leb 6 K) (by_twos s) (by_ones s)
 
 -- ---- the sheet
 
 -- the cells, the first giving signal i, of the table T over the signals l
-unfoldable pub cofactorCells : ℕ → ℕ → List ℕ → ℕ → List Cell
-cofactorCells K i l T =
+unfoldable pub cofactor_cells : ℕ → ℕ → List ℕ → ℕ → List Cell
+cofactor_cells K i l T =
     let s = length l - K in
     list_of (2 ^ s) (cofactor K l T)
     ++ levels (leb 3 K) (i + 2 ^ s) (widths K s) (λ t. get_or l (K + t) 0) (λ v. i + v)
 
 -- a, b or c for 1, 2 or 3
-abbrev pub ofThree : ℕ → ℕ → ℕ → ℕ → ℕ
-ofThree a b c zero = 0
-ofThree a b c (suc zero) = a
-ofThree a b c (suc (suc zero)) = b
-ofThree a b c (suc (suc (suc s))) = c
+abbrev pub of_three : ℕ → ℕ → ℕ → ℕ → ℕ
+of_three a b c zero = 0
+of_three a b c (suc zero) = a
+of_three a b c (suc (suc zero)) = b
+of_three a b c (suc (suc (suc s))) = c
 
 -- how many they are, by the number of selecting signals: 3, 5, 11 with K at least 6; 3, 7, 15 with K from 3 to 5; 5, 13
 -- with K = 2
-abbrev pub cofactorCount : ℕ → ℕ → ℕ
-cofactorCount K s = cond (leb 6 K) (ofThree 3 5 11 s) (cond (leb 3 K) (ofThree 3 7 15 s) (ofThree 5 13 0 s))
+abbrev pub cofactor_count : ℕ → ℕ → ℕ
+cofactor_count K s = cond (leb 6 K) (of_three 3 5 11 s) (cond (leb 3 K) (of_three 3 7 15 s) (of_three 5 13 0 s))
 
 -- at most so many signals select: with more the cells would be more than a sheet has
-abbrev pub mostSelecting : ℕ → ℕ
-mostSelecting K = cond (leb 3 K) 3 2
+abbrev pub most_selecting : ℕ → ℕ
+most_selecting K = cond (leb 3 K) 3 2
 
 -- whether a table over c signals has such a sheet
-abbrev pub hasCofactors : ℕ → ℕ → Bool
-hasCofactors K c = ltb K c && leb c (K + mostSelecting K)
+abbrev pub has_cofactors : ℕ → ℕ → Bool
+has_cofactors K c = ltb K c && leb c (K + most_selecting K)
 
-unfoldable pub cofactorsOf : ℕ → ℕ → List ℕ → ℕ → Made
-cofactorsOf K i l T = cond (hasCofactors K (length l)) (made (cofactorCells K i l T)) stuck
+unfoldable pub cofactors_of : ℕ → ℕ → List ℕ → ℕ → Made
+cofactors_of K i l T = cond (has_cofactors K (length l)) (made (cofactor_cells K i l T)) stuck
 
 -- that of the table T of a gate of n inputs, with what does not count set aside
-unfoldable pub cofactorsAside : ℕ → ℕ → ℕ → Made
-cofactorsAside n K T = cofactorsOf K n (keptSignals (inputs n) T) (keptTable (inputs n) T)
+unfoldable pub cofactors_aside : ℕ → ℕ → ℕ → Made
+cofactors_aside n K T = cofactors_of K n (kept_signals (inputs n) T) (kept_table (inputs n) T)

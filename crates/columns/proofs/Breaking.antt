@@ -12,77 +12,77 @@ use lib.ListN.{length, length-append}
 use borrow.Author.Tests.{eq-eqb, ne_eqb, lt-ltb, le-ltb, le-leb, lt-leb, ltb-true, ltb-false}
 use Rattle.bits.specs.Sets.{size}
 use Rattle.bits.proofs.Bools.{clash}
-use Rattle.bits.proofs.Below.{every-all, every-stop}
-use Rattle.bits.proofs.Least.{is-least}
-use Rattle.splits.specs.Columns.{member, firsts, column, columns, fewColumns, firstBroken}
+use Rattle.bits.proofs.Below.{every_all, every_stop}
+use Rattle.bits.proofs.Least.{is_least}
+use Rattle.splits.specs.Columns.{member, firsts, column, columns, few_columns, first_broken}
 use Rattle.columns.specs.declared.columns.Broken.{Broken}
-use Rattle.columns.specs.Broken.{brokenAt, Several}
-use Rattle.splits.proofs.Firsts.{firsts-has}
+use Rattle.columns.specs.Broken.{broken_at, Several}
+use Rattle.splits.proofs.Firsts.{firsts_has}
 
 module _ (n : ℕ) (F : ℕ → Bool) (A B : ℕ → Bool) (m : ℕ) where
   -- how many columns b has
   abbrev many : ℕ → ℕ
   many b = length (columns n F A B b)
 
-  pub broken-before : (b : ℕ) → b < firstBroken n F A B m → length (columns n F A B b) ≤ m
-  unfolding firstBroken
-  broken-before b h = ltb-false m (many b) ((is-least (2 ^ size n B) (λ b. ltb m (many b))).before b h)
+  pub broken_before : (b : ℕ) → b < first_broken n F A B m → length (columns n F A B b) ≤ m
+  unfolding first_broken
+  broken_before b h = ltb-false m (many b) ((is_least (2 ^ size n B) (λ b. ltb m (many b))).before b h)
 
-  pub broken-there : firstBroken n F A B m < 2 ^ size n B → m < length (columns n F A B (firstBroken n F A B m))
-  unfolding firstBroken
-  broken-there h = ltb-true m _ ((is-least (2 ^ size n B) (λ b. ltb m (many b))).here h)
+  pub broken_there : first_broken n F A B m < 2 ^ size n B → m < length (columns n F A B (first_broken n F A B m))
+  unfolding first_broken
+  broken_there h = ltb-true m _ ((is_least (2 ^ size n B) (λ b. ltb m (many b))).here h)
 
-  pub broken-most : firstBroken n F A B m ≤ 2 ^ size n B
-  unfolding firstBroken
-  broken-most = (is-least (2 ^ size n B) (λ b. ltb m (many b))).within
+  pub broken_most : first_broken n F A B m ≤ 2 ^ size n B
+  unfolding first_broken
+  broken_most = (is_least (2 ^ size n B) (λ b. ltb m (many b))).within
 
   -- the test is that there is none
-  pub broken-few : fewColumns n F A B m ≡ eqb (firstBroken n F A B m) (2 ^ size n B)
-  unfolding fewColumns
-  broken-few = elim (dec_lt (firstBroken n F A B m) (2 ^ size n B)) [
-    | yes l ↦ every-stop (2 ^ size n B) (λ b. leb (many b) m) (firstBroken n F A B m) l
-        (lt-leb (many (firstBroken n F A B m)) m (broken-there l))
-        ∙ sym (ne_eqb (firstBroken n F A B m) (2 ^ size n B) (omega arith))
-    | no l ↦ let e : firstBroken n F A B m ≡ 2 ^ size n B = omega (arith, broken-most) in
-        every-all (2 ^ size n B) (λ b. leb (many b) m) (λ b h. le-leb (many b) m (broken-before b (omega (arith, e))))
-        ∙ sym (eq-eqb (firstBroken n F A B m) (2 ^ size n B) e)
+  pub broken_few : few_columns n F A B m ≡ eqb (first_broken n F A B m) (2 ^ size n B)
+  unfolding few_columns
+  broken_few = elim (dec_lt (first_broken n F A B m) (2 ^ size n B)) [
+    | yes l ↦ every_stop (2 ^ size n B) (λ b. leb (many b) m) (first_broken n F A B m) l
+        (lt-leb (many (first_broken n F A B m)) m (broken_there l))
+        ∙ sym (ne_eqb (first_broken n F A B m) (2 ^ size n B) (omega arith))
+    | no l ↦ let e : first_broken n F A B m ≡ 2 ^ size n B = omega (arith, broken_most) in
+        every_all (2 ^ size n B) (λ b. leb (many b) m) (λ b h. le-leb (many b) m (broken_before b (omega (arith, e))))
+        ∙ sym (eq-eqb (first_broken n F A B m) (2 ^ size n B) e)
   ]
 
-  pub broken-within : fewColumns n F A B m ≡ false → firstBroken n F A B m < 2 ^ size n B
-  broken-within e = elim (dec_lt (firstBroken n F A B m) (2 ^ size n B)) [
+  pub broken_within : few_columns n F A B m ≡ false → first_broken n F A B m < 2 ^ size n B
+  broken_within e = elim (dec_lt (first_broken n F A B m) (2 ^ size n B)) [
     | yes l ↦ l
-    | no l ↦ absurd (clash (eq-eqb (firstBroken n F A B m) (2 ^ size n B) (omega (arith, broken-most)))
-        (sym broken-few ∙ e))
+    | no l ↦ absurd (clash (eq-eqb (first_broken n F A B m) (2 ^ size n B) (omega (arith, broken_most)))
+        (sym broken_few ∙ e))
   ]
 
   -- some columns are counted exactly where it fails
-  pub broken-some : ltb 0 (brokenAt n F A B m).columns ≡ not (fewColumns n F A B m)
-  broken-some = go (fewColumns n F A B m) refl
+  pub broken_some : ltb 0 (broken_at n F A B m).columns ≡ not (few_columns n F A B m)
+  broken_some = go (few_columns n F A B m) refl
     where
       b : ℕ
-      b = firstBroken n F A B m
+      b = first_broken n F A B m
 
-      go : (t : Bool) → fewColumns n F A B m ≡ t
+      go : (t : Bool) → few_columns n F A B m ≡ t
           → ltb 0 (cond {A = Broken} t (record { b = 0; columns = 0 })
-          (record { b = firstBroken n F A B m; columns = many (firstBroken n F A B m) })).columns ≡ not t
+          (record { b = first_broken n F A B m; columns = many (first_broken n F A B m) })).columns ≡ not t
       go true e = refl
-      go false e = lt-ltb 0 (many b) (omega (arith, broken-there (broken-within e)))
+      go false e = lt-ltb 0 (many b) (omega (arith, broken_there (broken_within e)))
 
 -- ---- so many different values come from so many places
 
-pub firsts-most : (f : ℕ → ℕ) (n : ℕ) → length (firsts f n) ≤ n
+pub firsts_most : (f : ℕ → ℕ) (n : ℕ) → length (firsts f n) ≤ n
 unfolding firsts
-firsts-most f zero = omega arith
-firsts-most f (suc n) = go (member (f n) (firsts f n)) (firsts-most f n)
+firsts_most f zero = omega arith
+firsts_most f (suc n) = go (member (f n) (firsts f n)) (firsts_most f n)
   where
     go : (t : Bool) → length (firsts f n) ≤ n → length (cond t (firsts f n) (firsts f n ++ (f n ∷ []))) ≤ suc n
     go true ih = omega arith
     go false ih = omega (arith, length-append (firsts f n) (f n ∷ []))
 
-pub firsts-several : (f : ℕ → ℕ) (n m : ℕ) → m < length (firsts f n) → Several f n m
+pub firsts_several : (f : ℕ → ℕ) (n m : ℕ) → m < length (firsts f n) → Several f n m
 unfolding firsts
-firsts-several f zero m h = absurd (not-suc-le-zero h)
-firsts-several f (suc n) m h = go (member (f n) (firsts f n)) refl (firsts-several f n) h
+firsts_several f zero m h = absurd (not-suc-le-zero h)
+firsts_several f (suc n) m h = go (member (f n) (firsts f n)) refl (firsts_several f n) h
   where
     -- from those below n
     wider : Several f n m → Several f (suc n) m
@@ -111,7 +111,7 @@ firsts-several f (suc n) m h = go (member (f n) (firsts f n)) refl (firsts-sever
         apart : (i j : ℕ) → i < j → j ≤ m → f (at i) ≡ f (at j) → ⊥
         apart i j l g q = elim (dec_lt j m) [
           | yes h ↦ w.apart i j l (omega arith) (sym (ap f (low i (omega arith))) ∙ q ∙ ap f (low j h))
-          | no h ↦ clash (firsts-has f n (w.at i) (w.below i (omega arith)))
+          | no h ↦ clash (firsts_has f n (w.at i) (w.below i (omega arith)))
               (ap (λ (x : ℕ). member x (firsts f n)) (sym (ap f (low i (omega arith))) ∙ q ∙ ap f (top j (omega arith)))
               ∙ e)
         ]
@@ -128,7 +128,7 @@ firsts-several f (suc n) m h = go (member (f n) (firsts f n)) refl (firsts-sever
     ]
 
 -- so a b with more than m columns has m + 1 own assignments with pairwise different columns
-pub columns-several : (n : ℕ) (F : ℕ → Bool) (A B : ℕ → Bool) (b m : ℕ) → m < length (columns n F A B b)
+pub columns_several : (n : ℕ) (F : ℕ → Bool) (A B : ℕ → Bool) (b m : ℕ) → m < length (columns n F A B b)
     → Several (column n F A B b) (2 ^ size n A) m
 unfolding columns
-columns-several n F A B b m h = firsts-several (column n F A B b) (2 ^ size n A) m h
+columns_several n F A B b m h = firsts_several (column n F A B b) (2 ^ size n A) m h

@@ -14,23 +14,23 @@ use borrow.Author.Tests.{lt-ltb, le-ltb}
 use Rattle.bits.specs.Numbers.{bit}
 use Rattle.bits.specs.Sets.{size, gather}
 use Rattle.bits.proofs.Below.{below_suc}
-use Rattle.bits.proofs.Walking.{Walked, walked-turn, walked-gather, walked-within}
+use Rattle.bits.proofs.Walking.{Walked, walked_turn, walked_gather, walked_within}
 use Rattle.columns.specs.declared.split.Split.{Split}
 use Rattle.splits.specs.Columns.{index, firsts, columns}
-use Rattle.columns.specs.Reading.{Within, columnOf, columnAt, columnsOf, Seen}
-use Rattle.splits.proofs.Stored.{step-old, step-new, too_many, reps-len}
+use Rattle.columns.specs.Reading.{Within, column_of, column_at, columns_of, Seen}
+use Rattle.splits.proofs.Stored.{step_old, step_new, too_many, reps_len}
 
 -- the first k of `seen` stand for the different columns of the first a own assignments
 pub record SoFar (s : Split) (F : ℕ → Bool) (b limit : ℕ) (before seen : List ℕ) (k a : ℕ) : Type 0 where
-  pub stands : map (columnAt s F b) (take k seen) ≡ firsts (columnOf s F b) a
+  pub stands : map (column_at s F b) (take k seen) ≡ firsts (column_of s F b) a
   pub few : k ≤ limit
   pub long : length seen ≡ length before
   pub own : (i : ℕ) → i < k → Within s.n s.own (get_or seen i 0)
   pub stay : (i : ℕ) → k ≤ i → get_or seen i 0 ≡ get_or before i 0
 
-pub looking-starts : {s : Split} {F : ℕ → Bool} {b limit : ℕ} {before : List ℕ} → SoFar s F b limit before before 0 0
+pub looking_starts : {s : Split} {F : ℕ → Bool} {b limit : ℕ} {before : List ℕ} → SoFar s F b limit before before 0 0
 unfolding firsts
-looking-starts =
+looking_starts =
     record { stands = refl; few = omega arith; long = refl; own = λ i l. absurd (omega arith); stay = λ i l. refl }
 
 module _ {s : Split} {F : ℕ → Bool} {b limit : ℕ} {before seen : List ℕ} {k a : ℕ}
@@ -41,27 +41,27 @@ module _ {s : Split} {F : ℕ → Bool} {b limit : ℕ} {before seen : List ℕ}
 
   -- one column more, read at z: its place among those seen is i
   module _ {many z i : ℕ} (walk : Walked s.n s.own many z a) (l : a < many)
-      (place : i ≡ index (columnAt s F b z) (map (columnAt s F b) (take k seen))) where
-    stands-for : columnAt s F b z ≡ columnOf s F b a
-    stands-for = ap (columnOf s F b) (walked-gather walk l)
+      (place : i ≡ index (column_at s F b z) (map (column_at s F b) (take k seen))) where
+    stands_for : column_at s F b z ≡ column_of s F b a
+    stands_for = ap (column_of s F b) (walked_gather walk l)
 
-    pub looking-old : (i ≡ k → ⊥) → SoFar s F b limit before seen k (a + 1)
-    looking-old e = record {
-      stands = step-old (columnOf s F b) (columnAt s F b) seen k a z i within w.stands stands-for place e;
+    pub looking_old : (i ≡ k → ⊥) → SoFar s F b limit before seen k (a + 1)
+    looking_old e = record {
+      stands = step_old (column_of s F b) (column_at s F b) seen k a z i within w.stands stands_for place e;
       few = w.few;
       long = w.long;
       own = w.own;
       stay = w.stay;
     }
 
-    pub looking-new : i ≡ k → (k ≡ limit → ⊥) → SoFar s F b limit before (set seen k z) (k + 1) (a + 1)
-    looking-new e m = record {
-      stands = step-new (columnOf s F b) (columnAt s F b) seen k a z i within w.stands stands-for place e inside;
+    pub looking_new : i ≡ k → (k ≡ limit → ⊥) → SoFar s F b limit before (set seen k z) (k + 1) (a + 1)
+    looking_new e m = record {
+      stands = step_new (column_of s F b) (column_at s F b) seen k a z i within w.stands stands_for place e inside;
       few = omega (arith, w.few);
       long = length-set seen k z ∙ w.long;
       own = λ j g. ⊎_elim
           (λ g. subst (Within s.n s.own) (sym (get_or-set_other seen k j z 0 (λ r. omega (arith, r)))) (w.own j g))
-          (λ r. subst (Within s.n s.own) (sym (here j r)) (walked-within walk l))
+          (λ r. subst (Within s.n s.own) (sym (here j r)) (walked_within walk l))
           (below_suc {j = j} {n = k} (omega arith));
       stay = λ j g. get_or-set_other seen k j z 0 (λ r. omega (arith, r)) ∙ w.stay j (omega arith);
     }
@@ -72,24 +72,24 @@ module _ {s : Split} {F : ℕ → Bool} {b limit : ℕ} {before seen : List ℕ}
         here : (j : ℕ) → j ≡ k → get_or (set seen k z) j 0 ≡ z
         here j r = ap (λ (m : ℕ). get_or (set seen k z) m 0) r ∙ get_or-set_same seen k z 0 inside
 
-    pub looking-stops : i ≡ k → k ≡ limit → Seen s F b limit before seen (limit + 1)
+    pub looking_stops : i ≡ k → k ≡ limit → Seen s F b limit before seen (limit + 1)
     unfolding columns
-    looking-stops e q =
-        let more = too_many (columnOf s F b) (columnAt s F b) seen k a z i within w.stands stands-for place e in
+    looking_stops e q =
+        let more = too_many (column_of s F b) (column_at s F b) seen k a z i within w.stands stands_for place e in
         record {
           few = λ g. absurd (omega arith);
-          many = λ g. omega (arith, more (2 ^ size s.n (bit s.own)) (walked-turn walk l));
+          many = λ g. omega (arith, more (2 ^ size s.n (bit s.own)) (walked_turn walk l));
           stands = λ g. absurd (omega arith);
           own = λ j g m. w.own j (omega arith);
           stay = λ j g. w.stay j (omega arith);
         }
 
-  pub looking-ends : a ≡ 2 ^ size s.n (bit s.own) → Seen s F b limit before seen k
+  pub looking_ends : a ≡ 2 ^ size s.n (bit s.own) → Seen s F b limit before seen k
   unfolding columns
-  looking-ends e =
-      let whole : map (columnAt s F b) (take k seen) ≡ columnsOf s F b = w.stands ∙ ap (firsts (columnOf s F b)) e in
+  looking_ends e =
+      let whole : map (column_at s F b) (take k seen) ≡ columns_of s F b = w.stands ∙ ap (firsts (column_of s F b)) e in
       record {
-        few = λ g. sym (reps-len (columnAt s F b) seen k within) ∙ ap length whole;
+        few = λ g. sym (reps_len (column_at s F b) seen k within) ∙ ap length whole;
         many = λ g. absurd (g w.few);
         stands = λ g. whole;
         own = λ j g m. w.own j g;
@@ -101,17 +101,17 @@ module _ {s : Split} {F : ℕ → Bool} {limit : ℕ} {before seen : List ℕ} {
     (walk : Walked s.n s.shared many base b)
     (l : b < many) (w : Seen s F (gather s.n (bit s.shared) base) limit before seen k) where
   pub seen_at : Seen s F b limit before seen k
-  seen_at = subst (λ (i : ℕ). Seen s F i limit before seen k) (walked-gather walk l) w
+  seen_at = subst (λ (i : ℕ). Seen s F i limit before seen k) (walked_gather walk l) w
 
-  pub seen_few : k ≤ limit → ltb limit (length (columnsOf s F b)) ≡ false
-  seen_few h = le-ltb limit (length (columnsOf s F b)) (omega (arith, seen_at.few h))
+  pub seen_few : k ≤ limit → ltb limit (length (columns_of s F b)) ≡ false
+  seen_few h = le-ltb limit (length (columns_of s F b)) (omega (arith, seen_at.few h))
 
-  pub seen-many : limit < k → ltb limit (length (columnsOf s F b)) ≡ true
-  seen-many h = lt-ltb limit (length (columnsOf s F b)) (seen_at.many (λ g. omega arith))
+  pub seen_many : limit < k → ltb limit (length (columns_of s F b)) ≡ true
+  seen_many h = lt-ltb limit (length (columns_of s F b)) (seen_at.many (λ g. omega arith))
 
   -- where the test holds, the limit was not passed
-  pub seen-within : length (columnsOf s F b) ≤ limit → k ≤ limit
-  seen-within h = elim (dec_lt limit k) [
+  pub seen_within : length (columns_of s F b) ≤ limit → k ≤ limit
+  seen_within h = elim (dec_lt limit k) [
     | yes g ↦ absurd (omega (arith, seen_at.many (λ m. omega arith)))
     | no g ↦ omega
         arith

@@ -1,13 +1,13 @@
 -- Where a split breaks.
 use Rattle.std.specs.Prelude.{◌≡◌, Bool, cond, ℕ, ◌<◌, ◌≤◌, length}
 use Rattle.columns.specs.declared.columns.Broken.{Broken}
-use Rattle.splits.specs.Columns.{columns, fewColumns, firstBroken}
+use Rattle.splits.specs.Columns.{columns, few_columns, first_broken}
 
 -- the least b that has more than m different columns, and how many it has; both 0 where none has
-abbrev pub brokenAt : ℕ → (ℕ → Bool) → (ℕ → Bool) → (ℕ → Bool) → ℕ → Broken
-brokenAt n F A B m =
-    let b = firstBroken n F A B m in
-    cond (fewColumns n F A B m) (record { b = 0; columns = 0 })
+abbrev pub broken_at : ℕ → (ℕ → Bool) → (ℕ → Bool) → (ℕ → Bool) → ℕ → Broken
+broken_at n F A B m =
+    let b = first_broken n F A B m in
+    cond (few_columns n F A B m) (record { b = 0; columns = 0 })
     (record { b = b; columns = length (columns n F A B b) })
 
 -- m + 1 places below n at which f has pairwise different values

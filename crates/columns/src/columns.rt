@@ -1,11 +1,11 @@
 // The columns of a split: read by stepping from one spread number to the next, so that nothing is packed or unpacked.
 ghost use Rattle.std.specs.Prelude.{◌≡◌, map, ℕ, ◌+◌, ◌*◌, ◌^◌, ◌<◌, ◌≤◌, length, get_or, take};
 ghost use Rattle.bits.specs.Numbers.{bit};
-ghost use Rattle.tables.specs.Table.{tableBit};
+ghost use Rattle.tables.specs.Table.{table_bit};
 ghost use Rattle.bits.specs.Sets.{size};
-ghost use Rattle.splits.specs.Columns.{index, mostOwn, mostColumns, fewColumns, firstBroken};
-ghost use Rattle.columns.specs.Broken.{brokenAt};
-ghost use Rattle.columns.specs.Reading.{Held, Without, Within, alike, sharedPart, columnAt, columnsOf, Seen};
+ghost use Rattle.splits.specs.Columns.{index, most_own, most_columns, few_columns, first_broken};
+ghost use Rattle.columns.specs.Broken.{broken_at};
+ghost use Rattle.columns.specs.Reading.{Held, Without, Within, alike, shared_part, column_at, columns_of, Seen};
 
 use crate::split::Split;
 use bits::sets::{next, parts, spread_out};
@@ -18,7 +18,7 @@ const MOST_COLUMNS: usize = 8;
 const ALL_COLUMNS: usize = 256;
 
 // Where a split breaks: a shared assignment, and how many different columns it has.
-#[derive(Drop)]
+#[derive(Clone, Copy)]
 pub struct Broken {
     pub b: u32,
     pub columns: usize,
@@ -29,7 +29,7 @@ pub struct Broken {
 pub fn same_column(t: &[u8], s: Split, x: u32, y: u32) -> bool
     requires held { Held s × Without s.n s.free x × Without s.n s.free y }
     requires n_bound { 2 ^ s.n ≤ 8 * length t.now }
-    ensures { result ≡ alike s.n (tableBit t.now) s.free x y }
+    ensures { result ≡ alike s.n (table_bit t.now) s.free x y }
 {
     let high = s.free / 64 * 64;
     let mut f: u32 = 0;
@@ -49,8 +49,8 @@ pub fn place<'a>(t: &'a [u8], s: Split, base: u32, z: u32, seen: &'a [u16], k: u
     requires held { Held s × Within s.n s.shared base × Within s.n s.own z }
     requires n_bound { 2 ^ s.n ≤ 8 * length t.now }
     requires k_in_bounds { (k ≤ length seen.now) × ((i : ℕ) → i < k → Within s.n s.own (get_or seen.now i 0)) }
-    ensures { result ≡ index (columnAt s (tableBit t.now) (sharedPart s base) z)
-        (map (columnAt s (tableBit t.now) (sharedPart s base)) (take k seen.now)) }
+    ensures { result ≡ index (column_at s (table_bit t.now) (shared_part s base) z)
+        (map (column_at s (table_bit t.now) (shared_part s base)) (take k seen.now)) }
 {
     let mut i: usize = 0;
     while i < k {
@@ -67,7 +67,7 @@ pub fn place<'a>(t: &'a [u8], s: Split, base: u32, z: u32, seen: &'a [u16], k: u
 pub fn look_through(t: &[u8], s: Split, base: u32, limit: usize, seen: &mut [u16]) -> usize
     requires held { Held s × Within s.n s.shared base × (limit ≤ length seen.old) × (limit < 65536) }
     requires n_bound { 2 ^ s.n ≤ 8 * length t.now }
-    ensures { Seen s (tableBit t.now) (sharedPart s base) limit seen.old seen.new result }
+    ensures { Seen s (table_bit t.now) (shared_part s base) limit seen.old seen.new result }
 {
     let many = parts(s.n, s.own);
     let mut k: usize = 0;
@@ -90,9 +90,9 @@ pub fn look_through(t: &[u8], s: Split, base: u32, limit: usize, seen: &mut [u16
 // The first of `many` shared assignments that has more different columns than the limit, or their number where none
 // has. It stops there, and as soon as there is one column too many.
 fn first_broken(t: &[u8], s: Split, many: u32, limit: usize) -> u32
-    requires held { Held s × (limit ≤ mostColumns) × (2 ^ s.n ≤ 8 * length t.now) }
+    requires held { Held s × (limit ≤ most_columns) × (2 ^ s.n ≤ 8 * length t.now) }
     requires many_value { many ≡ 2 ^ size s.n (bit s.shared) }
-    ensures { result ≡ firstBroken s.n (tableBit t.now) (bit s.own) (bit s.shared) limit }
+    ensures { result ≡ first_broken s.n (table_bit t.now) (bit s.own) (bit s.shared) limit }
 {
     let mut seen = [0u16; MOST_COLUMNS];
     let mut base: u32 = 0;
@@ -109,8 +109,8 @@ fn first_broken(t: &[u8], s: Split, many: u32, limit: usize) -> u32
 
 // The column test: whether no shared assignment has more different columns than the limit.
 pub fn few_columns(t: &[u8], s: Split, limit: usize) -> bool
-    requires { Held s × (limit ≤ mostColumns) × (2 ^ s.n ≤ 8 * length t.now) }
-    ensures { result ≡ fewColumns s.n (tableBit t.now) (bit s.own) (bit s.shared) limit }
+    requires { Held s × (limit ≤ most_columns) × (2 ^ s.n ≤ 8 * length t.now) }
+    ensures { result ≡ few_columns s.n (table_bit t.now) (bit s.own) (bit s.shared) limit }
 {
     let many = parts(s.n, s.shared);
     first_broken(t, s, many, limit) == many
@@ -118,9 +118,9 @@ pub fn few_columns(t: &[u8], s: Split, limit: usize) -> bool
 
 // How many different columns the shared assignment number b has.
 fn columns_at(t: &[u8], s: Split, b: u32) -> usize
-    requires held { Held s × (size s.n (bit s.own) ≤ mostOwn) × (2 ^ s.n ≤ 8 * length t.now) }
+    requires held { Held s × (size s.n (bit s.own) ≤ most_own) × (2 ^ s.n ≤ 8 * length t.now) }
     requires b_bound { b < 2 ^ size s.n (bit s.shared) }
-    ensures { result ≡ length (columnsOf s (tableBit t.now) b) }
+    ensures { result ≡ length (columns_of s (table_bit t.now) b) }
 {
     let mut seen = [0u16; ALL_COLUMNS];
     look_through(t, s, spread_out(s.n, s.shared, b), ALL_COLUMNS, &mut seen)
@@ -128,9 +128,9 @@ fn columns_at(t: &[u8], s: Split, b: u32) -> usize
 
 // Where the column test fails, and how many columns there are. They are counted only there.
 pub fn break_of(t: &[u8], s: Split, limit: usize) -> Broken
-    requires held { Held s × (limit ≤ mostColumns) × (2 ^ s.n ≤ 8 * length t.now) }
-    requires own_bound { size s.n (bit s.own) ≤ mostOwn }
-    ensures { result ≡ brokenAt s.n (tableBit t.now) (bit s.own) (bit s.shared) limit }
+    requires held { Held s × (limit ≤ most_columns) × (2 ^ s.n ≤ 8 * length t.now) }
+    requires own_bound { size s.n (bit s.own) ≤ most_own }
+    ensures { result ≡ broken_at s.n (table_bit t.now) (bit s.own) (bit s.shared) limit }
 {
     let many = parts(s.n, s.shared);
     let b = first_broken(t, s, many, limit);

@@ -2,14 +2,14 @@
 ghost use Rattle.std.specs.Prelude.{◌≡◌, ◌^◌, ◌<◌, ◌≤◌};
 ghost use Rattle.bits.specs.Numbers.{bit};
 ghost use Rattle.bits.specs.Sets.{Apart};
-ghost use Rattle.tables.specs.Table.{mostInputs};
+ghost use Rattle.tables.specs.Table.{most_inputs};
 ghost use Rattle.columns.specs.Reading.{Held};
 
 use bits::sets::{parts, subsets};
 
 // The own and the shared mask of a table of n inputs, with what reading its columns by words needs: the mask of the
 // free inputs, how many words a column lies in, and at which places of a word.
-#[derive(Drop)]
+#[derive(Clone, Copy)]
 pub struct Split {
     pub n: u32,
     pub own: u16,
@@ -24,7 +24,7 @@ impl Split {
     pub const MOST_FIRST: u64 = 3;
 
     pub fn of(n: u32, own: u16, shared: u16) -> Split
-        requires { (n ≤ mostInputs) × (own < 2 ^ n) × (shared < 2 ^ n) × Apart n (bit own) (bit shared) }
+        requires { (n ≤ most_inputs) × (own < 2 ^ n) × (shared < 2 ^ n) × Apart n (bit own) (bit shared) }
         ensures { Held result × (result.n ≡ n) × (result.own ≡ own) × (result.shared ≡ shared) }
     {
         let all: u32 = (1 << n) - 1;

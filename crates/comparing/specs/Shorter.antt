@@ -5,31 +5,31 @@ use Rattle.sheets.specs.Sheet.{records}
 use Rattle.refusals.specs.declared.verdicts.Verdict.{Verdict}
 use Rattle.refusals.specs.declared.verdicts.Verdict.TheVariants.{Fine, Refused}
 use Rattle.comparing.specs.declared.shorter.Kept.{Kept}
-use Rattle.inspection.specs.CheckSheet.{checkOwn}
+use Rattle.inspection.specs.CheckSheet.{check_own}
 
 -- which of two sheets is kept (0 none, 1 the first, 2 the second), and the verdict of the call beside, by what the
 -- check says of each and by their numbers of records: of those accepted the one with fewer, the first on a tie
-abbrev pub whichKept : Verdict → Verdict → ℕ → ℕ → Kept
-whichKept Fine Fine i j = record { which = cond (leb i j) 1 2; verdict = Fine }
-whichKept Fine (Refused s) i j = record { which = 1; verdict = Fine }
-whichKept (Refused r) Fine i j = record { which = 2; verdict = Fine }
-whichKept (Refused r) (Refused s) i j = record { which = 0; verdict = Refused r }
+abbrev pub which_kept : Verdict → Verdict → ℕ → ℕ → Kept
+which_kept Fine Fine i j = record { which = cond (leb i j) 1 2; verdict = Fine }
+which_kept Fine (Refused s) i j = record { which = 1; verdict = Fine }
+which_kept (Refused r) Fine i j = record { which = 2; verdict = Fine }
+which_kept (Refused r) (Refused s) i j = record { which = 0; verdict = Refused r }
 
 -- the same of two sheets x and y for the table t, each for its own desk, whatever is handed over
-unfoldable pub keptOutcome : Edition → ℕ → List ℕ → List ℕ → List ℕ → Kept
-keptOutcome e n t x y = whichKept (checkOwn e n t x) (checkOwn e n t y) (records e x) (records e y)
+unfoldable pub kept_outcome : Edition → ℕ → List ℕ → List ℕ → List ℕ → Kept
+kept_outcome e n t x y = which_kept (check_own e n t x) (check_own e n t y) (records e x) (records e y)
 
 -- the bytes of the one named, and none where none is
 abbrev pub part_of : ℕ → List ℕ → List ℕ → List ℕ
 part_of which x y = cond (eqb which 1) x (cond (eqb which 2) y [])
 
 -- what is handed back: the part of the one that is kept
-abbrev pub shorterOutcome : Edition → ℕ → List ℕ → List ℕ → List ℕ → List ℕ
-shorterOutcome e n t x y = part_of (keptOutcome e n t x y).which x y
+abbrev pub shorter_outcome : Edition → ℕ → List ℕ → List ℕ → List ℕ → List ℕ
+shorter_outcome e n t x y = part_of (kept_outcome e n t x y).which x y
 
 -- in words, where one of the two is accepted: s is one of them, it is accepted, and no accepted one of them has fewer
 -- records
 pub record Shortest (e : Edition) (n : ℕ) (t x y s : List ℕ) : Type 0 where
   pub one : (s ≡ x) ⊎ (s ≡ y)
-  pub accepted : checkOwn e n t s ≡ Fine
-  pub fewest : (z : List ℕ) → (z ≡ x) ⊎ (z ≡ y) → checkOwn e n t z ≡ Fine → records e s ≤ records e z
+  pub accepted : check_own e n t s ≡ Fine
+  pub fewest : (z : List ℕ) → (z ≡ x) ⊎ (z ≡ y) → check_own e n t z ≡ Fine → records e s ≤ records e z

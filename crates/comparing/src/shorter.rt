@@ -1,14 +1,14 @@
 // Keeping the shorter of two sheets for one table: a part of what the caller lent, where it lies.
 ghost use Rattle.std.specs.Prelude.{◌≡◌};
-ghost use Rattle.sheets.specs.Edition.{IsEdition, firstEdition};
-ghost use Rattle.comparing.specs.Shorter.{whichKept, keptOutcome, part_of};
+ghost use Rattle.sheets.specs.Edition.{IsEdition, first_edition};
+ghost use Rattle.comparing.specs.Shorter.{which_kept, kept_outcome, part_of};
 
 use inspection::check_sheet::check_own;
 use refusals::verdicts::Verdict;
 use sheets::kinds::Edition;
 
 // Which of two sheets is kept, and what the call beside says.
-#[derive(Drop)]
+#[derive(Clone, Copy)]
 pub struct Kept {
     // 0 none, 1 the first, 2 the second
     pub which: u64,
@@ -18,7 +18,7 @@ pub struct Kept {
 
 // By what the check says of each, and their numbers of records.
 fn keep(first: Verdict, second: Verdict, i: usize, j: usize) -> Kept
-    ensures { result ≡ whichKept first second i j }
+    ensures { result ≡ which_kept first second i j }
 {
     let Verdict::Fine = first else {
         let Verdict::Fine = second else {
@@ -53,7 +53,7 @@ fn keep(first: Verdict, second: Verdict, i: usize, j: usize) -> Kept
 // Looks over both sheets of an edition, each for its own desk.
 pub fn keep_in<'a>(e: Edition, n: u64, t: &'a [u8], first: &'a [u8], second: &'a [u8]) -> Kept
     requires { IsEdition e }
-    ensures { result ≡ keptOutcome e n t.now first.now second.now }
+    ensures { result ≡ kept_outcome e n t.now first.now second.now }
 {
     let one = check_own(e, n, t, first);
     let two = check_own(e, n, t, second);
@@ -62,7 +62,7 @@ pub fn keep_in<'a>(e: Edition, n: u64, t: &'a [u8], first: &'a [u8], second: &'a
 
 // Which of two sheets for one table is kept, and what the call beside says.
 pub fn keep_shorter<'a>(n: u64, t: &'a [u8], first: &'a [u8], second: &'a [u8]) -> Kept
-    ensures { result ≡ keptOutcome firstEdition n t.now first.now second.now }
+    ensures { result ≡ kept_outcome first_edition n t.now first.now second.now }
 {
     keep_in(Edition::first(), n, t, first, second)
 }

@@ -2,9 +2,9 @@
 // on.
 ghost use Rattle.std.specs.Prelude.{◌≡◌, false, length};
 ghost use Rattle.refusals.specs.Lines.{verdict};
-ghost use Rattle.cards.specs.Card.{deskBytes, sheetOn};
-ghost use Rattle.cards.specs.Refusals.{noDesk};
-ghost use Rattle.cards.specs.RunDesk.{deskLines, deskOutcome, runDeskOutcome};
+ghost use Rattle.cards.specs.Card.{desk_bytes, sheet_on};
+ghost use Rattle.cards.specs.Refusals.{no_desk};
+ghost use Rattle.cards.specs.RunDesk.{desk_lines, desk_outcome, run_desk_outcome};
 
 use cards::form::filed;
 use cards::sizes::{CARD, COUNT, DESK, DESKS, INPUTS, MARK};
@@ -16,8 +16,8 @@ use sheets::kinds::{Edition, Sheet};
 
 // The sheet that a desk with the bytes o holds, where it lies.
 fn sheet_on(o: &[u8]) -> &[u8]
-    requires { length o.now ≡ deskBytes }
-    ensures { result.now ≡ sheetOn o.now }
+    requires { length o.now ≡ desk_bytes }
+    ensures { result.now ≡ sheet_on o.now }
 {
     let m = o[COUNT] as usize;
     // So many would be all of the desk's bytes; line 9 refuses them.
@@ -30,8 +30,8 @@ fn sheet_on(o: &[u8]) -> &[u8]
 
 // Lines 18, 1, 9, 10, 15 and 11 of a desk with the bytes o.
 fn own_form(o: &[u8], d: u8, x: u64) -> Verdict
-    requires { (length o.now ≡ deskBytes) × (noDesk d ≡ false) }
-    ensures { result ≡ verdict (deskLines o.now d x) }
+    requires { (length o.now ≡ desk_bytes) × (no_desk d ≡ false) }
+    ensures { result ≡ verdict (desk_lines o.now d x) }
 {
     if o[MARK] != 1 {
         return refuse(Refusal::CLOSED);
@@ -49,8 +49,8 @@ fn own_form(o: &[u8], d: u8, x: u64) -> Verdict
 
 // What desk d with the bytes o answers at the assignment x.
 fn run_bytes(o: &[u8], d: u8, x: u64) -> RunAnswer
-    requires { (length o.now ≡ deskBytes) × (noDesk d ≡ false) }
-    ensures { result ≡ deskOutcome o.now d x }
+    requires { (length o.now ≡ desk_bytes) × (no_desk d ≡ false) }
+    ensures { result ≡ desk_outcome o.now d x }
 {
     let form = own_form(o, d, x);
     let Verdict::Fine = form else {
@@ -69,7 +69,7 @@ fn run_bytes(o: &[u8], d: u8, x: u64) -> RunAnswer
 
 // Runs desk d of a card at the assignment x.
 pub fn run_desk(card: &[u8], d: u64, x: u64) -> RunAnswer
-    ensures { result ≡ runDeskOutcome card.now d x }
+    ensures { result ≡ run_desk_outcome card.now d x }
 {
     if card.len() != CARD {
         return RunAnswer {

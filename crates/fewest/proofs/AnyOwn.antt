@@ -17,26 +17,26 @@ use Rattle.bits.specs.Numbers.{bit, val, number}
 use Rattle.bits.specs.Sets.{rest, Agree, size, gather, spread}
 use Rattle.bits.proofs.Bools.{clash, false_of}
 use Rattle.bits.proofs.Numbers.{val-bit, bit-number, bit-mod, bit-zero, number_lt}
-use Rattle.bits.proofs.Sizes.{size-lt, size-ext}
-use Rattle.bits.proofs.Counting.{size_none, size-all}
-use Rattle.bits.proofs.Spreading.{gather-lt, gather-bit, bit-spread-in}
-use Rattle.splits.specs.Split.{readsD, readsH, Possible}
+use Rattle.bits.proofs.Sizes.{size-lt, size_ext}
+use Rattle.bits.proofs.Counting.{size_none, size_all}
+use Rattle.bits.proofs.Spreading.{gather-lt, gather-bit, bit-spread_in}
+use Rattle.splits.specs.Split.{reads_d, reads_h, Possible}
 use Rattle.splits.specs.Columns.{assign, column, columns}
-use Rattle.splits.specs.Pair.{bitH, tableH}
-use Rattle.splits.proofs.Firsts.{firsts-from}
+use Rattle.splits.specs.Pair.{bit_h, table_h}
+use Rattle.splits.proofs.Firsts.{firsts_from}
 use Rattle.splits.proofs.Parts.{bit-assign, assign-lt}
-use Rattle.splits.proofs.Through.{possible-through}
-use Rattle.splits.proofs.Same.{possible-ext}
+use Rattle.splits.proofs.Through.{possible_through}
+use Rattle.splits.proofs.Same.{possible_ext}
 use Rattle.best.specs.Best.{Candidate, Best}
 use Rattle.best.specs.Search.{split, best}
-use Rattle.best.proofs.Best.{best-split, best-some}
+use Rattle.best.proofs.Best.{best_split, best_some}
 use Rattle.sheets.specs.Network.{Cell}
 use Rattle.bits.proofs.Lists.{default}
-use Rattle.chains.specs.Chain.{firstCell, nextSignals, nextTable, lastCell}
+use Rattle.chains.specs.Chain.{first_cell_lem, next_signals, next_table, last_cell}
 use Rattle.chains.specs.Words.{Makes, ends, goes}
 use Rattle.fewest.specs.Joining.{AnyOwn}
 use Rattle.chains.proofs.One.{next-inputs, next-length}
-use Rattle.networks.proofs.Values.{member-at}
+use Rattle.networks.proofs.Values.{member_at}
 
 high_bit : (i k : ℕ) → i < 2 ^ (k + 1) → i / 2 ^ k ≡ val (bit i k)
 high_bit i k h =
@@ -47,15 +47,15 @@ high_bit i k h =
 -- ---- H is such a table again
 module _ (n : ℕ) (F : ℕ → Bool) (A B : ℕ → Bool) (alone : (j : ℕ) → j < n → B j ≡ false) where
   abbrev s : ℕ → Bool
-  s = readsH A B
+  s = reads_h A B
 
   abbrev k : ℕ
-  k = size n (readsH A B)
+  k = size n (reads_h A B)
 
   -- nothing is shared: b is always 0
-  shares-none : (x : ℕ) → gather n B x ≡ 0
-  shares-none x =
-      let e : size n B ≡ 0 = size-ext n B (λ j. false) alone ∙ size_none n in
+  shares_none : (x : ℕ) → gather n B x ≡ 0
+  shares_none x =
+      let e : size n B ≡ 0 = size_ext n B (λ j. false) alone ∙ size_none n in
       let h : gather n B x < 2 ^ 0 = subst (λ (m : ℕ). gather n B x < 2 ^ m) e (gather-lt n B x) in
       omega arith
 
@@ -63,7 +63,7 @@ module _ (n : ℕ) (F : ℕ → Bool) (A B : ℕ → Bool) (alone : (j : ℕ) �
   own_of : (d : ℕ) → (a : ℕ) × (column n F A B 0 a ≡ get_or (columns n F A B 0) d (column n F A B 0 0))
   unfolding columns
   own_of d = elim (dec_lt d (length l)) [
-    | yes h ↦ let w = firsts-from (column n F A B 0) (2 ^ size n A) (get_or l d 0) (member-at l d h)
+    | yes h ↦ let w = firsts_from (column n F A B 0) (2 ^ size n A) (get_or l d 0) (member_at l d h)
         in (w.0, w.2 ∙ default l d 0 (column n F A B 0 0) h)
     | no h ↦ (0, sym (get_or-eq_default l (column n F A B 0 0) {n = d} (omega arith)))
   ]
@@ -79,13 +79,13 @@ module _ (n : ℕ) (F : ℕ → Bool) (A B : ℕ → Bool) (alone : (j : ℕ) �
   unfolding at
   at_lt i = assign-lt n A B (own_of (val (bit i k))).0 0 (gather n (rest A B) (spread n s (i % 2 ^ k)))
 
-  H-at : (i : ℕ) → i < 2 ^ (k + 1) → bitH n F A B i ≡ F (at i)
-  unfolding at bitH column
-  H-at i h =
+  H_at : (i : ℕ) → i < 2 ^ (k + 1) → bit_h n F A B i ≡ F (at i)
+  unfolding at bit_h column
+  H_at i h =
       let x = spread n s (i % 2 ^ k) in
       let c = gather n (rest A B) x in
       let w = own_of (val (bit i k)) in
-      ap (λ (b : ℕ). bit (get_or (columns n F A B b) (i / 2 ^ k) (column n F A B b 0)) c) (shares-none x)
+      ap (λ (b : ℕ). bit (get_or (columns n F A B b) (i / 2 ^ k) (column n F A B b 0)) c) (shares_none x)
       ∙ ap (λ (d : ℕ). bit (get_or (columns n F A B 0) d (column n F A B 0 0)) c) (high_bit i k h)
       ∙ ap (λ (m : ℕ). bit m c) (sym w.1)
       ∙ bit-number (2 ^ size n (rest A B)) (λ c. F (assign n A B w.0 0 c)) c (gather-lt n (rest A B) x)
@@ -106,7 +106,7 @@ module _ (n : ℕ) (F : ℕ → Bool) (A B : ℕ → Bool) (alone : (j : ℕ) �
       free : (i : ℕ) → rest A B j ≡ true → s j ≡ true
           → bit (gather n (rest A B) (spread n s (i % 2 ^ k))) (size j (rest A B)) ≡ bit i (size j s)
       free i p q =
-          gather-bit n (rest A B) (spread n s (i % 2 ^ k)) j l p ∙ bit-spread-in n s (i % 2 ^ k) j l q
+          gather-bit n (rest A B) (spread n s (i % 2 ^ k)) j l p ∙ bit-spread_in n s (i % 2 ^ k) j l q
           ∙ bit-mod i k (size j s) (size-lt n s j l q)
 
       go : (u : Bool) → A j ≡ u → (w : Bool) → w ≡ false → B j ≡ w → cond u (X k) (X (size j s)) ≡ true
@@ -121,13 +121,13 @@ module _ (n : ℕ) (F : ℕ → Bool) (A B : ℕ → Bool) (alone : (j : ℕ) �
           let q : s j ≡ true = ap₂ (λ (t u : Bool). u || not (t || u)) a b in
           free i p q ∙ h (size j s) (omega (arith, size-lt n s j l q)) m ∙ sym (free i' p q)
 
-  any_next : AnyOwn n F → AnyOwn (k + 1) (bitH n F A B)
+  any_next : AnyOwn n F → AnyOwn (k + 1) (bit_h n F A B)
   unfolding back
   any_next any A' =
-      possible-through (k + 1) (bitH n F A B) A' none n F A'' none at
-      (λ i i' h j l m. at_agree (readsD A' none) i i' h j l (seesD j (A j) m))
-      (λ i i' h j l m. at_agree (readsH A' none) i i' h j l (seesH j (A j) m))
-      (λ i h. (at_lt i, H-at i h)) 1 (any A'')
+      possible_through (k + 1) (bit_h n F A B) A' none n F A'' none at
+      (λ i i' h j l m. at_agree (reads_d A' none) i i' h j l (sees_d j (A j) m))
+      (λ i i' h j l m. at_agree (reads_h A' none) i i' h j l (sees_h j (A j) m))
+      (λ i h. (at_lt i, H_at i h)) 1 (any A'')
     where
       none : ℕ → Bool
       none j = false
@@ -135,15 +135,15 @@ module _ (n : ℕ) (F : ℕ → Bool) (A B : ℕ → Bool) (alone : (j : ℕ) �
       A'' : ℕ → Bool
       A'' = back A'
 
-      seesD : (j : ℕ) (u : Bool) → (cond u (A' k) (A' (size j s)) || false) ≡ true
+      sees_d : (j : ℕ) (u : Bool) → (cond u (A' k) (A' (size j s)) || false) ≡ true
           → cond u (A' k || false) (A' (size j s) || false) ≡ true
-      seesD j true m = m
-      seesD j false m = m
+      sees_d j true m = m
+      sees_d j false m = m
 
-      seesH : (j : ℕ) (u : Bool) → (false || not (cond u (A' k) (A' (size j s)) || false)) ≡ true
+      sees_h : (j : ℕ) (u : Bool) → (false || not (cond u (A' k) (A' (size j s)) || false)) ≡ true
           → cond u (false || not (A' k || false)) (false || not (A' (size j s) || false)) ≡ true
-      seesH j true m = m
-      seesH j false m = m
+      sees_h j true m = m
+      sees_h j false m = m
 
 -- ---- the best split takes K inputs and shares none
 
@@ -152,7 +152,7 @@ unfolding size
 size-first zero K h = omega arith
 size-first (suc n) K h = elim (dec_lt n K) [
   | yes l ↦ let e : K ≡ suc n = omega arith in
-      size-ext (suc n) (λ j. ltb j K) (λ j. true) (λ j g. lt-ltb j K (omega arith)) ∙ size-all (suc n) ∙ sym e
+      size_ext (suc n) (λ j. ltb j K) (λ j. true) (λ j g. lt-ltb j K (omega arith)) ∙ size_all (suc n) ∙ sym e
   | no l ↦ omega (arith, size-first n K (omega arith), ap val (le-ltb n K (omega arith)))
 ]
 
@@ -160,27 +160,27 @@ size-first (suc n) K h = elim (dec_lt n K) [
 record Takes (n K : ℕ) (F : ℕ → Bool) : Type 0 where
   A : ℕ
   B : ℕ
-  isBest : Best n K 1 F A B
+  is_best : Best n K 1 F A B
   full : size n (bit A) ≡ K
   alone : (j : ℕ) → j < n → bit B j ≡ false
 
 takes : (n K : ℕ) (F : ℕ → Bool) → 2 ≤ K → K < n → AnyOwn n F → Takes n K F
-takes n K F two more any = go (best-some n 1 F K first 0 candidate possible)
+takes n K F two more any = go (best_some n 1 F K first 0 candidate possible)
   where
     first : ℕ
     first = number n (λ j. ltb j K)
 
     size_is : size n (bit first) ≡ K
-    size_is = size-ext n (bit first) (λ j. ltb j K) (λ j h. bit-number n (λ j. ltb j K) j h)
+    size_is = size_ext n (bit first) (λ j. ltb j K) (λ j h. bit-number n (λ j. ltb j K) j h)
         ∙ size-first n K (omega arith)
 
     candidate : Candidate n K 1 first 0
     candidate = record {
-      belowA = number_lt n (λ j. ltb j K);
-      belowB = pow_pos n;
+      below_a = number_lt n (λ j. ltb j K);
+      below_b = pow_pos n;
       apart = λ j l e. absurd (clash e (bit-zero j));
       more = omega (arith, size_is);
-      most = omega (arith, size_is, size-ext n (bit 0) (λ j. false) (λ j h. bit-zero j), size_none n);
+      most = omega (arith, size_is, size_ext n (bit 0) (λ j. false) (λ j h. bit-zero j), size_none n);
     }
 
     possible : Possible n F (bit first) (bit 0) 1
@@ -188,29 +188,29 @@ takes n K F two more any = go (best-some n 1 F K first 0 candidate possible)
         (any (bit first))
 
     go : (A : ℕ) × (B : ℕ) × (best n 1 F K ≡ split A B) → Takes n K F
-    go w = from (best-split n 1 F K w.0 w.1 w.2)
+    go w = from (best_split n 1 F K w.0 w.1 w.2)
       where
         from : Best n K 1 F w.0 w.1 → Takes n K F
         from b =
-            let large = (b.ahead first 0 candidate possible).largestA in
+            let large = (b.ahead first 0 candidate possible).largest_a in
             record {
               A = w.0;
               B = w.1;
-              isBest = b;
+              is_best = b;
               full = omega (arith, large, size_is, b.candidate.most);
               alone = λ j l. false_of (bit w.1 j) (λ e. omega
                   (arith, large, size_is, b.candidate.most, size-lt n (bit w.1) j l e));
             }
 
-any-table : (l : List ℕ) (T A B i : ℕ) → ((j : ℕ) → j < length l → bit B j ≡ false) → AnyOwn (length l) (bit T)
-    → AnyOwn (length (nextSignals l A B i)) (bit (nextTable l T A B))
-unfolding tableH
-any-table l T A B i alone any A' =
+any_table : (l : List ℕ) (T A B i : ℕ) → ((j : ℕ) → j < length l → bit B j ≡ false) → AnyOwn (length l) (bit T)
+    → AnyOwn (length (next_signals l A B i)) (bit (next_table l T A B))
+unfolding table_h
+any_table l T A B i alone any A' =
     let n = length l in
-    let m = size n (readsH (bit A) (bit B)) + 1 in
-    let H = bitH n (bit T) (bit A) (bit B) in
-    subst (λ (m : ℕ). Possible m (bit (nextTable l T A B)) A' (λ j. false) 1) (sym (next-inputs l A B i))
-    (possible-ext m H (bit (nextTable l T A B)) (λ x h. sym (bit-number (2 ^ m) H x h)) A' (λ j. false) 1
+    let m = size n (reads_h (bit A) (bit B)) + 1 in
+    let H = bit_h n (bit T) (bit A) (bit B) in
+    subst (λ (m : ℕ). Possible m (bit (next_table l T A B)) A' (λ j. false) 1) (sym (next-inputs l A B i))
+    (possible_ext m H (bit (next_table l T A B)) (λ x h. sym (bit-number (2 ^ m) H x h)) A' (λ j. false) 1
     (any_next n (bit T) (bit A) (bit B) alone any A'))
 
 -- ---- so a sheet is made, of p + 1 cells: each but the last drops K - 1 signals
@@ -221,28 +221,28 @@ pub record MadeFull (K i : ℕ) (l : List ℕ) (T : ℕ) : Type 0 where
   pub count : length cells ≡ suc p
   pub full : p * (K - 1) + 1 < length l
 
-last-full : (K i : ℕ) (l : List ℕ) (T : ℕ) → length l ≤ K → 2 ≤ length l → MadeFull K i l T
-last-full K i l T h some = record { cells = lastCell l T ∷ []; makes = ends h; p = 0; count = refl; full = omega arith }
+last_full : (K i : ℕ) (l : List ℕ) (T : ℕ) → length l ≤ K → 2 ≤ length l → MadeFull K i l T
+last_full K i l T h some = record { cells = last_cell l T ∷ []; makes = ends h; p = 0; count = refl; full = omega arith }
 
-pub any-made : (f K i : ℕ) (l : List ℕ) (T : ℕ) → 2 ≤ K → length l ≤ f + K → 2 ≤ length l → AnyOwn (length l) (bit T)
+pub any_made : (f K i : ℕ) (l : List ℕ) (T : ℕ) → 2 ≤ K → length l ≤ f + K → 2 ≤ length l → AnyOwn (length l) (bit T)
     → MadeFull K i l T
-any-made zero K i l T two h some any = last-full K i l T (omega arith) some
-any-made (suc f) K i l T two h some any = elim (dec_lt K (length l)) [
-  | no g ↦ last-full K i l T (omega arith) some
-  | yes g ↦ go g (takes (length l) K (bit T) two g any) (any-made f K (suc i))
+any_made zero K i l T two h some any = last_full K i l T (omega arith) some
+any_made (suc f) K i l T two h some any = elim (dec_lt K (length l)) [
+  | no g ↦ last_full K i l T (omega arith) some
+  | yes g ↦ go g (takes (length l) K (bit T) two g any) (any_made f K (suc i))
 ]
   where
     go : K < length l → Takes (length l) K (bit T)
         → ((l : List ℕ) (T : ℕ) → 2 ≤ K → length l ≤ f + K → 2 ≤ length l → AnyOwn (length l) (bit T)
         → MadeFull K (suc i) l T) → MadeFull K i l T
     go g t ih =
-        let next = next-length l i t.isBest in
-        let w = ih (nextSignals l t.A t.B i) (nextTable l T t.A t.B) two (omega (arith, next, t.full))
+        let next = next-length l i t.is_best in
+        let w = ih (next_signals l t.A t.B i) (next_table l T t.A t.B) two (omega (arith, next, t.full))
         (omega (arith, next, t.full))
-        (any-table l T t.A t.B i t.alone any) in
+        (any_table l T t.A t.B i t.alone any) in
         record {
-          cells = firstCell l T t.A t.B ∷ w.cells;
-          makes = goes g t.isBest w.makes;
+          cells = first_cell_lem l T t.A t.B ∷ w.cells;
+          makes = goes g t.is_best w.makes;
           p = suc w.p;
           count = ap suc w.count;
           full = omega (arith, w.full, next, t.full, suc-mul w.p (K - 1));

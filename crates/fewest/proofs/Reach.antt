@@ -14,12 +14,12 @@ use Rattle.bits.specs.Numbers.{bit, val}
 use Rattle.bits.specs.Sets.{size}
 use Rattle.bits.specs.Lists.{member}
 use Rattle.bits.proofs.Bools.{clash, or_left, or_right}
-use Rattle.bits.proofs.Sizes.{size-ext}
+use Rattle.bits.proofs.Sizes.{size_ext}
 use Rattle.bits.proofs.Counting.{size-one, size-or, size-part}
 use Rattle.tables.specs.Depends.{DependsOn}
 use Rattle.tables.specs.Counting.{Counting}
 use Rattle.sheets.specs.Network.{Cell, output, run, Wired, Gives, Carries}
-use Rattle.networks.proofs.Values.{member_below, size-member, output-ext}
+use Rattle.networks.proofs.Values.{member_below, size-member, output_ext}
 
 -- ---- the signals that the output can depend on
 
@@ -28,20 +28,20 @@ unfoldable pub needed : ℕ → List Cell → ℕ → Bool
 needed i [] s = eqb (suc s) i
 needed i (c ∷ cs) s = needed (suc i) cs s || (needed (suc i) cs i && member s c.signals)
 
-pub needed-most : (K i : ℕ) (cs : List Cell) → Wired K i cs → size i (needed i cs) ≤ length cs * (K - 1) + 1
+pub needed_most : (K i : ℕ) (cs : List Cell) → Wired K i cs → size i (needed i cs) ≤ length cs * (K - 1) + 1
 unfolding needed size
-needed-most K zero [] w = omega arith
-needed-most K (suc i) [] w = omega (
+needed_most K zero [] w = omega arith
+needed_most K (suc i) [] w = omega (
   arith,
   size-one (suc i) i,
-  size-ext (suc i) (λ s. eqb (suc s) (suc i))
+  size_ext (suc i) (λ s. eqb (suc s) (suc i))
       (λ s. eqb s i) (λ j l. go j (eqb j i) refl),
 )
   where
     go : (j : ℕ) (t : Bool) → eqb j i ≡ t → eqb (suc j) (suc i) ≡ t
     go j true e = eq-eqb (suc j) (suc i) (ap suc (eqb-true j i e))
     go j false e = ne_eqb (suc j) (suc i) (λ q. eqb-false j i e (omega arith))
-needed-most K i (c ∷ cs) w = go (needed (suc i) cs i) (needed-most K (suc i) cs w.2)
+needed_most K i (c ∷ cs) w = go (needed (suc i) cs i) (needed_most K (suc i) cs w.2)
   where
     go : (t : Bool) → size i (needed (suc i) cs) + val t ≤ length cs * (K - 1) + 1
         → size i (λ s. needed (suc i) cs s || (t && member s c.signals)) ≤ suc (length cs) * (K - 1) + 1
@@ -57,7 +57,7 @@ needed-most K i (c ∷ cs) w = go (needed (suc i) cs i) (needed-most K (suc i) c
         omega (
           arith,
           suc-mul (length cs) (K - 1),
-          size-ext i (λ s. needed (suc i) cs s || false) (needed (suc i) cs)
+          size_ext i (λ s. needed (suc i) cs s || false) (needed (suc i) cs)
               (λ j l. or-false (needed (suc i) cs j)),
         )
 
@@ -85,7 +85,7 @@ needed-same K i (c ∷ cs) v w o p d h a b =
       where
         cell : needed (suc (suc i)) cs (suc i) ≡ true → output c v ≡ output c w
         cell q =
-            output-ext c v w (λ s m. h s (member_below (suc i) c.signals d.1 s m)
+            output_ext c v w (λ s m. h s (member_below (suc i) c.signals d.1 s m)
             (or_right (needed (suc (suc i)) cs s) (needed (suc (suc i)) cs (suc i) && member s c.signals)
             (ap₂ ◌&&◌ q m)))
 
@@ -108,9 +108,9 @@ counted-needed (suc n) K F c cs N j l p = go (needed (suc n) (c ∷ cs) j) refl
     go true q = refl
     go false q =
         absurd (p.differ (
-        sym (N.gives p.x p.belowX)
+        sym (N.gives p.x p.below_x)
         ∙ same p.x p.y (λ s b a. p.alike s b (λ e. clash a (ap (needed (suc n) (c ∷ cs)) e ∙ q)))
-        ∙ N.gives p.y p.belowY))
+        ∙ N.gives p.y p.below_y))
       where
         same : (x y : ℕ) → ((s : ℕ) → s < suc n → needed (suc n) (c ∷ cs) s ≡ true → bit x s ≡ bit y s)
             → run false (suc n) (c ∷ cs) (bit x) ≡ run false (suc n) (c ∷ cs) (bit y)
@@ -126,5 +126,5 @@ reach n K m F S counts C = subst (λ (k : ℕ). size n S ≤ k * (K - 1) + 1) C.
         omega (
           arith,
           size-part n S (needed n (c ∷ cs)) (λ j l e. counted-needed n K F c cs N j l (counts j l e)),
-          needed-most K n (c ∷ cs) N.wired,
+          needed_most K n (c ∷ cs) N.wired,
         )

@@ -17,12 +17,12 @@ use Rattle.bits.proofs.Sizes.{size-sum}
 use Rattle.bits.proofs.Counting.{size-part}
 use Rattle.tables.specs.Counting.{Counting, Sees}
 use Rattle.tables.proofs.Over.{cleared}
-use Rattle.splits.specs.Split.{readsD, readsH, Possible}
+use Rattle.splits.specs.Split.{reads_d, reads_h, Possible}
 use Rattle.splits.specs.Columns.{member}
-use Rattle.splits.proofs.Respect.{possible-of}
+use Rattle.splits.proofs.Respect.{possible_of}
 use Rattle.best.specs.Best.{Candidate}
 use Rattle.sheets.specs.Network.{Cell, output, run, Gives}
-use Rattle.networks.proofs.Values.{member_below, size-member, output-ext}
+use Rattle.networks.proofs.Values.{member_below, size-member, output_ext}
 use Rattle.fewest.proofs.Reach.{needed, counted-needed}
 
 module _ (n K : ℕ) (F : ℕ → Bool) (c d : Cell) (N : Gives n K F (c ∷ d ∷ [])) (S : ℕ → Bool) (sees : Sees n F S) where
@@ -45,13 +45,13 @@ module _ (n K : ℕ) (F : ℕ → Bool) (c d : Cell) (N : Gives n K F (c ∷ d �
   pub B : ℕ
   B = number n shared
 
-  bitA : (j : ℕ) → j < n → bit A j ≡ (S j && (R₁ j && not (R₂ j)))
+  bit_a : (j : ℕ) → j < n → bit A j ≡ (S j && (R₁ j && not (R₂ j)))
   unfolding A own
-  bitA j h = bit-number n own j h
+  bit_a j h = bit-number n own j h
 
-  bitB : (j : ℕ) → j < n → bit B j ≡ (S j && (R₁ j && R₂ j))
+  bit_b : (j : ℕ) → j < n → bit B j ≡ (S j && (R₁ j && R₂ j))
   unfolding B shared
-  bitB j h = bit-number n shared j h
+  bit_b j h = bit-number n shared j h
 
   -- ---- the split is possible
 
@@ -60,9 +60,9 @@ module _ (n K : ℕ) (F : ℕ → Bool) (c d : Cell) (N : Gives n K F (c ∷ d �
   only x = spread n S (gather n S x)
 
   -- where x and y agree on the members of a set, they then agree on it
-  only-agree : (x y s : ℕ) → s < n → (S s ≡ true → bit x s ≡ bit y s) → bit (only x) s ≡ bit (only y) s
+  only_agree : (x y s : ℕ) → s < n → (S s ≡ true → bit x s ≡ bit y s) → bit (only x) s ≡ bit (only y) s
   unfolding only
-  only-agree x y s l h = bit-spread n S (gather n S x) s l ∙ go (S s) refl ∙ sym (bit-spread n S (gather n S y) s l)
+  only_agree x y s l h = bit-spread n S (gather n S x) s l ∙ go (S s) refl ∙ sym (bit-spread n S (gather n S y) s l)
     where
       go : (t : Bool) → S s ≡ t → (t && bit (gather n S x) (size s S)) ≡ (t && bit (gather n S y) (size s S))
       go true q = gather-bit n S x s l q ∙ h q ∙ sym (gather-bit n S y s l q)
@@ -72,14 +72,14 @@ module _ (n K : ℕ) (F : ℕ → Bool) (c d : Cell) (N : Gives n K F (c ∷ d �
   see : ℕ → Bool → ℕ → Bool
   see x o s = cond (eqb s n) o (bit (only x) s)
 
-  gives-two : (x : ℕ) → x < 2 ^ n → F x ≡ output d (see x (output c (bit (only x))))
+  gives_two : (x : ℕ) → x < 2 ^ n → F x ≡ output d (see x (output c (bit (only x))))
   unfolding run see only
-  gives-two x h = sym (cleared n F S sees x h) ∙ sym (N.gives (only x) (spread-lt n S (gather n S x)))
+  gives_two x h = sym (cleared n F S sees x h) ∙ sym (N.gives (only x) (spread-lt n S (gather n S x)))
 
-  first-sees : (x y : ℕ) → Agree n (readsD (bit A) (bit B)) x y → output c (bit (only x)) ≡ output c (bit (only y))
-  first-sees x y h = output-ext c (bit (only x)) (bit (only y)) (λ s m.
+  first_sees : (x y : ℕ) → Agree n (reads_d (bit A) (bit B)) x y → output c (bit (only x)) ≡ output c (bit (only y))
+  first_sees x y h = output_ext c (bit (only x)) (bit (only y)) (λ s m.
       let l = member_below n c.signals N.wired.1 s m in
-      only-agree x y s l (λ e. h s l (ap₂ ◌||◌ (bitA s l) (bitB s l) ∙ read (S s) (R₁ s) (R₂ s) e m)))
+      only_agree x y s l (λ e. h s l (ap₂ ◌||◌ (bit_a s l) (bit_b s l) ∙ read (S s) (R₁ s) (R₂ s) e m)))
     where
       read : (t p q : Bool) → t ≡ true → p ≡ true → ((t && (p && not q)) || (t && (p && q))) ≡ true
       read true true true e f = refl
@@ -87,9 +87,9 @@ module _ (n K : ℕ) (F : ℕ → Bool) (c d : Cell) (N : Gives n K F (c ∷ d �
       read true false q e f = cc
       read false p q e f = cc
 
-  second-sees : (o : Bool) (x y : ℕ) → Agree n (readsH (bit A) (bit B)) x y → output d (see x o) ≡ output d (see y o)
+  second_sees : (o : Bool) (x y : ℕ) → Agree n (reads_h (bit A) (bit B)) x y → output d (see x o) ≡ output d (see y o)
   unfolding see
-  second-sees o x y h = output-ext d (see x o) (see y o) (λ s m. go s m (eqb s n) refl)
+  second_sees o x y h = output_ext d (see x o) (see y o) (λ s m. go s m (eqb s n) refl)
     where
       read : (t p q : Bool) → t ≡ true → q ≡ true → ((t && (p && q)) || not ((t && (p && not q)) || (t && (p && q))))
           ≡ true
@@ -103,18 +103,18 @@ module _ (n K : ℕ) (F : ℕ → Bool) (c d : Cell) (N : Gives n K F (c ∷ d �
       go s m false q =
           let ne : s ≡ n → ⊥ = eqb-false s n q in
           let l : s < n = omega (arith, member_below (suc n) d.signals N.wired.2.1 s m) in
-          only-agree x y s l (λ e. h s l (ap₂ (λ (a b : Bool). b || not (a || b)) (bitA s l) (bitB s l)
+          only_agree x y s l (λ e. h s l (ap₂ (λ (a b : Bool). b || not (a || b)) (bit_a s l) (bit_b s l)
           ∙ read (S s) (R₁ s) (R₂ s) e m))
 
-  pub two-possible : Possible n F (bit A) (bit B) 1
-  two-possible = possible-of n F (bit A) (bit B) 1 (λ t x. output c (bit (only x))) (λ k x. output d (see x (bit k 0)))
-      (λ t x y h. first-sees x y h) (λ k x y h. second-sees (bit k 0) x y h)
-      (λ x h. gives-two x h ∙ ap (λ (o : Bool). output d (see x o))
+  pub two_possible : Possible n F (bit A) (bit B) 1
+  two_possible = possible_of n F (bit A) (bit B) 1 (λ t x. output c (bit (only x))) (λ k x. output d (see x (bit k 0)))
+      (λ t x y h. first_sees x y h) (λ k x y h. second_sees (bit k 0) x y h)
+      (λ x h. gives_two x h ∙ ap (λ (o : Bool). output d (see x o))
       (sym (bit-number 1 (λ t. output c (bit (only x))) 0 (omega arith))))
 
   -- all its members are members of S
-  pub two-inside : (j : ℕ) → j < n → readsD (bit A) (bit B) j ≡ true → S j ≡ true
-  two-inside j l e = go (S j) (R₁ j) (R₂ j) (sym (ap₂ ◌||◌ (bitA j l) (bitB j l)) ∙ e)
+  pub two_inside : (j : ℕ) → j < n → reads_d (bit A) (bit B) j ≡ true → S j ≡ true
+  two_inside j l e = go (S j) (R₁ j) (R₂ j) (sym (ap₂ ◌||◌ (bit_a j l) (bit_b j l)) ∙ e)
     where
       go : (t p q : Bool) → ((t && (p && not q)) || (t && (p && q))) ≡ true → t ≡ true
       go true p q e = refl
@@ -148,11 +148,11 @@ module _ (n K : ℕ) (F : ℕ → Bool) (c d : Cell) (N : Gives n K F (c ∷ d �
               N.wired.2.0,
             ))
 
-    sizeA : size n S ≤ size n (bit A) + size n R₂
-    sizeA = omega (
+    size_a : size n S ≤ size n (bit A) + size n R₂
+    size_a = omega (
       arith,
       size-sum n (bit A) (λ j. S j && R₂ j) S (λ j h.
-          ap (λ (t : Bool). val t + val (S j && R₂ j)) (bitA j h)
+          ap (λ (t : Bool). val t + val (S j && R₂ j)) (bit_a j h)
           ∙ go (S j) (R₁ j) (R₂ j) (λ e. ap (λ (t : Bool). R₂ j || (t && R₁ j)) (sym linked) ∙ all_read j h e)),
       size-part n (λ j. S j && R₂ j) R₂ (λ j h. and_right (S j) (R₂ j)),
     )
@@ -164,11 +164,11 @@ module _ (n K : ℕ) (F : ℕ → Bool) (c d : Cell) (N : Gives n K F (c ∷ d �
         go true false false e = absurd (clash (e refl) refl)
         go false p q e = refl
 
-    sizeAB : size n (bit A) + size n (bit B) ≤ size n R₁
-    sizeAB = omega (
+    size_ab : size n (bit A) + size n (bit B) ≤ size n R₁
+    size_ab = omega (
       arith,
       size-sum n (bit A) (bit B) (λ j. S j && R₁ j)
-          (λ j h. ap₂ (λ (s t : Bool). val s + val t) (bitA j h) (bitB j h) ∙ go (S j) (R₁ j) (R₂ j)),
+          (λ j h. ap₂ (λ (s t : Bool). val s + val t) (bit_a j h) (bit_b j h) ∙ go (S j) (R₁ j) (R₂ j)),
       size-part n (λ j. S j && R₁ j) R₁ (λ j h. and_right (S j) (R₁ j)),
     )
       where
@@ -178,18 +178,18 @@ module _ (n K : ℕ) (F : ℕ → Bool) (c d : Cell) (N : Gives n K F (c ∷ d �
         go true false q = refl
         go false p q = refl
 
-    pub two-large : size n S + 1 ≤ K + size n (bit A)
+    pub two_large : size n S + 1 ≤ K + size n (bit A)
     unfolding size
-    two-large = omega (arith, sizeA, size-member (suc n) d.signals, N.wired.2.0, ap val linked)
+    two_large = omega (arith, size_a, size-member (suc n) d.signals, N.wired.2.0, ap val linked)
 
-    pub two-candidate : Candidate n K 1 A B
+    pub two_candidate : Candidate n K 1 A B
     unfolding A B
-    two-candidate = record {
-      belowA = number_lt n own;
-      belowB = number_lt n shared;
-      apart = λ j l e. bitA j l ∙ go (S j) (R₁ j) (R₂ j) (sym (bitB j l) ∙ e);
-      more = omega (arith, two-large);
-      most = omega (arith, sizeAB, size-member n c.signals, N.wired.0);
+    two_candidate = record {
+      below_a = number_lt n own;
+      below_b = number_lt n shared;
+      apart = λ j l e. bit_a j l ∙ go (S j) (R₁ j) (R₂ j) (sym (bit_b j l) ∙ e);
+      more = omega (arith, two_large);
+      most = omega (arith, size_ab, size-member n c.signals, N.wired.0);
     }
       where
         go : (t p q : Bool) → (t && (p && q)) ≡ true → (t && (p && not q)) ≡ false

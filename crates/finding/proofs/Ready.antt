@@ -4,23 +4,23 @@ use mathlib.Core.List.{List, [], ◌∷◌}
 use Prim.Native.Nat.{ℕ, ◌≤◌}
 use lib.ListN.{length}
 use borrow.Author.Tests.{ltb-false}
-use Rattle.tables.specs.Work.{workLength}
+use Rattle.tables.specs.Work.{work_length}
 use Rattle.sheets.specs.declared.kinds.Edition.{Edition}
 use Rattle.refusals.specs.declared.verdicts.Verdict.{Verdict}
 use Rattle.refusals.specs.declared.verdicts.Verdict.TheVariants.{Fine}
 use Rattle.refusals.specs.Lines.{verdict}
-use Rattle.refusals.specs.Refusals.{shortWork}
-use Rattle.refusals.proofs.Lines.{in_order}
-use Rattle.refusals.proofs.Tests.{Sound, sound-before}
-use Rattle.finding.specs.FindBest.{findForm}
+use Rattle.refusals.specs.Refusals.{short_work}
+use Rattle.refusals.proofs.Lines.{in_order_lem}
+use Rattle.refusals.proofs.Tests.{Sound, sound_before}
+use Rattle.finding.specs.FindBest.{find_form}
 
 pub record Ready (e : Edition) (n K : ℕ) (t work : List ℕ) : Type 0 where
   pub gate : Sound e n K t
-  pub area : workLength ≤ length work
+  pub area : work_length ≤ length work
 
-pub ready : (e : Edition) (n K : ℕ) (t work : List ℕ) (v : Verdict) → v ≡ verdict (findForm e n K t work) → v ≡ Fine
+pub ready : (e : Edition) (n K : ℕ) (t work : List ℕ) (v : Verdict) → v ≡ verdict (find_form e n K t work) → v ≡ Fine
     → Ready e n K t work
 ready e n K t work v looked fine = record {
-  gate = sound-before e n K t (shortWork work ∷ []) v looked fine;
-  area = ltb-false (length work) workLength (in_order (findForm e n K t work) (sym looked ∙ fine)).1.1.1.1.0;
+  gate = sound_before e n K t (short_work work ∷ []) v looked fine;
+  area = ltb-false (length work) work_length (in_order_lem (find_form e n K t work) (sym looked ∙ fine)).1.1.1.1.0;
 }

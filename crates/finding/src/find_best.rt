@@ -1,10 +1,10 @@
 // Finding the best split.
 ghost use Rattle.std.specs.Prelude.{◌≡◌, ◌≤◌, length};
-ghost use Rattle.tables.specs.Table.{mostInputs, tableLength};
-ghost use Rattle.sheets.specs.Edition.{IsEdition, firstEdition};
-ghost use Rattle.tables.specs.Work.{workLength};
+ghost use Rattle.tables.specs.Table.{most_inputs, table_length};
+ghost use Rattle.sheets.specs.Edition.{IsEdition, first_edition};
+ghost use Rattle.tables.specs.Work.{work_length};
 ghost use Rattle.refusals.specs.Lines.{verdict, reply};
-ghost use Rattle.finding.specs.FindBest.{bestFor, findForm, findSays, findDone, findNot, findOutcome};
+ghost use Rattle.finding.specs.FindBest.{best_for, find_form, find_says, find_done, find_not, find_outcome};
 
 use refusals::form;
 use refusals::verdicts::{Refusal, Verdict, refuse};
@@ -13,7 +13,7 @@ use sheets::kinds::Edition;
 use tables::WORK;
 
 // The own and the shared mask, if nothing is wrong.
-#[derive(Drop)]
+#[derive(Clone, Copy)]
 pub struct FindAnswer {
     pub verdict: Verdict,
     pub own: u16,
@@ -22,7 +22,7 @@ pub struct FindAnswer {
 
 // Lines 1 to 4, and 6.
 pub fn find_form<'a>(e: Edition, n: u64, k: u64, t: &'a [u8], work: &'a [u8]) -> Verdict
-    ensures { result ≡ verdict (findForm e n k t.now work.now) }
+    ensures { result ≡ verdict (find_form e n k t.now work.now) }
 {
     let gate = form::gate(e, n, k, t);
     let Verdict::Fine = gate else {
@@ -36,10 +36,10 @@ pub fn find_form<'a>(e: Edition, n: u64, k: u64, t: &'a [u8], work: &'a [u8]) ->
 
 // Lines 7 and 8: the best split over the inputs that count, or that at most k count, or that none is possible.
 fn search(n: u32, k: u32, t: &[u8], work: &mut [u8]) -> FindAnswer
-    requires { (n ≤ mostInputs) × (k ≤ mostInputs) × (length t.now ≡ tableLength n) × (workLength ≤ length work.old) }
+    requires { (n ≤ most_inputs) × (k ≤ most_inputs) × (length t.now ≡ table_length n) × (work_length ≤ length work.old) }
     ensures { record { answer = result; work = work.new }
-        ≡ reply (verdict (findSays n k t.now))
-        (findDone (bestFor n k t.now) work.old) (findNot work.old) }
+        ≡ reply (verdict (find_says n k t.now))
+        (find_done (best_for n k t.now) work.old) (find_not work.old) }
 {
     let found = find_counting(t, n, 1, k, work);
     match found {
@@ -64,7 +64,7 @@ fn search(n: u32, k: u32, t: &[u8], work: &mut [u8]) -> FindAnswer
 // Finds the best split into cells of an edition.
 pub fn find_in(e: Edition, n: u64, k: u64, t: &[u8], work: &mut [u8]) -> FindAnswer
     requires { IsEdition e }
-    ensures { record { answer = result; work = work.new } ≡ findOutcome e n k t.now work.old }
+    ensures { record { answer = result; work = work.new } ≡ find_outcome e n k t.now work.old }
 {
     let form = find_form(e, n, k, t, work);
     let Verdict::Fine = form else {
@@ -80,7 +80,7 @@ pub fn find_in(e: Edition, n: u64, k: u64, t: &[u8], work: &mut [u8]) -> FindAns
 // Finds the best split: two masks.
 pub fn find_best(n: u64, k: u64, t: &[u8], work: &mut [u8]) -> FindAnswer
     ensures { record { answer = result; work = work.new }
-        ≡ findOutcome firstEdition n k t.now work.old }
+        ≡ find_outcome first_edition n k t.now work.old }
 {
     find_in(Edition::first(), n, k, t, work)
 }

@@ -1,6 +1,6 @@
 // Finding the best split into cells of a told edition.
 ghost use Rattle.std.specs.Prelude.{◌≡◌};
-ghost use Rattle.finding.specs.FindTold.{findTold};
+ghost use Rattle.finding.specs.FindTold.{find_told};
 
 use crate::find_best::{FindAnswer, find_in};
 use refusals::form;
@@ -10,7 +10,7 @@ use sheets::kinds::Edition;
 // Finds the best split into cells of the edition with the number w: two masks.
 pub fn find_told(w: u64, n: u64, k: u64, t: &[u8], work: &mut [u8]) -> FindAnswer
     ensures { record { answer = result; work = work.new }
-        ≡ findTold w n k t.now work.old }
+        ≡ find_told w n k t.now work.old }
 {
     let told = form::told(w, n);
     let Verdict::Fine = told else {

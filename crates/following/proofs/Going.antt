@@ -14,10 +14,10 @@ use Rattle.bits.specs.Lists.{byte_at}
 use Rattle.following.specs.declared.open.Open.{Open}
 use Rattle.following.specs.declared.open.Open.TheVariants.{Nothing, One, Several}
 use Rattle.following.specs.declared.trail.Trail.{Trail}
-use Rattle.following.specs.Values.{isTrue, isFalse, isOpen, opposite, made, notSet, open_in}
-use Rattle.following.specs.Following.{Following, conflict, going, denying, byOpen, hinting, denied, used, isConflict}
+use Rattle.following.specs.Values.{is_true, is_false, is_open, opposite, made, not_set, open_in}
+use Rattle.following.specs.Following.{Following, conflict, going, denying, by_open, hinting, denied, used, is_conflict}
 use Rattle.following.specs.Standing.{Trailed, Kept, Stands, Clean}
-use Rattle.following.proofs.Reading.{AllBelow, open-agree}
+use Rattle.following.proofs.Reading.{AllBelow, open_agree}
 
 pub kept_same : (all from : ℕ) (work : List ℕ) → Kept all from work work
 kept_same all from work = record { long = refl; marks = λ j a b. refl }
@@ -34,18 +34,18 @@ module _ (all from n l : ℕ) (σ : ℕ → ℕ) (work : List ℕ) (la : l / 2 <
   value : byte_at work (l / 2) ≡ σ (l / 2)
   value = t.values (l / 2) la
 
-  pub deny-conflict : byte_at work (l / 2) ≡ 1 + l % 2 → Stands all from work (denying l (going σ)) work (trail true n)
-  deny-conflict h = record {
+  pub deny_conflict : byte_at work (l / 2) ≡ 1 + l % 2 → Stands all from work (denying l (going σ)) work (trail true n)
+  deny_conflict h = record {
     values = σ;
     trailed = t;
     kept = kept_same all from work;
-    is = ap (λ (b : Bool). cond b conflict (cond (isFalse σ l) (going σ) (going (made σ (opposite l)))))
+    is = ap (λ (b : Bool). cond b conflict (cond (is_false σ l) (going σ) (going (made σ (opposite l)))))
         (eq-eqb (σ (l / 2)) (1 + l % 2) (sym value ∙ h));
   }
 
-  pub deny-false : (byte_at work (l / 2) ≡ 1 + l % 2 → ⊥) → byte_at work (l / 2) ≡ 2 - l % 2
+  pub deny_false : (byte_at work (l / 2) ≡ 1 + l % 2 → ⊥) → byte_at work (l / 2) ≡ 2 - l % 2
       → Stands all from work (denying l (going σ)) work (trail false n)
-  deny-false g h = record {
+  deny_false g h = record {
     values = σ;
     trailed = t;
     kept = kept_same all from work;
@@ -67,25 +67,25 @@ module _ (all from n l : ℕ) (σ : ℕ → ℕ) (work : List ℕ) (la : l / 2 <
 -- ---- one hint
 
 module _ (all from n : ℕ) (σ : ℕ → ℕ) (work ls : List ℕ) (b : AllBelow all ls) (t : Trailed all from σ n work) where
-  pub open_is : {o : Open} → o ≡ open_in (byte_at work) ls → hinting ls (going σ) ≡ byOpen σ o
-  open_is {o} e = ap (byOpen σ) (sym (e ∙ open-agree all (byte_at work) σ t.values Nothing ls b))
+  pub open_is : {o : Open} → o ≡ open_in (byte_at work) ls → hinting ls (going σ) ≡ by_open σ o
+  open_is {o} e = ap (by_open σ) (sym (e ∙ open_agree all (byte_at work) σ t.values Nothing ls b))
 
-  pub hint-conflict : {o : Open} → o ≡ open_in (byte_at work) ls → o ≡ Nothing
+  pub hint_conflict : {o : Open} → o ≡ open_in (byte_at work) ls → o ≡ Nothing
       → Stands all from work (hinting ls (going σ)) work (trail true n)
-  hint-conflict {o} e h = record {
+  hint_conflict {o} e h = record {
     values = σ;
     trailed = t;
     kept = kept_same all from work;
-    is = open_is e ∙ ap (byOpen σ) h;
+    is = open_is e ∙ ap (by_open σ) h;
   }
 
-  pub hint-several : {o : Open} → o ≡ open_in (byte_at work) ls → o ≡ Several
+  pub hint_several : {o : Open} → o ≡ open_in (byte_at work) ls → o ≡ Several
       → Stands all from work (hinting ls (going σ)) work (trail false n)
-  hint-several {o} e h = record {
+  hint_several {o} e h = record {
     values = σ;
     trailed = t;
     kept = kept_same all from work;
-    is = open_is e ∙ ap (byOpen σ) h;
+    is = open_is e ∙ ap (by_open σ) h;
   }
 
   module _ (l : ℕ) (la : l / 2 < all) {o : Open} (e : o ≡ open_in (byte_at work) ls) (h : o ≡ One l) where
@@ -97,7 +97,7 @@ module _ (all from n : ℕ) (σ : ℕ → ℕ) (work ls : List ℕ) (b : AllBelo
       values = σ;
       trailed = t;
       kept = kept_same all from work;
-      is = open_is e ∙ ap (byOpen σ) h
+      is = open_is e ∙ ap (by_open σ) h
           ∙ ap (λ (b : Bool). cond b (going (made σ l)) (going σ)) (ne_eqb (σ (l / 2)) 0 (λ z. g (value' ∙ z)));
     }
 
@@ -108,7 +108,7 @@ module _ (all from n : ℕ) (σ : ℕ → ℕ) (work ls : List ℕ) (b : AllBelo
       values = made σ l;
       trailed = m.0;
       kept = m.1;
-      is = open_is e ∙ ap (byOpen σ) h
+      is = open_is e ∙ ap (by_open σ) h
           ∙ ap (λ (b : Bool). cond b (going (made σ l)) (going σ)) (eq-eqb (σ (l / 2)) 0 (sym value' ∙ g));
     }
 
@@ -119,7 +119,7 @@ pub none-denied : (all from : ℕ) (work : List ℕ) (f : ℕ → ℕ) → Clean
     → Stands all from work (denied f 0) work (trail false 0)
 unfolding denied
 none-denied all from work f h = record {
-  values = notSet;
+  values = not_set;
   trailed = record { values = h; trail = λ v k. inl refl; below = λ e k. absurd (omega arith) };
   kept = kept_same all from work;
   is = refl;
@@ -145,59 +145,59 @@ further s u = record {
 }
 
 -- a conflict stays one
-pub denied-stays : (f : ℕ → ℕ) (k n : ℕ) → k ≤ n → denied f k ≡ conflict → denied f n ≡ conflict
+pub denied_stays : (f : ℕ → ℕ) (k n : ℕ) → k ≤ n → denied f k ≡ conflict → denied f n ≡ conflict
 unfolding denied
-denied-stays f k zero l h = let z : k ≡ 0 = omega arith in sym (ap (denied f) z) ∙ h
-denied-stays f k (suc n) l h = elim (dec_lt n k) [
+denied_stays f k zero l h = let z : k ≡ 0 = omega arith in sym (ap (denied f) z) ∙ h
+denied_stays f k (suc n) l h = elim (dec_lt n k) [
   | yes d ↦ (let z : k ≡ suc n = omega arith in sym (ap (denied f) z) ∙ h)
-  | no d ↦ ap (denying (f n)) (denied-stays f k n (omega arith) h)
+  | no d ↦ ap (denying (f n)) (denied_stays f k n (omega arith) h)
 ]
 
-pub used-stays : (g : ℕ → List ℕ) (s : Following) (k n : ℕ) → k ≤ n → used g s k ≡ conflict → used g s n ≡ conflict
+pub used_stays : (g : ℕ → List ℕ) (s : Following) (k n : ℕ) → k ≤ n → used g s k ≡ conflict → used g s n ≡ conflict
 unfolding used
-used-stays g s k zero l h = let z : k ≡ 0 = omega arith in sym (ap (used g s) z) ∙ h
-used-stays g s k (suc n) l h = elim (dec_lt n k) [
+used_stays g s k zero l h = let z : k ≡ 0 = omega arith in sym (ap (used g s) z) ∙ h
+used_stays g s k (suc n) l h = elim (dec_lt n k) [
   | yes d ↦ (let z : k ≡ suc n = omega arith in sym (ap (used g s) z) ∙ h)
-  | no d ↦ ap (hinting (g n)) (used-stays g s k n (omega arith) h)
+  | no d ↦ ap (hinting (g n)) (used_stays g s k n (omega arith) h)
 ]
 
-pub denied-more : (f : ℕ → ℕ) (k : ℕ) → denied f (k + 1) ≡ denying (f k) (denied f k)
+pub denied_more : (f : ℕ → ℕ) (k : ℕ) → denied f (k + 1) ≡ denying (f k) (denied f k)
 unfolding denied
-denied-more f k = ap (denied f) (add-one k)
+denied_more f k = ap (denied f) (add-one k)
 
-pub used-more : (g : ℕ → List ℕ) (s : Following) (k : ℕ) → used g s (k + 1) ≡ hinting (g k) (used g s k)
+pub used_more : (g : ℕ → List ℕ) (s : Following) (k : ℕ) → used g s (k + 1) ≡ hinting (g k) (used g s k)
 unfolding used
-used-more g s k = ap (used g s) (add-one k)
+used_more g s k = ap (used g s) (add-one k)
 
 -- where it stands is what it was to come to
-pub same-standing : {all from : ℕ} {before work : List ℕ} {f g : Following} {t : Trail} → Stands all from before f work t
+pub same_standing : {all from : ℕ} {before work : List ℕ} {f g : Following} {t : Trail} → Stands all from before f work t
     → f ≡ g → Stands all from before g work t
-same-standing s e = record { values = s.values; trailed = s.trailed; kept = s.kept; is = sym e ∙ s.is }
+same_standing s e = record { values = s.values; trailed = s.trailed; kept = s.kept; is = sym e ∙ s.is }
 
-pub conflict-is : {all from : ℕ} {before work : List ℕ} {f : Following} {t : Trail} → Stands all from before f work t
-    → t.conflict ≡ isConflict f
-conflict-is {f = f} {t = t} s = go t.conflict s.is
+pub conflict_is : {all from : ℕ} {before work : List ℕ} {f : Following} {t : Trail} → Stands all from before f work t
+    → t.conflict ≡ is_conflict f
+conflict_is {f = f} {t = t} s = go t.conflict s.is
   where
-    go : (b : Bool) → f ≡ cond b conflict (going s.values) → b ≡ isConflict f
-    go true e = sym (ap isConflict e)
-    go false e = sym (ap isConflict e)
+    go : (b : Bool) → f ≡ cond b conflict (going s.values) → b ≡ is_conflict f
+    go true e = sym (ap is_conflict e)
+    go false e = sym (ap is_conflict e)
 
 -- a literal more, and a hint more
 pub denied-step : {all from l : ℕ} (f : ℕ → ℕ) (k : ℕ) {before mid after : List ℕ} {t r : Trail}
     (s : Stands all from before (denied f k) mid t) → t.conflict ≡ false → l ≡ f k
     → Stands all from mid (denying l (going s.values)) after r → Stands all from before (denied f (k + 1)) after r
-denied-step f k s h e u = same-standing (further s u) (ap₂ denying e (sym (still s h)) ∙ sym (denied-more f k))
+denied-step f k s h e u = same_standing (further s u) (ap₂ denying e (sym (still s h)) ∙ sym (denied_more f k))
 
 pub used_step : {all from : ℕ} (g : ℕ → List ℕ) (f : Following) (k : ℕ) {before mid after ls : List ℕ} {t r : Trail}
     (s : Stands all from before (used g f k) mid t) → t.conflict ≡ false → ls ≡ g k
     → Stands all from mid (hinting ls (going s.values)) after r → Stands all from before (used g f (k + 1)) after r
-used_step g f k s h e u = same-standing (further s u) (ap₂ hinting e (sym (still s h)) ∙ sym (used-more g f k))
+used_step g f k s h e u = same_standing (further s u) (ap₂ hinting e (sym (still s h)) ∙ sym (used_more g f k))
 
 -- after a conflict nothing changes any more
-pub denied-done : {all from : ℕ} (f : ℕ → ℕ) (k n : ℕ) {before work : List ℕ} {t : Trail}
+pub denied_done : {all from : ℕ} (f : ℕ → ℕ) (k n : ℕ) {before work : List ℕ} {t : Trail}
     → Stands all from before (denied f k) work t → t.conflict ≡ true → k ≤ n → Stands all from before (denied f n) work t
-denied-done f k n s h l = same-standing s (stuck s h ∙ sym (denied-stays f k n l (stuck s h)))
+denied_done f k n s h l = same_standing s (stuck s h ∙ sym (denied_stays f k n l (stuck s h)))
 
-pub used-done : {all from : ℕ} (g : ℕ → List ℕ) (f : Following) (k n : ℕ) {before work : List ℕ} {t : Trail}
+pub used_done : {all from : ℕ} (g : ℕ → List ℕ) (f : Following) (k n : ℕ) {before work : List ℕ} {t : Trail}
     → Stands all from before (used g f k) work t → t.conflict ≡ true → k ≤ n → Stands all from before (used g f n) work t
-used-done g f k n s h l = same-standing s (stuck s h ∙ sym (used-stays g f k n l (stuck s h)))
+used_done g f k n s h l = same_standing s (stuck s h ∙ sym (used_stays g f k n l (stuck s h)))

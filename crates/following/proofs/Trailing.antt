@@ -73,22 +73,22 @@ module _ (all from n l : ℕ) (σ : ℕ → ℕ) (before mid : List ℕ) (af : a
   earlier : (e : ℕ) → e < n → four after (from + 4 * e) ≡ four before (from + 4 * e)
   earlier e k = four_same after before (from + 4 * e) (λ j a b. there j (λ d. omega arith) ∙ w.under j (omega arith))
 
-  made-here : made σ l (l / 2) ≡ 1 + l % 2
-  made-here = ap (λ (b : Bool). cond b (1 + l % 2) (σ (l / 2))) (eq-eqb (l / 2) (l / 2) refl)
+  made_here : made σ l (l / 2) ≡ 1 + l % 2
+  made_here = ap (λ (b : Bool). cond b (1 + l % 2) (σ (l / 2))) (eq-eqb (l / 2) (l / 2) refl)
 
-  made-there : (v : ℕ) → (v ≡ l / 2 → ⊥) → made σ l v ≡ σ v
-  made-there v h = ap (λ (b : Bool). cond b (1 + l % 2) (σ v)) (ne_eqb v (l / 2) h)
+  made_there : (v : ℕ) → (v ≡ l / 2 → ⊥) → made σ l v ≡ σ v
+  made_there v h = ap (λ (b : Bool). cond b (1 + l % 2) (σ v)) (ne_eqb v (l / 2) h)
 
   pub making : Trailed all from (made σ l) (n + 1) after × Kept all from before after
   making = (
     record {
       values = λ v k. elim (ℕ_discrete v (l / 2)) [
-        | yes e ↦ ap (byte_at after) e ∙ here ∙ sym (ap (made σ l) e ∙ made-here)
-        | no e ↦ there v e ∙ w.under v (omega arith) ∙ t.values v k ∙ sym (made-there v e)
+        | yes e ↦ ap (byte_at after) e ∙ here ∙ sym (ap (made σ l) e ∙ made_here)
+        | no e ↦ there v e ∙ w.under v (omega arith) ∙ t.values v k ∙ sym (made_there v e)
       ];
       trail = λ v k. elim (ℕ_discrete v (l / 2)) [
         | yes e ↦ inr (record { at = n; within = omega arith; is = noted ∙ sym e })
-        | no e ↦ ⊎_elim (λ z. inl (made-there v e ∙ z)) (λ z. inr (record {
+        | no e ↦ ⊎_elim (λ z. inl (made_there v e ∙ z)) (λ z. inr (record {
           at = z.at;
           within = omega (arith, z.within);
           is = earlier z.at z.within ∙ z.is;
@@ -126,13 +126,13 @@ module _ (from n e : ℕ) (before work : List ℕ) (room : from + 4 * n ≤ leng
   pub stands : four work (from + 4 * e) ≡ four before (from + 4 * e)
   stands = four_same work before (from + 4 * e) (λ j a b. f.other j (λ k l d. omega (arith, front k (omega arith))))
 
-  pub in-room : four work (from + 4 * e) < length work
-  in-room = omega (arith, stands, front e en, f.long)
+  pub in_room : four work (from + 4 * e) < length work
+  in_room = omega (arith, stands, front e en, f.long)
 
-  pub forgot-more : {v : ℕ} → v ≡ four work (from + 4 * e) → Forgotten from (e + 1) before (set work v 0)
-  forgot-more {v} p =
+  pub forgot_more : {v : ℕ} → v ≡ four work (from + 4 * e) → Forgotten from (e + 1) before (set work v 0)
+  forgot_more {v} p =
       let q : v ≡ four before (from + 4 * e) = p ∙ stands in
-      let r : v < length work = omega (arith, p, in-room) in record {
+      let r : v < length work = omega (arith, p, in_room) in record {
         long = length-set work v 0 ∙ f.long;
         gone = λ k h. elim (ℕ_discrete (four before (from + 4 * k)) v) [
           | yes d ↦ ap (byte_at (set work v 0)) d ∙ get_or-set_same work v 0 0 r
@@ -152,9 +152,9 @@ module _ (from n e : ℕ) (before work : List ℕ) (room : from + 4 * n ≤ leng
       }
 
 -- all of them forgotten
-pub forgot-all : (all from n : ℕ) (σ : ℕ → ℕ) (before work : List ℕ) → all ≤ from → Trailed all from σ n before
+pub forgot_all : (all from n : ℕ) (σ : ℕ → ℕ) (before work : List ℕ) → all ≤ from → Trailed all from σ n before
     → Forgotten from n before work → Clean all work × Kept all from before work
-forgot-all all from n σ before work af t f = (
+forgot_all all from n σ before work af t f = (
   λ v k. ⊎_elim (λ z. ⊎_elim (λ y. y ∙ t.values v k ∙ z) (λ y. y) (f.less v))
       (λ z. ap (byte_at work) (sym z.is) ∙ f.gone z.at z.within) (t.trail v k),
   record { long = f.long; marks = λ j a b. f.other j (λ k l d. omega (arith, t.below k l)) },

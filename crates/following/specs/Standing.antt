@@ -2,28 +2,28 @@
 -- variables that a step has set, four bytes each.
 use Rattle.std.specs.Prelude.{◌≡◌, ◌⊎◌, Bool, true, cond, ◌&&◌, List, ℕ, ◌+◌, ◌*◌, ◌/◌, ◌<◌, ◌≤◌, eqb, ltb, length}
 use Rattle.bits.specs.Lists.{byte_at}
-use Rattle.tables.specs.Table.{tableBit}
+use Rattle.tables.specs.Table.{table_bit}
 use Rattle.clauses.specs.declared.variables.Size.{Size}
 use Rattle.clauses.specs.Variables.{variables}
-use Rattle.clauses.specs.Clause.{inOrder}
-use Rattle.clauses.specs.Step.{four, kind_at, givenAt, literalsAt, literalAt, hintsAt}
+use Rattle.clauses.specs.Clause.{in_order_lem}
+use Rattle.clauses.specs.Step.{four, kind_at, given_at, literals_at, literal_at, hints_at}
 use Rattle.following.specs.declared.trail.Trail.{Trail}
 use Rattle.following.specs.Following.{Following, conflict, going}
 
 -- the literals of a step of kind 0 are there, each of a variable below V
 pub record LiteralsIn (all : ℕ) (c : List ℕ) (at : ℕ) : Type 0 where
-  pub room : at + 3 + 4 * literalsAt c at ≤ length c
-  pub below : (k : ℕ) → k < literalsAt c at → literalAt c at k / 2 < all
+  pub room : at + 3 + 4 * literals_at c at ≤ length c
+  pub below : (k : ℕ) → k < literals_at c at → literal_at c at k / 2 < all
 
 -- the whole of it is there
 abbrev pub AllThere : List ℕ → ℕ → Type 0
-AllThere c at = at + 7 + 4 * literalsAt c at + 4 * hintsAt c at ≤ length c
+AllThere c at = at + 7 + 4 * literals_at c at + 4 * hints_at c at ≤ length c
 
 -- a step whose clause can be read
 pub record Usable (z : Size) (t c : List ℕ) (at : ℕ) : Type 0 where
   pub inside : at < length c
   pub derived : kind_at c at ≡ 0 → LiteralsIn (variables z) c at
-  pub given : (kind_at c at ≡ 0 → ⊥) → inOrder z (tableBit t) (givenAt c at) ≡ true
+  pub given : (kind_at c at ≡ 0 → ⊥) → in_order_lem z (table_bit t) (given_at c at) ≡ true
 
 -- x was written at a place, in four bytes, and nothing else
 pub record Wrote (before : List ℕ) (at x : ℕ) (after : List ℕ) : Type 0 where
@@ -65,11 +65,11 @@ abbrev pub Clean : ℕ → List ℕ → Type 0
 Clean all work = (v : ℕ) → v < all → byte_at work v ≡ 0
 
 -- the marks: of L bytes those at which earlier steps begin
-abbrev pub begunIn : ℕ → ℕ → List ℕ → ℕ → Bool
-begunIn all L work j = ltb j L && eqb (byte_at work (all + j)) 1
+abbrev pub begun_in : ℕ → ℕ → List ℕ → ℕ → Bool
+begun_in all L work j = ltb j L && eqb (byte_at work (all + j)) 1
 
 -- between two steps: no variable is set, and the clauses of the steps that are marked can be read
 pub record Ready (z : Size) (t c work : List ℕ) : Type 0 where
   pub room : variables z + length c + length c ≤ length work
   pub clean : Clean (variables z) work
-  pub usable : (j : ℕ) → begunIn (variables z) (length c) work j ≡ true → Usable z t c j
+  pub usable : (j : ℕ) → begun_in (variables z) (length c) work j ≡ true → Usable z t c j

@@ -1,13 +1,13 @@
 // Whether a step of kind 0 is in order.
 ghost use Rattle.std.specs.Prelude.{◌≡◌, ℕ, ◌+◌, ◌*◌, ◌/◌, ◌<◌, ◌≤◌, List, ltb, length};
 ghost use Rattle.bits.specs.Below.{every};
-ghost use Rattle.tables.specs.Table.{tableLength};
+ghost use Rattle.tables.specs.Table.{table_length};
 ghost use Rattle.clauses.specs.Variables.{IsSize, variables};
-ghost use Rattle.clauses.specs.Step.{questionIn, literalsAt, literalAt, hintsAt, hintAt, clauseAt};
+ghost use Rattle.clauses.specs.Step.{question_in, literals_at, literal_at, hints_at, hint_at, clause_at};
 ghost use Rattle.clauses.specs.Shapes.{HasRows};
 ghost use Rattle.following.specs.Following.{Following, going, denying, hinting, denied, used};
-ghost use Rattle.following.specs.Following.{follows, derivedInOrder};
-ghost use Rattle.following.specs.Standing.{LiteralsIn, AllThere, Usable, Trailed, Stands, Kept, Clean, begunIn, Ready};
+ghost use Rattle.following.specs.Following.{follows, derived_in_order};
+ghost use Rattle.following.specs.Standing.{LiteralsIn, AllThere, Usable, Trailed, Stands, Kept, Clean, begun_in, Ready};
 
 use crate::open::{Open, open_at};
 use crate::trail::{Trail, forget, make};
@@ -44,10 +44,10 @@ fn deny(work: &mut [u8], from: usize, set: usize, l: usize) -> Trail
 
 // All literals of the step, up to a conflict.
 fn deny_all(c: &[u8], at: usize, many: usize, all: usize, work: &mut [u8]) -> Trail
-    requires { (many ≡ literalsAt c.now at) × LiteralsIn all c.now at × Clean all work.old × (all < 67108864)
+    requires { (many ≡ literals_at c.now at) × LiteralsIn all c.now at × Clean all work.old × (all < 67108864)
         × (all + length c.now + length c.now ≤ length work.old) }
     ensures { (result.set ≤ many)
-        × Stands all (all + length c.now) work.old (denied (literalAt c.now at) many)
+        × Stands all (all + length c.now) work.old (denied (literal_at c.now at) many)
         work.new result }
 {
     let from = all + c.len();
@@ -76,12 +76,12 @@ fn hint<'a>(
     from: usize,
     set: usize,
 ) -> Trail
-    requires { IsSize z × HasRows z c.now × (length t.now ≡ tableLength z.inputs) × Usable z t.now c.now at
+    requires { IsSize z × HasRows z c.now × (length t.now ≡ table_length z.inputs) × Usable z t.now c.now at
         × (variables z ≤ from) × (from + 4 * set + 4 ≤ length work.old) }
     ensures { (result.set ≤ set + 1)
         × ((σ : ℕ → ℕ) → Trailed (variables z) from σ set work.old
         → Stands (variables z) from work.old
-        (hinting (clauseAt (questionIn z t.now c.now) c.now at) (going σ))
+        (hinting (clause_at (question_in z t.now c.now) c.now at) (going σ))
         work.new result) }
 {
     match open_at(z, t, c, at, work) {
@@ -125,14 +125,14 @@ fn hint_all<'a>(
     from: usize,
     start: Trail,
 ) -> Trail
-    requires { IsSize z × HasRows z c.now × (length t.now ≡ tableLength z.inputs) × (variables z ≤ from)
-        × (many ≡ hintsAt c.now at) × AllThere c.now at
+    requires { IsSize z × HasRows z c.now × (length t.now ≡ table_length z.inputs) × (variables z ≤ from)
+        × (many ≡ hints_at c.now at) × AllThere c.now at
         × (from + 4 * start.set + 4 * many ≤ length work.old)
-        × ((k : ℕ) → k < many → Usable z t.now c.now (hintAt c.now at k)) }
+        × ((k : ℕ) → k < many → Usable z t.now c.now (hint_at c.now at k)) }
     ensures { (result.set ≤ start.set + many)
         × ((before : List ℕ) (f : Following) → Stands (variables z) from before f work.old start
         → Stands (variables z) from before
-        (used (λ k. clauseAt (questionIn z t.now c.now) c.now (hintAt c.now at k))
+        (used (λ k. clause_at (question_in z t.now c.now) c.now (hint_at c.now at k))
         f many) work.new result) }
 {
     let first = at + 7 + 4 * two_at(c, at + 1);
@@ -150,11 +150,11 @@ fn hint_all<'a>(
 
 // Whether it follows; no variable stays set.
 fn does_follow<'a>(z: Size, t: &'a [u8], c: &'a [u8], at: usize, work: &mut [u8]) -> bool
-    requires { IsSize z × HasRows z c.now × (length t.now ≡ tableLength z.inputs) × AllThere c.now at
+    requires { IsSize z × HasRows z c.now × (length t.now ≡ table_length z.inputs) × AllThere c.now at
         × LiteralsIn (variables z) c.now at × Clean (variables z) work.old
         × (variables z + length c.now + length c.now ≤ length work.old)
-        × ((k : ℕ) → k < hintsAt c.now at → Usable z t.now c.now (hintAt c.now at k)) }
-    ensures { (result ≡ follows (questionIn z t.now c.now) c.now at)
+        × ((k : ℕ) → k < hints_at c.now at → Usable z t.now c.now (hint_at c.now at k)) }
+    ensures { (result ≡ follows (question_in z t.now c.now) c.now at)
         × Clean (variables z) work.new
         × Kept (variables z) (variables z + length c.now) work.old work.new }
 {
@@ -170,8 +170,8 @@ fn does_follow<'a>(z: Size, t: &'a [u8], c: &'a [u8], at: usize, work: &mut [u8]
 
 // Whether each literal's variable is one of them.
 fn are_named(c: &[u8], at: usize, many: usize, all: usize) -> bool
-    requires { (many ≡ literalsAt c.now at) × AllThere c.now at }
-    ensures { result ≡ every many (λ k. ltb (literalAt c.now at k / 2) all) }
+    requires { (many ≡ literals_at c.now at) × AllThere c.now at }
+    ensures { result ≡ every many (λ k. ltb (literal_at c.now at k / 2) all) }
 {
     let mut k: usize = 0;
     while k < many {
@@ -186,7 +186,7 @@ fn are_named(c: &[u8], at: usize, many: usize, all: usize) -> bool
 // Whether an earlier step begins at a place: that is marked.
 fn is_marked(all: usize, many: usize, work: &[u8], h: usize) -> bool
     requires { all + many ≤ length work.now }
-    ensures { result ≡ begunIn all many work.now h }
+    ensures { result ≡ begun_in all many work.now h }
 {
     if many <= h {
         return false;
@@ -203,9 +203,9 @@ fn are_earlier<'a>(
     all: usize,
     work: &'a [u8],
 ) -> bool
-    requires { (literals ≡ literalsAt c.now at) × (many ≡ hintsAt c.now at) × AllThere c.now at
+    requires { (literals ≡ literals_at c.now at) × (many ≡ hints_at c.now at) × AllThere c.now at
         × (all + length c.now ≤ length work.now) }
-    ensures { result ≡ every many (λ k. begunIn all (length c.now) work.now (hintAt c.now at k)) }
+    ensures { result ≡ every many (λ k. begun_in all (length c.now) work.now (hint_at c.now at k)) }
 {
     let mut k: usize = 0;
     while k < many {
@@ -224,10 +224,10 @@ fn are_earlier<'a>(
 
 // Whether a step of kind 0, all of which is there, is in order. Marks stay, and no variable stays set.
 pub fn derived_in_order<'a>(z: Size, t: &'a [u8], c: &'a [u8], at: usize, work: &mut [u8]) -> bool
-    requires { IsSize z × HasRows z c.now × (length t.now ≡ tableLength z.inputs) × AllThere c.now at
+    requires { IsSize z × HasRows z c.now × (length t.now ≡ table_length z.inputs) × AllThere c.now at
         × Ready z t.now c.now work.old }
-    ensures { (result ≡ derivedInOrder (questionIn z t.now c.now) c.now at
-        (begunIn (variables z) (length c.now) work.old))
+    ensures { (result ≡ derived_in_order (question_in z t.now c.now) c.now at
+        (begun_in (variables z) (length c.now) work.old))
         × Clean (variables z) work.new
         × Kept (variables z) (variables z + length c.now) work.old work.new }
 {

@@ -1,14 +1,14 @@
 // What is open in a clause, by the values that stand in front of a work area.
 ghost use Rattle.std.specs.Prelude.{◌≡◌, cond, map, ℕ, ◌+◌, ◌*◌, ◌/◌, ◌<◌, ◌≤◌, length};
 ghost use Rattle.bits.specs.Lists.{byte_at, list_of};
-ghost use Rattle.tables.specs.Table.{tableLength};
+ghost use Rattle.tables.specs.Table.{table_length};
 ghost use Rattle.clauses.specs.declared.variables.Variable.TheVariants.{Reads, Apart};
 ghost use Rattle.clauses.specs.declared.variables.Literal.TheVariants.{Said};
-ghost use Rattle.clauses.specs.Variables.{IsSize, Named, variableOf, literalOf, variables};
-ghost use Rattle.clauses.specs.Clause.{those, rowsDiffer, causes, readers};
-ghost use Rattle.clauses.specs.Step.{row_at, questionIn, literalsAt, literalAt, clauseAt};
-ghost use Rattle.clauses.specs.Shapes.{literalsIn, AllNamed, HasRows};
-ghost use Rattle.following.specs.Values.{oneMore, seen, openAfter, open_in};
+ghost use Rattle.clauses.specs.Variables.{IsSize, Named, variable_of, literal_of, variables};
+ghost use Rattle.clauses.specs.Clause.{those, rows_differ, causes, readers};
+ghost use Rattle.clauses.specs.Step.{row_at, question_in, literals_at, literal_at, clause_at};
+ghost use Rattle.clauses.specs.Shapes.{literals_in, AllNamed, HasRows};
+ghost use Rattle.following.specs.Values.{one_more, seen, open_after, open_in};
 ghost use Rattle.following.specs.Standing.{LiteralsIn, Usable};
 
 use clauses::fields::given_at;
@@ -17,7 +17,7 @@ use clauses::shapes::{Shape, row_at, shape_of};
 use clauses::variables::{Literal, Size, Variable, literal_of};
 
 // The literals of a clause that aren't false: none, one, or several.
-#[derive(Drop)]
+#[derive(Clone, Copy)]
 pub enum Open {
     Nothing,
     One(usize),
@@ -26,7 +26,7 @@ pub enum Open {
 
 // One literal more that isn't false.
 fn one_more(l: usize, o: Open) -> Open
-    ensures { result ≡ oneMore l o }
+    ensures { result ≡ one_more l o }
 {
     match o {
         Open::Nothing => Open::One(l),
@@ -49,16 +49,16 @@ fn see(work: &[u8], l: usize, o: Open) -> Open
 
 // A literal more, by its name.
 fn see_named(z: Size, work: &[u8], l: Literal, o: Open) -> Open
-    requires { IsSize z × (variables z ≤ length work.now) × Named z (variableOf l) }
-    ensures { result ≡ seen (byte_at work.now) (literalOf z l) o }
+    requires { IsSize z × (variables z ≤ length work.now) × Named z (variable_of l) }
+    ensures { result ≡ seen (byte_at work.now) (literal_of z l) o }
 {
     see(work, literal_of(z, l), o)
 }
 
 // A literal more, if so said.
 fn see_if(z: Size, work: &[u8], so: bool, l: Literal, o: Open) -> Open
-    requires { IsSize z × (variables z ≤ length work.now) × Named z (variableOf l) }
-    ensures { result ≡ cond so (seen (byte_at work.now) (literalOf z l) o) o }
+    requires { IsSize z × (variables z ≤ length work.now) × Named z (variable_of l) }
+    ensures { result ≡ cond so (seen (byte_at work.now) (literal_of z l) o) o }
 {
     if so {
         return see_named(z, work, l, o);
@@ -78,8 +78,8 @@ fn open_inputs<'a>(
 ) -> Open
     requires { IsSize z × HasRows z c.now × (variables z ≤ length work.now) × (i < z.cells) × (a < z.rows)
         × (b < z.rows) }
-    ensures { result ≡ openAfter (byte_at work.now) start
-        (map (literalOf z) (those z.inputs (rowsDiffer (row_at c.now) a b) (λ p. Said (Reads i p)))) }
+    ensures { result ≡ open_after (byte_at work.now) start
+        (map (literal_of z) (those z.inputs (rows_differ (row_at c.now) a b) (λ p. Said (Reads i p)))) }
 {
     let x = row_at(z, c, a);
     let y = row_at(z, c, b);
@@ -96,7 +96,7 @@ fn open_inputs<'a>(
 // The cells that a cell may read.
 fn open_cells(z: Size, work: &[u8], i: usize, a: usize, b: usize, start: Open) -> Open
     requires { IsSize z × (variables z ≤ length work.now) × (i < z.cells) × (a < z.rows) × (b < z.rows) }
-    ensures { result ≡ openAfter (byte_at work.now) start (map (literalOf z) (list_of i (λ j. Said (Apart i j a b)))) }
+    ensures { result ≡ open_after (byte_at work.now) start (map (literal_of z) (list_of i (λ j. Said (Apart i j a b)))) }
 {
     let mut o = start;
     let mut j: usize = 0;
@@ -111,7 +111,7 @@ fn open_cells(z: Size, work: &[u8], i: usize, a: usize, b: usize, start: Open) -
 fn open_causes<'a>(z: Size, c: &'a [u8], work: &'a [u8], i: usize, a: usize, b: usize) -> Open
     requires { IsSize z × HasRows z c.now × (variables z ≤ length work.now) × (i < z.cells) × (a < z.rows)
         × (b < z.rows) }
-    ensures { result ≡ open_in (byte_at work.now) (map (literalOf z) (causes z (row_at c.now) i a b)) }
+    ensures { result ≡ open_in (byte_at work.now) (map (literal_of z) (causes z (row_at c.now) i a b)) }
 {
     let o = see_named(
         z,
@@ -126,7 +126,7 @@ fn open_causes<'a>(z: Size, c: &'a [u8], work: &'a [u8], i: usize, a: usize, b: 
 // The cells that may read one.
 fn open_readers(z: Size, work: &[u8], cell: u8) -> Open
     requires { IsSize z × (variables z ≤ length work.now) }
-    ensures { result ≡ open_in (byte_at work.now) (map (literalOf z) (readers z cell)) }
+    ensures { result ≡ open_in (byte_at work.now) (map (literal_of z) (readers z cell)) }
 {
     let i = cell as usize;
     let mut o = Open::Nothing;
@@ -146,8 +146,8 @@ fn open_readers(z: Size, work: &[u8], cell: u8) -> Open
 // A clause of kinds 1 to 14.
 fn open_shape<'a>(z: Size, c: &'a [u8], work: &'a [u8], s: Shape) -> Open
     requires { IsSize z × HasRows z c.now × (variables z ≤ length work.now)
-        × AllNamed z (literalsIn z (row_at c.now) s) }
-    ensures { result ≡ open_in (byte_at work.now) (map (literalOf z) (literalsIn z (row_at c.now) s)) }
+        × AllNamed z (literals_in z (row_at c.now) s) }
+    ensures { result ≡ open_in (byte_at work.now) (map (literal_of z) (literals_in z (row_at c.now) s)) }
 {
     match s {
         Shape::One(a) => {
@@ -174,7 +174,7 @@ fn open_shape<'a>(z: Size, c: &'a [u8], work: &'a [u8], s: Shape) -> Open
 // A clause of kind 0.
 fn open_derived<'a>(c: &'a [u8], at: usize, work: &'a [u8]) -> Open
     requires { LiteralsIn (length work.now) c.now at }
-    ensures { result ≡ open_in (byte_at work.now) (list_of (literalsAt c.now at) (literalAt c.now at)) }
+    ensures { result ≡ open_in (byte_at work.now) (list_of (literals_at c.now at) (literal_at c.now at)) }
 {
     let many = two_at(c, at + 1);
     let mut o = Open::Nothing;
@@ -188,10 +188,10 @@ fn open_derived<'a>(c: &'a [u8], at: usize, work: &'a [u8]) -> Open
 
 // The clause of an earlier step.
 pub fn open_at<'a>(z: Size, t: &'a [u8], c: &'a [u8], at: usize, work: &'a [u8]) -> Open
-    requires { IsSize z × HasRows z c.now × (length t.now ≡ tableLength z.inputs) × (variables z ≤ length work.now)
+    requires { IsSize z × HasRows z c.now × (length t.now ≡ table_length z.inputs) × (variables z ≤ length work.now)
         × Usable z t.now c.now at }
     ensures { result ≡ open_in (byte_at work.now)
-        (clauseAt (questionIn z t.now c.now) c.now at) }
+        (clause_at (question_in z t.now c.now) c.now at) }
 {
     if c[at] == 0 {
         return open_derived(c, at, work);

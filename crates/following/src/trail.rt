@@ -6,7 +6,7 @@ ghost use Rattle.following.specs.Standing.{Trailed, Kept, Clean, Wrote, InFront}
 use clauses::numbers::four_at;
 
 // How far a step has come: whether a conflict is reached, and how many variables are set.
-#[derive(Drop)]
+#[derive(Clone, Copy)]
 pub struct Trail {
     pub conflict: bool,
     pub set: usize,

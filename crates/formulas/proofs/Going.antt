@@ -6,13 +6,13 @@ use native.Mathlib.Omega.{arith}
 use lib.Dec.{eqb}
 use borrow.Author.Tests.{eq-eqb, ne_eqb}
 use Rattle.values.specs.Formula.{Allowed, FormulaIn, constant, negated, joined, counted}
-use Rattle.formulas.specs.Text.{mark, Number, Down, taken, beyond, Spells, a-zero, a-not, a-nest, a-count}
+use Rattle.formulas.specs.Text.{mark, Number, Down, taken, beyond, Spells, a_zero, a_not, a_nest, a_count}
 use Rattle.formulas.specs.Text.{only, more}
 use Rattle.formulas.specs.Reading.{width, stuck}
-use Rattle.formulas.proofs.Steps.{Run, r-tired, r-other, r-deep-not, r-deep-open, r-not-bad, r-open-bad}
-use Rattle.formulas.proofs.Steps.{r-open-left, r-short, r-count-bad, r-count-left, r-first-bad, r-next-bad}
-use Rattle.formulas.proofs.ByteKinds.{is-bang, is_open, is_number}
-use Rattle.formulas.proofs.Grammar.{number_same, spells-lt, spells-same, sound}
+use Rattle.formulas.proofs.Steps.{Run, r_tired, r_other, r_deep_not, r_deep_open, r_not-bad, r_open_bad}
+use Rattle.formulas.proofs.Steps.{r_open_left, r_short, r_count-bad, r_count-left, r_first-bad, r_next-bad}
+use Rattle.formulas.proofs.ByteKinds.{is_bang, is_open, is_number}
+use Rattle.formulas.proofs.Grammar.{number_same, spells_lt, spells_same, sound}
 use Rattle.formulas.proofs.Reaching.{from}
 
 -- the bytes before b can be continued to what is spelled from p
@@ -28,49 +28,49 @@ pub record Goes (counts : Bool) (c : ℕ → ℕ) (n k d p b : ℕ) : Type 0 whe
 abbrev put : (ℕ → ℕ) → ℕ → ℕ → ℕ → ℕ
 put c p v i = cond (eqb i p) v (c i)
 
-put-there : (c : ℕ → ℕ) (p v : ℕ) → put c p v p ≡ v
-put-there c p v = ap (λ (t : Bool). cond t v (c p)) (eq-eqb p p refl)
+put_there : (c : ℕ → ℕ) (p v : ℕ) → put c p v p ≡ v
+put_there c p v = ap (λ (t : Bool). cond t v (c p)) (eq-eqb p p refl)
 
-put-else : (c : ℕ → ℕ) (p v i : ℕ) → (i ≡ p → ⊥) → put c p v i ≡ c i
-put-else c p v i h = ap (λ (t : Bool). cond t v (c i)) (ne_eqb i p h)
+put_else : (c : ℕ → ℕ) (p v i : ℕ) → (i ≡ p → ⊥) → put c p v i ≡ c i
+put_else c p v i h = ap (λ (t : Bool). cond t v (c i)) (ne_eqb i p h)
 
 module _ (counts : Bool) (c : ℕ → ℕ) (n : ℕ) where
   -- a 0 for a factor
-  a-factor : (e : ℕ → ℕ) (b k d p : ℕ) → e p ≡ 48 → Spells counts e n b k d (constant false) p (suc p)
-  a-factor e b zero d p h = a-zero h
-  a-factor e b (suc k) d p h = only (a-factor e b k d p h)
+  a_factor : (e : ℕ → ℕ) (b k d p : ℕ) → e p ≡ 48 → Spells counts e n b k d (constant false) p (suc p)
+  a_factor e b zero d p h = a_zero h
+  a_factor e b (suc k) d p h = only (a_factor e b k d p h)
 
-  goes-here : (k d p : ℕ) → Goes counts c n k d p p
-  goes-here k d p =
+  goes_here : (k d p : ℕ) → Goes counts c n k d p p
+  goes_here k d p =
       record {
         bytes = put c p 48;
         tree = constant false;
         end = suc p;
-        same = λ i l. put-else c p 48 i (λ e. omega arith);
+        same = λ i l. put_else c p 48 i (λ e. omega arith);
         past = omega arith;
-        spells = a-factor (put c p 48) p k d p (put-there c p 48);
+        spells = a_factor (put c p 48) p k d p (put_there c p 48);
       }
 
-  goes-not : (d p b : ℕ) → c p ≡ 33 → p < b → Goes counts c n 0 d (suc p) b → Goes counts c n 0 (suc d) p b
-  goes-not d p b e l g =
+  goes_not : (d p b : ℕ) → c p ≡ 33 → p < b → Goes counts c n 0 d (suc p) b → Goes counts c n 0 (suc d) p b
+  goes_not d p b e l g =
       record {
         bytes = g.bytes;
         tree = negated g.tree;
         end = g.end;
         same = g.same;
         past = g.past;
-        spells = a-not (g.same p l ∙ e) g.spells;
+        spells = a_not (g.same p l ∙ e) g.spells;
       }
 
   -- a `)` behind what goes on from r
-  goes-closed : (k d p r b : ℕ) → r ≤ b → Goes counts c n k d r b → (wrap : FormulaIn counts → FormulaIn counts)
+  goes_closed : (k d p r b : ℕ) → r ≤ b → Goes counts c n k d r b → (wrap : FormulaIn counts → FormulaIn counts)
       → ((e : ℕ → ℕ) (F : FormulaIn counts) (q : ℕ) → ((i : ℕ) → i < r → e i ≡ c i)
       → Spells counts e n b k d F r q → e q ≡ 41 → Spells counts e n b 0 (suc d) (wrap F) p (suc q))
       → Goes counts c n 0 (suc d) p b
-  goes-closed k d p r b l g wrap made =
+  goes_closed k d p r b l g wrap made =
       let e = put g.bytes g.end 41 in
       let before : (i : ℕ) → i < b → e i ≡ c i =
-      (λ i a. put-else g.bytes g.end 41 i (λ z. omega (arith, g.past)) ∙ g.same i a) in
+      (λ i a. put_else g.bytes g.end 41 i (λ z. omega (arith, g.past)) ∙ g.same i a) in
       record {
         bytes = e;
         tree = wrap g.tree;
@@ -78,24 +78,24 @@ module _ (counts : Bool) (c : ℕ → ℕ) (n : ℕ) where
         same = before;
         past = omega (arith, g.past);
         spells = made e g.tree g.end (λ i a. before i (omega arith))
-            (spells-same counts g.bytes e n (omega arith) g.spells
-            (λ i a j. put-else g.bytes g.end 41 i (λ z. omega arith)))
-            (put-there g.bytes g.end 41);
+            (spells_same counts g.bytes e n (omega arith) g.spells
+            (λ i a j. put_else g.bytes g.end 41 i (λ z. omega arith)))
+            (put_there g.bytes g.end 41);
       }
 
   -- what is spelled goes on as it is
-  goes-as : (k d p b : ℕ) (F : FormulaIn counts) → Spells counts c n b k d F p b → Goes counts c n k d p b
-  goes-as k d p b F h =
+  goes_as : (k d p b : ℕ) (F : FormulaIn counts) → Spells counts c n b k d F p b → Goes counts c n k d p b
+  goes_as k d p b F h =
       record { bytes = c; tree = F; end = b; same = λ i l. refl; past = omega arith; spells = h }
 
-  goes-open : (d p b : ℕ) → c p ≡ 40 → p < b → Goes counts c n 3 d (suc p) b → Goes counts c n 0 (suc d) p b
-  goes-open d p b e l g = goes-closed 3 d p (suc p) b l g (λ F. F)
-      (λ c' F q s h f. a-nest (s p (omega arith) ∙ e) h f)
+  goes_open : (d p b : ℕ) → c p ≡ 40 → p < b → Goes counts c n 3 d (suc p) b → Goes counts c n 0 (suc d) p b
+  goes_open d p b e l g = goes_closed 3 d p (suc p) b l g (λ F. F)
+      (λ c' F q s h f. a_nest (s p (omega arith) ∙ e) h f)
 
-  goes-count : (d p b t : ℕ) (a : Allowed counts) → Number c t p (p + width t) → c (p + width t) ≡ 40 → p + width t < b
+  goes_count : (d p b t : ℕ) (a : Allowed counts) → Number c t p (p + width t) → c (p + width t) ≡ 40 → p + width t < b
       → Goes counts c n 4 d (suc (p + width t)) b → Goes counts c n 0 (suc d) p b
-  goes-count d p b t a m e l g = goes-closed 4 d p (suc (p + width t)) b l g (counted a t)
-      (λ c' F q s h f. a-count a (number_same m (λ i x y. s i (omega arith))) (s (p + width t) (omega arith) ∙ e) taken h
+  goes_count d p b t a m e l g = goes_closed 4 d p (suc (p + width t)) b l g (counted a t)
+      (λ c' F q s h f. a_count a (number_same m (λ i x y. s i (omega arith))) (s (p + width t) (omega arith) ∙ e) taken h
       f)
 
   -- a level for a `(` that is still to come
@@ -111,24 +111,24 @@ module _ (counts : Bool) (c : ℕ → ℕ) (n : ℕ) where
       let c₂ = put c₁ (suc o) 48 in
       let c₃ = put c₂ (suc (suc o)) 41 in
       let before : (i : ℕ) → i < o → c₃ i ≡ c i =
-      (λ i l. put-else c₂ (suc (suc o)) 41 i (λ z. omega arith) ∙ put-else c₁ (suc o) 48 i (λ z. omega arith)
-      ∙ put-else c o 40 i (λ z. omega arith)) in
-      let opens : c₃ o ≡ 40 = put-else c₂ (suc (suc o)) 41 o (λ z. omega arith)
-      ∙ put-else c₁ (suc o) 48 o (λ z. omega arith) ∙ put-there c o 40 in
-      let zero-there : c₃ (suc o) ≡ 48 = put-else c₂ (suc (suc o)) 41 (suc o) (λ z. omega arith)
-      ∙ put-there c₁ (suc o) 48 in
+      (λ i l. put_else c₂ (suc (suc o)) 41 i (λ z. omega arith) ∙ put_else c₁ (suc o) 48 i (λ z. omega arith)
+      ∙ put_else c o 40 i (λ z. omega arith)) in
+      let opens : c₃ o ≡ 40 = put_else c₂ (suc (suc o)) 41 o (λ z. omega arith)
+      ∙ put_else c₁ (suc o) 48 o (λ z. omega arith) ∙ put_there c o 40 in
+      let zero-there : c₃ (suc o) ≡ 48 = put_else c₂ (suc (suc o)) 41 (suc o) (λ z. omega arith)
+      ∙ put_there c₁ (suc o) 48 in
       record {
         bytes = c₃;
         tree = counted a t (constant false);
         end = suc (suc (suc o));
         same = before;
         past = omega arith;
-        spells = a-count a (number_same m (λ i x y. before i y)) opens (behind d o).1
-            (a-factor c₃ o 4 (behind d o).0 (suc o) zero-there) (put-there c₂ (suc (suc o)) 41);
+        spells = a_count a (number_same m (λ i x y. before i y)) opens (behind d o).1
+            (a_factor c₃ o 4 (behind d o).0 (suc o) zero-there) (put_there c₂ (suc (suc o)) 41);
       }
 
-  goes-only : (k d p b : ℕ) → Goes counts c n k d p b → Goes counts c n (suc k) d p b
-  goes-only k d p b g = record {
+  goes_only : (k d p b : ℕ) → Goes counts c n k d p b → Goes counts c n (suc k) d p b
+  goes_only k d p b g = record {
     bytes = g.bytes;
     tree = g.tree;
     end = g.end;
@@ -137,40 +137,40 @@ module _ (counts : Bool) (c : ℕ → ℕ) (n : ℕ) where
     spells = only g.spells;
   }
 
-  goes-more : (k d p q b : ℕ) (F : FormulaIn counts) → Spells counts c n b k d F p q → c q ≡ mark k → q < b
+  goes_more : (k d p q b : ℕ) (F : FormulaIn counts) → Spells counts c n b k d F p q → c q ≡ mark k → q < b
       → Goes counts c n (suc k) d (suc q) b → Goes counts c n (suc k) d p b
-  goes-more k d p q b F h e l g =
+  goes_more k d p q b F h e l g =
       record {
         bytes = g.bytes;
         tree = joined k F g.tree;
         end = g.end;
         same = g.same;
         past = g.past;
-        spells = more (spells-same counts c g.bytes n (omega arith) h (λ i a j. g.same i (omega arith)))
+        spells = more (spells_same counts c g.bytes n (omega arith) h (λ i a j. g.same i (omega arith)))
             (g.same q l ∙ e) g.spells;
       }
 
   pub goes : {m k d p b : ℕ} → Run counts c n m k d p (stuck b) → Goes counts c n k d p b
-  goes (r-tired {k = k} {d = d} {p = p}) = goes-here k d p
-  goes {d = d} {p = p} (r-other h) = goes-here 0 d p
-  goes {p = p} (r-deep-not h) = goes-here 0 0 p
-  goes {p = p} (r-deep-open h) = goes-here 0 0 p
-  goes {p = p} {b = b} (r-not-bad {d = d} h i) =
-      let l = from counts c n i in goes-not d p b (is-bang counts c n p h) (omega arith) (goes i)
-  goes {p = p} {b = b} (r-open-bad {d = d} h i) =
-      let l = from counts c n i in goes-open d p b (is_open counts c n p h) (omega arith) (goes i)
-  goes {p = p} {b = b} (r-open-left {d = d} F h i l) =
+  goes (r_tired {k = k} {d = d} {p = p}) = goes_here k d p
+  goes {d = d} {p = p} (r_other h) = goes_here 0 d p
+  goes {p = p} (r_deep_not h) = goes_here 0 0 p
+  goes {p = p} (r_deep_open h) = goes_here 0 0 p
+  goes {p = p} {b = b} (r_not-bad {d = d} h i) =
+      let l = from counts c n i in goes_not d p b (is_bang counts c n p h) (omega arith) (goes i)
+  goes {p = p} {b = b} (r_open_bad {d = d} h i) =
+      let l = from counts c n i in goes_open d p b (is_open counts c n p h) (omega arith) (goes i)
+  goes {p = p} {b = b} (r_open_left {d = d} F h i l) =
       let s = sound counts c n b i in
-      let z = spells-lt counts c n b s in
-      goes-open d p b (is_open counts c n p h) (omega arith) (goes-as 3 d (suc p) b F s)
-  goes {d = d} {p = p} (r-short a t h l) = goes_number d p t a (is_number counts c n p a t h)
-  goes {p = p} {b = b} (r-count-bad {d = d} a t h e i) =
-      let l = from counts c n i in goes-count d p b t a (is_number counts c n p a t h) e (omega arith) (goes i)
-  goes {p = p} {b = b} (r-count-left {d = d} a t F h e i l) =
+      let z = spells_lt counts c n b s in
+      goes_open d p b (is_open counts c n p h) (omega arith) (goes_as 3 d (suc p) b F s)
+  goes {d = d} {p = p} (r_short a t h l) = goes_number d p t a (is_number counts c n p a t h)
+  goes {p = p} {b = b} (r_count-bad {d = d} a t h e i) =
+      let l = from counts c n i in goes_count d p b t a (is_number counts c n p a t h) e (omega arith) (goes i)
+  goes {p = p} {b = b} (r_count-left {d = d} a t F h e i l) =
       let s = sound counts c n b i in
-      let z = spells-lt counts c n b s in
-      goes-count d p b t a (is_number counts c n p a t h) e (omega arith) (goes-as 4 d (suc (p + width t)) b F s)
-  goes {d = d} {p = p} {b = b} (r-first-bad {k = k} i) = goes-only k d p b (goes i)
-  goes {d = d} {p = p} {b = b} (r-next-bad {k = k} {q = q} F i l j) =
+      let z = spells_lt counts c n b s in
+      goes_count d p b t a (is_number counts c n p a t h) e (omega arith) (goes_as 4 d (suc (p + width t)) b F s)
+  goes {d = d} {p = p} {b = b} (r_first-bad {k = k} i) = goes_only k d p b (goes i)
+  goes {d = d} {p = p} {b = b} (r_next-bad {k = k} {q = q} F i l j) =
       let a = from counts c n j in
-      goes-more k d p q b F (sound counts c n b i) l (omega arith) (goes j)
+      goes_more k d p q b F (sound counts c n b i) l (omega arith) (goes j)

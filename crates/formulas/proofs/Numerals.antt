@@ -17,8 +17,8 @@ width_some t = go (leb 10 t)
     go true = (omega arith, omega arith)
     go false = (omega arith, omega arith)
 
-pub numeral-most : (b e : ℕ) → numeral b e ≤ 16
-numeral-most b e = go (eqb b 49)
+pub numeral_most : (b e : ℕ) → numeral b e ≤ 16
+numeral_most b e = go (eqb b 49)
   where
     ten : (t : Bool) → leb 48 e && leb e 54 ≡ t → cond t (10 + (e - 48)) 0 ≤ 16
     ten true q = omega (arith, leb-true e 54 (and_right (leb 48 e) (leb e 54) q))
@@ -75,8 +75,8 @@ numeral-number c p t some q = go (eqb (c p) 49) refl q
     go false g r = one (leb 50 (c p) && leb (c p) 57) refl r
 
 -- and a number before `(` is taken for one
-pub numeral-ten : (b e t : ℕ) → b ≡ 49 → e ≡ 48 + t → t ≤ 6 → numeral b e ≡ 10 + t
-numeral-ten b e t h g l =
+pub numeral_ten : (b e t : ℕ) → b ≡ 49 → e ≡ 48 + t → t ≤ 6 → numeral b e ≡ 10 + t
+numeral_ten b e t h g l =
     let q : e - 48 ≡ t = omega arith in
     rw (eq-eqb b 49 h, ne_eqb e 40 (λ z. omega arith), le-leb 48 e (omega arith), le-leb e 54 (omega arith))
     (ap (λ (u : ℕ). 10 + u) q)

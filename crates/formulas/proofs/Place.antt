@@ -12,13 +12,13 @@ use lib.ListN.{length, get_or, take, drop, length-append, take-append-drop, get_
 use lib.Seq.{length-take-le, get_or-take, get_or-append-add, take-add}
 use borrow.Author.Tests.{eq-eqb, eqb-true, eqb-false, lt-ltb, le-ltb}
 use Rattle.values.specs.Formula.{FormulaIn}
-use Rattle.formulas.specs.Text.{Spells, byte_at, Stands, IsFormula, IsPlace, ReadAs, RefusedAt, mostLevels}
-use Rattle.formulas.specs.Text.{mostText}
+use Rattle.formulas.specs.Text.{Spells, byte_at, Stands, IsFormula, IsPlace, ReadAs, RefusedAt, most_levels}
+use Rattle.formulas.specs.Text.{most_text}
 use Rattle.formulas.specs.Reading.{Reading, up_to, stuck, reader, TextAnswer, formula, refused, ended, text_of}
 use Rattle.formulas.specs.Reading.{TextSays, enough}
 use Rattle.formulas.proofs.Steps.{Run, run, runs}
-use Rattle.formulas.proofs.Grammar.{spells-bytes, spells-same, sound, Ends, reads, halts, complete}
-use Rattle.formulas.proofs.Grammar.{zero-stops}
+use Rattle.formulas.proofs.Grammar.{spells_bytes, spells_same, sound, Ends, reads, halts, complete}
+use Rattle.formulas.proofs.Grammar.{zero_stops}
 use Rattle.formulas.proofs.Reaching.{fuel, local, reach}
 use Rattle.formulas.proofs.Going.{Goes, goes}
 
@@ -27,14 +27,14 @@ abbrev tab : ℕ → (ℕ → ℕ) → List ℕ
 tab zero f = []
 tab (suc k) f = f 0 ∷ tab k (λ i. f (suc i))
 
-tab-length : (k : ℕ) (f : ℕ → ℕ) → length (tab k f) ≡ k
-tab-length zero f = refl
-tab-length (suc k) f = ap suc (tab-length k (λ i. f (suc i)))
+tab_length : (k : ℕ) (f : ℕ → ℕ) → length (tab k f) ≡ k
+tab_length zero f = refl
+tab_length (suc k) f = ap suc (tab_length k (λ i. f (suc i)))
 
-tab-at : (k : ℕ) (f : ℕ → ℕ) (i : ℕ) → i < k → get_or (tab k f) i 0 ≡ f i
-tab-at zero f i h = absurd (omega arith)
-tab-at (suc k) f zero h = refl
-tab-at (suc k) f (suc i) h = tab-at k (λ j. f (suc j)) i (omega arith)
+tab_at : (k : ℕ) (f : ℕ → ℕ) (i : ℕ) → i < k → get_or (tab k f) i 0 ≡ f i
+tab_at zero f i h = absurd (omega arith)
+tab_at (suc k) f zero h = refl
+tab_at (suc k) f (suc i) h = tab_at k (λ j. f (suc j)) i (omega arith)
 
 -- the bytes of a text that goes on otherwise after its first p
 pub front_at : (s u : List ℕ) (p i : ℕ) → p ≤ length s → i < p → byte_at (take p s ++ u) i ≡ byte_at s i
@@ -49,61 +49,61 @@ back_at s u p i h l =
 
 -- what can be continued, as a text
 module _ (counts : Bool) (n : ℕ) where
-  as-text : (s : List ℕ) (p : ℕ) → p ≤ length s → Goes counts (byte_at s) n 3 mostLevels 0 p → (u : List ℕ)
+  as_text : (s : List ℕ) (p : ℕ) → p ≤ length s → Goes counts (byte_at s) n 3 most_levels 0 p → (u : List ℕ)
       × (F : FormulaIn counts) × Stands counts n p (take p s ++ u) F
-  as-text s p h g =
+  as_text s p h g =
       let f : ℕ → ℕ = λ i. g.bytes (p + i) in
       let u = tab (g.end - p) f in
       let t = take p s ++ u in
       let l : length t ≡ g.end = length-append (take p s) u
-      ∙ omega (arith, length-take-le p s h, tab-length (g.end - p) f, g.past) in
+      ∙ omega (arith, length-take-le p s h, tab_length (g.end - p) f, g.past) in
       let at : (i : ℕ) → 0 ≤ i → i < g.end → byte_at t i ≡ g.bytes i =
       (λ i a b. elim (dec_lt i p) [
         | yes y ↦ front_at s u p i h y ∙ sym (g.same i y)
         | no y ↦ (let z : p + (i - p) ≡ i = omega arith in back_at s u p i h (omega arith)
-            ∙ tab-at (g.end - p) f (i - p) (omega arith) ∙ ap g.bytes z)
+            ∙ tab_at (g.end - p) f (i - p) (omega arith) ∙ ap g.bytes z)
       ]) in (
         u,
         g.tree,
-        subst (λ (k : ℕ). Spells counts (byte_at t) n p 3 mostLevels g.tree 0 k) (sym l)
-            (spells-same counts g.bytes (byte_at t) n (omega arith) g.spells at),
+        subst (λ (k : ℕ). Spells counts (byte_at t) n p 3 most_levels g.tree 0 k) (sym l)
+            (spells_same counts g.bytes (byte_at t) n (omega arith) g.spells at),
       )
 
   past_end : (s : List ℕ) (i : ℕ) → length s ≤ i → byte_at s i ≡ 0
   past_end s i h = get_or-eq_default s 0 h
 
   -- a reading stays within the text
-  within_text : (s : List ℕ) {b : ℕ} → Goes counts (byte_at s) n 3 mostLevels 0 b → b ≤ length s
+  within_text : (s : List ℕ) {b : ℕ} → Goes counts (byte_at s) n 3 most_levels 0 b → b ≤ length s
   within_text s {b} g =
       elim (dec_lt (length s) b) [
         | no y ↦ omega arith
-        | yes y ↦ absurd (spells-bytes counts g.bytes n b g.spells (length s) (omega arith)
+        | yes y ↦ absurd (spells_bytes counts g.bytes n b g.spells (length s) (omega arith)
             (omega (arith, g.past)) (g.same (length s) y ∙ past_end s (length s) (omega arith)))
       ]
 
-  good-within : (s : List ℕ) {F : FormulaIn counts} {q : ℕ} → Spells counts (byte_at s) n q 3 mostLevels F 0 q
+  good_within : (s : List ℕ) {F : FormulaIn counts} {q : ℕ} → Spells counts (byte_at s) n q 3 most_levels F 0 q
       → q ≤ length s
-  good-within s {F} {q} h =
+  good_within s {F} {q} h =
       elim (dec_lt (length s) q) [
         | no y ↦ omega arith
-        | yes y ↦ absurd (spells-bytes counts (byte_at s) n q h (length s) (omega arith) y
+        | yes y ↦ absurd (spells_bytes counts (byte_at s) n q h (length s) (omega arith) y
             (past_end s (length s) (omega arith)))
       ]
 
   -- what a text stands for is read, if the reader doesn't halt at a count's `(` from b on
-  text-ends : (s : List ℕ) (b : ℕ) (F : FormulaIn counts) → Stands counts n b s F → (m : ℕ) → 4 * length s + 3 < m
-      → Ends counts (byte_at s) n b m 3 mostLevels 0 (length s) F
-  text-ends s b F h m l =
-      complete counts (byte_at s) n b h (omega arith) (zero-stops counts (byte_at s) n b 3 (byte_at s (length s))
+  text_ends : (s : List ℕ) (b : ℕ) (F : FormulaIn counts) → Stands counts n b s F → (m : ℕ) → 4 * length s + 3 < m
+      → Ends counts (byte_at s) n b m 3 most_levels 0 (length s) F
+  text_ends s b F h m l =
+      complete counts (byte_at s) n b h (omega arith) (zero_stops counts (byte_at s) n b 3 (byte_at s (length s))
       (past_end s (length s) (omega arith))) m (omega arith)
 
   -- so a formula is read as itself
   pub whole_run : (s : List ℕ) (F : FormulaIn counts) → IsFormula counts n s F → (m : ℕ) → 4 * length s + 3 < m
-      → Run counts (byte_at s) n m 3 mostLevels 0 (up_to F (length s))
-  whole_run s F h m l = go (text-ends s (length s) F h m l)
+      → Run counts (byte_at s) n m 3 most_levels 0 (up_to F (length s))
+  whole_run s F h m l = go (text_ends s (length s) F h m l)
     where
-      go : Ends counts (byte_at s) n (length s) m 3 mostLevels 0 (length s) F
-          → Run counts (byte_at s) n m 3 mostLevels 0 (up_to F (length s))
+      go : Ends counts (byte_at s) n (length s) m 3 most_levels 0 (length s) F
+          → Run counts (byte_at s) n m 3 most_levels 0 (up_to F (length s))
       go (reads r) = r
       go (halts r x y i) = absurd (omega arith)
 
@@ -111,45 +111,45 @@ module _ (counts : Bool) (n : ℕ) where
   differs e = let z : ◌≡◌ {A = ℕ} 0 1 = cc in omega arith
 
   -- where the reading gives g, no text that has the same bytes up to there stands for a formula, unless g says so
-  other-texts : (s : List ℕ) (g : Reading counts) → length s ≤ mostText → reach g < length s
-      → Run counts (byte_at s) n enough 3 mostLevels 0 g
+  other_texts : (s : List ℕ) (g : Reading counts) → length s ≤ most_text → reach g < length s
+      → Run counts (byte_at s) n enough 3 most_levels 0 g
       → (u : List ℕ) (F : FormulaIn counts) → Stands counts n (suc (reach g)) (take (suc (reach g)) s ++ u) F
       → g ≡ up_to F (length (take (suc (reach g)) s ++ u))
-  other-texts s g h l r u F f =
+  other_texts s g h l r u F f =
       let t = take (suc (reach g)) s ++ u in
       let m = 4 * length t + 4100 in
       let a = fuel counts (byte_at s) n r (omega arith) (omega arith) m (omega arith) in
       let b = local counts (byte_at s) (byte_at t) n (reach g)
       (λ i y. front_at s u (suc (reach g)) i l (omega arith)) a (omega arith) in
-      go t m (runs counts (byte_at t) n b) (text-ends t (suc (reach g)) F f m (omega arith))
+      go t m (runs counts (byte_at t) n b) (text_ends t (suc (reach g)) F f m (omega arith))
     where
-      go : (t : List ℕ) (m : ℕ) → reader counts (byte_at t) n m 3 mostLevels 0 ≡ g
-          → Ends counts (byte_at t) n (suc (reach g)) m 3 mostLevels 0 (length t) F → g ≡ up_to F (length t)
+      go : (t : List ℕ) (m : ℕ) → reader counts (byte_at t) n m 3 most_levels 0 ≡ g
+          → Ends counts (byte_at t) n (suc (reach g)) m 3 most_levels 0 (length t) F → g ≡ up_to F (length t)
       go t m q (reads i) = sym q ∙ runs counts (byte_at t) n i
       go t m q (halts x y z i) =
           let e : reach g ≡ x = ap reach (sym q ∙ runs counts (byte_at t) n i) in absurd (omega arith)
 
-  bad-place : (s : List ℕ) (p : ℕ) → length s ≤ mostText → Run counts (byte_at s) n enough 3 mostLevels 0 (stuck p)
+  bad-place : (s : List ℕ) (p : ℕ) → length s ≤ most_text → Run counts (byte_at s) n enough 3 most_levels 0 (stuck p)
       → IsPlace counts n s p
   bad-place s p h r =
       let g = goes counts (byte_at s) n r in
       let w = within_text s g in
       record {
         within = w;
-        before = as-text s p w g;
-        there = λ l u F f. differs (other-texts s (stuck p) h l r u F f);
+        before = as_text s p w g;
+        there = λ l u F f. differs (other_texts s (stuck p) h l r u F f);
         whole = λ e F f. differs (sym (runs counts (byte_at s) n r)
             ∙ runs counts (byte_at s) n (whole_run s F f enough (omega arith)));
       }
 
-  left-place : (s : List ℕ) (F : FormulaIn counts) (q : ℕ) → length s ≤ mostText → (q ≡ length s → ⊥)
-      → Run counts (byte_at s) n enough 3 mostLevels 0 (up_to F q) → IsPlace counts n s q
+  left-place : (s : List ℕ) (F : FormulaIn counts) (q : ℕ) → length s ≤ most_text → (q ≡ length s → ⊥)
+      → Run counts (byte_at s) n enough 3 most_levels 0 (up_to F q) → IsPlace counts n s q
   left-place s F q h x r =
       let k = sound counts (byte_at s) n q r in
-      let w = good-within s k in
+      let w = good_within s k in
       record {
         within = w;
-        before = as-text s q w (record {
+        before = as_text s q w (record {
           bytes = byte_at s;
           tree = F;
           end = q;
@@ -158,47 +158,47 @@ module _ (counts : Bool) (n : ℕ) where
           spells = k;
         });
         there = λ l u G f.
-            (let e : q ≡ length (take (suc q) s ++ u) = ap reach (other-texts s (up_to F q) h l r u G f) in
+            (let e : q ≡ length (take (suc q) s ++ u) = ap reach (other_texts s (up_to F q) h l r u G f) in
             omega (arith, e, length-append (take (suc q) s) u, length-take-le (suc q) s l));
         whole = λ e G f. x e;
       }
 
   -- ---- the text
 
-  pub too_long : (s : List ℕ) → mostText < length s → text_of counts n s ≡ refused (length s)
+  pub too_long_lem : (s : List ℕ) → most_text < length s → text_of counts n s ≡ refused (length s)
   unfolding text_of
-  too_long s h = rw (lt-ltb mostText (length s) h)
+  too_long_lem s h = rw (lt-ltb most_text (length s) h)
 
-  pub text-of : (s : List ℕ) → length s ≤ mostText → text_of counts n s
-      ≡ ended (length s) (reader counts (byte_at s) n enough 3 mostLevels 0)
+  pub text_of_lem : (s : List ℕ) → length s ≤ most_text → text_of counts n s
+      ≡ ended (length s) (reader counts (byte_at s) n enough 3 most_levels 0)
   unfolding text_of
-  text-of s h = rw (le-ltb mostText (length s) h)
+  text_of_lem s h = rw (le-ltb most_text (length s) h)
 
-  pub is-formula : (s : List ℕ) (F : FormulaIn counts) → length s ≤ mostText → IsFormula counts n s F
+  pub is_formula : (s : List ℕ) (F : FormulaIn counts) → length s ≤ most_text → IsFormula counts n s F
       → text_of counts n s ≡ formula F
-  is-formula s F h f =
-      text-of s h ∙ rw (runs counts (byte_at s) n (whole_run s F f enough (omega arith)), eq-eqb (length s) (length s) refl)
+  is_formula s F h f =
+      text_of_lem s h ∙ rw (runs counts (byte_at s) n (whole_run s F f enough (omega arith)), eq-eqb (length s) (length s) refl)
 
-  pub told : (s : List ℕ) → length s ≤ mostText → TextSays counts n s (text_of counts n s)
-  told s h = subst (TextSays counts n s) (sym (text-of s h))
-      (go (reader counts (byte_at s) n enough 3 mostLevels 0) (run counts (byte_at s) n enough 3 mostLevels 0))
+  pub told : (s : List ℕ) → length s ≤ most_text → TextSays counts n s (text_of counts n s)
+  told s h = subst (TextSays counts n s) (sym (text_of_lem s h))
+      (go (reader counts (byte_at s) n enough 3 most_levels 0) (run counts (byte_at s) n enough 3 most_levels 0))
     where
-      end : (F : FormulaIn counts) (q : ℕ) → Run counts (byte_at s) n enough 3 mostLevels 0 (up_to F q) → (t : Bool)
+      end : (F : FormulaIn counts) (q : ℕ) → Run counts (byte_at s) n enough 3 most_levels 0 (up_to F q) → (t : Bool)
           → eqb q (length s) ≡ t → TextSays counts n s (cond t (formula F) (refused q))
-      end F q r true e = subst (λ (k : ℕ). Spells counts (byte_at s) n (length s) 3 mostLevels F 0 k)
+      end F q r true e = subst (λ (k : ℕ). Spells counts (byte_at s) n (length s) 3 most_levels F 0 k)
           (eqb-true q (length s) e) (sound counts (byte_at s) n (length s) r)
       end F q r false e = left-place s F q h (eqb-false q (length s) e) r
 
-      go : (g : Reading counts) → Run counts (byte_at s) n enough 3 mostLevels 0 g
+      go : (g : Reading counts) → Run counts (byte_at s) n enough 3 most_levels 0 g
           → TextSays counts n s (ended (length s) g)
       go (up_to F q) r = end F q r (eqb q (length s)) refl
       go (stuck p) r = bad-place s p h r
 
   -- a continuation of more is one of less
-  stands-less : (s t : List ℕ) (b b' : ℕ) (F : FormulaIn counts) → b' ≤ b → s ≡ t → Stands counts n b s F
+  stands_less : (s t : List ℕ) (b b' : ℕ) (F : FormulaIn counts) → b' ≤ b → s ≡ t → Stands counts n b s F
       → Stands counts n b' t F
-  stands-less s t b b' F l e h =
-      subst (λ (x : List ℕ). Stands counts n b' x F) e (spells-same counts (byte_at s) (byte_at s) n l h (λ i a b. refl))
+  stands_less s t b b' F l e h =
+      subst (λ (x : List ℕ). Stands counts n b' x F) e (spells_same counts (byte_at s) (byte_at s) n l h (λ i a b. refl))
 
   -- a text has one place at most, and none if it is a formula
   earlier : (s : List ℕ) (p q : ℕ) → IsPlace counts n s p → IsPlace counts n s q → p < q → ⊥
@@ -210,7 +210,7 @@ module _ (counts : Bool) (n : ℕ) where
       ∙ ap (λ (x : List ℕ). x ++ b.before.0) (take-add (suc p) (q - suc p) s)
       ∙ append_assoc (take (suc p) s) (take (q - suc p) (drop (suc p) s)) b.before.0 in
       a.there (omega (arith, b.within)) v b.before.1
-      (stands-less (take q s ++ b.before.0) (take (suc p) s ++ v) q (suc p) b.before.1 l f b.before.2)
+      (stands_less (take q s ++ b.before.0) (take (suc p) s ++ v) q (suc p) b.before.1 l f b.before.2)
 
   pub one_place : (s : List ℕ) (p q : ℕ) → IsPlace counts n s p → IsPlace counts n s q → p ≡ q
   one_place s p q a b =
@@ -220,8 +220,8 @@ module _ (counts : Bool) (n : ℕ) where
       ]
 
   -- a text is one formula at most
-  pub one-formula : (s : List ℕ) (F G : FormulaIn counts) → IsFormula counts n s F → IsFormula counts n s G → F ≡ G
-  one-formula s F G f g =
+  pub one_formula_lem : (s : List ℕ) (F G : FormulaIn counts) → IsFormula counts n s F → IsFormula counts n s G → F ≡ G
+  one_formula_lem s F G f g =
       let e = sym (runs counts (byte_at s) n (whole_run s F f (4 * length s + 4) (omega arith)))
       ∙ runs counts (byte_at s) n (whole_run s G g (4 * length s + 4) (omega arith)) in
       cc
@@ -231,14 +231,14 @@ module _ (counts : Bool) (n : ℕ) where
   no_place s p F a f =
       elim (dec_lt p (length s)) [
         | yes l ↦
-            a.there l (drop (suc p) s) F (stands-less s (take (suc p) s ++ drop (suc p) s) (length s) (suc p) F l
+            a.there l (drop (suc p) s) F (stands_less s (take (suc p) s ++ drop (suc p) s) (length s) (suc p) F l
             (sym (take-append-drop (suc p) s)) f)
         | no l ↦ a.whole (omega (arith, a.within)) F f
       ]
 
   -- so the place is what the reader says
-  pub is-place : (s : List ℕ) (p : ℕ) → length s ≤ mostText → IsPlace counts n s p → text_of counts n s ≡ refused p
-  is-place s p h a = go (text_of counts n s) (told s h)
+  pub is_place : (s : List ℕ) (p : ℕ) → length s ≤ most_text → IsPlace counts n s p → text_of counts n s ≡ refused p
+  is_place s p h a = go (text_of counts n s) (told s h)
     where
       go : (x : TextAnswer counts) → TextSays counts n s x → x ≡ refused p
       go (formula F) t = absurd (no_place s p F a t)
@@ -249,23 +249,23 @@ module _ (counts : Bool) (n : ℕ) where
   not-both : {F : FormulaIn counts} {p : ℕ} → formula F ≡ refused p → ⊥
   not-both e = let z : ◌≡◌ {A = ℕ} 0 1 = cc in omega arith
 
-  pub short-text : (s : List ℕ) (F : FormulaIn counts) → text_of counts n s ≡ formula F → length s ≤ mostText
-  short-text s F e = elim (dec_lt mostText (length s))
-      [ yes l ↦ absurd (not-both (sym e ∙ too_long s l)) | no l ↦ omega arith ]
+  pub short_text_lem : (s : List ℕ) (F : FormulaIn counts) → text_of counts n s ≡ formula F → length s ≤ most_text
+  short_text_lem s F e = elim (dec_lt most_text (length s))
+      [ yes l ↦ absurd (not-both (sym e ∙ too_long_lem s l)) | no l ↦ omega arith ]
 
   -- text is read exactly when the grammar has it, and is not too long
   pub read_as : (s : List ℕ) (F : FormulaIn counts) → (text_of counts n s ≡ formula F) ↔ ReadAs counts n s F
   read_as s F = (
-    λ e. let l = short-text s F e in record { short = l; stands = subst (TextSays counts n s) e (told s l) },
-    λ r. is-formula s F r.short r.stands,
+    λ e. let l = short_text_lem s F e in record { short = l; stands = subst (TextSays counts n s) e (told s l) },
+    λ r. is_formula s F r.short r.stands,
   )
 
   -- and refused at p exactly when p is its length and it is too long, or the first place at which it can't be continued
-  pub refused-at : (s : List ℕ) (p : ℕ) → (text_of counts n s ≡ refused p) ↔ RefusedAt counts n s p
-  refused-at s p = (
-    λ e. elim (dec_lt mostText (length s)) [
-      | yes l ↦ let q = sym e ∙ too_long s l in let z : p ≡ length s = cc in inl (l, z)
-      | no l ↦ let k : length s ≤ mostText = omega arith in inr (k, subst (TextSays counts n s) e (told s k))
+  pub refused_at : (s : List ℕ) (p : ℕ) → (text_of counts n s ≡ refused p) ↔ RefusedAt counts n s p
+  refused_at s p = (
+    λ e. elim (dec_lt most_text (length s)) [
+      | yes l ↦ let q = sym e ∙ too_long_lem s l in let z : p ≡ length s = cc in inl (l, z)
+      | no l ↦ let k : length s ≤ most_text = omega arith in inr (k, subst (TextSays counts n s) e (told s k))
     ],
-    λ r. ⊎_elim (λ a. too_long s a.0 ∙ ap refused (sym a.1)) (λ a. is-place s p a.0 a.1) r,
+    λ r. ⊎_elim (λ a. too_long_lem s a.0 ∙ ap refused (sym a.1)) (λ a. is_place s p a.0 a.1) r,
   )

@@ -11,43 +11,43 @@ use Rattle.formulas.specs.Reading.{Reading, up_to, stuck, after, deeper, closed,
 
 -- `Run counts c n m k d p g`: the reading from p gives g, step by step
 pub data Run (counts : Bool) (c : ℕ → ℕ) (n : ℕ) : ℕ → ℕ → ℕ → ℕ → Reading counts → Type 0 where
-  r-tired : {k d p : ℕ} → Run counts c n zero k d p (stuck p)
-  r-other : {m d p : ℕ} → kind_at counts c n p ≡ other → Run counts c n (suc m) 0 d p (stuck p)
-  r-digit : {m d p : ℕ} (t : Bool) → kind_at counts c n p ≡ digit t
+  r_tired : {k d p : ℕ} → Run counts c n zero k d p (stuck p)
+  r_other : {m d p : ℕ} → kind_at counts c n p ≡ other → Run counts c n (suc m) 0 d p (stuck p)
+  r_digit : {m d p : ℕ} (t : Bool) → kind_at counts c n p ≡ digit t
       → Run counts c n (suc m) 0 d p (up_to (constant t) (suc p))
-  r-input : {m d p : ℕ} (j : ℕ) → kind_at counts c n p ≡ input j
+  r_input : {m d p : ℕ} (j : ℕ) → kind_at counts c n p ≡ input j
       → Run counts c n (suc m) 0 d p (up_to (letter j) (suc p))
-  r-deep-not : {m p : ℕ} → kind_at counts c n p ≡ bang → Run counts c n (suc m) 0 zero p (stuck p)
-  r-deep-open : {m p : ℕ} → kind_at counts c n p ≡ opening → Run counts c n (suc m) 0 zero p (stuck p)
-  r-not-bad : {m d p q : ℕ} → kind_at counts c n p ≡ bang → Run counts c n m 0 d (suc p) (stuck q)
+  r_deep_not : {m p : ℕ} → kind_at counts c n p ≡ bang → Run counts c n (suc m) 0 zero p (stuck p)
+  r_deep_open : {m p : ℕ} → kind_at counts c n p ≡ opening → Run counts c n (suc m) 0 zero p (stuck p)
+  r_not-bad : {m d p q : ℕ} → kind_at counts c n p ≡ bang → Run counts c n m 0 d (suc p) (stuck q)
       → Run counts c n (suc m) 0 (suc d) p (stuck q)
-  r-not : {m d p q : ℕ} {F : FormulaIn counts} → kind_at counts c n p ≡ bang
+  r_not : {m d p q : ℕ} {F : FormulaIn counts} → kind_at counts c n p ≡ bang
       → Run counts c n m 0 d (suc p) (up_to F q) → Run counts c n (suc m) 0 (suc d) p (up_to (negated F) q)
-  r-open-bad : {m d p q : ℕ} → kind_at counts c n p ≡ opening → Run counts c n m 3 d (suc p) (stuck q)
+  r_open_bad : {m d p q : ℕ} → kind_at counts c n p ≡ opening → Run counts c n m 3 d (suc p) (stuck q)
       → Run counts c n (suc m) 0 (suc d) p (stuck q)
-  r-open-left : {m d p q : ℕ} (F : FormulaIn counts) → kind_at counts c n p ≡ opening
+  r_open_left : {m d p q : ℕ} (F : FormulaIn counts) → kind_at counts c n p ≡ opening
       → Run counts c n m 3 d (suc p) (up_to F q) → (c q ≡ 41 → ⊥) → Run counts c n (suc m) 0 (suc d) p (stuck q)
-  r-open : {m d p q : ℕ} {F : FormulaIn counts} → kind_at counts c n p ≡ opening
+  r_open : {m d p q : ℕ} {F : FormulaIn counts} → kind_at counts c n p ≡ opening
       → Run counts c n m 3 d (suc p) (up_to F q) → c q ≡ 41 → Run counts c n (suc m) 0 (suc d) p (up_to F (suc q))
   -- no `(` behind a number, or no level for it
-  r-short : {m d p : ℕ} (a : Allowed counts) (t : ℕ) → kind_at counts c n p ≡ several a t
+  r_short : {m d p : ℕ} (a : Allowed counts) (t : ℕ) → kind_at counts c n p ≡ several a t
       → (c (p + width t) ≡ 40 → d ≡ 0) → Run counts c n (suc m) 0 d p (stuck (p + width t))
-  r-count-bad : {m d p q : ℕ} (a : Allowed counts) (t : ℕ) → kind_at counts c n p ≡ several a t
+  r_count-bad : {m d p q : ℕ} (a : Allowed counts) (t : ℕ) → kind_at counts c n p ≡ several a t
       → c (p + width t) ≡ 40 → Run counts c n m 4 d (suc (p + width t)) (stuck q)
       → Run counts c n (suc m) 0 (suc d) p (stuck q)
-  r-count-left : {m d p q : ℕ} (a : Allowed counts) (t : ℕ) (F : FormulaIn counts)
+  r_count-left : {m d p q : ℕ} (a : Allowed counts) (t : ℕ) (F : FormulaIn counts)
       → kind_at counts c n p ≡ several a t → c (p + width t) ≡ 40
       → Run counts c n m 4 d (suc (p + width t)) (up_to F q) → (c q ≡ 41 → ⊥)
       → Run counts c n (suc m) 0 (suc d) p (stuck q)
-  r-count : {m d p q : ℕ} {F : FormulaIn counts} (a : Allowed counts) (t : ℕ) → kind_at counts c n p ≡ several a t
+  r_count : {m d p q : ℕ} {F : FormulaIn counts} (a : Allowed counts) (t : ℕ) → kind_at counts c n p ≡ several a t
       → c (p + width t) ≡ 40 → Run counts c n m 4 d (suc (p + width t)) (up_to F q) → c q ≡ 41
       → Run counts c n (suc m) 0 (suc d) p (up_to (counted a t F) (suc q))
-  r-first-bad : {m k d p q : ℕ} → Run counts c n m k d p (stuck q) → Run counts c n (suc m) (suc k) d p (stuck q)
+  r_first-bad : {m k d p q : ℕ} → Run counts c n m k d p (stuck q) → Run counts c n (suc m) (suc k) d p (stuck q)
   r_last : {m k d p q : ℕ} {F : FormulaIn counts} → Run counts c n m k d p (up_to F q) → (c q ≡ mark k → ⊥)
       → Run counts c n (suc m) (suc k) d p (up_to F q)
-  r-next-bad : {m k d p q r : ℕ} (F : FormulaIn counts) → Run counts c n m k d p (up_to F q) → c q ≡ mark k
+  r_next-bad : {m k d p q r : ℕ} (F : FormulaIn counts) → Run counts c n m k d p (up_to F q) → c q ≡ mark k
       → Run counts c n m (suc k) d (suc q) (stuck r) → Run counts c n (suc m) (suc k) d p (stuck r)
-  r-next : {m k d p q r : ℕ} {F G : FormulaIn counts} → Run counts c n m k d p (up_to F q) → c q ≡ mark k
+  r_next : {m k d p q r : ℕ} {F G : FormulaIn counts} → Run counts c n m k d p (up_to F q) → c q ≡ mark k
       → Run counts c n m (suc k) d (suc q) (up_to G r) → Run counts c n (suc m) (suc k) d p (up_to (joined k F G) r)
 
 module _ (counts : Bool) (c : ℕ → ℕ) (n : ℕ) where
@@ -59,13 +59,13 @@ module _ (counts : Bool) (c : ℕ → ℕ) (n : ℕ) where
   join-run : (m k d p : ℕ) (g : Reading counts) → Run counts c n m k d p g → Steps m (suc k)
       → Run counts c n (suc m) (suc k) d p (after g (λ F q. continued k (eqb (c q) (mark k)) F q
       (λ r. reader counts c n m (suc k) d r)))
-  join-run m k d p (stuck q) h f = r-first-bad h
+  join-run m k d p (stuck q) h f = r_first-bad h
   join-run m k d p (up_to F q) h f = go (eqb (c q) (mark k)) refl
     where
       then : c q ≡ mark k → (g : Reading counts) → Run counts c n m (suc k) d (suc q) g
           → Run counts c n (suc m) (suc k) d p (after g (λ G r. up_to (joined k F G) r))
-      then e (up_to G r) i = r-next h e i
-      then e (stuck r) i = r-next-bad F h e i
+      then e (up_to G r) i = r_next h e i
+      then e (stuck r) i = r_next-bad F h e i
 
       go : (t : Bool) → eqb (c q) (mark k) ≡ t → Run counts c n (suc m) (suc k) d p
           (continued k t F q (λ r. reader counts c n m (suc k) d r))
@@ -75,62 +75,62 @@ module _ (counts : Bool) (c : ℕ → ℕ) (n : ℕ) where
   not-run : (m d p : ℕ) → kind_at counts c n p ≡ bang → Steps m 0
       → Run counts c n (suc m) 0 d p (deeper d p (λ e. after (reader counts c n m 0 e (suc p))
       (λ F q. up_to (negated F) q)))
-  not-run m zero p h f = r-deep-not h
+  not-run m zero p h f = r_deep_not h
   not-run m (suc d) p h f = go (reader counts c n m 0 d (suc p)) (f d (suc p))
     where
       go : (g : Reading counts) → Run counts c n m 0 d (suc p) g
           → Run counts c n (suc m) 0 (suc d) p (after g (λ F q. up_to (negated F) q))
-      go (up_to F q) i = r-not h i
-      go (stuck q) i = r-not-bad h i
+      go (up_to F q) i = r_not h i
+      go (stuck q) i = r_not-bad h i
 
-  open-run : (m d p : ℕ) → kind_at counts c n p ≡ opening → Steps m 3
+  open_run : (m d p : ℕ) → kind_at counts c n p ≡ opening → Steps m 3
       → Run counts c n (suc m) 0 d p (deeper d p (λ e. after (reader counts c n m 3 e (suc p)) (closed c)))
-  open-run m zero p h f = r-deep-open h
-  open-run m (suc d) p h f = go (reader counts c n m 3 d (suc p)) (f d (suc p))
+  open_run m zero p h f = r_deep_open h
+  open_run m (suc d) p h f = go (reader counts c n m 3 d (suc p)) (f d (suc p))
     where
       end : (F : FormulaIn counts) (q : ℕ) → Run counts c n m 3 d (suc p) (up_to F q) → (t : Bool) → eqb (c q) 41 ≡ t
           → Run counts c n (suc m) 0 (suc d) p (cond t (up_to F (suc q)) (stuck q))
-      end F q i true e = r-open h i (eqb-true (c q) 41 e)
-      end F q i false e = r-open-left F h i (eqb-false (c q) 41 e)
+      end F q i true e = r_open h i (eqb-true (c q) 41 e)
+      end F q i false e = r_open_left F h i (eqb-false (c q) 41 e)
 
       go : (g : Reading counts) → Run counts c n m 3 d (suc p) g
           → Run counts c n (suc m) 0 (suc d) p (after g (closed c))
       go (up_to F q) i = end F q i (eqb (c q) 41) refl
-      go (stuck q) i = r-open-bad h i
+      go (stuck q) i = r_open_bad h i
 
   count-run : (m d p : ℕ) (a : Allowed counts) (t : ℕ) → kind_at counts c n p ≡ several a t → Steps m 4 → (b : Bool)
       → eqb (c (p + width t)) 40 ≡ b
       → Run counts c n (suc m) 0 d p (cond b (deeper d (p + width t)
       (λ e. after (reader counts c n m 4 e (suc (p + width t))) (λ F q. closed c (counted a t F) q)))
       (stuck (p + width t)))
-  count-run m d p a t h f false e = r-short a t h (λ z. absurd (eqb-false (c (p + width t)) 40 e z))
-  count-run m zero p a t h f true e = r-short a t h (λ z. refl)
+  count-run m d p a t h f false e = r_short a t h (λ z. absurd (eqb-false (c (p + width t)) 40 e z))
+  count-run m zero p a t h f true e = r_short a t h (λ z. refl)
   count-run m (suc d) p a t h f true e = go (reader counts c n m 4 d (suc (p + width t))) (f d (suc (p + width t)))
     where
       end : (F : FormulaIn counts) (q : ℕ) → Run counts c n m 4 d (suc (p + width t)) (up_to F q) → (b : Bool)
           → eqb (c q) 41 ≡ b
           → Run counts c n (suc m) 0 (suc d) p (cond b (up_to (counted a t F) (suc q)) (stuck q))
-      end F q i true x = r-count a t h (eqb-true (c (p + width t)) 40 e) i (eqb-true (c q) 41 x)
-      end F q i false x = r-count-left a t F h (eqb-true (c (p + width t)) 40 e) i (eqb-false (c q) 41 x)
+      end F q i true x = r_count a t h (eqb-true (c (p + width t)) 40 e) i (eqb-true (c q) 41 x)
+      end F q i false x = r_count-left a t F h (eqb-true (c (p + width t)) 40 e) i (eqb-false (c q) 41 x)
 
       go : (g : Reading counts) → Run counts c n m 4 d (suc (p + width t)) g
           → Run counts c n (suc m) 0 (suc d) p (after g (λ F q. closed c (counted a t F) q))
       go (up_to F q) i = end F q i (eqb (c q) 41) refl
-      go (stuck q) i = r-count-bad a t h (eqb-true (c (p + width t)) 40 e) i
+      go (stuck q) i = r_count-bad a t h (eqb-true (c (p + width t)) 40 e) i
 
   factor-run : (m d p : ℕ) → (t : Kind counts) → kind_at counts c n p ≡ t → Steps m 0 → Steps m 3 → Steps m 4
       → Run counts c n (suc m) 0 d p (begun t d p (λ e. reader counts c n m 0 e (suc p))
       (λ e. reader counts c n m 3 e (suc p)) (λ e r. reader counts c n m 4 e r) c)
   factor-run m d p bang h f g l = not-run m d p h f
-  factor-run m d p opening h f g l = open-run m d p h g
-  factor-run m d p (digit t) h f g l = r-digit t h
-  factor-run m d p (input j) h f g l = r-input j h
+  factor-run m d p opening h f g l = open_run m d p h g
+  factor-run m d p (digit t) h f g l = r_digit t h
+  factor-run m d p (input j) h f g l = r_input j h
   factor-run m d p (several a t) h f g l = count-run m d p a t h l (eqb (c (p + width t)) 40) refl
-  factor-run m d p other h f g l = r-other h
+  factor-run m d p other h f g l = r_other h
 
   pub run : (m k d p : ℕ) → Run counts c n m k d p (reader counts c n m k d p)
   unfolding reader
-  run zero k d p = r-tired
+  run zero k d p = r_tired
   run (suc m) zero d p =
       factor-run m d p (kind_at counts c n p) refl (λ e r. run m 0 e r) (λ e r. run m 3 e r) (λ e r. run m 4 e r)
   run (suc m) (suc k) d p = join-run m k d p (reader counts c n m k d p) (run m k d p) (λ e r. run m (suc k) e r)
@@ -146,22 +146,22 @@ module _ (counts : Bool) (c : ℕ → ℕ) (n : ℕ) where
   -- and what goes step by step is the reader's
   pub runs : {m k d p : ℕ} {g : Reading counts} → Run counts c n m k d p g → reader counts c n m k d p ≡ g
   unfolding reader
-  runs r-tired = refl
-  runs (r-other h) = rw (h, begun)
-  runs (r-digit t h) = rw h
-  runs (r-input j h) = rw h
-  runs (r-deep-not h) = rw h
-  runs (r-deep-open h) = rw h
-  runs (r-not-bad h i) = rw (h, runs i)
-  runs (r-not h i) = rw (h, runs i)
-  runs (r-open-bad h i) = rw (h, runs i)
-  runs (r-open-left F h i l) = rw (h, runs i, ne_eqb _ _ l)
-  runs (r-open h i l) = rw (h, runs i, eq-eqb _ _ l)
-  runs {d = d} {p = p} (r-short a t h l) = rw h (short d (p + width t) _ l)
-  runs (r-count-bad a t h e i) = rw (h, eq-eqb _ _ e, runs i)
-  runs (r-count-left a t F h e i l) = rw (h, eq-eqb _ _ e, runs i, ne_eqb _ _ l)
-  runs (r-count a t h e i l) = rw (h, eq-eqb _ _ e, runs i, eq-eqb _ _ l)
-  runs (r-first-bad i) = rw (runs i)
+  runs r_tired = refl
+  runs (r_other h) = rw (h, begun)
+  runs (r_digit t h) = rw h
+  runs (r_input j h) = rw h
+  runs (r_deep_not h) = rw h
+  runs (r_deep_open h) = rw h
+  runs (r_not-bad h i) = rw (h, runs i)
+  runs (r_not h i) = rw (h, runs i)
+  runs (r_open_bad h i) = rw (h, runs i)
+  runs (r_open_left F h i l) = rw (h, runs i, ne_eqb _ _ l)
+  runs (r_open h i l) = rw (h, runs i, eq-eqb _ _ l)
+  runs {d = d} {p = p} (r_short a t h l) = rw h (short d (p + width t) _ l)
+  runs (r_count-bad a t h e i) = rw (h, eq-eqb _ _ e, runs i)
+  runs (r_count-left a t F h e i l) = rw (h, eq-eqb _ _ e, runs i, ne_eqb _ _ l)
+  runs (r_count a t h e i l) = rw (h, eq-eqb _ _ e, runs i, eq-eqb _ _ l)
+  runs (r_first-bad i) = rw (runs i)
   runs (r_last i l) = rw (runs i, ne_eqb _ _ l)
-  runs (r-next-bad F i l j) = rw (runs i, eq-eqb _ _ l, runs j)
-  runs (r-next i l j) = rw (runs i, eq-eqb _ _ l, runs j)
+  runs (r_next-bad F i l j) = rw (runs i, eq-eqb _ _ l, runs j)
+  runs (r_next i l j) = rw (runs i, eq-eqb _ _ l, runs j)

@@ -12,65 +12,65 @@ use Rattle.values.specs.declared.stretches.Stretch.{Stretch}
 use Rattle.formulas.specs.declared.reading.TextRead.{TextRead}
 use Rattle.formulas.specs.declared.reading.TextRead.TheVariants.{Read, Stuck}
 use Rattle.values.specs.Formula.{FormulaIn, value}
-use Rattle.formulas.specs.Text.{byte_at, mostText, mostLevels}
-use Rattle.formulas.specs.Reading.{Reading, up_to, reader, TextAnswer, formula, refused, ended, text_of, valueIn}
+use Rattle.formulas.specs.Text.{byte_at, most_text, most_levels}
+use Rattle.formulas.specs.Reading.{Reading, up_to, reader, TextAnswer, formula, refused, ended, text_of, value_in}
 use Rattle.formulas.specs.Reading.{TextSays, enough}
 use Rattle.formulas.specs.Words.{Yields}
-use Rattle.values.specs.Stretches.{stretchOf}
-use Rattle.formulas.specs.Refusals.{is_refused, place_in, badText}
+use Rattle.values.specs.Stretches.{stretch_of}
+use Rattle.formulas.specs.Refusals.{is_refused, place_in, bad_text}
 use Rattle.formulas.proofs.Steps.{Run, runs}
-use Rattle.formulas.proofs.Place.{told, whole_run, text-of, short-text}
-use Rattle.formulas.proofs.Words.{read_no, read-value, ahead}
+use Rattle.formulas.proofs.Place.{told, whole_run, text_of_lem, short_text_lem}
+use Rattle.formulas.proofs.Words.{read_no, read_value, ahead}
 
 -- the text is a formula, and not too long
 pub record Good (counts : Bool) (n : ℕ) (s : List ℕ) : Type 0 where
   pub tree : FormulaIn counts
   pub is : text_of counts n s ≡ formula tree
-  pub short : length s ≤ mostText
+  pub short : length s ≤ most_text
 
 -- ---- line 16
 
 module _ (counts : Bool) (n : ℕ) (s : List ℕ) where
-  pub text-refused : {p : ℕ} → text_of counts n s ≡ refused p → Refused (refusal 16 p) ≡ verdict (badText counts n s ∷ [])
-  text-refused e = sym (ap (λ (a : TextAnswer counts). verdict (naming 16 (place_in a) (is_refused a) ∷ [])) e)
+  pub text_refused : {p : ℕ} → text_of counts n s ≡ refused p → Refused (refusal 16 p) ≡ verdict (bad_text counts n s ∷ [])
+  text_refused e = sym (ap (λ (a : TextAnswer counts). verdict (naming 16 (place_in a) (is_refused a) ∷ [])) e)
 
-  pub text-fine : Good counts n s → Fine ≡ verdict (badText counts n s ∷ [])
-  text-fine g = sym (ap (λ (a : TextAnswer counts). verdict (naming 16 (place_in a) (is_refused a) ∷ [])) g.is)
+  pub text_fine : Good counts n s → Fine ≡ verdict (bad_text counts n s ∷ [])
+  text_fine g = sym (ap (λ (a : TextAnswer counts). verdict (naming 16 (place_in a) (is_refused a) ∷ [])) g.is)
 
-  pub good-text : (badText counts n s).holds ≡ false → Good counts n s
-  good-text h = go (text_of counts n s) refl h
+  pub good_text : (bad_text counts n s).holds ≡ false → Good counts n s
+  good_text h = go (text_of counts n s) refl h
     where
       go : (a : TextAnswer counts) → text_of counts n s ≡ a → is_refused a ≡ false → Good counts n s
-      go (formula F) e h = record { tree = F; is = e; short = short-text counts n s F e }
+      go (formula F) e h = record { tree = F; is = e; short = short_text_lem counts n s F e }
       go (refused p) e h = absurd (let z : ◌≡◌ {A = ℕ} 0 1 = cc in omega arith)
 
 -- ---- the readings of a text
 
-module _ (counts : Bool) (n : ℕ) (s : List ℕ) (h : length s ≤ mostText) where
-  text-to : {g : Reading counts} → reader counts (byte_at s) n enough 3 mostLevels 0 ≡ g → text_of counts n s ≡ ended (length s) g
-  text-to e = text-of counts n s h ∙ ap (ended (length s)) e
+module _ (counts : Bool) (n : ℕ) (s : List ℕ) (h : length s ≤ most_text) where
+  text_to : {g : Reading counts} → reader counts (byte_at s) n enough 3 most_levels 0 ≡ g → text_of counts n s ≡ ended (length s) g
+  text_to e = text_of_lem counts n s h ∙ ap (ended (length s)) e
 
-  pub text-bad : {r : TextRead} {p w : ℕ} → r ≡ Stuck p → Yields counts s n 3 mostLevels 0 w r → text_of counts n s ≡ refused p
-  text-bad e g = text-to (runs counts (byte_at s) n (read_no counts e g enough (omega arith)))
+  pub text_bad : {r : TextRead} {p w : ℕ} → r ≡ Stuck p → Yields counts s n 3 most_levels 0 w r → text_of counts n s ≡ refused p
+  text_bad e g = text_to (runs counts (byte_at s) n (read_no counts e g enough (omega arith)))
 
-  pub text-left : {r : TextRead} {v : Stretch} {q w : ℕ} → r ≡ Read v q → Yields counts s n 3 mostLevels 0 w r → q < length s
+  pub text_left : {r : TextRead} {v : Stretch} {q w : ℕ} → r ≡ Read v q → Yields counts s n 3 most_levels 0 w r → q < length s
       → text_of counts n s ≡ refused q
-  text-left {r} {v} {q} {w} e g l = go (read-value counts e g enough (omega arith))
+  text_left {r} {v} {q} {w} e g l = go (read_value counts e g enough (omega arith))
     where
-      go : (F : FormulaIn counts) × Run counts (byte_at s) n enough 3 mostLevels 0 (up_to F q) × (v ≡ stretchOf (value F) w) → text_of counts n s
+      go : (F : FormulaIn counts) × Run counts (byte_at s) n enough 3 most_levels 0 (up_to F q) × (v ≡ stretch_of (value F) w) → text_of counts n s
           ≡ refused q
-      go x = text-to (runs counts (byte_at s) n x.1) ∙ ap (λ (t : Bool). cond t (formula x.0) (refused q))
+      go x = text_to (runs counts (byte_at s) n x.1) ∙ ap (λ (t : Bool). cond t (formula x.0) (refused q))
           (ne_eqb q (length s) (λ z. omega arith))
 
-  pub text-good : {r : TextRead} {v : Stretch} {q w : ℕ} → r ≡ Read v q → Yields counts s n 3 mostLevels 0 w r → length s ≤ q
+  pub text_good : {r : TextRead} {v : Stretch} {q w : ℕ} → r ≡ Read v q → Yields counts s n 3 most_levels 0 w r → length s ≤ q
       → Good counts n s
-  text-good {r} {v} {q} {w} e g l = go (read-value counts e g enough (omega arith)) (ahead counts e g (omega arith))
+  text_good {r} {v} {q} {w} e g l = go (read_value counts e g enough (omega arith)) (ahead counts e g (omega arith))
     where
-      go : (F : FormulaIn counts) × Run counts (byte_at s) n enough 3 mostLevels 0 (up_to F q) × (v ≡ stretchOf (value F) w) → (0 < q)
+      go : (F : FormulaIn counts) × Run counts (byte_at s) n enough 3 most_levels 0 (up_to F q) × (v ≡ stretch_of (value F) w) → (0 < q)
           × (q ≤ length s) → Good counts n s
       go x y = record {
         tree = x.0;
-        is = text-to (runs counts (byte_at s) n x.1) ∙ ap (λ (t : Bool). cond t (formula x.0) (refused q))
+        is = text_to (runs counts (byte_at s) n x.1) ∙ ap (λ (t : Bool). cond t (formula x.0) (refused q))
             (eq-eqb q (length s) (omega arith));
         short = h;
       }
@@ -78,24 +78,24 @@ module _ (counts : Bool) (n : ℕ) (s : List ℕ) (h : length s ≤ mostText) wh
 -- ---- the stretches of a text
 
 module _ (counts : Bool) (n : ℕ) (s : List ℕ) (g : Good counts n s) where
-  good-reading : reader counts (byte_at s) n enough 3 mostLevels 0 ≡ up_to g.tree (length s)
-  good-reading =
+  good_reading : reader counts (byte_at s) n enough 3 most_levels 0 ≡ up_to g.tree (length s)
+  good_reading =
       runs counts (byte_at s) n (whole_run counts n s g.tree (subst (TextSays counts n s) g.is (told counts n s g.short)) enough
       (omega (arith, g.short)))
 
-  pub stretch-stuck : {r : TextRead} {p w : ℕ} → r ≡ Stuck p → Yields counts s n 3 mostLevels 0 w r → ⊥
-  stretch-stuck e k =
-      let a = sym good-reading ∙ runs counts (byte_at s) n (read_no counts e k enough (omega (arith, g.short))) in
+  pub stretch_stuck : {r : TextRead} {p w : ℕ} → r ≡ Stuck p → Yields counts s n 3 most_levels 0 w r → ⊥
+  stretch_stuck e k =
+      let a = sym good_reading ∙ runs counts (byte_at s) n (read_no counts e k enough (omega (arith, g.short))) in
       let z : ◌≡◌ {A = ℕ} 0 1 = cc in omega arith
 
-  pub stretch-found : {r : TextRead} {v : Stretch} {q w : ℕ} → r ≡ Read v q → Yields counts s n 3 mostLevels 0 w r → v
-      ≡ stretchOf (valueIn (text_of counts n s)) w
-  stretch-found {r} {v} {q} {w} e k = go (read-value counts e k enough (omega (arith, g.short)))
+  pub stretch_found : {r : TextRead} {v : Stretch} {q w : ℕ} → r ≡ Read v q → Yields counts s n 3 most_levels 0 w r → v
+      ≡ stretch_of (value_in (text_of counts n s)) w
+  stretch_found {r} {v} {q} {w} e k = go (read_value counts e k enough (omega (arith, g.short)))
     where
-      go : (F : FormulaIn counts) × Run counts (byte_at s) n enough 3 mostLevels 0 (up_to F q) × (v ≡ stretchOf (value F) w) → v
-          ≡ stretchOf (valueIn (text_of counts n s)) w
+      go : (F : FormulaIn counts) × Run counts (byte_at s) n enough 3 most_levels 0 (up_to F q) × (v ≡ stretch_of (value F) w) → v
+          ≡ stretch_of (value_in (text_of counts n s)) w
       go y =
-          let a = sym good-reading ∙ runs counts (byte_at s) n y.1 in
+          let a = sym good_reading ∙ runs counts (byte_at s) n y.1 in
           let b : g.tree ≡ y.0 = cc in
-          y.2 ∙ ap (λ (F : FormulaIn counts). stretchOf (value F) w) (sym b)
-          ∙ ap (λ (a : TextAnswer counts). stretchOf (valueIn a) w) (sym g.is)
+          y.2 ∙ ap (λ (F : FormulaIn counts). stretch_of (value F) w) (sym b)
+          ∙ ap (λ (a : TextAnswer counts). stretch_of (value_in a) w) (sym g.is)

@@ -1,7 +1,7 @@
 -- How text is read, as a computation: the readers of factor, part, term, sum and list are one, by the level k.
 use Rattle.std.specs.Prelude.{Bool, true, false, cond, ◌&&◌, List, ℕ, zero, suc, ◌+◌, ◌-◌, length, eqb, ltb, leb}
 use Rattle.values.specs.Formula.{Allowed, FormulaIn, letter, constant, negated, joined, counted, value}
-use Rattle.formulas.specs.Text.{mark, byte_at, mostLevels, mostText, IsFormula, IsPlace}
+use Rattle.formulas.specs.Text.{mark, byte_at, most_levels, most_text, IsFormula, IsPlace}
 
 -- what stands where a factor is to begin
 pub data Kind (counts : Bool) : Type 0 where
@@ -28,14 +28,14 @@ numeral b e =
 abbrev pub width : ℕ → ℕ
 width t = cond (leb 10 t) 2 1
 
-abbrev pub orPlain : (counts : Bool) → ℕ → Kind counts → Kind counts
-orPlain false t k = k
-orPlain true zero k = k
-orPlain true (suc t) k = several tt (suc t)
+abbrev pub or_plain : (counts : Bool) → ℕ → Kind counts → Kind counts
+or_plain false t k = k
+or_plain true zero k = k
+or_plain true (suc t) k = several tt (suc t)
 
 -- by the byte at p, and where counts are allowed the one after it
 abbrev pub kind_at : (counts : Bool) → (ℕ → ℕ) → ℕ → ℕ → Kind counts
-kind_at counts c n p = orPlain counts (numeral (c p) (c (p + 1))) (plain n (c p))
+kind_at counts c n p = or_plain counts (numeral (c p) (c (p + 1))) (plain n (c p))
 
 -- a formula with the place after it, or the place where the text can't be continued
 pub data Reading (counts : Bool) : Type 0 where
@@ -104,13 +104,13 @@ enough = 4100
 -- what the text is with n inputs; too long comes first, at its length
 unfoldable pub text_of : (counts : Bool) → ℕ → List ℕ → TextAnswer counts
 text_of counts n s =
-    cond (ltb mostText (length s)) (refused (length s))
-    (ended (length s) (reader counts (byte_at s) n enough 3 mostLevels 0))
+    cond (ltb most_text (length s)) (refused (length s))
+    (ended (length s) (reader counts (byte_at s) n enough 3 most_levels 0))
 
 -- the values of a text; a text that is no formula has none, and counts as 0
-abbrev pub valueIn : {counts : Bool} → TextAnswer counts → ℕ → Bool
-valueIn (formula F) x = value F x
-valueIn (refused p) x = false
+abbrev pub value_in : {counts : Bool} → TextAnswer counts → ℕ → Bool
+value_in (formula F) x = value F x
+value_in (refused p) x = false
 
 -- what an answer claims of a text that is not too long
 abbrev pub TextSays : (counts : Bool) → ℕ → List ℕ → TextAnswer counts → Type 0

@@ -1,6 +1,6 @@
 -- The line on texts of the table of refusals. The code has its number with the others (refusals, src/verdicts.rt).
 use Rattle.std.specs.Prelude.{Bool, true, false, List, ℕ}
-use Rattle.refusals.specs.Numbers.{ofText}
+use Rattle.refusals.specs.Numbers.{of_text}
 use Rattle.refusals.specs.Lines.{Line, naming}
 use Rattle.formulas.specs.Reading.{TextAnswer, formula, refused, text_of}
 
@@ -16,5 +16,5 @@ place_in (refused p) = p
 
 -- 16: the text is no formula of n inputs; the first place at which it can't be continued is named, its length if it
 -- ends too soon or is too long
-abbrev pub badText : Bool → ℕ → List ℕ → Line
-badText counts n s = naming ofText (place_in (text_of counts n s)) (is_refused (text_of counts n s))
+abbrev pub bad_text : Bool → ℕ → List ℕ → Line
+bad_text counts n s = naming of_text (place_in (text_of counts n s)) (is_refused (text_of counts n s))

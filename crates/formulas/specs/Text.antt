@@ -25,31 +25,31 @@ pub data Down (b o : ℕ) : ℕ → ℕ → Type 0 where
 -- `1`, `!` before a factor, a sum between `(` and `)`, or, with counts, a count: a number, then a list between `(` and
 -- `)`. A part is factors joined by `&`, a term parts by `^`, a sum terms by `|`, a list sums by `,`.
 pub data Spells (counts : Bool) (c : ℕ → ℕ) (n b : ℕ) : ℕ → ℕ → FormulaIn counts → ℕ → ℕ → Type 0 where
-  a-letter : {d p : ℕ} (j : ℕ) → j < n → c p ≡ 97 + j → Spells counts c n b 0 d (letter j) p (suc p)
-  a-zero : {d p : ℕ} → c p ≡ 48 → Spells counts c n b 0 d (constant false) p (suc p)
+  a_letter : {d p : ℕ} (j : ℕ) → j < n → c p ≡ 97 + j → Spells counts c n b 0 d (letter j) p (suc p)
+  a_zero : {d p : ℕ} → c p ≡ 48 → Spells counts c n b 0 d (constant false) p (suc p)
   a_one : {d p : ℕ} → c p ≡ 49 → Spells counts c n b 0 d (constant true) p (suc p)
-  a-not : {d p q : ℕ} {F : FormulaIn counts} → c p ≡ 33 → Spells counts c n b 0 d F (suc p) q
+  a_not : {d p q : ℕ} {F : FormulaIn counts} → c p ≡ 33 → Spells counts c n b 0 d F (suc p) q
       → Spells counts c n b 0 (suc d) (negated F) p q
-  a-nest : {d p q : ℕ} {F : FormulaIn counts} → c p ≡ 40 → Spells counts c n b 3 d F (suc p) q → c q ≡ 41
+  a_nest : {d p q : ℕ} {F : FormulaIn counts} → c p ≡ 40 → Spells counts c n b 3 d F (suc p) q → c q ≡ 41
       → Spells counts c n b 0 (suc d) F p (suc q)
-  a-count : {d e p o q t : ℕ} {F : FormulaIn counts} (a : Allowed counts) → Number c t p o → c o ≡ 40 → Down b o d e
+  a_count : {d e p o q t : ℕ} {F : FormulaIn counts} (a : Allowed counts) → Number c t p o → c o ≡ 40 → Down b o d e
       → Spells counts c n b 4 e F (suc o) q → c q ≡ 41 → Spells counts c n b 0 d (counted a t F) p (suc q)
   only : {k d p q : ℕ} {F : FormulaIn counts} → Spells counts c n b k d F p q → Spells counts c n b (suc k) d F p q
   more : {k d p q r : ℕ} {F G : FormulaIn counts} → Spells counts c n b k d F p q → c q ≡ mark k
       → Spells counts c n b (suc k) d G (suc q) r → Spells counts c n b (suc k) d (joined k F G) p r
 
 -- nesting, `!` and parentheses counted together, goes to 32
-abbrev pub mostLevels : ℕ
-mostLevels = 32
+abbrev pub most_levels : ℕ
+most_levels = 32
 
 -- a text has at most 1,024 bytes
-abbrev pub mostText : ℕ
-mostText = 1024
+abbrev pub most_text : ℕ
+most_text = 1024
 
 -- the whole text s stands for the formula F of n inputs: a sum within the levels, where a count's `(` from b on is not
 -- held against it if it would be a level too many
 abbrev pub Stands : (counts : Bool) → ℕ → ℕ → List ℕ → FormulaIn counts → Type 0
-Stands counts n b s F = Spells counts (byte_at s) n b 3 mostLevels F 0 (length s)
+Stands counts n b s F = Spells counts (byte_at s) n b 3 most_levels F 0 (length s)
 
 -- the whole text s stands for F, every level counted
 abbrev pub IsFormula : (counts : Bool) → ℕ → List ℕ → FormulaIn counts → Type 0
@@ -67,11 +67,11 @@ pub record IsPlace (counts : Bool) (n : ℕ) (s : List ℕ) (p : ℕ) : Type 0 w
 
 -- the text is read as F: it is not too long, and stands for F
 pub record ReadAs (counts : Bool) (n : ℕ) (s : List ℕ) (F : FormulaIn counts) : Type 0 where
-  pub short : length s ≤ mostText
+  pub short : length s ≤ most_text
   pub stands : IsFormula counts n s F
 
 -- what a refusal of the text names: its length where it is too long, else the first place at which it can't be
 -- continued
 abbrev pub RefusedAt : Bool → ℕ → List ℕ → ℕ → Type 0
 RefusedAt counts n s p =
-    ((mostText < length s) × (p ≡ length s)) ⊎ ((length s ≤ mostText) × IsPlace counts n s p)
+    ((most_text < length s) × (p ≡ length s)) ⊎ ((length s ≤ most_text) × IsPlace counts n s p)

@@ -1,9 +1,9 @@
 // What the readers look at byte by byte, and what they make of what another read.
 ghost use Rattle.std.specs.Prelude.{◌≡◌, Bool, cond, ◌+◌, ◌<◌, ◌≤◌, length};
-ghost use Rattle.tables.specs.Table.{mostInputs};
+ghost use Rattle.tables.specs.Table.{most_inputs};
 ghost use Rattle.formulas.specs.Text.{byte_at};
 ghost use Rattle.formulas.specs.Reading.{numeral, width};
-ghost use Rattle.formulas.specs.Words.{Single, turnedOf, closedAt, closedOf};
+ghost use Rattle.formulas.specs.Words.{Single, turned_of, closed_at, closed_of};
 
 use crate::reading::TextRead;
 use values::stretches::{Stretch, of_input, same, turned};
@@ -66,7 +66,7 @@ pub fn width_of(number: u32) -> usize
 
 // A factor of one byte, where neither `!` nor `(` stands and no number begins a count: a letter, `0` or `1`.
 pub fn single(t: &[u8], at: usize, n: u32, w: u32) -> TextRead
-    requires { (at < length t.now) × (n ≤ mostInputs) }
+    requires { (at < length t.now) × (n ≤ most_inputs) }
     ensures { (counts : Bool) → Single counts t.now n at w result }
 {
     let b = t[at];
@@ -87,7 +87,7 @@ pub fn single(t: &[u8], at: usize, n: u32, w: u32) -> TextRead
 
 // `)` after the values v that were read up to q.
 pub fn closed(t: &[u8], v: Stretch, q: usize) -> TextRead
-    ensures { result ≡ closedAt t.now v q }
+    ensures { result ≡ closed_at t.now v q }
 {
     if t.len() <= q {
         return TextRead::Stuck(q);
@@ -100,7 +100,7 @@ pub fn closed(t: &[u8], v: Stretch, q: usize) -> TextRead
 
 // `)` after what was read.
 pub fn closed_read(t: &[u8], read: TextRead) -> TextRead
-    ensures { result ≡ closedOf t.now read }
+    ensures { result ≡ closed_of t.now read }
 {
     match read {
         TextRead::Stuck(p) => {
@@ -114,7 +114,7 @@ pub fn closed_read(t: &[u8], read: TextRead) -> TextRead
 
 // `!` before what was read.
 pub fn turned_read(read: TextRead) -> TextRead
-    ensures { result ≡ turnedOf read }
+    ensures { result ≡ turned_of read }
 {
     match read {
         TextRead::Stuck(p) => {

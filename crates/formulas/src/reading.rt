@@ -2,7 +2,7 @@
 // byte less before it, or goes one step down. They work on a stretch of 256 assignments at a time, the one from 256 w
 // on; counts says whether counts are read.
 ghost use Rattle.std.specs.Prelude.{◌≤◌, length};
-ghost use Rattle.tables.specs.Table.{mostInputs};
+ghost use Rattle.tables.specs.Table.{most_inputs};
 ghost use Rattle.formulas.specs.Words.{Yields, Lists};
 
 use crate::pieces::{byte_in, closed, closed_read, number_at, single, turned_read, width_of};
@@ -10,7 +10,7 @@ use values::stretches::{Stretch, both, either, one_of};
 use values::tallies::{Tally, raise, short_by};
 
 // What a reader found: a stretch of values and the place after it, or the place at which the text can't be continued.
-#[derive(Drop)]
+#[derive(Clone, Copy)]
 pub enum TextRead {
     Read(Stretch, usize),
     Stuck(usize),
@@ -19,7 +19,7 @@ pub enum TextRead {
 // A sum: terms joined by `|`.
 #[cycle(factor_list_part_sum_term)]
 pub fn sum(t: &[u8], at: usize, left: usize, n: u32, w: u32, counts: bool) -> TextRead
-    requires { (at ≤ length t.now) × (n ≤ mostInputs) }
+    requires { (at ≤ length t.now) × (n ≤ most_inputs) }
     ensures { Yields counts t.now n 3 left at w result }
 {
     match term(t, at, left, n, w, counts) {
@@ -47,7 +47,7 @@ pub fn sum(t: &[u8], at: usize, left: usize, n: u32, w: u32, counts: bool) -> Te
 // A term: parts joined by `^`.
 #[cycle(factor_list_part_sum_term)]
 fn term(t: &[u8], at: usize, left: usize, n: u32, w: u32, counts: bool) -> TextRead
-    requires { (at ≤ length t.now) × (n ≤ mostInputs) }
+    requires { (at ≤ length t.now) × (n ≤ most_inputs) }
     ensures { Yields counts t.now n 2 left at w result }
 {
     match part(t, at, left, n, w, counts) {
@@ -75,7 +75,7 @@ fn term(t: &[u8], at: usize, left: usize, n: u32, w: u32, counts: bool) -> TextR
 // A part: factors joined by `&`.
 #[cycle(factor_list_part_sum_term)]
 fn part(t: &[u8], at: usize, left: usize, n: u32, w: u32, counts: bool) -> TextRead
-    requires { (at ≤ length t.now) × (n ≤ mostInputs) }
+    requires { (at ≤ length t.now) × (n ≤ most_inputs) }
     ensures { Yields counts t.now n 1 left at w result }
 {
     match factor(t, at, left, n, w, counts) {
@@ -103,7 +103,7 @@ fn part(t: &[u8], at: usize, left: usize, n: u32, w: u32, counts: bool) -> TextR
 // A list of sums with `,` between them, and the `)` after it: whether as many of them are 1 as the tally lacks to 16.
 #[cycle(factor_list_part_sum_term)]
 fn list(t: &[u8], at: usize, left: usize, n: u32, w: u32, counts: bool, tally: Tally) -> TextRead
-    requires { (at ≤ length t.now) × (n ≤ mostInputs) }
+    requires { (at ≤ length t.now) × (n ≤ most_inputs) }
     ensures { Lists counts t.now n left at w tally result }
 {
     match sum(t, at, left, n, w, counts) {
@@ -124,7 +124,7 @@ fn list(t: &[u8], at: usize, left: usize, n: u32, w: u32, counts: bool, tally: T
 // A factor: one byte, `!` before a factor, a sum in parentheses, or a count; all but the first are one level down.
 #[cycle(factor_list_part_sum_term)]
 fn factor(t: &[u8], at: usize, left: usize, n: u32, w: u32, counts: bool) -> TextRead
-    requires { (at ≤ length t.now) × (n ≤ mostInputs) }
+    requires { (at ≤ length t.now) × (n ≤ most_inputs) }
     ensures { Yields counts t.now n 0 left at w result }
 {
     if t.len() <= at {

@@ -1,11 +1,11 @@
 // Reading a text into a table, with counts or without.
 ghost use Rattle.std.specs.Prelude.{◌≡◌, false, [], ◌∷◌, ◌≤◌, length};
-ghost use Rattle.tables.specs.Table.{mostInputs, tableLength, table_of};
+ghost use Rattle.tables.specs.Table.{most_inputs, table_length, table_of};
 ghost use Rattle.refusals.specs.Lines.{verdict};
-ghost use Rattle.formulas.specs.Reading.{text_of, valueIn};
-ghost use Rattle.values.specs.Stretches.{stretchOf};
-ghost use Rattle.formulas.specs.Refusals.{badText};
-ghost use Rattle.formulas.specs.ReadFormula.{readLines, readIn};
+ghost use Rattle.formulas.specs.Reading.{text_of, value_in};
+ghost use Rattle.values.specs.Stretches.{stretch_of};
+ghost use Rattle.formulas.specs.Refusals.{bad_text};
+ghost use Rattle.formulas.specs.ReadFormula.{read_lines, read_in};
 
 use crate::read_formula::MOST_TEXT;
 use crate::reading::{TextRead, sum};
@@ -19,8 +19,8 @@ const MOST_LEVELS: usize = 32;
 
 // Line 16: the text is read once, at the first stretch.
 fn look_at_text(n: u32, t: &[u8], counts: bool) -> Verdict
-    requires { n ≤ mostInputs }
-    ensures { result ≡ verdict (badText counts n t.now ∷ []) }
+    requires { n ≤ most_inputs }
+    ensures { result ≡ verdict (bad_text counts n t.now ∷ []) }
 {
     let len = t.len();
     if MOST_TEXT < len {
@@ -41,8 +41,8 @@ fn look_at_text(n: u32, t: &[u8], counts: bool) -> Verdict
 
 // Stretch w of the values of a text that is a formula.
 fn text_stretch(n: u32, t: &[u8], w: u32, counts: bool) -> Stretch
-    requires { (n ≤ mostInputs) × ((badText counts n t.now).holds ≡ false) }
-    ensures { result ≡ stretchOf (valueIn (text_of counts n t.now)) w }
+    requires { (n ≤ most_inputs) × ((bad_text counts n t.now).holds ≡ false) }
+    ensures { result ≡ stretch_of (value_in (text_of counts n t.now)) w }
 {
     match sum(t, 0, MOST_LEVELS, n, w, counts) {
         TextRead::Stuck(_) => {
@@ -56,8 +56,8 @@ fn text_stretch(n: u32, t: &[u8], w: u32, counts: bool) -> Stretch
 
 // The table of a text that is a formula, into a lent one of its length, which is written whole.
 fn fill(n: u32, t: &[u8], table: &mut [u8], counts: bool)
-    requires { (n ≤ mostInputs) × (length table.old ≡ tableLength n) × ((badText counts n t.now).holds ≡ false) }
-    ensures { table.new ≡ table_of n (valueIn (text_of counts n t.now)) }
+    requires { (n ≤ most_inputs) × (length table.old ≡ table_length n) × ((bad_text counts n t.now).holds ≡ false) }
+    ensures { table.new ≡ table_of n (value_in (text_of counts n t.now)) }
 {
     let mut v = same(0);
     let mut i: usize = 0;
@@ -73,7 +73,7 @@ fn fill(n: u32, t: &[u8], table: &mut [u8], counts: bool)
 
 // Lines 1, 3 and 16.
 fn read_form<'a>(n: u64, t: &'a [u8], table: &'a [u8], counts: bool) -> Verdict
-    ensures { result ≡ verdict (readLines counts n t.now table.now) }
+    ensures { result ≡ verdict (read_lines counts n t.now table.now) }
 {
     let seen = form::sized(n, table);
     let Verdict::Fine = seen else {
@@ -84,7 +84,7 @@ fn read_form<'a>(n: u64, t: &'a [u8], table: &'a [u8], counts: bool) -> Verdict
 
 // Reads a text into a lent table.
 pub fn read_text(n: u64, t: &[u8], table: &mut [u8], counts: bool) -> Verdict
-    ensures { record { verdict = result; table = table.new } ≡ readIn counts n t.now table.old }
+    ensures { record { verdict = result; table = table.new } ≡ read_in counts n t.now table.old }
 {
     let form = read_form(n, t, table, counts);
     let Verdict::Fine = form else {

@@ -2,19 +2,19 @@
 // number, a space and the place in decimal. What is handed over to be written is defined of the bytes read alone
 // (`written`, programs/specs/InspectProgram).
 ghost use Rattle.std.specs.Prelude.{◌≡◌, length};
-ghost use Rattle.programs.specs.InspectProgram.{mostRead, mostWritten};
+ghost use Rattle.programs.specs.InspectProgram.{most_read, most_written};
 
 use programs::inspect_program::{MOST_READ, MOST_WRITTEN, answer_input};
 use streams::{read_input, write_output};
 
 fn input_room() -> [u8; MOST_READ]
-    ensures { mostRead ≡ length result }
+    ensures { most_read ≡ length result }
 {
     [0; MOST_READ]
 }
 
 fn output_room() -> [u8; MOST_WRITTEN]
-    ensures { mostWritten ≡ length result }
+    ensures { most_written ≡ length result }
 {
     [0; MOST_WRITTEN]
 }

@@ -1,7 +1,7 @@
 // Checking a sheet, whoever made it, against a gate's table.
 ghost use Rattle.std.specs.Prelude.{◌≡◌};
-ghost use Rattle.sheets.specs.Edition.{IsEdition, firstEdition};
-ghost use Rattle.inspection.specs.CheckSheet.{checkOutcome, checkOwn};
+ghost use Rattle.sheets.specs.Edition.{IsEdition, first_edition};
+ghost use Rattle.inspection.specs.CheckSheet.{check_outcome, check_own};
 
 use records::desk::desk_of;
 use refusals::form;
@@ -12,7 +12,7 @@ use sheets::kinds::Edition;
 // Checks a sheet of an edition, which is to be the desk d's, against a table.
 pub fn check_in<'a>(e: Edition, d: u8, n: u64, t: &'a [u8], s: &'a [u8]) -> Verdict
     requires { IsEdition e }
-    ensures { result ≡ checkOutcome e d n t.now s.now }
+    ensures { result ≡ check_outcome e d n t.now s.now }
 {
     let table = form::table(n, t);
     let Verdict::Fine = table else {
@@ -33,14 +33,14 @@ pub fn check_in<'a>(e: Edition, d: u8, n: u64, t: &'a [u8], s: &'a [u8]) -> Verd
 // Checks a sheet of an edition, whatever its desk, against a table.
 pub fn check_own<'a>(e: Edition, n: u64, t: &'a [u8], s: &'a [u8]) -> Verdict
     requires { IsEdition e }
-    ensures { result ≡ checkOwn e n t.now s.now }
+    ensures { result ≡ check_own e n t.now s.now }
 {
     check_in(e, desk_of(e, s), n, t, s)
 }
 
 // Checks a sheet against a table: accepted, or why not.
 pub fn check_sheet<'a>(n: u64, t: &'a [u8], s: &'a [u8]) -> Verdict
-    ensures { result ≡ checkOwn firstEdition n t.now s.now }
+    ensures { result ≡ check_own first_edition n t.now s.now }
 {
     check_own(Edition::first(), n, t, s)
 }

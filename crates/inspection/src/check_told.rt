@@ -1,6 +1,6 @@
 // Checking a sheet of a told edition against a gate's table.
 ghost use Rattle.std.specs.Prelude.{◌≡◌};
-ghost use Rattle.inspection.specs.CheckTold.{checkTold};
+ghost use Rattle.inspection.specs.CheckTold.{check_told};
 
 use crate::check_sheet::check_own;
 use refusals::form;
@@ -9,7 +9,7 @@ use sheets::kinds::Edition;
 
 // Checks a sheet of the edition with the number w, whatever its desk, against a table.
 pub fn check_told<'a>(w: u64, n: u64, t: &'a [u8], s: &'a [u8]) -> Verdict
-    ensures { result ≡ checkTold w n t.now s.now }
+    ensures { result ≡ check_told w n t.now s.now }
 {
     let told = form::told(w, n);
     let Verdict::Fine = told else {

@@ -8,20 +8,20 @@ use native.Mathlib.Omega.{arith}
 use lib.Dec.{eqb}
 use borrow.Author.Tests.{ne_eqb}
 use Rattle.bits.specs.Numbers.{bit}
-use Rattle.bits.specs.Sets.{maskWidth, Apart, spread}
+use Rattle.bits.specs.Sets.{mask_width, Apart, spread}
 use Rattle.bits.proofs.Bools.{clash}
 use Rattle.bits.proofs.Numbers.{number_lt, bit-number}
-use Rattle.bits.proofs.Single.{single, plus-bit, plus-lt}
+use Rattle.bits.proofs.Single.{single, plus_bit, plus_lt}
 use Rattle.bits.proofs.Machine.{shl_one}
-use Rattle.trees.proofs.Two.{own-size}
+use Rattle.trees.proofs.Two.{own_size}
 use Rattle.columns.specs.declared.split.Split.{Split}
 use Rattle.columns.specs.Reading.{Held, Without, Within, alike}
-use Rattle.columns.proofs.Reading.{within-spread, within-zero, start}
+use Rattle.columns.proofs.Reading.{within_spread, within_zero, start}
 use Rattle.joins.specs.declared.pairs.Left.{Left}
-use Rattle.joins.specs.Left.{withFixed, gateLeft, Unfixed, Fixing, valueBy, Valued}
+use Rattle.joins.specs.Left.{with_fixed, gate_left, Unfixed, Fixing, value_by, Valued}
 use Rattle.joins.proofs.Telling.{valued}
 
-module _ (n : ℕ) (g : Left) (X : Fixing n g) (most : n ≤ maskWidth) (i j : ℕ) (lt : j < i) (fi : Unfixed n g i)
+module _ (n : ℕ) (g : Left) (X : Fixing n g) (most : n ≤ mask_width) (i j : ℕ) (lt : j < i) (fi : Unfixed n g i)
     (fj : Unfixed n g j) where
   abbrev pub own : ℕ
   own = 1 * 2 ^ j % 2 ^ 16 + 1 * 2 ^ i % 2 ^ 16
@@ -38,22 +38,22 @@ module _ (n : ℕ) (g : Left) (X : Fixing n g) (most : n ≤ maskWidth) (i j : �
   one-off : bit (2 ^ j) i ≡ false
   one-off = one_bit i fi.0 ∙ ne_eqb i j (λ e. omega arith)
 
-  pub own-lt : own < 2 ^ n
-  own-lt = omega (arith, own_is, plus-lt n (2 ^ j) i one-lt fi.0 one-off)
+  pub own_lt : own < 2 ^ n
+  own_lt = omega (arith, own_is, plus_lt n (2 ^ j) i one-lt fi.0 one-off)
 
-  own-bit : (p : ℕ) → p < n → bit own p ≡ (eqb p j || eqb p i)
-  own-bit p l =
-      ap (λ (m : ℕ). bit m p) own_is ∙ plus-bit n (2 ^ j) i one-lt fi.0 one-off p l
+  own_bit : (p : ℕ) → p < n → bit own p ≡ (eqb p j || eqb p i)
+  own_bit p l =
+      ap (λ (m : ℕ). bit m p) own_is ∙ plus_bit n (2 ^ j) i one-lt fi.0 one-off p l
       ∙ ap (λ (t : Bool). t || eqb p i) (one_bit p l)
 
-  pub own-apart : Apart n (bit own) (bit g.fixed)
-  own-apart p l e = own-bit p l ∙ ap₂ ◌||◌ (ne_eqb p j (λ z. clash (ap (bit g.fixed) (sym z) ∙ e) fj.1))
+  pub own_apart : Apart n (bit own) (bit g.fixed)
+  own_apart p l e = own_bit p l ∙ ap₂ ◌||◌ (ne_eqb p j (λ z. clash (ap (bit g.fixed) (sym z) ∙ e) fj.1))
       (ne_eqb p i (λ z. clash (ap (bit g.fixed) (sym z) ∙ e) fi.1))
 
   -- the split that the code holds
   module _ (s : Split) (h : Held s) (en : s.n ≡ n) (eo : s.own ≡ own) (es : s.shared ≡ g.fixed) where
     bits : (p : ℕ) → p < s.n → bit s.own p ≡ (eqb p j || eqb p i)
-    bits p l = ap (λ (m : ℕ). bit m p) eo ∙ own-bit p (omega (arith, en))
+    bits p l = ap (λ (m : ℕ). bit m p) eo ∙ own_bit p (omega (arith, en))
 
     inside : i < s.n
     inside = omega (arith, en, fi.0)
@@ -68,19 +68,19 @@ module _ (n : ℕ) (g : Left) (X : Fixing n g) (most : n ≤ maskWidth) (i j : �
     pub without : (k z : ℕ) → k < 4 → z ≡ spread n (bit own) k → Without s.n s.free (g.at + z)
     without k z l e =
         start s h (λ x. false) g.at within z (subst (Within s.n s.own) (sym (e ∙ place k))
-        (within-spread s.n s.own k (omega (
+        (within_spread s.n s.own k (omega (
           arith,
-          ap (λ (m : ℕ). 2 ^ m) (own-size s.n i j s.own inside (omega (arith, inside)) bits (λ z. omega arith)),
+          ap (λ (m : ℕ). 2 ^ m) (own_size s.n i j s.own inside (omega (arith, inside)) bits (λ z. omega arith)),
         ))))
 
     pub without-none : Without s.n s.free g.at
     without-none = subst (Without s.n s.free) (add-zero g.at)
-        (start s h (λ x. false) g.at within 0 (within-zero s.n s.own))
+        (start s h (λ x. false) g.at within 0 (within_zero s.n s.own))
 
     pub asked : (F : ℕ → Bool) (v x y z : ℕ) → x ≡ spread n (bit own) 1 → y ≡ spread n (bit own) 2
-        → z ≡ spread n (bit own) 3 → v ≡ valueBy (alike s.n F s.free) g.at (g.at + x) (g.at + y) (g.at + z)
-        → Valued n (gateLeft n F g) i j v
+        → z ≡ spread n (bit own) 3 → v ≡ value_by (alike s.n F s.free) g.at (g.at + x) (g.at + y) (g.at + z)
+        → Valued n (gate_left n F g) i j v
     asked F v x y z ex ey ez e =
-        subst (λ (m : ℕ). Valued m (λ u. F (withFixed m g.fixed g.at u)) i j v) en
-        (subst (λ (f : ℕ). Valued s.n (λ u. F (withFixed s.n f g.at u)) i j v) es
+        subst (λ (m : ℕ). Valued m (λ u. F (with_fixed m g.fixed g.at u)) i j v) en
+        (subst (λ (f : ℕ). Valued s.n (λ u. F (with_fixed s.n f g.at u)) i j v) es
         (valued s h F g.at i j inside lt bits within v x y z (ex ∙ place 1) (ey ∙ place 2) (ez ∙ place 3) e))

@@ -11,29 +11,29 @@ use Rattle.bits.proofs.Members.{Place, place, same_bits}
 use Rattle.tables.specs.Counting.{Sees}
 use Rattle.trees.specs.Tree.{Tree, uses, TreeOf, IsTree}
 use Rattle.trees.proofs.Graft.{graft, Computes}
-use Rattle.trees.proofs.Prune.{tree-computes}
-use Rattle.trees.proofs.Small.{small-tree}
-use Rattle.trees.proofs.Over.{wide, tree-whole}
+use Rattle.trees.proofs.Prune.{tree_computes}
+use Rattle.trees.proofs.Small.{small_tree}
+use Rattle.trees.proofs.Over.{wide, tree_whole}
 use Rattle.trees.proofs.Shape.{Joined}
 use Rattle.trees.proofs.Splits.{two-joined}
 use Rattle.joins.specs.declared.pairs.Left.{Left}
 use Rattle.joins.specs.StandsFor.{StandsFor}
-use Rattle.joins.specs.Left.{withFixed, gateLeft, Unfixed, Reduced, DecidedFrom}
+use Rattle.joins.specs.Left.{with_fixed, gate_left, Unfixed, Reduced, DecidedFrom}
 use Rattle.joins.proofs.Joining.{stands_of}
-use Rattle.joins.proofs.Leaving.{fixed-lt, fixed-bit}
-use Rattle.joins.proofs.Starting.{to-tree}
+use Rattle.joins.proofs.Leaving.{fixed_lt, fixed_bit}
+use Rattle.joins.proofs.Starting.{to_tree}
 
 -- ---- the end: the decided inputs are all that are left
 module _ (n : ℕ) (F : ℕ → Bool) (g : Left) (R : Reduced n F g) (from : DecidedFrom n g 0) where
   abbrev H : ℕ → Bool
-  H = gateLeft n F g
+  H = gate_left n F g
 
   sees : Sees n H (bit g.decided)
   sees x y hx hy agree = ap F (
-      same_bits n (withFixed n g.fixed g.at x) (withFixed n g.fixed g.at y)
-      (fixed-lt n g.fixed g.at x) (fixed-lt n g.fixed g.at y) (λ p l.
-      fixed-bit n g.fixed g.at x p l ∙ go p l (bit g.fixed p) refl
-      ∙ sym (fixed-bit n g.fixed g.at y p l)))
+      same_bits n (with_fixed n g.fixed g.at x) (with_fixed n g.fixed g.at y)
+      (fixed_lt n g.fixed g.at x) (fixed_lt n g.fixed g.at y) (λ p l.
+      fixed_bit n g.fixed g.at x p l ∙ go p l (bit g.fixed p) refl
+      ∙ sym (fixed_bit n g.fixed g.at y p l)))
     where
       go : (p : ℕ) → p < n → (s : Bool) → bit g.fixed p ≡ s → cond s (bit g.at p) (bit x p)
           ≡ cond s (bit g.at p) (bit y p)
@@ -41,29 +41,29 @@ module _ (n : ℕ) (F : ℕ → Bool) (g : Left) (R : Reduced n F g) (from : Dec
       go p l false e = agree p l (from.all p (omega arith) (l, e))
 
   -- one: a tree
-  pub few-tree : size n (bit g.decided) < 2 → IsTree n F
-  few-tree h =
-      let w = small-tree (size n (bit g.decided)) _ (omega arith) in
-      R.tree.1 (to-tree n H (
+  pub few_tree : size n (bit g.decided) < 2 → IsTree n F
+  few_tree h =
+      let w = small_tree (size n (bit g.decided)) _ (omega arith) in
+      R.tree.1 (to_tree n H (
         graft (wide n H (bit g.decided) sees) w.0,
-        tree-whole n H (bit g.decided) sees w.0 w.1,
+        tree_whole n H (bit g.decided) sees w.0 w.1,
       ))
 
   -- a fixed input is not read by a tree that reads what counts alone
-  read-unfixed : (t : Tree) → TreeOf n H t → (p : ℕ) → p < n → 1 ≤ uses p t → Unfixed n g p
-  read-unfixed t I p l r = (
+  read_unfixed : (t : Tree) → TreeOf n H t → (p : ℕ) → p < n → 1 ≤ uses p t → Unfixed n g p
+  read_unfixed t I p l r = (
     l,
     false_of (bit g.fixed p) (λ e. omega (
       arith,
       I.only p (λ _ c. c.differ (
-          sees c.x c.y c.belowX c.belowY (λ k b s. c.alike k b (λ z.
+          sees c.x c.y c.below_x c.below_y (λ k b s. c.alike k b (λ z.
           clash (ap (bit g.fixed) z ∙ e) (R.unfixed k s).1)))),
     )),
   )
 
   -- two: no tree, since a node would join two of them
-  pub many-none : 2 ≤ size n (bit g.decided) → IsTree n F → ⊥
-  many-none h w = joined (R.tree.0 w)
+  pub many_none : 2 ≤ size n (bit g.decided) → IsTree n F → ⊥
+  many_none h w = joined (R.tree.0 w)
     where
       p : Place n (bit g.decided) 0
       p = place n (bit g.decided) 0 (omega arith)
@@ -80,7 +80,7 @@ module _ (n : ℕ) (F : ℕ → Bool) (g : Left) (R : Reduced n F g) (from : Dec
       )) (R.counts p.at (R.unfixed p.at p.member)) (R.counts q.at (R.unfixed q.at q.member)))
         where
           W : Computes n H t
-          W = tree-computes n H t I
+          W = tree_computes n H t I
 
           below : (k : ℕ) → 1 ≤ uses k t → k < n
           below k r = elim (dec_lt k n) [ yes l ↦ l | no l ↦ absurd (omega (arith, W.within k (omega arith))) ]
@@ -96,10 +96,10 @@ module _ (n : ℕ) (F : ℕ → Bool) (g : Left) (R : Reduced n F g) (from : Dec
           ]
             where
               fa : Unfixed n g J.a
-              fa = read-unfixed t I J.a (below J.a J.read_a) J.read_a
+              fa = read_unfixed t I J.a (below J.a J.read_a) J.read_a
 
               fb : Unfixed n g J.b
-              fb = read-unfixed t I J.b (below J.b J.readB) J.readB
+              fb = read_unfixed t I J.b (below J.b J.read_b) J.read_b
 
               lower : (J.a < J.b → ⊥) → J.b < J.a
               lower l = elim (dec_lt J.b J.a) [

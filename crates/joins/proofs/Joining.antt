@@ -12,22 +12,22 @@ use Rattle.bits.specs.Numbers.{bit, val}
 use Rattle.bits.proofs.Numbers.{bit_high}
 use Rattle.tables.specs.Depends.{DependsOn}
 use Rattle.trees.specs.Tree.{Tree, constant, input, node, flipped, value, uses}
-use Rattle.trees.proofs.Graft.{graft, Computes, computes-graft}
+use Rattle.trees.proofs.Graft.{graft, Computes, computes_graft}
 use Rattle.trees.proofs.Members.{val-le}
 use Rattle.trees.proofs.Fixing.{undone}
 use Rattle.joins.specs.StandsFor.{set_to, fixed_at, StandsFor}
-use Rattle.joins.proofs.Setting.{set-lt, set-bit, set_here, set-off, set_twice, set-swap}
+use Rattle.joins.proofs.Setting.{set-lt, set-bit, set_here, set-off, set_twice, set_swap}
 
 -- ---- a gate's tree, with a constant in place of input i, is a tree of what is left
 module _ (n : ℕ) (G : ℕ → Bool) (i : ℕ) (v : Bool) where
   fixed : ℕ → Tree
   fixed p = cond (eqb p i) (constant v) (input false p)
 
-  pub tree-left : (t : Tree) → Computes n G t → (u : Tree) × Computes n (fixed_at n G i v) u
+  pub tree_left : (t : Tree) → Computes n G t → (u : Tree) × Computes n (fixed_at n G i v) u
   unfolding fixed
-  tree-left t W = (
+  tree_left t W = (
     graft fixed t,
-    computes-graft n G t W n (fixed_at n G i v) fixed (set_to n i v) (λ q. q)
+    computes_graft n G t W n (fixed_at n G i v) fixed (set_to n i v) (λ q. q)
         (λ x p l. stands x p (eqb p i) ∙ sym (set-bit n i v x p l)) (set-lt n i v) (λ x h. refl)
         (λ q p h l. once q p (eqb p i)) (λ q p h l. none q p h l (eqb p i)),
   )
@@ -70,11 +70,11 @@ module _ (n : ℕ) (G : ℕ → Bool) (i j : ℕ) (v : Bool) (li : i < n) (lj : 
     joining : ℕ → Tree
     joining p = by (eqb p i) (eqb p j) p
 
-    pub tree-joined : (t : Tree) → Computes n left t → (u : Tree) × Computes n G u
+    pub tree_joined : (t : Tree) → Computes n left t → (u : Tree) × Computes n G u
     unfolding joining asked by
-    tree-joined t W = (
+    tree_joined t W = (
       graft joining t,
-      computes-graft n left t W n G joining (λ x. set_to n i v (asked x)) (λ q. cond (eqb q i) j q)
+      computes_graft n left t W n G joining (λ x. set_to n i v (asked x)) (λ q. cond (eqb q i) j q)
           (λ x p l. stands x p (eqb p i) (eqb p j)
           ∙ sym (set-bit n i v (asked x) p l
           ∙ ap (cond (eqb p i) v) (set-bit n j (J.D (bit x j) (bit x i)) x p l)))
@@ -121,10 +121,10 @@ module _ (n : ℕ) (G : ℕ → Bool) (i j : ℕ) (v : Bool) (li : i < n) (lj : 
     counts-left k f c = record {
       x = asked c.x;
       y = asked c.y;
-      belowX = asked-lt c.x;
-      belowY = asked-lt c.y;
+      below_x = asked-lt c.x;
+      below_y = asked-lt c.y;
       alike = λ p l g. set-bit n j _ c.x p l ∙ same p l g (eqb p j) refl ∙ sym (set-bit n j _ c.y p l);
-      differ = λ e. c.differ (gives c.x c.belowX ∙ e ∙ sym (gives c.y c.belowY));
+      differ = λ e. c.differ (gives c.x c.below_x ∙ e ∙ sym (gives c.y c.below_y));
     }
       where
         same : (p : ℕ) → p < n → (p ≡ k → ⊥) → (s : Bool) → eqb p j ≡ s
@@ -134,10 +134,10 @@ module _ (n : ℕ) (G : ℕ → Bool) (i j : ℕ) (v : Bool) (li : i < n) (lj : 
         same p l g false e = c.alike p l g
 
     -- two other inputs
-    pub stands-before : (k l : ℕ) (w : Bool) → k < n → l < n → (k ≡ i → ⊥) → (k ≡ j → ⊥) → (l ≡ i → ⊥) → (l ≡ j → ⊥)
+    pub stands_before : (k l : ℕ) (w : Bool) → k < n → l < n → (k ≡ i → ⊥) → (k ≡ j → ⊥) → (l ≡ i → ⊥) → (l ≡ j → ⊥)
         → StandsFor n left k l w → StandsFor n G k l w
     unfolding asked
-    stands-before k l w bk bl ki kj li' lj' N = record {
+    stands_before k l w bk bl ki kj li' lj' N = record {
       D = N.D;
       gives = λ x h. gives x h ∙ N.gives (asked x) (asked-lt x) ∙ ap left (same x)
           ∙ sym (gives (there x) (set-lt n k w _));
@@ -156,7 +156,7 @@ module _ (n : ℕ) (G : ℕ → Bool) (i j : ℕ) (v : Bool) (li : i < n) (lj : 
             let e = N.D (bit x l) (bit x k) in
             ap₂ (λ (s t : Bool). set_to n k w (set_to n l (N.D s t) (asked x))) (set-off n j d x l bl lj')
             (set-off n j d x k bk kj)
-            ∙ ap (set_to n k w) (set-swap n l j e d x lj') ∙ set-swap n k j w d (set_to n l e x) kj
+            ∙ ap (set_to n k w) (set_swap n l j e d x lj') ∙ set_swap n k j w d (set_to n l e x) kj
             ∙ ap₂ (λ (s t : Bool). set_to n j (J.D s t) (there x))
             (sym (off x j lj (λ z. kj (sym z)) (λ z. lj' (sym z))))
             (sym (off x i li (λ z. ki (sym z)) (λ z. li' (sym z))))
@@ -188,9 +188,9 @@ module _ (n : ℕ) (G : ℕ → Bool) (i j : ℕ) (li : i < n) (lj : j < n) (ne 
 
       differ : D (bit c.x j) v ≡ D (bit c.y j) v → ⊥
       differ e =
-          c.differ (gives c.x c.belowX
+          c.differ (gives c.x c.below_x
           ∙ ap (λ (b : Bool). H b (bit c.x)) (e ∙ ap (D (bit c.y j)) (sym here))
-          ∙ blind _ c.x c.y c.belowX c.belowY (λ p l f g. c.alike p l f) ∙ sym (gives c.y c.belowY))
+          ∙ blind _ c.x c.y c.below_x c.below_y (λ p l f g. c.alike p l f) ∙ sym (gives c.y c.below_y))
 
       back : (f : Bool) → ((y : Bool) → D (flipped f y) v ≡ y) → (x : ℕ) → x < 2 ^ n
           → G x ≡ fixed_at n G i v (set_to n j (flipped f (D (bit x j) (bit x i))) x)

@@ -8,36 +8,36 @@ use borrow.Author.Tests.{eqb-true}
 use Rattle.bits.specs.Numbers.{bit, val, number}
 use Rattle.bits.specs.Sets.{gather}
 use Rattle.bits.proofs.Bools.{clash, false_of}
-use Rattle.bits.proofs.Numbers.{number_lt, number_bit, number-ext, bit-number}
+use Rattle.bits.proofs.Numbers.{number_lt, number_bit, number_ext, bit-number}
 use Rattle.bits.proofs.Sums.{number-join}
 use Rattle.bits.proofs.Machine.{shl_one}
-use Rattle.bits.proofs.Single.{single, plus-bit, plus-lt}
-use Rattle.bits.proofs.Members.{same_bits, inside-spread}
+use Rattle.bits.proofs.Single.{single, plus_bit, plus_lt}
+use Rattle.bits.proofs.Members.{same_bits, inside_spread}
 use Rattle.bits.proofs.Spreading.{spread-lt}
 use Rattle.tables.proofs.Pieces.{spread-part}
 use Rattle.columns.specs.Reading.{Within}
 use Rattle.joins.specs.StandsFor.{set_to, fixed_at}
-use Rattle.joins.specs.Left.{withFixed, gateLeft, Fixing}
+use Rattle.joins.specs.Left.{with_fixed, gate_left, Fixing}
 use Rattle.joins.proofs.Setting.{set-bit}
 
-pub fixed-lt : (n f a x : ℕ) → withFixed n f a x < 2 ^ n
-unfolding withFixed
-fixed-lt n f a x = number_lt n (λ p. cond (bit f p) (bit a p) (bit x p))
+pub fixed_lt : (n f a x : ℕ) → with_fixed n f a x < 2 ^ n
+unfolding with_fixed
+fixed_lt n f a x = number_lt n (λ p. cond (bit f p) (bit a p) (bit x p))
 
-pub fixed-bit : (n f a x p : ℕ) → p < n → bit (withFixed n f a x) p ≡ cond (bit f p) (bit a p) (bit x p)
-unfolding withFixed
-fixed-bit n f a x p l = bit-number n (λ p. cond (bit f p) (bit a p) (bit x p)) p l
+pub fixed_bit : (n f a x p : ℕ) → p < n → bit (with_fixed n f a x) p ≡ cond (bit f p) (bit a p) (bit x p)
+unfolding with_fixed
+fixed_bit n f a x p l = bit-number n (λ p. cond (bit f p) (bit a p) (bit x p)) p l
 
 -- one member less
 module _ (n m i : ℕ) (h : m < 2 ^ n) (l : i < n) (e : bit m i ≡ true) where
-  pub less-sum : number n (λ p. bit m p && not (eqb p i)) + 2 ^ i ≡ m
-  less-sum =
+  pub less_sum : number n (λ p. bit m p && not (eqb p i)) + 2 ^ i ≡ m
+  less_sum =
       omega (
         arith,
         number_bit n m h,
         single n i l,
         number-join n (λ p. bit m p && not (eqb p i)) (λ p. eqb p i) (λ p b. meet (bit m p) (eqb p i)),
-        number-ext n (λ p. (bit m p && not (eqb p i)) || eqb p i) (bit m)
+        number_ext n (λ p. (bit m p && not (eqb p i)) || eqb p i) (bit m)
             (λ p b. whole p (bit m p) (eqb p i) refl refl),
       )
     where
@@ -52,8 +52,8 @@ module _ (n m i : ℕ) (h : m < 2 ^ n) (l : i < n) (e : bit m i ≡ true) where
       whole p true false f g = refl
       whole p false false f g = refl
 
-  pub less-bit : (p : ℕ) → p < n → bit (m - 2 ^ i) p ≡ (bit m p && not (eqb p i))
-  less-bit p b = let is : m - 2 ^ i ≡ number n (λ p. bit m p && not (eqb p i)) = omega (arith, less-sum) in
+  pub less_bit : (p : ℕ) → p < n → bit (m - 2 ^ i) p ≡ (bit m p && not (eqb p i))
+  less_bit p b = let is : m - 2 ^ i ≡ number n (λ p. bit m p && not (eqb p i)) = omega (arith, less_sum) in
       ap (λ (y : ℕ). bit y p) is ∙ bit-number n (λ p. bit m p && not (eqb p i)) p b
 
 -- `v << i` for a value v
@@ -71,23 +71,23 @@ module _ (n : ℕ) (F : ℕ → Bool) (f a : ℕ) (below : f < 2 ^ n) (within : 
   abbrev a' : ℕ
   a' = a + val v * 2 ^ i
 
-  values-lt : a < 2 ^ n
-  values-lt = omega (arith, within, spread-lt n (bit f) (gather n (bit f) a))
+  values_lt : a < 2 ^ n
+  values_lt = omega (arith, within, spread-lt n (bit f) (gather n (bit f) a))
 
   -- what is not fixed has no value
   no_value : (p : ℕ) → bit f p ≡ false → bit a p ≡ false
   no_value p e = false_of (bit a p) (λ t.
       clash (spread-part n f (gather n (bit f) a) p (ap (λ (y : ℕ). bit y p) (sym within) ∙ t)) e)
 
-  mask-bit : (p : ℕ) → p < n → bit f' p ≡ (bit f p || eqb p i)
-  mask-bit = plus-bit n f i below l unfixed
+  mask_bit : (p : ℕ) → p < n → bit f' p ≡ (bit f p || eqb p i)
+  mask_bit = plus_bit n f i below l unfixed
 
   value-bit : (p : ℕ) → p < n → bit a' p ≡ (bit a p || (eqb p i && v))
   value-bit p b = go v
     where
       go : (v : Bool) → bit (a + val v * 2 ^ i) p ≡ (bit a p || (eqb p i && v))
       go true = let e : a + 1 * 2 ^ i ≡ a + 2 ^ i = omega arith in
-          ap (λ (y : ℕ). bit y p) e ∙ plus-bit n a i values-lt l (no_value i unfixed) p b
+          ap (λ (y : ℕ). bit y p) e ∙ plus_bit n a i values_lt l (no_value i unfixed) p b
           ∙ ap (λ (t : Bool). bit a p || t) (sym (and-true (eqb p i)))
       go false = let e : a + 0 * 2 ^ i ≡ a = omega arith in
           ap (λ (y : ℕ). bit y p) e
@@ -97,13 +97,13 @@ module _ (n : ℕ) (F : ℕ → Bool) (f a : ℕ) (below : f < 2 ^ n) (within : 
   value-lt = go v
     where
       go : (v : Bool) → a + val v * 2 ^ i < 2 ^ n
-      go true = omega (arith, plus-lt n a i values-lt l (no_value i unfixed))
-      go false = omega (arith, values-lt)
+      go true = omega (arith, plus_lt n a i values_lt l (no_value i unfixed))
+      go false = omega (arith, values_lt)
 
-  pub fixing-more : (s : ℕ) → Fixing n (record { fixed = f'; at = a'; decided = s })
-  fixing-more s = record {
-    below = plus-lt n f i below l unfixed;
-    within = sym (inside-spread n (bit f') a' value-lt (λ p b e. mask-bit p b ∙ go p (bit f p) (eqb p i) refl refl
+  pub fixing_more : (s : ℕ) → Fixing n (record { fixed = f'; at = a'; decided = s })
+  fixing_more s = record {
+    below = plus_lt n f i below l unfixed;
+    within = sym (inside_spread n (bit f') a' value-lt (λ p b e. mask_bit p b ∙ go p (bit f p) (eqb p i) refl refl
         (sym (value-bit p b) ∙ e)));
   }
     where
@@ -113,15 +113,15 @@ module _ (n : ℕ) (F : ℕ → Bool) (f a : ℕ) (below : f < 2 ^ n) (within : 
       go p false false e g h = absurd (clash h (ap (λ (t : Bool). t || false) (no_value p e)))
 
   -- what is left is what was, with i at v
-  pub left-more : (s r : ℕ) → gateLeft n F (record { fixed = f'; at = a'; decided = s })
-      ≡ fixed_at n (gateLeft n F (record { fixed = f; at = a; decided = r })) i v
-  left-more s r = fun_ext (λ x. ap F (
-      same_bits n (withFixed n f' a' x) (withFixed n f a (set_to n i v x)) (fixed-lt n f' a' x)
-      (fixed-lt n f a (set_to n i v x)) (λ p b.
-      fixed-bit n f' a' x p b
-      ∙ ap₂ (λ (s t : Bool). cond s t (bit x p)) (mask-bit p b) (value-bit p b)
+  pub left_more : (s r : ℕ) → gate_left n F (record { fixed = f'; at = a'; decided = s })
+      ≡ fixed_at n (gate_left n F (record { fixed = f; at = a; decided = r })) i v
+  left_more s r = fun_ext (λ x. ap F (
+      same_bits n (with_fixed n f' a' x) (with_fixed n f a (set_to n i v x)) (fixed_lt n f' a' x)
+      (fixed_lt n f a (set_to n i v x)) (λ p b.
+      fixed_bit n f' a' x p b
+      ∙ ap₂ (λ (s t : Bool). cond s t (bit x p)) (mask_bit p b) (value-bit p b)
       ∙ go p (bit f p) (eqb p i) refl refl (bit x p)
-      ∙ sym (fixed-bit n f a (set_to n i v x) p b ∙ ap (cond (bit f p) (bit a p)) (set-bit n i v x p b)))))
+      ∙ sym (fixed_bit n f a (set_to n i v x) p b ∙ ap (cond (bit f p) (bit a p)) (set-bit n i v x p b)))))
     where
       go : (p : ℕ) (s t : Bool) → bit f p ≡ s → eqb p i ≡ t → (b : Bool)
           → cond (s || t) (bit a p || (t && v)) b ≡ cond s (bit a p) (cond t v b)

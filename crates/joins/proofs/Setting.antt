@@ -36,9 +36,9 @@ set_twice n i v w x =
     go false b = refl
 
 -- two inputs, in either order
-pub set-swap : (n i j : ℕ) (v w : Bool) (x : ℕ) → (i ≡ j → ⊥) → set_to n i v (set_to n j w x)
+pub set_swap : (n i j : ℕ) (v w : Bool) (x : ℕ) → (i ≡ j → ⊥) → set_to n i v (set_to n j w x)
     ≡ set_to n j w (set_to n i v x)
-set-swap n i j v w x ne =
+set_swap n i j v w x ne =
     same_bits n (set_to n i v (set_to n j w x)) (set_to n j w (set_to n i v x)) (set-lt n i v (set_to n j w x))
     (set-lt n j w (set_to n i v x)) (λ p l.
     set-bit n i v (set_to n j w x) p l ∙ ap (cond (eqb p i) v) (set-bit n j w x p l)

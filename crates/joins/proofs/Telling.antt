@@ -12,13 +12,13 @@ use Rattle.bits.specs.Numbers.{bit}
 use Rattle.bits.specs.Sets.{size, gather, spread}
 use Rattle.bits.proofs.Bools.{clash, or_left, or_right}
 use Rattle.bits.proofs.Spreading.{gather-spread, spread-zero}
-use Rattle.trees.proofs.Two.{own-size}
+use Rattle.trees.proofs.Two.{own_size}
 use Rattle.columns.specs.declared.split.Split.{Split}
-use Rattle.columns.specs.Reading.{Held, Within, alike, columnOf}
-use Rattle.columns.proofs.Reading.{within-spread, alike-column}
+use Rattle.columns.specs.Reading.{Held, Within, alike, column_of}
+use Rattle.columns.proofs.Reading.{within_spread, alike_column}
 use Rattle.joins.specs.StandsFor.{StandsFor}
-use Rattle.joins.specs.Left.{withFixed, valueBy, Valued}
-use Rattle.joins.proofs.Columns.{col, stands-when, stands-covers}
+use Rattle.joins.specs.Left.{with_fixed, value_by, Valued}
+use Rattle.joins.proofs.Columns.{col, stands_when, stands_covers}
 
 either : (x y z : ℕ) → (eqb x y || eqb x z) ≡ true → (x ≡ y) ⊎ (x ≡ z)
 either x y z e = go (eqb x y) refl e
@@ -34,7 +34,7 @@ neither x y z e = ⊎_elim (λ f. clash (or_left (eqb x y) (eqb x z) (eq-eqb x y
 -- a test that is one of numbers tells what these tell
 pub value_as : (same : ℕ → ℕ → Bool) (pt c : ℕ → ℕ)
     → ((k l : ℕ) → k < 4 → l < 4 → same (pt k) (pt l) ≡ eqb (c k) (c l))
-    → valueBy same (pt 0) (pt 1) (pt 2) (pt 3) ≡ valueBy eqb (c 0) (c 1) (c 2) (c 3)
+    → value_by same (pt 0) (pt 1) (pt 2) (pt 3) ≡ value_by eqb (c 0) (c 1) (c 2) (c 3)
 value_as same pt c is =
     ap₂ (λ (s t : Bool). cond s (cond t 1 2) (cond (or 3 0 1) (cond (or 2 0 1) 0 2) 2)) (is 0 1 l0 l1)
     (ap₂ ◌||◌ (is 0 2 l0 l2) (is 0 3 l0 l3))
@@ -62,17 +62,17 @@ module _ (same : ℕ → ℕ → Bool) (a b c d : ℕ) {r : Bool} (is : r ≡ sa
   abbrev told : Bool → Bool → Bool → Bool → ℕ
   told s t u w = cond s (cond t 1 2) (cond u (cond w 0 2) 2)
 
-  pub value-high : (t : Bool) {q : Bool} → r ≡ true → q ≡ (same a c || same a d) → q ≡ t → cond t 1 2
-      ≡ valueBy same a b c d
-  value-high t e f g = sym (ap₂ (λ (x y : Bool). told x y (same d a || same d b) (same c a || same c b)) (sym is ∙ e)
+  pub value_high : (t : Bool) {q : Bool} → r ≡ true → q ≡ (same a c || same a d) → q ≡ t → cond t 1 2
+      ≡ value_by same a b c d
+  value_high t e f g = sym (ap₂ (λ (x y : Bool). told x y (same d a || same d b) (same c a || same c b)) (sym is ∙ e)
       (sym f ∙ g))
 
-  pub value-fourth : {q : Bool} → r ≡ false → q ≡ (same d a || same d b) → q ≡ false → 2 ≡ valueBy same a b c d
-  value-fourth e f g = sym (ap₂ (λ (x y : Bool). told x (same a c || same a d) y (same c a || same c b)) (sym is ∙ e)
+  pub value_fourth : {q : Bool} → r ≡ false → q ≡ (same d a || same d b) → q ≡ false → 2 ≡ value_by same a b c d
+  value_fourth e f g = sym (ap₂ (λ (x y : Bool). told x (same a c || same a d) y (same c a || same c b)) (sym is ∙ e)
       (sym f ∙ g))
 
   pub value_low : (t : Bool) {q p : Bool} → r ≡ false → q ≡ (same d a || same d b) → q ≡ true
-      → p ≡ (same c a || same c b) → p ≡ t → cond t 0 2 ≡ valueBy same a b c d
+      → p ≡ (same c a || same c b) → p ≡ t → cond t 0 2 ≡ value_by same a b c d
   value_low t e f g h k =
       sym (ap₂ (λ (x y : Bool). told x (same a c || same a d) y (same c a || same c b)) (sym is ∙ e) (sym f ∙ g)
       ∙ ap (λ (x : Bool). cond x 0 2) (sym h ∙ k))
@@ -80,7 +80,7 @@ module _ (same : ℕ → ℕ → Bool) (a b c d : ℕ) {r : Bool} (is : r ≡ sa
 module _ (s : Split) (h : Held s) (F : ℕ → Bool) (at i j : ℕ) (li : i < s.n) (lt : j < i)
     (is : (p : ℕ) → p < s.n → bit s.own p ≡ (eqb p j || eqb p i)) where
   abbrev left : ℕ → Bool
-  left x = F (withFixed s.n s.shared at x)
+  left x = F (with_fixed s.n s.shared at x)
 
   abbrev a : ℕ
   a = col s h F at i j li lt is false false
@@ -102,15 +102,15 @@ module _ (s : Split) (h : Held s) (F : ℕ → Bool) (at i j : ℕ) (li : i < s.
 
   -- of four columns, two are all
   at_low : J false → ((c ≡ a) ⊎ (c ≡ b)) × ((d ≡ a) ⊎ (d ≡ b))
-  at_low w = let f = stands-covers s h F at i j li lt is false w in (f false, f true)
+  at_low w = let f = stands_covers s h F at i j li lt is false w in (f false, f true)
 
   at_high : J true → ((a ≡ c) ⊎ (a ≡ d)) × ((b ≡ c) ⊎ (b ≡ d))
-  at_high w = let f = stands-covers s h F at i j li lt is true w in (f false, f true)
+  at_high w = let f = stands_covers s h F at i j li lt is true w in (f false, f true)
 
   low : (c ≡ a) ⊎ (c ≡ b) → (d ≡ a) ⊎ (d ≡ b) → Told 0
   low p q = record {
     most = omega arith;
-    joins = λ _. stands-when s h F at i j li lt is false each;
+    joins = λ _. stands_when s h F at i j li lt is false each;
     none = λ e. absurd (omega arith);
   }
     where
@@ -121,7 +121,7 @@ module _ (s : Split) (h : Held s) (F : ℕ → Bool) (at i j : ℕ) (li : i < s.
   high : (a ≡ c) ⊎ (a ≡ d) → a ≡ b → Told 1
   high p e = record {
     most = omega arith;
-    joins = λ _. stands-when s h F at i j li lt is true each;
+    joins = λ _. stands_when s h F at i j li lt is true each;
     none = λ z. absurd (omega arith);
   }
     where
@@ -136,7 +136,7 @@ module _ (s : Split) (h : Held s) (F : ℕ → Bool) (at i j : ℕ) (li : i < s.
       go true = g
       go false = f
 
-  pub told-value : Told (valueBy eqb a b c d)
+  pub told-value : Told (value_by eqb a b c d)
   told-value = go (eqb a b) (eqb a c || eqb a d) (eqb d a || eqb d b) (eqb c a || eqb c b) refl refl refl refl
     where
       -- where a and b differ, c and d can be all only if they are a and b
@@ -166,31 +166,31 @@ module _ (s : Split) (h : Held s) (F : ℕ → Bool) (at i j : ℕ) (li : i < s.
     n = s.n
 
     four : 2 ^ size n (bit s.own) ≡ 4
-    four = ap (λ (m : ℕ). 2 ^ m) (own-size n i j s.own li (omega arith) is (λ e. omega arith))
+    four = ap (λ (m : ℕ). 2 ^ m) (own_size n i j s.own li (omega arith) is (λ e. omega arith))
 
     -- point k, and its column
     point : ℕ → ℕ
     point k = at + spread n (bit s.own) k
 
     points : (k l : ℕ) → k < 4 → l < 4 → alike n F s.free (point k) (point l)
-        ≡ eqb (columnOf s F (gather n (bit s.shared) at) k) (columnOf s F (gather n (bit s.shared) at) l)
+        ≡ eqb (column_of s F (gather n (bit s.shared) at) k) (column_of s F (gather n (bit s.shared) at) l)
     unfolding point
     points k l p q =
         let p' : k < 2 ^ size n (bit s.own) = omega (arith, four) in
         let q' : l < 2 ^ size n (bit s.own) = omega (arith, four) in
-        alike-column s h F at within (spread n (bit s.own) k) (spread n (bit s.own) l)
-        (within-spread n s.own k p') (within-spread n s.own l q')
-        ∙ ap₂ (λ (x y : ℕ). eqb (columnOf s F (gather n (bit s.shared) at) x)
-        (columnOf s F (gather n (bit s.shared) at) y))
+        alike_column s h F at within (spread n (bit s.own) k) (spread n (bit s.own) l)
+        (within_spread n s.own k p') (within_spread n s.own l q')
+        ∙ ap₂ (λ (x y : ℕ). eqb (column_of s F (gather n (bit s.shared) at) x)
+        (column_of s F (gather n (bit s.shared) at) y))
         (gather-spread n (bit s.own) k p') (gather-spread n (bit s.own) l q')
 
     pub valued : (v x y z : ℕ) → x ≡ spread n (bit s.own) 1 → y ≡ spread n (bit s.own) 2
-        → z ≡ spread n (bit s.own) 3 → v ≡ valueBy (alike n F s.free) at (at + x) (at + y) (at + z) → Told v
+        → z ≡ spread n (bit s.own) 3 → v ≡ value_by (alike n F s.free) at (at + x) (at + y) (at + z) → Told v
     unfolding point
     valued v x y z ex ey ez e = subst Told (sym (
-        e ∙ ap₂ (λ (p q : ℕ). valueBy (alike n F s.free) p (at + q) (at + y) (at + z)) zero-point ex
-        ∙ ap₂ (λ (p q : ℕ). valueBy (alike n F s.free) (point 0) (point 1) (at + p) (at + q)) ey ez
-        ∙ value_as (alike n F s.free) point (columnOf s F (gather n (bit s.shared) at)) points)) told-value
+        e ∙ ap₂ (λ (p q : ℕ). value_by (alike n F s.free) p (at + q) (at + y) (at + z)) zero_point ex
+        ∙ ap₂ (λ (p q : ℕ). value_by (alike n F s.free) (point 0) (point 1) (at + p) (at + q)) ey ez
+        ∙ value_as (alike n F s.free) point (column_of s F (gather n (bit s.shared) at)) points)) told-value
       where
-        zero-point : at ≡ point 0
-        zero-point = sym (ap (λ (m : ℕ). at + m) (spread-zero n (bit s.own)) ∙ add-zero at)
+        zero_point : at ≡ point 0
+        zero_point = sym (ap (λ (m : ℕ). at + m) (spread-zero n (bit s.own)) ∙ add-zero at)

@@ -9,12 +9,12 @@ use Rattle.joins.specs.declared.deciding.Partner.{Partner}
 use Rattle.joins.specs.StandsFor.{StandsFor}
 
 -- the assignment x with the fixed inputs as `at` has them
-unfoldable pub withFixed : ℕ → ℕ → ℕ → ℕ → ℕ
-withFixed n fixed at x = number n (λ p. cond (bit fixed p) (bit at p) (bit x p))
+unfoldable pub with_fixed : ℕ → ℕ → ℕ → ℕ → ℕ
+with_fixed n fixed at x = number n (λ p. cond (bit fixed p) (bit at p) (bit x p))
 
 -- what is left of the gate F
-abbrev pub gateLeft : ℕ → (ℕ → Bool) → Left → ℕ → Bool
-gateLeft n F g x = F (withFixed n g.fixed g.at x)
+abbrev pub gate_left : ℕ → (ℕ → Bool) → Left → ℕ → Bool
+gate_left n F g x = F (with_fixed n g.fixed g.at x)
 
 -- an input that is not fixed
 abbrev pub Unfixed : ℕ → Left → ℕ → Type 0
@@ -26,21 +26,21 @@ pub record Fixing (n : ℕ) (g : Left) : Type 0 where
   pub within : Within n g.fixed g.at
 
 -- the decided input i is fixed at v
-abbrev pub oneFixed : Left → ℕ → Bool → Left
-oneFixed g i v = record {
+abbrev pub one_fixed : Left → ℕ → Bool → Left
+one_fixed g i v = record {
   fixed = g.fixed + 2 ^ i;
   at = g.at + val v * 2 ^ i;
   decided = g.decided - 2 ^ i;
 }
 
 -- input j is decided too
-abbrev pub oneDecided : Left → ℕ → Left
-oneDecided g j = record { fixed = g.fixed; at = g.at; decided = g.decided + 2 ^ j }
+abbrev pub one_decided : Left → ℕ → Left
+one_decided g j = record { fixed = g.fixed; at = g.at; decided = g.decided + 2 ^ j }
 
 -- how four columns are told apart, by a test of two of them: those where input i is 0, j being 0 (a) and 1 (b), and
 -- those where it is 1 (c and d). 0 and 1: at that value of i there are all of them; 2: at neither
-abbrev pub valueBy : (ℕ → ℕ → Bool) → ℕ → ℕ → ℕ → ℕ → ℕ
-valueBy same a b c d =
+abbrev pub value_by : (ℕ → ℕ → Bool) → ℕ → ℕ → ℕ → ℕ → ℕ
+value_by same a b c d =
     cond (same a b) (cond (same a c || same a d) 1 2) (cond (same d a || same d b) (cond (same c a || same c b) 0 2) 2)
 
 -- a value at which i can be fixed so that j stands for both, or 2 where there is none
@@ -61,11 +61,11 @@ pub record Partnered (n : ℕ) (G : ℕ → Bool) (decided j : ℕ) (p : Partner
 pub record Reduced (n : ℕ) (F : ℕ → Bool) (g : Left) : Type 0 where
   pub fixing : Fixing n g
   pub below : g.decided < 2 ^ n
-  pub tree : IsTree n F ↔ IsTree n (gateLeft n F g)
-  pub counts : (j : ℕ) → Unfixed n g j → DependsOn n (gateLeft n F g) j
+  pub tree : IsTree n F ↔ IsTree n (gate_left n F g)
+  pub counts : (j : ℕ) → Unfixed n g j → DependsOn n (gate_left n F g) j
   pub unfixed : (j : ℕ) → bit g.decided j ≡ true → Unfixed n g j
   pub apart : (i j : ℕ) → bit g.decided i ≡ true → bit g.decided j ≡ true → j < i → (v : Bool)
-      → StandsFor n (gateLeft n F g) i j v → ⊥
+      → StandsFor n (gate_left n F g) i j v → ⊥
 
 -- the decided inputs are those from j on that are not fixed
 pub record DecidedFrom (n : ℕ) (g : Left) (j : ℕ) : Type 0 where

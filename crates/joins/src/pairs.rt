@@ -1,8 +1,8 @@
 // Two inputs of what is left of a gate, of which one may stand for both.
 ghost use Rattle.std.specs.Prelude.{◌≡◌, ◌||◌, ◌*◌, ◌^◌, ◌<◌, ◌≤◌, length};
-ghost use Rattle.tables.specs.Table.{mostInputs, tableBit};
+ghost use Rattle.tables.specs.Table.{most_inputs, table_bit};
 ghost use Rattle.columns.specs.Reading.{Held, Without, alike};
-ghost use Rattle.joins.specs.Left.{gateLeft, Unfixed, Fixing, valueBy, Valued};
+ghost use Rattle.joins.specs.Left.{gate_left, Unfixed, Fixing, value_by, Valued};
 
 use bits::sets::next;
 use columns::columns::same_column;
@@ -10,7 +10,7 @@ use columns::split::Split;
 
 // The inputs of a gate that are fixed, and the values at which they are; of the others, those of which none can stand
 // for another.
-#[derive(Drop)]
+#[derive(Clone, Copy)]
 pub struct Left {
     pub fixed: u16,
     pub at: u32,
@@ -21,8 +21,8 @@ pub struct Left {
 fn among(t: &[u8], s: Split, x: u32, y: u32, z: u32) -> bool
     requires { Held s × Without s.n s.free x × Without s.n s.free y × Without s.n s.free z
         × (2 ^ s.n ≤ 8 * length t.now) }
-    ensures { result ≡ (alike s.n (tableBit t.now) s.free x y
-        || alike s.n (tableBit t.now) s.free x z) }
+    ensures { result ≡ (alike s.n (table_bit t.now) s.free x y
+        || alike s.n (table_bit t.now) s.free x z) }
 {
     if same_column(t, s, x, y) {
         return true;
@@ -34,7 +34,7 @@ fn among(t: &[u8], s: Split, x: u32, y: u32, z: u32) -> bool
 fn value_by(t: &[u8], s: Split, a: u32, b: u32, c: u32, d: u32) -> u32
     requires { Held s × Without s.n s.free a × Without s.n s.free b × Without s.n s.free c
         × Without s.n s.free d × (2 ^ s.n ≤ 8 * length t.now) }
-    ensures { result ≡ valueBy (alike s.n (tableBit t.now) s.free) a b c d }
+    ensures { result ≡ value_by (alike s.n (table_bit t.now) s.free) a b c d }
 {
     if same_column(t, s, a, b) {
         if among(t, s, a, c, d) {
@@ -53,8 +53,8 @@ fn value_by(t: &[u8], s: Split, a: u32, b: u32, c: u32, d: u32) -> u32
 
 // The value at which input i can be fixed so that j, a lower one, stands for both; 2 where there is none.
 pub fn joint(t: &[u8], n: u32, g: Left, i: u32, j: u32) -> u32
-    requires { (n ≤ mostInputs) × Fixing n g × (j < i) × Unfixed n g i × Unfixed n g j × (2 ^ n ≤ 8 * length t.now) }
-    ensures { Valued n (gateLeft n (tableBit t.now) g) i j result }
+    requires { (n ≤ most_inputs) × Fixing n g × (j < i) × Unfixed n g i × Unfixed n g j × (2 ^ n ≤ 8 * length t.now) }
+    ensures { Valued n (gate_left n (table_bit t.now) g) i j result }
 {
     let own: u16 = (1 << j) + (1 << i);
     let s = Split::of(n, own, g.fixed);

@@ -47,8 +47,8 @@ pub record Adds (l : List ℕ) (acc j need more : ℕ) : Type 0 where
 pub record Dead (mask i j k : ℕ) : Type 0 where
   pub other : ℕ
   pub part : Inside (bit other) (bit mask)
-  pub noI : bit other i ≡ false
-  pub noJ : bit other j ≡ false
+  pub no_i : bit other i ≡ false
+  pub no_j : bit other j ≡ false
   pub many : k < 2 + size 16 (bit other)
 
 -- so at every place below `end` that stands for two inputs

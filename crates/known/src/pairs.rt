@@ -1,6 +1,6 @@
 // For each two inputs those that cannot be free where the two are own.
 ghost use Rattle.std.specs.Prelude.{Bool, ℕ, ◌<◌};
-ghost use Rattle.tables.specs.Table.{tableBit};
+ghost use Rattle.tables.specs.Table.{table_bit};
 ghost use Rattle.best.specs.Moves.{both};
 ghost use Rattle.known.specs.Notes.{Needs, BadPairs};
 ghost use Rattle.witness.specs.Points.{Wide, Off};
@@ -30,8 +30,8 @@ fn reach_for(most: u32) -> u32
 // The mask, and c besides where it cannot be free.
 fn with_bad(t: &[u8], n: u32, places: u64, i: u32, j: u32, c: u32, reach: u32, mask: u16) -> u16
     requires wide { Wide n t.now × (i < n) × (j < n) × (c < n) × Off i places × Off j places }
-    requires needs { Needs n (tableBit t.now) 2 (both i j) mask }
-    ensures { Needs n (tableBit t.now) 2 (both i j) result }
+    requires needs { Needs n (table_bit t.now) 2 (both i j) mask }
+    ensures { Needs n (table_bit t.now) 2 (both i j) result }
 {
     if c == i {
         return mask;
@@ -48,7 +48,7 @@ fn with_bad(t: &[u8], n: u32, places: u64, i: u32, j: u32, c: u32, reach: u32, m
 // The inputs that cannot be free where i and j are own; no more of them than one above `most`.
 fn bad_inputs(t: &[u8], n: u32, most: u32, i: u32, j: u32) -> u16
     requires { Wide n t.now × (i < n) × (j < n) }
-    ensures { Needs n (tableBit t.now) 2 (both i j) result }
+    ensures { Needs n (table_bit t.now) 2 (both i j) result }
 {
     let places = off(i) & off(j);
     let reach = reach_for(most);
@@ -67,7 +67,7 @@ fn bad_inputs(t: &[u8], n: u32, most: u32, i: u32, j: u32) -> u16
 // The same, for each two inputs once: the larger first.
 fn entry(t: &[u8], n: u32, most: u32, i: u32, j: u32) -> u16
     requires { Wide n t.now }
-    ensures { Needs n (tableBit t.now) 2 (both i j) result }
+    ensures { Needs n (table_bit t.now) 2 (both i j) result }
 {
     if i <= j {
         return 0;
@@ -80,8 +80,8 @@ fn entry(t: &[u8], n: u32, most: u32, i: u32, j: u32) -> u16
 
 // Fills the table of pairs.
 pub fn fill(t: &[u8], n: u32, most: u32, table: &mut [u16])
-    requires { Wide n t.now × BadPairs n (tableBit t.now) 2 table.old }
-    ensures { BadPairs n (tableBit t.now) 2 table.new }
+    requires { Wide n t.now × BadPairs n (table_bit t.now) 2 table.old }
+    ensures { BadPairs n (table_bit t.now) 2 table.new }
 {
     let mut at: usize = 0;
     while at < 256 {

@@ -1,6 +1,6 @@
 // Loading a sheet onto a desk.
 ghost use Rattle.std.specs.Prelude.{◌≡◌};
-ghost use Rattle.cards.specs.LoadDesk.{loadOutcome};
+ghost use Rattle.cards.specs.LoadDesk.{load_outcome};
 
 use crate::loading::load_part;
 use cards::sizes::STORES;
@@ -8,7 +8,7 @@ use refusals::verdicts::Verdict;
 
 // Loads a sheet of n inputs onto desk d of a card.
 pub fn load_desk(card: &mut [u8], d: u64, n: u64, s: &[u8]) -> Verdict
-    ensures { record { verdict = result; card = card.new } ≡ loadOutcome card.old d n s.now }
+    ensures { record { verdict = result; card = card.new } ≡ load_outcome card.old d n s.now }
 {
     load_part(card, d, n, s, 0, STORES)
 }

@@ -1,9 +1,9 @@
 // Loading a sheet onto a desk: the lines, and any part of the load's stores.
 ghost use Rattle.std.specs.Prelude.{◌≡◌, ◌-◌, ◌≤◌, take, drop};
 ghost use Rattle.refusals.specs.Lines.{verdict};
-ghost use Rattle.cards.specs.Stores.{storeCount, loadStores};
-ghost use Rattle.cards.specs.Refusals.{anotherDesk};
-ghost use Rattle.cards.specs.LoadDesk.{loadLines, partOutcome};
+ghost use Rattle.cards.specs.Stores.{store_count, load_stores};
+ghost use Rattle.cards.specs.Refusals.{another_desk};
+ghost use Rattle.cards.specs.LoadDesk.{load_lines, part_outcome};
 
 use cards::form::filed;
 use cards::sizes::{CARD, DESKS};
@@ -14,7 +14,7 @@ use sheets::kinds::{Edition, Sheet};
 
 // Whether a sheet of a record or more is for another desk.
 fn another_desk(d: u64, s: &[u8]) -> bool
-    ensures { result ≡ anotherDesk d s.now }
+    ensures { result ≡ another_desk d s.now }
 {
     if s.len() < Sheet::RECORD {
         return false;
@@ -24,7 +24,7 @@ fn another_desk(d: u64, s: &[u8]) -> bool
 
 // Lines 20, 19, 1, 9, 10 and 15.
 fn load_form<'a>(card: &'a [u8], d: u64, n: u64, s: &'a [u8]) -> Verdict
-    ensures { result ≡ verdict (loadLines card.now d n s.now) }
+    ensures { result ≡ verdict (load_lines card.now d n s.now) }
 {
     if card.len() != CARD {
         return refuse(Refusal::CARD);
@@ -40,9 +40,9 @@ fn load_form<'a>(card: &'a [u8], d: u64, n: u64, s: &'a [u8]) -> Verdict
 
 // Loads a sheet of n inputs onto desk d, but makes only the stores from `first` up to `end`.
 pub fn load_part(card: &mut [u8], d: u64, n: u64, s: &[u8], first: usize, end: usize) -> Verdict
-    requires { (first ≤ end) × (end ≤ storeCount) }
+    requires { (first ≤ end) × (end ≤ store_count) }
     ensures { record { verdict = result; card = card.new }
-        ≡ partOutcome (take (end - first) (drop first (loadStores d n s.now))) card.old d n
+        ≡ part_outcome (take (end - first) (drop first (load_stores d n s.now))) card.old d n
         s.now }
 {
     let form = load_form(card, d, n, s);

@@ -1,14 +1,14 @@
 -- The line of make that speaks of the chain.
 use Rattle.std.specs.Prelude.{Bool, true, false}
 use Rattle.chains.specs.Chain.{Made, stuck, made}
-use Rattle.refusals.specs.Numbers.{ofSplit}
+use Rattle.refusals.specs.Numbers.{of_split}
 use Rattle.refusals.specs.Lines.{Line, line}
 
 -- whether the chain is stuck
-abbrev pub isStuck : Made → Bool
-isStuck stuck = true
-isStuck (made cs) = false
+abbrev pub is_stuck_lem : Made → Bool
+is_stuck_lem stuck = true
+is_stuck_lem (made cs) = false
 
 -- 8: a table in the chain with more than K inputs has none
-abbrev pub chainStuck : Made → Line
-chainStuck c = line ofSplit (isStuck c)
+abbrev pub chain_stuck : Made → Line
+chain_stuck c = line of_split (is_stuck_lem c)

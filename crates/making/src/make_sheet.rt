@@ -1,10 +1,10 @@
 // Making a sheet of best splits.
 ghost use Rattle.std.specs.Prelude.{◌≡◌, List, ℕ, ◌*◌, ◌≤◌, length, replicate};
-ghost use Rattle.sheets.specs.Edition.{IsEdition, mostRecords, firstEdition};
+ghost use Rattle.sheets.specs.Edition.{IsEdition, most_records, first_edition};
 ghost use Rattle.chains.specs.Chain.{Made};
 ghost use Rattle.steps.specs.Chaining.{Tells};
 ghost use Rattle.refusals.specs.Lines.{verdict};
-ghost use Rattle.making.specs.MakeSheet.{makeForm, Writable, chainWritten, makeOutcome};
+ghost use Rattle.making.specs.MakeSheet.{make_form, Writable, chain_written, make_outcome};
 
 use refusals::form;
 use refusals::verdicts::{Refusal, Verdict, refuse};
@@ -14,7 +14,7 @@ use steps::chaining::{ChainEnd, chain_upto};
 use tables::WORK;
 
 // How many cells, if nothing is wrong.
-#[derive(Drop)]
+#[derive(Clone, Copy)]
 pub struct MakeAnswer {
     pub verdict: Verdict,
     pub count: usize,
@@ -31,7 +31,7 @@ fn make_form<'a>(
     work: &'a [u8],
 ) -> Verdict
     requires { IsEdition e }
-    ensures { result ≡ verdict (makeForm e d n k t.now sheet.now work.now) }
+    ensures { result ≡ verdict (make_form e d n k t.now sheet.now work.now) }
 {
     let gate = form::gate(e, n, k, t);
     let Verdict::Fine = gate else {
@@ -51,10 +51,10 @@ fn make_form<'a>(
 
 // What comes of a chain's end: its records into lent bytes that are enough, or that it is stuck, or longer than a sheet.
 pub fn write_end(e: Edition, d: u8, end: ChainEnd, sheet: &mut [u8]) -> MakeAnswer
-    requires { IsEdition e × (e.size * mostRecords ≤ length sheet.old) × Writable e end }
+    requires { IsEdition e × (e.size * most_records ≤ length sheet.old) × Writable e end }
     ensures { (x : Made) (work : List ℕ) → Tells end x
         → record { answer = result; sheet = sheet.new; work = replicate (length work) 0 }
-        ≡ chainWritten e d x sheet.old work }
+        ≡ chain_written e d x sheet.old work }
 {
     if !end.finished {
         return MakeAnswer {
@@ -88,7 +88,7 @@ pub fn make_in(
     work: &mut [u8],
 ) -> MakeAnswer
     requires { IsEdition e }
-    ensures { record { answer = result; sheet = sheet.new; work = work.new } ≡ makeOutcome e d n k
+    ensures { record { answer = result; sheet = sheet.new; work = work.new } ≡ make_outcome e d n k
         t.now sheet.old work.old }
 {
     let form = make_form(e, d, n, k, t, sheet, work);
@@ -112,7 +112,7 @@ pub fn make_for_desk(
     work: &mut [u8],
 ) -> MakeAnswer
     ensures { record { answer = result; sheet = sheet.new; work = work.new }
-        ≡ makeOutcome firstEdition desk n k t.now sheet.old work.old }
+        ≡ make_outcome first_edition desk n k t.now sheet.old work.old }
 {
     make_in(Edition::first(), desk, n, k, t, sheet, work)
 }
@@ -120,7 +120,7 @@ pub fn make_for_desk(
 // Makes the sheet of a table for bench use: how many cells.
 pub fn make_sheet(n: u64, k: u64, t: &[u8], sheet: &mut [u8], work: &mut [u8]) -> MakeAnswer
     ensures { record { answer = result; sheet = sheet.new; work = work.new }
-        ≡ makeOutcome firstEdition 0 n k t.now sheet.old work.old }
+        ≡ make_outcome first_edition 0 n k t.now sheet.old work.old }
 {
     make_for_desk(n, k, 0, t, sheet, work)
 }

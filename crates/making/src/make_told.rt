@@ -1,6 +1,6 @@
 // Making a sheet of best splits in a told edition.
 ghost use Rattle.std.specs.Prelude.{◌≡◌};
-ghost use Rattle.making.specs.MakeTold.{makeTold};
+ghost use Rattle.making.specs.MakeTold.{make_told};
 
 use crate::make_sheet::{MakeAnswer, make_in};
 use refusals::form;
@@ -19,7 +19,7 @@ pub fn make_told(
     work: &mut [u8],
 ) -> MakeAnswer
     ensures { record { answer = result; sheet = sheet.new; work = work.new }
-        ≡ makeTold w desk n k t.now sheet.old work.old }
+        ≡ make_told w desk n k t.now sheet.old work.old }
 {
     let told = form::told(w, n);
     let Verdict::Fine = told else {

@@ -12,16 +12,16 @@ use lib.Dec.{ltb, eqb}
 use borrow.Author.Tests.{ltb-true, ltb-false}
 use Rattle.bits.specs.Below.{least}
 use Rattle.bits.proofs.Bools.{and_left, and_right}
-use Rattle.bits.proofs.Least.{is-least}
+use Rattle.bits.proofs.Least.{is_least}
 use Rattle.sheets.specs.Network.{Cell, Carries}
 use Rattle.networks.specs.Swapping.{Swappable, swappable}
 use Rattle.networks.specs.Sorted.{Used, First, Sorted}
 use Rattle.networks.proofs.Sums.{sum, sum-two}
-use Rattle.networks.proofs.Padding.{carries-more}
-use Rattle.networks.proofs.Using.{all-used}
-use Rattle.networks.proofs.Exchanging.{swappable-is, exchanged-left, exchanged-right, exchanged-other, moves}
-use Rattle.networks.proofs.Exchanging.{exchanged, changed, changed-length, changed-gives, changed-read}
-use Rattle.networks.proofs.Columns.{column, column-first, column-turned}
+use Rattle.networks.proofs.Padding.{carries_more}
+use Rattle.networks.proofs.Using.{all_used}
+use Rattle.networks.proofs.Exchanging.{swappable_is, exchanged_left, exchanged_right, exchanged_other, moves}
+use Rattle.networks.proofs.Exchanging.{exchanged, changed, changed_length, changed_gives, changed_read}
+use Rattle.networks.proofs.Columns.{column, column_first, column_turned}
 
 -- ---- the sum falls
 
@@ -45,21 +45,21 @@ module _ (n p q : ℕ) (a : p < q) (b : q < n) (f : Bool) (cs : List Cell) where
   abbrev new : List Cell
   new = changed n p q (let h : p < n = omega arith in h) b f cs
 
-  column-at : (s t : ℕ) → exchanged p q t ≡ s → column s new ≡ column t cs
-  column-at s t e =
+  column_at_lem : (s t : ℕ) → exchanged p q t ≡ s → column s new ≡ column t cs
+  column_at_lem s t e =
       ap (λ (s : ℕ). column s new) (sym e)
-      ∙ column-turned n (exchanged p q) (λ s. (eqb s p || eqb s q) && f) (moves n p q (omega arith) b f) t cs
+      ∙ column_turned n (exchanged p q) (λ s. (eqb s p || eqb s q) && f) (moves n p q (omega arith) b f) t cs
 
   lighter : column p cs < column q cs → weight n new < weight n cs
   unfolding weight
   lighter h =
-      let x = ap (λ (k : ℕ). p * k) (column-at p q (exchanged-right p q)) in
-      let y = ap (λ (k : ℕ). q * k) (column-at q p (exchanged-left p q)) in
+      let x = ap (λ (k : ℕ). p * k) (column_at_lem p q (exchanged_right p q)) in
+      let y = ap (λ (k : ℕ). q * k) (column_at_lem q p (exchanged_left p q)) in
       omega (
         arith,
         crossed p q (column p cs) (column q cs) a h,
         sum-two (λ s. s * column s new) (λ s. s * column s cs) p q n a b
-            (λ s l c d. ap (λ (k : ℕ). s * k) (column-at s s (exchanged-other p q s c d))),
+            (λ s l c d. ap (λ (k : ℕ). s * k) (column_at_lem s s (exchanged_other p q s c d))),
         x,
         y,
       )
@@ -75,9 +75,9 @@ module _ (n K m : ℕ) (F : ℕ → Bool) where
   swap U p q a b s h = record {
     next = let l : p < n = omega arith in record {
       cells = changed n p q l b s.flip U.cells;
-      count = changed-length n p q l b s.flip U.cells ∙ U.count;
-      network = changed-gives n p q l b s.flip K F U.cells s.same U.network;
-      read = λ i g. changed-read n p q l b s.flip U.cells i (U.read i g);
+      count = changed_length n p q l b s.flip U.cells ∙ U.count;
+      network = changed_gives n p q l b s.flip K F U.cells s.same U.network;
+      read = λ i g. changed_read n p q l b s.flip U.cells i (U.read i g);
     };
     falls = lighter n p q a b s.flip U.cells h;
   }
@@ -93,7 +93,7 @@ module _ (n K m : ℕ) (F : ℕ → Bool) where
   turn : (U : Used n K m F) → Sorted n K m F ⊎ Lighter U
   unfolding wrong wrongs
   turn U = elim (dec_lt (least n (wrongs U.cells)) n) [
-    | yes h ↦ inr (some (least n (wrongs U.cells)) h ((is-least n (wrongs U.cells)).here h))
+    | yes h ↦ inr (some (least n (wrongs U.cells)) h ((is_least n (wrongs U.cells)).here h))
     | no h ↦ inl (record { used = U; sorted = none h })
   ]
     where
@@ -104,25 +104,25 @@ module _ (n K m : ℕ) (F : ℕ → Bool) where
       some q b e =
           let p = least q (wrong cs q) in
           let a = ltb-true p q e in
-          let w = (is-least q (wrong cs q)).here a in
-          swap U p q a b ((swappable-is n F p q).0 (and_left (swappable n F p q) (ltb (column p cs) (column q cs)) w))
+          let w = (is_least q (wrong cs q)).here a in
+          swap U p q a b ((swappable_is n F p q).0 (and_left (swappable n F p q) (ltb (column p cs) (column q cs)) w))
           (ltb-true (column p cs) (column q cs) (and_right (swappable n F p q) (ltb (column p cs) (column q cs)) w))
 
       none : (least n (wrongs U.cells) < n → ⊥) → (p q : ℕ) → p < q → q < n → Swappable n F p q
           → First U.cells p q
       none all p q a b s =
-          let x = ltb-false (least q (wrong cs q)) q ((is-least n (wrongs cs)).before q (omega arith)) in
-          let y = (is-least q (wrong cs q)).before p (omega arith) in
-          column-first p q cs (ltb-false (column p cs) (column q cs)
-          (sym (ap (λ (t : Bool). t && ltb (column p cs) (column q cs)) ((swappable-is n F p q).1 s)) ∙ y))
+          let x = ltb-false (least q (wrong cs q)) q ((is_least n (wrongs cs)).before q (omega arith)) in
+          let y = (is_least q (wrong cs q)).before p (omega arith) in
+          column_first p q cs (ltb-false (column p cs) (column q cs)
+          (sym (ap (λ (t : Bool). t && ltb (column p cs) (column q cs)) ((swappable_is n F p q).1 s)) ∙ y))
 
   sorting : (w : ℕ) (U : Used n K m F) → weight n U.cells ≤ w → Sorted n K m F
   sorting zero U h = ⊎_elim (λ s. s) (λ l. absurd (omega (arith, l.falls))) (turn U)
   sorting (suc w) U h = ⊎_elim (λ s. s) (λ l. sorting w l.next (omega (arith, l.falls))) (turn U)
 
 -- a network of m cells or fewer makes one of m cells that is in order
-pub all-sorted : (n K k m : ℕ) (F : ℕ → Bool) → 1 ≤ K → Carries n K k F → k ≤ m → Sorted n K m F
-all-sorted n K k m F one C h =
+pub all_sorted : (n K k m : ℕ) (F : ℕ → Bool) → 1 ≤ K → Carries n K k F → k ≤ m → Sorted n K m F
+all_sorted n K k m F one C h =
     let e : m - k + k ≡ m = omega arith in
-    let U = all-used n K F m one (subst (λ (m : ℕ). Carries n K m F) e (carries-more n K F (m - k) k one C)) in
+    let U = all_used n K F m one (subst (λ (m : ℕ). Carries n K m F) e (carries_more n K F (m - k) k one C)) in
     sorting n K m F (weight n U.cells) U (omega arith)

@@ -12,9 +12,9 @@ use borrow.Author.Tests.{eq-eqb, ne_eqb, eqb-true, eqb-false}
 use Rattle.bits.specs.Numbers.{bit, number, flipped}
 use Rattle.bits.specs.Lists.{member}
 use Rattle.bits.proofs.Lists.{default}
-use Rattle.bits.proofs.Numbers.{bit-number, number-ext, number_lt}
+use Rattle.bits.proofs.Numbers.{bit-number, number_ext, number_lt}
 use Rattle.sheets.specs.Network.{Cell, output, run, Wired}
-use Rattle.networks.specs.Signals.{doesRead}
+use Rattle.networks.specs.Signals.{does_read}
 
 -- other numbers for signals, and which of them are flipped: of n inputs, and nothing else
 pub record Moves (n : ℕ) (σ : ℕ → ℕ) (φ : ℕ → Bool) : Type 0 where
@@ -39,10 +39,10 @@ module _ (σ : ℕ → ℕ) (φ : ℕ → Bool) where
   turned-output : (c : Cell) (v u : ℕ → Bool) → Seen σ φ v u → output (turned σ φ c) u ≡ output c v
   unfolding output turned
   turned-output c v u seen =
-      ap (bit (turned σ φ c).table) packed-is
+      ap (bit (turned σ φ c).table) packed_is
       ∙ bit-number (2 ^ k) (λ y. bit c.table (number k (λ j. flipped (φ (get_or l j 0)) (bit y j)))) at
       (number_lt k (λ j. u (σ (get_or l j 0))))
-      ∙ ap (bit c.table) (number-ext k (λ j. flipped (φ (get_or l j 0)) (bit at j)) (λ j. v (get_or l j 0))
+      ∙ ap (bit c.table) (number_ext k (λ j. flipped (φ (get_or l j 0)) (bit at j)) (λ j. v (get_or l j 0))
       (λ j h. ap (flipped (φ (get_or l j 0))) (bit-number k (λ j. u (σ (get_or l j 0))) j h) ∙ sym (seen (get_or l j 0))))
     where
       l : List ℕ
@@ -54,15 +54,15 @@ module _ (σ : ℕ → ℕ) (φ : ℕ → Bool) where
       at : ℕ
       at = number (length c.signals) (λ j. u (σ (get_or c.signals j 0)))
 
-      packed-is : number (length (map σ c.signals)) (λ j. u (get_or (map σ c.signals) j 0)) ≡ at
-      packed-is =
-          number-ext (length (map σ l)) (λ j. u (get_or (map σ l) j 0)) (λ j. u (σ (get_or l j 0)))
+      packed_is : number (length (map σ c.signals)) (λ j. u (get_or (map σ c.signals) j 0)) ≡ at
+      packed_is =
+          number_ext (length (map σ l)) (λ j. u (get_or (map σ l) j 0)) (λ j. u (σ (get_or l j 0)))
           (λ j h. ap u (default (map σ l) j 0 (σ 0) h ∙ get_or-map σ l j 0))
           ∙ ap (λ (k : ℕ). number k (λ j. u (σ (get_or l j 0)))) (length-map l σ)
 
 module _ (n : ℕ) (σ : ℕ → ℕ) (φ : ℕ → Bool) (M : Moves n σ φ) where
-  one-to-one : (s t : ℕ) → eqb (σ s) (σ t) ≡ eqb s t
-  one-to-one s t = go (eqb s t) refl
+  one_to_one : (s t : ℕ) → eqb (σ s) (σ t) ≡ eqb s t
+  one_to_one s t = go (eqb s t) refl
     where
       go : (b : Bool) → eqb s t ≡ b → eqb (σ s) (σ t) ≡ b
       go true e = eq-eqb (σ s) (σ t) (ap σ (eqb-true s t e))
@@ -77,7 +77,7 @@ module _ (n : ℕ) (σ : ℕ → ℕ) (φ : ℕ → Bool) (M : Moves n σ φ) wh
   seen_more : (v u : ℕ → Bool) (i : ℕ) (o : Bool) → n ≤ i → Seen σ φ v u
       → Seen σ φ (λ s. cond (eqb s i) o (v s)) (λ s. cond (eqb s i) o (u s))
   seen_more v u i o h seen s =
-      go (eqb s i) refl (sym (ap (λ (t : ℕ). eqb (σ s) t) (M.stays i h)) ∙ one-to-one s i)
+      go (eqb s i) refl (sym (ap (λ (t : ℕ). eqb (σ s) t) (M.stays i h)) ∙ one_to_one s i)
     where
       go : (b : Bool) → eqb s i ≡ b → eqb (σ s) i ≡ eqb s i
           → cond b o (v s) ≡ flipped (φ s) (cond (eqb (σ s) i) o (u (σ s)))
@@ -96,24 +96,24 @@ module _ (n : ℕ) (σ : ℕ → ℕ) (φ : ℕ → Bool) (M : Moves n σ φ) wh
       ∙ turned-run cs (output c v) (suc i) (λ s. cond (eqb s i) (output c v) (v s))
       (λ s. cond (eqb s i) (output c v) (u s)) (omega arith) (seen_more v u i (output c v) h seen)
 
-  pub turned-wired : (K i : ℕ) (cs : List Cell) → n ≤ i → Wired K i cs → Wired K i (map (turned σ φ) cs)
+  pub turned_wired : (K i : ℕ) (cs : List Cell) → n ≤ i → Wired K i cs → Wired K i (map (turned σ φ) cs)
   unfolding turned
-  turned-wired K i [] h w = tt
-  turned-wired K i (c ∷ cs) h w = (
+  turned_wired K i [] h w = tt
+  turned_wired K i (c ∷ cs) h w = (
     subst (λ (k : ℕ). k ≤ K) (sym (length-map c.signals σ)) w.0,
     λ j l.
         subst (λ (s : ℕ). s < i)
         (sym (default (map σ c.signals) j 0 (σ 0) l ∙ get_or-map σ c.signals j 0))
         (inside (get_or c.signals j 0) i h (w.1 j (subst (λ (k : ℕ). j < k) (length-map c.signals σ) l))),
-    turned-wired K (suc i) cs (omega arith) w.2,
+    turned_wired K (suc i) cs (omega arith) w.2,
   )
 
   -- a cell reads a signal under its other number where it read the signal
   pub turned-member : (s : ℕ) (l : List ℕ) → member (σ s) (map σ l) ≡ member s l
   turned-member s [] = refl
-  turned-member s (x ∷ l) = ap₂ ◌||◌ (one-to-one s x) (turned-member s l)
+  turned-member s (x ∷ l) = ap₂ ◌||◌ (one_to_one s x) (turned-member s l)
 
-  pub turned-reads : (cs : List Cell) (j s : ℕ) → doesRead (map (turned σ φ) cs) j (σ s) ≡ doesRead cs j s
+  pub turned-reads : (cs : List Cell) (j s : ℕ) → does_read (map (turned σ φ) cs) j (σ s) ≡ does_read cs j s
   unfolding turned
   turned-reads [] j s = refl
   turned-reads (c ∷ cs) zero s = turned-member s c.signals

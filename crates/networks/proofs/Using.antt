@@ -15,13 +15,13 @@ use Rattle.bits.specs.Numbers.{val}
 use Rattle.bits.specs.Lists.{member}
 use Rattle.bits.specs.Below.{least}
 use Rattle.bits.proofs.Bools.{or_left}
-use Rattle.bits.proofs.Least.{is-least}
+use Rattle.bits.proofs.Least.{is_least}
 use Rattle.sheets.specs.Network.{Cell, Carries}
-use Rattle.sheets.specs.Reading.{times, reads, unreadCell, without}
-use Rattle.sheets.proofs.Without.{without-length, without-gives}
-use Rattle.networks.specs.Signals.{doesRead, ReadLater}
+use Rattle.sheets.specs.Reading.{times, reads, unread_cell, without}
+use Rattle.sheets.proofs.Without.{without-length, without_gives}
+use Rattle.networks.specs.Signals.{does_read, ReadLater}
 use Rattle.networks.specs.Sorted.{Used}
-use Rattle.networks.proofs.Padding.{passing, padded, padded-length, padded-gives}
+use Rattle.networks.proofs.Padding.{passing, padded, padded_length, padded_gives}
 
 -- ---- a signal that is read, as the place of a cell that reads it
 
@@ -36,20 +36,20 @@ times-member x (y ∷ l) h = go (eqb x y) h (times-member x l)
 record Reader (x : ℕ) (cs : List Cell) : Type 0 where
   place : ℕ
   within : place < length cs
-  reads-it : doesRead cs place x ≡ true
+  reads_it : does_read cs place x ≡ true
 
 reader : (x : ℕ) (cs : List Cell) → 1 ≤ reads x cs → Reader x cs
 reader x [] h = absurd (not-suc-le-zero h)
 reader x (c ∷ cs) h = elim (dec_lt 0 (times x c.signals)) [
-  | yes g ↦ record { place = 0; within = omega arith; reads-it = times-member x c.signals g }
+  | yes g ↦ record { place = 0; within = omega arith; reads_it = times-member x c.signals g }
   | no g ↦ later (reader x cs (omega arith))
 ]
   where
     later : Reader x cs → Reader x (c ∷ cs)
-    later r = record { place = suc r.place; within = omega (arith, r.within); reads-it = r.reads-it }
+    later r = record { place = suc r.place; within = omega (arith, r.within); reads_it = r.reads_it }
 
-read-later : (n : ℕ) (cs : List Cell) (i : ℕ) → unreadCell n cs i ≡ false → ReadLater n cs i
-read-later n cs i q = from (reader (n + i) (drop (suc i) cs) (some (reads (n + i) (drop (suc i) cs)) q))
+read_later : (n : ℕ) (cs : List Cell) (i : ℕ) → unread_cell n cs i ≡ false → ReadLater n cs i
+read_later n cs i q = from (reader (n + i) (drop (suc i) cs) (some (reads (n + i) (drop (suc i) cs)) q))
   where
     some : (a : ℕ) → eqb a 0 ≡ false → 1 ≤ a
     some a q = let z = eqb-false a 0 q in omega arith
@@ -61,17 +61,17 @@ read-later n cs i q = from (reader (n + i) (drop (suc i) cs) (some (reads (n + i
       within = omega (arith, r.within, length-drop (suc i) cs);
       reads =
           ap (λ (c : Cell). member (n + i) c.signals)
-          (sym (get_or-drop (suc i) cs r.place (record { signals = []; table = 0 }))) ∙ r.reads-it;
+          (sym (get_or-drop (suc i) cs r.place (record { signals = []; table = 0 }))) ∙ r.reads_it;
     }
 
 -- ---- the padded network's cells are read
 
-padded-read : (n K m : ℕ) (F : ℕ → Bool) → 1 ≤ K → Used n K m F → Used n K (suc m) F
+padded_read : (n K m : ℕ) (F : ℕ → Bool) → 1 ≤ K → Used n K m F → Used n K (suc m) F
 unfolding padded passing
-padded-read n K m F one U = record {
+padded_read n K m F one U = record {
   cells = padded n cs;
-  count = padded-length n cs ∙ ap suc U.count;
-  network = padded-gives n K F cs one U.network;
+  count = padded_length n cs ∙ ap suc U.count;
+  network = padded_gives n K F cs one U.network;
   read = λ i h. elim (dec_lt (i + 1) m) [ yes g ↦ old i (U.read i g) | no g ↦ new i (omega arith) ];
 }
   where
@@ -85,7 +85,7 @@ padded-read n K m F one U = record {
     old i r = record {
       reader = r.reader;
       later = r.later;
-      within = omega (arith, r.within, padded-length n cs);
+      within = omega (arith, r.within, padded_length n cs);
       reads =
           ap (λ (c : Cell). member (n + i) c.signals)
           (get_or-append cs (last ∷ []) (record { signals = []; table = 0 }) r.reader r.within) ∙ r.reads;
@@ -95,9 +95,9 @@ padded-read n K m F one U = record {
     new i e = record {
       reader = m;
       later = omega arith;
-      within = omega (arith, U.count, padded-length n cs);
+      within = omega (arith, U.count, padded_length n cs);
       reads =
-          ap (λ (k : ℕ). doesRead (padded n cs) k (n + i)) (sym U.count)
+          ap (λ (k : ℕ). does_read (padded n cs) k (n + i)) (sym U.count)
           ∙ ap (λ (c : Cell). member (n + i) c.signals)
           (get_or-append_seam cs last [] (record { signals = []; table = 0 }))
           ∙ or_left (eqb (n + i) (n + length cs - 1)) false
@@ -105,15 +105,15 @@ padded-read n K m F one U = record {
     }
 
 -- ---- so every network of m cells makes one of which all cells are read
-pub all-used : (n K : ℕ) (F : ℕ → Bool) (m : ℕ) → 1 ≤ K → Carries n K m F → Used n K m F
-all-used n K F zero one C = absurd (omega (arith, C.count, C.network.some))
-all-used n K F (suc m) one C = elim (dec_lt i m) [
-  | yes h ↦ padded-read n K m F one (all-used n K F m one (fewer h))
+pub all_used : (n K : ℕ) (F : ℕ → Bool) (m : ℕ) → 1 ≤ K → Carries n K m F → Used n K m F
+all_used n K F zero one C = absurd (omega (arith, C.count, C.network.some))
+all_used n K F (suc m) one C = elim (dec_lt i m) [
+  | yes h ↦ padded_read n K m F one (all_used n K F m one (fewer h))
   | no h ↦ record {
     cells = cs;
     count = C.count;
     network = C.network;
-    read = λ j l. read-later n cs j ((is-least m (unreadCell n cs)).before j (omega arith));
+    read = λ j l. read_later n cs j ((is_least m (unread_cell n cs)).before j (omega arith));
   }
 ]
   where
@@ -121,11 +121,11 @@ all-used n K F (suc m) one C = elim (dec_lt i m) [
     cs = C.cells
 
     i : ℕ
-    i = least m (unreadCell n cs)
+    i = least m (unread_cell n cs)
 
     fewer : i < m → Carries n K m F
     fewer h = record {
       cells = without n i cs;
       count = omega (arith, without-length n i cs (omega (arith, C.count)), C.count);
-      network = without-gives n K i F cs C.network (omega (arith, C.count)) ((is-least m (unreadCell n cs)).here h);
+      network = without_gives n K i F cs C.network (omega (arith, C.count)) ((is_least m (unread_cell n cs)).here h);
     }

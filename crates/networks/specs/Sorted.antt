@@ -2,7 +2,7 @@
 -- read first.
 use Rattle.std.specs.Prelude.{◌≡◌, Bool, true, List, ℕ, ◌+◌, ◌<◌, length}
 use Rattle.sheets.specs.Network.{Cell, Gives}
-use Rattle.networks.specs.Signals.{doesRead, ReadLater}
+use Rattle.networks.specs.Signals.{does_read, ReadLater}
 use Rattle.networks.specs.Swapping.{Swappable}
 
 -- m cells that carry F, each of which but the last is read by a later one
@@ -14,8 +14,8 @@ pub record Used (n K m : ℕ) (F : ℕ → Bool) : Type 0 where
 
 -- the first cell that reads just one of the inputs p and q reads p
 abbrev pub First : List Cell → ℕ → ℕ → Type 0
-First cs p q = (i : ℕ) → i < length cs → ((j : ℕ) → j < i → doesRead cs j p ≡ doesRead cs j q)
-    → doesRead cs i q ≡ true → doesRead cs i p ≡ true
+First cs p q = (i : ℕ) → i < length cs → ((j : ℕ) → j < i → does_read cs j p ≡ does_read cs j q)
+    → does_read cs i q ≡ true → does_read cs i p ≡ true
 
 -- such cells in which this holds of every two inputs that can change places
 pub record Sorted (n K m : ℕ) (F : ℕ → Bool) : Type 0 where

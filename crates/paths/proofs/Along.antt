@@ -13,8 +13,8 @@ use lib.Dec.{eqb}
 use lib.ListN.{length, get_or}
 use borrow.Author.Tests.{eq-eqb, ne_eqb}
 use Rattle.sheets.specs.Network.{Cell}
-use Rattle.times.specs.Signals.{keptTime, cellTime, outputTime}
-use Rattle.times.proofs.Passing.{kept-ext}
+use Rattle.times.specs.Signals.{kept_time, cell_time, output_time}
+use Rattle.times.proofs.Passing.{kept_ext}
 use Rattle.paths.specs.Paths.{read_by, Leads, begins, goes, along, BestPath}
 
 -- every cell reads some signals, each given before it
@@ -24,63 +24,63 @@ Fed n cs = (i : ℕ) → i < length cs → (1 ≤ length (read_by cs i))
 
 module _ {A : Type 0} (pick : A → A → A) (after : A → A) where
   -- the times of all signals once the cells are passed
-  allTimes : ℕ → List Cell → (ℕ → A) → ℕ → A
-  allTimes i [] v = v
-  allTimes i (c ∷ cs) v = allTimes (suc i) cs (λ t. cond (eqb t i) (cellTime pick after c v) (v t))
+  all_times : ℕ → List Cell → (ℕ → A) → ℕ → A
+  all_times i [] v = v
+  all_times i (c ∷ cs) v = all_times (suc i) cs (λ t. cond (eqb t i) (cell_time pick after c v) (v t))
 
-  earlier : (i : ℕ) (cs : List Cell) (v : ℕ → A) (t : ℕ) → t < i → allTimes i cs v t ≡ v t
-  unfolding allTimes
+  earlier : (i : ℕ) (cs : List Cell) (v : ℕ → A) (t : ℕ) → t < i → all_times i cs v t ≡ v t
+  unfolding all_times
   earlier i [] v t h = refl
   earlier i (c ∷ cs) v t h =
-      earlier (suc i) cs (λ t. cond (eqb t i) (cellTime pick after c v) (v t)) t (omega arith)
-      ∙ ap (λ (b : Bool). cond b (cellTime pick after c v) (v t)) (ne_eqb t i (λ q. omega arith))
+      earlier (suc i) cs (λ t. cond (eqb t i) (cell_time pick after c v) (v t)) t (omega arith)
+      ∙ ap (λ (b : Bool). cond b (cell_time pick after c v) (v t)) (ne_eqb t i (λ q. omega arith))
 
-  last : (t i : ℕ) (cs : List Cell) (o : A) (v : ℕ → A) → i ≡ suc t → o ≡ v t → outputTime pick after o i cs v
-      ≡ allTimes i cs v (t + length cs)
-  unfolding allTimes outputTime
+  last : (t i : ℕ) (cs : List Cell) (o : A) (v : ℕ → A) → i ≡ suc t → o ≡ v t → output_time pick after o i cs v
+      ≡ all_times i cs v (t + length cs)
+  unfolding all_times output_time
   last t i [] o v q h = let z : t ≡ t + 0 = omega arith in h ∙ ap v z
   last t i (c ∷ cs) o v q h =
       let z : i + length cs ≡ t + suc (length cs) = omega arith in
-      last i (suc i) cs (cellTime pick after c v) (λ s. cond (eqb s i) (cellTime pick after c v) (v s)) refl
-      (sym (ap (λ (b : Bool). cond b (cellTime pick after c v) (v i)) (eq-eqb i i refl)))
-      ∙ ap (allTimes (suc i) cs (λ s. cond (eqb s i) (cellTime pick after c v) (v s))) z
+      last i (suc i) cs (cell_time pick after c v) (λ s. cond (eqb s i) (cell_time pick after c v) (v s)) refl
+      (sym (ap (λ (b : Bool). cond b (cell_time pick after c v) (v i)) (eq-eqb i i refl)))
+      ∙ ap (all_times (suc i) cs (λ s. cond (eqb s i) (cell_time pick after c v) (v s))) z
 
-  output-last : (n : ℕ) (cs : List Cell) (o : A) (v : ℕ → A) → 1 ≤ length cs → outputTime pick after o n cs v
-      ≡ allTimes n cs v (n + (length cs - 1))
-  unfolding allTimes outputTime
-  output-last n [] o v h = absurd (not-suc-le-zero h)
-  output-last n (c ∷ cs) o v h =
+  output_last : (n : ℕ) (cs : List Cell) (o : A) (v : ℕ → A) → 1 ≤ length cs → output_time pick after o n cs v
+      ≡ all_times n cs v (n + (length cs - 1))
+  unfolding all_times output_time
+  output_last n [] o v h = absurd (not-suc-le-zero h)
+  output_last n (c ∷ cs) o v h =
       let z : n + length cs ≡ n + (suc (length cs) - 1) = omega arith in
-      last n (suc n) cs (cellTime pick after c v) (λ s. cond (eqb s n) (cellTime pick after c v) (v s)) refl
-      (sym (ap (λ (b : Bool). cond b (cellTime pick after c v) (v n)) (eq-eqb n n refl)))
-      ∙ ap (allTimes (suc n) cs (λ s. cond (eqb s n) (cellTime pick after c v) (v s))) z
+      last n (suc n) cs (cell_time pick after c v) (λ s. cond (eqb s n) (cell_time pick after c v) (v s)) refl
+      (sym (ap (λ (b : Bool). cond b (cell_time pick after c v) (v n)) (eq-eqb n n refl)))
+      ∙ ap (all_times (suc n) cs (λ s. cond (eqb s n) (cell_time pick after c v) (v s))) z
 
   -- a cell's time by the signals that it reads
-  by-reads : List ℕ → (ℕ → A) → A
-  by-reads l v = after (keptTime pick (λ p. v (get_or l p 0)) (length l - 1))
+  by_reads : List ℕ → (ℕ → A) → A
+  by_reads l v = after (kept_time pick (λ p. v (get_or l p 0)) (length l - 1))
 
-  reads-ext : (l : List ℕ) (v w : ℕ → A) → 1 ≤ length l → ((p : ℕ) → p < length l → v (get_or l p 0) ≡ w (get_or l p 0))
-      → by-reads l v ≡ by-reads l w
-  unfolding by-reads
-  reads-ext l v w s h = ap after (kept-ext pick (length l - 1) (λ p. v (get_or l p 0)) (λ p. w (get_or l p 0))
+  reads_ext : (l : List ℕ) (v w : ℕ → A) → 1 ≤ length l → ((p : ℕ) → p < length l → v (get_or l p 0) ≡ w (get_or l p 0))
+      → by_reads l v ≡ by_reads l w
+  unfolding by_reads
+  reads_ext l v w s h = ap after (kept_ext pick (length l - 1) (λ p. v (get_or l p 0)) (λ p. w (get_or l p 0))
       (λ p k. h p (omega arith)))
 
   -- each cell's equation
-  equation : (n : ℕ) (cs : List Cell) (v : ℕ → A) → Fed n cs → (i : ℕ) → i < length cs → allTimes n cs v (n + i)
-      ≡ by-reads (read_by cs i) (allTimes n cs v)
-  unfolding allTimes cellTime by-reads
+  equation : (n : ℕ) (cs : List Cell) (v : ℕ → A) → Fed n cs → (i : ℕ) → i < length cs → all_times n cs v (n + i)
+      ≡ by_reads (read_by cs i) (all_times n cs v)
+  unfolding all_times cell_time by_reads
   equation n [] v f i h = absurd (not-suc-le-zero h)
   equation n (c ∷ cs) v f zero h =
-      let w : ℕ → A = λ t. cond (eqb t n) (cellTime pick after c v) (v t) in
+      let w : ℕ → A = λ t. cond (eqb t n) (cell_time pick after c v) (v t) in
       let z : n + 0 ≡ n = omega arith in
-      ap (allTimes n (c ∷ cs) v) z ∙ earlier (suc n) cs w n (omega arith)
-      ∙ ap (λ (b : Bool). cond b (cellTime pick after c v) (v n)) (eq-eqb n n refl)
-      ∙ reads-ext c.signals v (allTimes n (c ∷ cs) v) (f 0 h).0
+      ap (all_times n (c ∷ cs) v) z ∙ earlier (suc n) cs w n (omega arith)
+      ∙ ap (λ (b : Bool). cond b (cell_time pick after c v) (v n)) (eq-eqb n n refl)
+      ∙ reads_ext c.signals v (all_times n (c ∷ cs) v) (f 0 h).0
       (λ p k. sym (earlier n (c ∷ cs) v (get_or c.signals p 0) (omega (arith, (f 0 h).1 p k))))
   equation n (c ∷ cs) v f (suc i) h =
-      let w : ℕ → A = λ t. cond (eqb t n) (cellTime pick after c v) (v t) in
+      let w : ℕ → A = λ t. cond (eqb t n) (cell_time pick after c v) (v t) in
       let z : n + suc i ≡ suc n + i = omega arith in
-      ap (allTimes n (c ∷ cs) v) z
+      ap (all_times n (c ∷ cs) v) z
       ∙ equation (suc n) cs w (λ k l. (
         (f (suc k) (omega arith)).0,
         λ p q. omega
@@ -102,66 +102,66 @@ module _ {A : Type 0} (pick : A → A → A) (after : A → A) where
     record Chosen (v : ℕ → A) (k : ℕ) : Type 0 where
       pub at : ℕ
       pub within : at ≤ k
-      pub is : keptTime pick v k ≡ v at
+      pub is : kept_time pick v k ≡ v at
 
     chosen : (v : ℕ → A) (k : ℕ) → Chosen v k
-    unfolding keptTime
+    unfolding kept_time
     chosen v zero = record { at = 0; within = omega arith; is = refl }
-    chosen v (suc k) = elim (either (keptTime pick v k) (v (suc k))) [
+    chosen v (suc k) = elim (either (kept_time pick v k) (v (suc k))) [
       | inl q ↦ let c = chosen v k in record { at = c.at; within = omega (arith, c.within); is = q ∙ c.is }
       | inr q ↦ record { at = suc k; within = omega arith; is = q }
     ]
 
-    kept-good : (v : ℕ → A) (k : ℕ) → ((t : ℕ) → P (v t)) → P (keptTime pick v k)
-    kept-good v k h = let c = chosen v k in subst P (sym c.is) (h c.at)
+    kept_good : (v : ℕ → A) (k : ℕ) → ((t : ℕ) → P (v t)) → P (kept_time pick v k)
+    kept_good v k h = let c = chosen v k in subst P (sym c.is) (h c.at)
 
     -- and at least as good as each of them
-    kept-best : (v : ℕ → A) (k p : ℕ) → p ≤ k → ((t : ℕ) → P (v t)) → keptTime pick v k ⊑ v p
-    unfolding keptTime
-    kept-best v zero p h g = let z : p ≡ 0 = omega arith in subst (λ (q : ℕ). v 0 ⊑ v q) (sym z) (same (v 0) (g 0))
-    kept-best v (suc k) p h g = elim (dec_lt p (suc k)) [
-      | yes l ↦ through (pick (keptTime pick v k) (v (suc k))) (keptTime pick v k) (v p) (kept-good v (suc k) g)
-          (kept-good v k g) (g p)
-          (left (keptTime pick v k) (v (suc k)) (kept-good v k g) (g (suc k))) (kept-best v k p (omega arith) g)
+    kept_best : (v : ℕ → A) (k p : ℕ) → p ≤ k → ((t : ℕ) → P (v t)) → kept_time pick v k ⊑ v p
+    unfolding kept_time
+    kept_best v zero p h g = let z : p ≡ 0 = omega arith in subst (λ (q : ℕ). v 0 ⊑ v q) (sym z) (same (v 0) (g 0))
+    kept_best v (suc k) p h g = elim (dec_lt p (suc k)) [
+      | yes l ↦ through (pick (kept_time pick v k) (v (suc k))) (kept_time pick v k) (v p) (kept_good v (suc k) g)
+          (kept_good v k g) (g p)
+          (left (kept_time pick v k) (v (suc k)) (kept_good v k g) (g (suc k))) (kept_best v k p (omega arith) g)
       | no l ↦ let z : p ≡ suc k = omega arith in
-          subst (λ (q : ℕ). pick (keptTime pick v k) (v (suc k)) ⊑ v q) (sym z)
-          (right (keptTime pick v k) (v (suc k)) (kept-good v k g) (g (suc k)))
+          subst (λ (q : ℕ). pick (kept_time pick v k) (v (suc k)) ⊑ v q) (sym z)
+          (right (kept_time pick v k) (v (suc k)) (kept_good v k g) (g (suc k)))
     ]
 
-    all-good : (i : ℕ) (cs : List Cell) (v : ℕ → A) → ((t : ℕ) → P (v t)) → (t : ℕ) → P (allTimes i cs v t)
-    unfolding allTimes cellTime
-    all-good i [] v g t = g t
-    all-good i (c ∷ cs) v g t = all-good (suc i) cs (λ t. cond (eqb t i) (cellTime pick after c v) (v t))
+    all_good : (i : ℕ) (cs : List Cell) (v : ℕ → A) → ((t : ℕ) → P (v t)) → (t : ℕ) → P (all_times i cs v t)
+    unfolding all_times cell_time
+    all_good i [] v g t = g t
+    all_good i (c ∷ cs) v g t = all_good (suc i) cs (λ t. cond (eqb t i) (cell_time pick after c v) (v t))
         (λ u. one (eqb u i) u) t
       where
-        one : (b : Bool) (u : ℕ) → P (cond b (cellTime pick after c v) (v u))
-        one true u = good _ (kept-good (λ p. v (get_or c.signals p 0)) (length c.signals - 1)
+        one : (b : Bool) (u : ℕ) → P (cond b (cell_time pick after c v) (v u))
+        one true u = good _ (kept_good (λ p. v (get_or c.signals p 0)) (length c.signals - 1)
             (λ p. g (get_or c.signals p 0)))
         one false u = g u
 
-    along-good : (k : ℕ) (x : A) → P x → P (along after k x)
+    along_good : (k : ℕ) (x : A) → P x → P (along after k x)
     unfolding along
-    along-good zero x h = h
-    along-good (suc k) x h = good (along after k x) (along-good k x h)
+    along_good zero x h = h
+    along_good (suc k) x h = good (along after k x) (along_good k x h)
 
     module _ (n : ℕ) (cs : List Cell) (v : ℕ → A) (fed : Fed n cs) (g : (t : ℕ) → P (v t)) where
       W : ℕ → A
-      W = allTimes n cs v
+      W = all_times n cs v
 
-      along-path : (j t k : ℕ) → Leads n cs j t k → W t ⊑ along after k (v j)
-      unfolding along W by-reads
-      along-path j t k (begins h) = subst (λ (x : A). x ⊑ v j) (sym (earlier n cs v j h)) (same (v j) (g j))
-      along-path j t k (goes s m i p l h q e) =
+      along_path : (j t k : ℕ) → Leads n cs j t k → W t ⊑ along after k (v j)
+      unfolding along W by_reads
+      along_path j t k (begins h) = subst (λ (x : A). x ⊑ v j) (sym (earlier n cs v j h)) (same (v j) (g j))
+      along_path j t k (goes s m i p l h q e) =
           let f = fed i h in
           let u : ℕ → A = λ r. W (get_or (read_by cs i) r 0) in
-          let b : (r : ℕ) → P (u r) = λ r. all-good n cs v g (get_or (read_by cs i) r 0) in
+          let b : (r : ℕ) → P (u r) = λ r. all_good n cs v g (get_or (read_by cs i) r 0) in
           let a : W (get_or (read_by cs i) p 0) ⊑ along after m (v j) = subst (λ (r : ℕ). W r ⊑ along after m (v j))
-          (sym e) (along-path j s m l) in
-          let x = keptTime pick u (length (read_by cs i) - 1) in
+          (sym e) (along_path j s m l) in
+          let x = kept_time pick u (length (read_by cs i) - 1) in
           subst (λ (y : A). y ⊑ after (along after m (v j))) (sym (equation n cs v fed i h))
-          (mono x (along after m (v j)) (kept-good u (length (read_by cs i) - 1) b) (along-good m (v j) (g j))
-          (through x (u p) (along after m (v j)) (kept-good u (length (read_by cs i) - 1) b) (b p)
-          (along-good m (v j) (g j)) (kept-best u (length (read_by cs i) - 1) p (omega (arith, f.0)) b) a))
+          (mono x (along after m (v j)) (kept_good u (length (read_by cs i) - 1) b) (along_good m (v j) (g j))
+          (through x (u p) (along after m (v j)) (kept_good u (length (read_by cs i) - 1) b) (b p)
+          (along_good m (v j) (g j)) (kept_best u (length (read_by cs i) - 1) p (omega (arith, f.0)) b) a))
 
       -- a path back to an input
       record Back (t : ℕ) : Type 0 where
@@ -171,7 +171,7 @@ module _ {A : Type 0} (pick : A → A → A) (after : A → A) where
         pub reached : W t ≡ along after cells (v input)
 
       back : (b t : ℕ) → t < b → t < n + length cs → Back t
-      unfolding along W by-reads
+      unfolding along W by_reads
       back zero t h l = absurd (not-suc-le-zero h)
       back (suc b) t h l = elim (dec_lt t n) [
         | yes q ↦ record { input = t; cells = 0; path = begins q; reached = earlier n cs v t q }
@@ -192,13 +192,13 @@ module _ {A : Type 0} (pick : A → A → A) (after : A → A) where
                 reached = equation n cs v fed i k ∙ ap after (c.is ∙ w.reached);
               })
 
-      pub best-path : (o : A) → 1 ≤ length cs → BestPath ◌⊑◌ after n cs v (outputTime pick after o n cs v)
+      pub best_path : (o : A) → 1 ≤ length cs → BestPath ◌⊑◌ after n cs v (output_time pick after o n cs v)
       unfolding W
-      best-path o some =
-          let e = output-last n cs o v some in
+      best_path o some =
+          let e = output_last n cs o v some in
           let w = back (n + length cs) (n + (length cs - 1)) (omega arith) (omega arith) in record {
             bound = λ j k l. subst (λ (x : A). x ⊑ along after k (v j)) (sym e)
-                (along-path j (n + (length cs - 1)) k l);
+                (along_path j (n + (length cs - 1)) k l);
             input = w.input;
             cells = w.cells;
             path = w.path;

@@ -14,28 +14,28 @@ use Rattle.bits.proofs.Lists.{length-list, list_at}
 use Rattle.sheets.specs.declared.kinds.Edition.{Edition}
 use Rattle.sheets.specs.Edition.{IsEdition}
 use Rattle.sheets.specs.Record.{Keeps, cell_of}
-use Rattle.sheets.specs.Sheet.{recordAt, records, cellsFrom, sheetCells, Good}
-use Rattle.sheets.proofs.Looks.{record-keeps}
-use Rattle.sheets.proofs.Wiring.{cells-length}
+use Rattle.sheets.specs.Sheet.{record_at, records, cells_from, sheet_cells, Good}
+use Rattle.sheets.proofs.Looks.{record_keeps}
+use Rattle.sheets.proofs.Wiring.{cells_length}
 use Rattle.times.specs.declared.input_time.InputTime.{InputTime}
-use Rattle.times.specs.InputTimes.{inputTimes}
-use Rattle.times.specs.Sixteenths.{sixteenthsOf}
-use Rattle.times.specs.Whole.{settledWhole}
+use Rattle.times.specs.InputTimes.{input_times}
+use Rattle.times.specs.Sixteenths.{sixteenths_of}
+use Rattle.times.specs.Whole.{settled_whole}
 use Rattle.paths.specs.Paths.{read_by, along, BestPath, Beyond}
 use Rattle.paths.proofs.Along.{Fed}
-use Rattle.paths.proofs.Ordered.{ordered-path}
+use Rattle.paths.proofs.Ordered.{ordered_path}
 
 -- ---- a good sheet's cells
 
-cell-reads : (e : Edition) (s : List ℕ) (m i k : ℕ) → k < m → read_by (cellsFrom e s i m) k
-    ≡ (cell_of e (recordAt e s (i + k))).signals
-unfolding cellsFrom
+cell-reads : (e : Edition) (s : List ℕ) (m i k : ℕ) → k < m → read_by (cells_from e s i m) k
+    ≡ (cell_of e (record_at e s (i + k))).signals
+unfolding cells_from
 cell-reads e s zero i k h = absurd (not-suc-le-zero h)
 cell-reads e s (suc m) i zero h = let z : i ≡ i + 0 = omega arith
-    in ap (λ (j : ℕ). (cell_of e (recordAt e s j)).signals) z
+    in ap (λ (j : ℕ). (cell_of e (record_at e s j)).signals) z
 cell-reads e s (suc m) i (suc k) h =
     let z : suc i + k ≡ i + suc k = omega arith in cell-reads e s m (suc i) k (omega arith)
-    ∙ ap (λ (j : ℕ). (cell_of e (recordAt e s j)).signals) z
+    ∙ ap (λ (j : ℕ). (cell_of e (record_at e s j)).signals) z
 
 fed_by : (e : Edition) (d top : ℕ) (b : ℕ → ℕ) (l : List ℕ) → Keeps e d top b → l ≡ (cell_of e b).signals → (1 ≤ length l)
     × ((p : ℕ) → p < length l → get_or l p 0 < top)
@@ -49,33 +49,33 @@ fed_by e d top b l k q =
           (k.known p g),
     )
 
-pub good-fed : (e : Edition) → IsEdition e → (d n : ℕ) (s : List ℕ) (m : ℕ) → Good e d n s m → Fed n (sheetCells e s m)
-good-fed e ok d n s m g i h =
-    let l : i < m = subst (λ (k : ℕ). i < k) (cells-length e s 0 m) h in
+pub good_fed : (e : Edition) → IsEdition e → (d n : ℕ) (s : List ℕ) (m : ℕ) → Good e d n s m → Fed n (sheet_cells e s m)
+good_fed e ok d n s m g i h =
+    let l : i < m = subst (λ (k : ℕ). i < k) (cells_length e s 0 m) h in
     let z : 0 + i ≡ i = omega arith in
-    fed_by e d (n + i) (recordAt e s i) (read_by (sheetCells e s m) i) (record-keeps e ok d n s m g.rules i l)
-    (cell-reads e s m 0 i l ∙ ap (λ (j : ℕ). (cell_of e (recordAt e s j)).signals) z)
+    fed_by e d (n + i) (record_at e s i) (read_by (sheet_cells e s m) i) (record_keeps e ok d n s m g.rules i l)
+    (cell-reads e s m 0 i l ∙ ap (λ (j : ℕ). (cell_of e (record_at e s j)).signals) z)
 
-pub some-cells : (e : Edition) (d n : ℕ) (s : List ℕ) (m : ℕ) → Good e d n s m → 1 ≤ length (sheetCells e s m)
-some-cells e d n s m g = subst (λ (k : ℕ). 1 ≤ k) (sym (cells-length e s 0 m)) g.some
+pub some_cells : (e : Edition) (d n : ℕ) (s : List ℕ) (m : ℕ) → Good e d n s m → 1 ≤ length (sheet_cells e s m)
+some_cells e d n s m g = subst (λ (k : ℕ). 1 ≤ k) (sym (cells_length e s 0 m)) g.some
 
 -- ---- whole numbers
 
 -- the greatest (late), or the least, over all paths
-pub whole-path : (late : Bool) (e : Edition) → IsEdition e
+pub whole_path : (late : Bool) (e : Edition) → IsEdition e
     → (d n : ℕ) (s : List ℕ) (delay : Float) (ts : List InputTime) → Good e d n s (records e s)
-    → BestPath (Beyond late) (λ i. i + sixteenthsOf delay) n (sheetCells e s (records e s))
-    (λ j. sixteenthsOf (inputTimes late n ts j)) (settledWhole late e n s delay ts)
-unfolding settledWhole
-whole-path late e ok d n s delay ts g =
-    ordered-path ltb ◌≤◌ (λ i. Unit {0}) (λ i p. omega arith) (λ i j k p q r a b. omega arith)
+    → BestPath (Beyond late) (λ i. i + sixteenths_of delay) n (sheet_cells e s (records e s))
+    (λ j. sixteenths_of (input_times late n ts j)) (settled_whole late e n s delay ts)
+unfolding settled_whole
+whole_path late e ok d n s delay ts g =
+    ordered_path ltb ◌≤◌ (λ i. Unit {0}) (λ i p. omega arith) (λ i j k p q r a b. omega arith)
     (λ i j h. omega (arith, ltb-true i j h)) (λ i j p q h. ltb-false i j h)
-    (λ i. i + sixteenthsOf delay) (λ i p. tt) (λ i j p q h. omega arith)
-    n (sheetCells e s (records e s)) (λ j. sixteenthsOf (inputTimes late n ts j))
-    (good-fed e ok d n s (records e s) g) (λ j. tt) 0 (some-cells e d n s (records e s) g) late
+    (λ i. i + sixteenths_of delay) (λ i p. tt) (λ i j p q h. omega arith)
+    n (sheet_cells e s (records e s)) (λ j. sixteenths_of (input_times late n ts j))
+    (good_fed e ok d n s (records e s) g) (λ j. tt) 0 (some_cells e d n s (records e s) g) late
 
 -- a path of k cells adds the delay k times
-pub along-whole : (d k i : ℕ) → along (λ j. j + d) k i ≡ i + k * d
+pub along_whole : (d k i : ℕ) → along (λ j. j + d) k i ≡ i + k * d
 unfolding along
-along-whole d zero i = omega arith
-along-whole d (suc k) i = omega (arith, along-whole d k i, suc-mul k d)
+along_whole d zero i = omega arith
+along_whole d (suc k) i = omega (arith, along_whole d k i, suc-mul k d)

@@ -24,22 +24,22 @@ along after zero x = x
 along after (suc k) x = after (along after k x)
 
 -- by an order: x is at least y (late), or at most
-abbrev pub beyondBy : {A : Type 0} → (A → A → Type 0) → Bool → A → A → Type 0
-beyondBy at_most true x y = at_most y x
-beyondBy at_most false x y = at_most x y
+abbrev pub beyond_by : {A : Type 0} → (A → A → Type 0) → Bool → A → A → Type 0
+beyond_by at_most true x y = at_most y x
+beyond_by at_most false x y = at_most x y
 
 -- of whole numbers
 abbrev pub Beyond : Bool → ℕ → ℕ → Type 0
-Beyond = beyondBy ◌≤◌
+Beyond = beyond_by ◌≤◌
 
 -- of f64
 abbrev pub BeyondTime : Bool → Float → Float → Type 0
-BeyondTime = beyondBy (λ x y. T (le x y))
+BeyondTime = beyond_by (λ x y. T (le x y))
 
 -- o is the best of the times along all paths: it is at least as good as each, and it is that along one of them
-pub record BestPath {A : Type 0} (asGood : A → A → Type 0) (after : A → A) (n : ℕ) (cs : List Cell) (v : ℕ → A) (o : A)
+pub record BestPath {A : Type 0} (as_good : A → A → Type 0) (after : A → A) (n : ℕ) (cs : List Cell) (v : ℕ → A) (o : A)
     : Type 0 where
-  pub bound : (j k : ℕ) → Path n cs j k → asGood o (along after k (v j))
+  pub bound : (j k : ℕ) → Path n cs j k → as_good o (along after k (v j))
   pub input : ℕ
   pub cells : ℕ
   pub path : Path n cs input cells

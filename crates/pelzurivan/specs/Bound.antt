@@ -4,5 +4,5 @@ use Rattle.bounds.specs.BoundCells.{BoundOutcome}
 use Rattle.pelzurivan.specs.declared.bound.BoundedC.{BoundedC}
 
 -- the number, and the bound
-abbrev pub boundedC : BoundOutcome → BoundedC
-boundedC o = record { number = number_of o.answer.verdict; least = o.answer.least }
+abbrev pub bounded_c : BoundOutcome → BoundedC
+bounded_c o = record { number = number_of o.answer.verdict; least = o.answer.least }

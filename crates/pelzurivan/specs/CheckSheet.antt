@@ -1,8 +1,8 @@
 -- A sheet checked, for C.
 use Rattle.refusals.specs.declared.verdicts.Verdict.{Verdict}
-use Rattle.refusals.specs.Lines.{number_of, placeOf}
+use Rattle.refusals.specs.Lines.{number_of, place_of}
 use Rattle.pelzurivan.specs.declared.check_sheet.CheckedC.{CheckedC}
 
 -- the number, and what it names
-abbrev pub checkedC : Verdict → CheckedC
-checkedC v = record { number = number_of v; place = placeOf v }
+abbrev pub checked_c : Verdict → CheckedC
+checked_c v = record { number = number_of v; place = place_of v }

@@ -4,8 +4,8 @@ use Rattle.several.specs.FindSeveral.{FindSeveralOutcome}
 use Rattle.pelzurivan.specs.declared.find_several.SoughtSeveralC.{SoughtSeveralC}
 
 -- the number, how many first cells, the own and the shared mask
-abbrev pub soughtSeveralC : FindSeveralOutcome → SoughtSeveralC
-soughtSeveralC o = record {
+abbrev pub sought_several_c : FindSeveralOutcome → SoughtSeveralC
+sought_several_c o = record {
   number = number_of o.answer.verdict;
   r = o.answer.first;
   own = o.answer.own;

@@ -4,5 +4,5 @@ use Rattle.making.specs.MakeSheet.{MakeOutcome}
 use Rattle.pelzurivan.specs.declared.make_sheet.MadeC.{MadeC}
 
 -- the number, and how many cells
-abbrev pub madeC : MakeOutcome → MadeC
-madeC o = record { number = number_of o.answer.verdict; count = o.answer.count }
+abbrev pub made_c : MakeOutcome → MadeC
+made_c o = record { number = number_of o.answer.verdict; count = o.answer.count }

@@ -1,13 +1,13 @@
 -- When the output settles, for C.
-use Rattle.refusals.specs.Lines.{number_of, placeOf}
+use Rattle.refusals.specs.Lines.{number_of, place_of}
 use Rattle.settling.specs.declared.settle.SettleAnswer.{SettleAnswer}
 use Rattle.pelzurivan.specs.declared.settle.SettledC.{SettledC}
 
 -- the number, the first bad record, and both times
-abbrev pub settledC : SettleAnswer → SettledC
-settledC a = record {
+abbrev pub settled_c : SettleAnswer → SettledC
+settled_c a = record {
   number = number_of a.verdict;
-  index = placeOf a.verdict;
+  index = place_of a.verdict;
   earliest = a.earliest;
   latest = a.latest;
 }

@@ -1,8 +1,8 @@
 -- The slack, for C.
-use Rattle.refusals.specs.Lines.{number_of, placeOf}
+use Rattle.refusals.specs.Lines.{number_of, place_of}
 use Rattle.settling.specs.declared.slack.SlackAnswer.{SlackAnswer}
 use Rattle.pelzurivan.specs.declared.slack.SlackC.{SlackC}
 
 -- the number, the first bad record, and the slack
-abbrev pub slackC : SlackAnswer → SlackC
-slackC a = record { number = number_of a.verdict; index = placeOf a.verdict; slack = a.slack }
+abbrev pub slack_c : SlackAnswer → SlackC
+slack_c a = record { number = number_of a.verdict; index = place_of a.verdict; slack = a.slack }

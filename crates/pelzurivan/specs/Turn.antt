@@ -5,8 +5,8 @@ use Rattle.turning.specs.declared.turn.TurnAnswer.{TurnAnswer}
 use Rattle.pelzurivan.specs.declared.turn.TurnedC.{TurnedC}
 
 -- the number, and the way
-abbrev pub turnedC : TurnAnswer → TurnedC
-turnedC a = record {
+abbrev pub turned_c : TurnAnswer → TurnedC
+turned_c a = record {
   number = number_of a.verdict;
   flip = val a.way.flip;
   mask = a.way.mask;

@@ -1,14 +1,14 @@
 // A lower bound on the cells of a table, for C.
 ghost use Rattle.std.specs.Prelude.{◌≡◌};
-ghost use Rattle.bounds.specs.BoundCells.{boundOutcome};
-ghost use Rattle.pelzurivan.specs.Bound.{boundedC};
+ghost use Rattle.bounds.specs.BoundCells.{bound_outcome};
+ghost use Rattle.pelzurivan.specs.Bound.{bounded_c};
 
 use bounds::bound_cells::bound_cells;
 use refusals::verdicts::number_of;
 
 // The number, and the bound.
 #[repr(C)]
-#[derive(Drop)]
+#[derive(Clone, Copy)]
 pub struct BoundedC {
     pub number: u64,
     pub least: u64,
@@ -23,8 +23,8 @@ pub extern "C" fn pelzurivan_bound(
     t: &[u8],
     work: &mut [u8],
 ) -> BoundedC
-    ensures { (result ≡ boundedC (boundOutcome edition n k t.now work.old))
-        × (work.new ≡ (boundOutcome edition n k t.now work.old).work) }
+    ensures { (result ≡ bounded_c (bound_outcome edition n k t.now work.old))
+        × (work.new ≡ (bound_outcome edition n k t.now work.old).work) }
 {
     let answer = bound_cells(edition, n, k, t, work);
     let verdict = answer.verdict;

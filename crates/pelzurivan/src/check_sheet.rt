@@ -1,15 +1,15 @@
 // Checking a sheet against a table, for C.
 ghost use Rattle.std.specs.Prelude.{◌≡◌};
-ghost use Rattle.sheets.specs.Edition.{firstEdition};
-ghost use Rattle.inspection.specs.CheckSheet.{checkOwn};
-ghost use Rattle.pelzurivan.specs.CheckSheet.{checkedC};
+ghost use Rattle.sheets.specs.Edition.{first_edition};
+ghost use Rattle.inspection.specs.CheckSheet.{check_own};
+ghost use Rattle.pelzurivan.specs.CheckSheet.{checked_c};
 
 use inspection::check_sheet::check_sheet;
 use refusals::verdicts::{number_of, place_of};
 
 // The number; the record's index (10, 15) or the least differing assignment (12).
 #[repr(C)]
-#[derive(Drop)]
+#[derive(Clone, Copy)]
 pub struct CheckedC {
     pub number: u64,
     pub place: u64,
@@ -18,7 +18,7 @@ pub struct CheckedC {
 // Checks anyone's sheet against a gate's table.
 #[unsafe(no_mangle)]
 pub extern "C" fn pelzurivan_check<'a>(n: u64, t: &'a [u8], s: &'a [u8]) -> CheckedC
-    ensures { result ≡ checkedC (checkOwn firstEdition n t.now s.now) }
+    ensures { result ≡ checked_c (check_own first_edition n t.now s.now) }
 {
     let verdict = check_sheet(n, t, s);
     CheckedC {

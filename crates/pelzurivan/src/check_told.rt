@@ -1,7 +1,7 @@
 // Checking a sheet of a told edition against a table, for C.
 ghost use Rattle.std.specs.Prelude.{◌≡◌};
-ghost use Rattle.inspection.specs.CheckTold.{checkTold};
-ghost use Rattle.pelzurivan.specs.CheckSheet.{checkedC};
+ghost use Rattle.inspection.specs.CheckTold.{check_told};
+ghost use Rattle.pelzurivan.specs.CheckSheet.{checked_c};
 
 use crate::check_sheet::CheckedC;
 use inspection::check_told::check_told;
@@ -15,7 +15,7 @@ pub extern "C" fn pelzurivan_check_told<'a>(
     t: &'a [u8],
     s: &'a [u8],
 ) -> CheckedC
-    ensures { result ≡ checkedC (checkTold edition n t.now s.now) }
+    ensures { result ≡ checked_c (check_told edition n t.now s.now) }
 {
     let verdict = check_told(edition, n, t, s);
     CheckedC {

@@ -1,15 +1,15 @@
 // Finding the best split, for C.
 ghost use Rattle.std.specs.Prelude.{◌≡◌};
-ghost use Rattle.sheets.specs.Edition.{firstEdition};
-ghost use Rattle.finding.specs.FindBest.{findOutcome};
-ghost use Rattle.pelzurivan.specs.FindBest.{soughtC};
+ghost use Rattle.sheets.specs.Edition.{first_edition};
+ghost use Rattle.finding.specs.FindBest.{find_outcome};
+ghost use Rattle.pelzurivan.specs.FindBest.{sought_c};
 
 use finding::find_best::find_best;
 use refusals::verdicts::number_of;
 
 // The number, the own and the shared mask.
 #[repr(C)]
-#[derive(Drop)]
+#[derive(Clone, Copy)]
 pub struct SoughtC {
     pub number: u64,
     pub own: u64,
@@ -19,8 +19,8 @@ pub struct SoughtC {
 // Finds the best split: two masks.
 #[unsafe(no_mangle)]
 pub extern "C" fn pelzurivan_find(n: u64, k: u64, t: &[u8], work: &mut [u8]) -> SoughtC
-    ensures { (result ≡ soughtC (findOutcome firstEdition n k t.now work.old))
-        × (work.new ≡ (findOutcome firstEdition n k t.now work.old).work) }
+    ensures { (result ≡ sought_c (find_outcome first_edition n k t.now work.old))
+        × (work.new ≡ (find_outcome first_edition n k t.now work.old).work) }
 {
     let answer = find_best(n, k, t, work);
     let verdict = answer.verdict;

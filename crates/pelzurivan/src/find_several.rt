@@ -1,15 +1,15 @@
 // Finding the best split with several first cells, for C.
 ghost use Rattle.std.specs.Prelude.{◌≡◌};
-ghost use Rattle.sheets.specs.Edition.{firstEdition};
-ghost use Rattle.several.specs.FindSeveral.{findSeveralOutcome};
-ghost use Rattle.pelzurivan.specs.FindSeveral.{soughtSeveralC};
+ghost use Rattle.sheets.specs.Edition.{first_edition};
+ghost use Rattle.several.specs.FindSeveral.{find_several_outcome};
+ghost use Rattle.pelzurivan.specs.FindSeveral.{sought_several_c};
 
 use refusals::verdicts::number_of;
 use several::find_several::find_several;
 
 // The number, how many first cells, the own and the shared mask.
 #[repr(C)]
-#[derive(Drop)]
+#[derive(Clone, Copy)]
 pub struct SoughtSeveralC {
     pub number: u64,
     pub r: u64,
@@ -25,8 +25,8 @@ pub extern "C" fn pelzurivan_find_several(
     t: &[u8],
     work: &mut [u8],
 ) -> SoughtSeveralC
-    ensures { (result ≡ soughtSeveralC (findSeveralOutcome firstEdition n k t.now work.old))
-        × (work.new ≡ (findSeveralOutcome firstEdition n k t.now work.old).work) }
+    ensures { (result ≡ sought_several_c (find_several_outcome first_edition n k t.now work.old))
+        × (work.new ≡ (find_several_outcome first_edition n k t.now work.old).work) }
 {
     let answer = find_several(n, k, t, work);
     let verdict = answer.verdict;

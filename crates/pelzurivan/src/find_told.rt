@@ -1,7 +1,7 @@
 // Finding the best split in a told edition, for C.
 ghost use Rattle.std.specs.Prelude.{◌≡◌};
-ghost use Rattle.finding.specs.FindTold.{findTold};
-ghost use Rattle.pelzurivan.specs.FindBest.{soughtC};
+ghost use Rattle.finding.specs.FindTold.{find_told};
+ghost use Rattle.pelzurivan.specs.FindBest.{sought_c};
 
 use crate::find_best::SoughtC;
 use finding::find_told::find_told;
@@ -16,8 +16,8 @@ pub extern "C" fn pelzurivan_find_told(
     t: &[u8],
     work: &mut [u8],
 ) -> SoughtC
-    ensures { (result ≡ soughtC (findTold edition n k t.now work.old))
-        × (work.new ≡ (findTold edition n k t.now work.old).work) }
+    ensures { (result ≡ sought_c (find_told edition n k t.now work.old))
+        × (work.new ≡ (find_told edition n k t.now work.old).work) }
 {
     let answer = find_told(edition, n, k, t, work);
     let verdict = answer.verdict;

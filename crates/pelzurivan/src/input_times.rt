@@ -1,12 +1,12 @@
 // The inputs' times as C hands them over.
 ghost use Rattle.std.specs.Prelude.{◌≡◌};
-ghost use Rattle.pelzurivan.specs.InputTimes.{timeOfKind, timesFromC};
+ghost use Rattle.pelzurivan.specs.InputTimes.{time_of_kind, times_from_c};
 
 use times::input_time::InputTime;
 
 // Kind 1 is one arrival (first), 2 an earliest (first) and a latest (second), any other is not read.
 #[repr(C)]
-#[derive(Drop)]
+#[derive(Clone, Copy)]
 pub struct TimesC {
     pub kind: [u8; 16],
     pub first: [f64; 16],
@@ -14,7 +14,7 @@ pub struct TimesC {
 }
 
 fn time_of_kind(kind: u8, first: f64, second: f64) -> InputTime
-    ensures { result ≡ timeOfKind kind first second }
+    ensures { result ≡ time_of_kind kind first second }
 {
     if kind == 1 {
         return InputTime::Arrival(first);
@@ -27,7 +27,7 @@ fn time_of_kind(kind: u8, first: f64, second: f64) -> InputTime
 
 // The same as the calls take them.
 pub fn input_times(c: TimesC) -> [InputTime; 16]
-    ensures { result ≡ timesFromC c }
+    ensures { result ≡ times_from_c c }
 {
     let mut times = [InputTime::NotRead; 16];
     let mut j = 0;

@@ -1,7 +1,7 @@
 // A load that is cut, for C.
 ghost use Rattle.std.specs.Prelude.{◌≡◌};
-ghost use Rattle.cards.specs.LoadCut.{cutOutcome};
-ghost use Rattle.pelzurivan.specs.LoadDesk.{loadedC};
+ghost use Rattle.cards.specs.LoadCut.{cut_outcome};
+ghost use Rattle.pelzurivan.specs.LoadDesk.{loaded_c};
 
 use crate::load_desk::LoadedC;
 use loads::load_cut::load_cut;
@@ -16,8 +16,8 @@ pub extern "C" fn pelzurivan_load_cut(
     s: &[u8],
     stores: u64,
 ) -> LoadedC
-    ensures { (result ≡ loadedC (cutOutcome stores card.old d n s.now))
-        × (card.new ≡ (cutOutcome stores card.old d n s.now).card) }
+    ensures { (result ≡ loaded_c (cut_outcome stores card.old d n s.now))
+        × (card.new ≡ (cut_outcome stores card.old d n s.now).card) }
 {
     let verdict = load_cut(card, d, n, s, stores);
     LoadedC {

@@ -1,7 +1,7 @@
 // One store of a load, for C.
 ghost use Rattle.std.specs.Prelude.{◌≡◌};
-ghost use Rattle.cards.specs.LoadStore.{storeOutcome};
-ghost use Rattle.pelzurivan.specs.LoadDesk.{loadedC};
+ghost use Rattle.cards.specs.LoadStore.{store_outcome};
+ghost use Rattle.pelzurivan.specs.LoadDesk.{loaded_c};
 
 use crate::load_desk::LoadedC;
 use loads::load_store::load_store;
@@ -16,8 +16,8 @@ pub extern "C" fn pelzurivan_load_store(
     s: &[u8],
     which: u64,
 ) -> LoadedC
-    ensures { (result ≡ loadedC (storeOutcome which card.old d n s.now))
-        × (card.new ≡ (storeOutcome which card.old d n s.now).card) }
+    ensures { (result ≡ loaded_c (store_outcome which card.old d n s.now))
+        × (card.new ≡ (store_outcome which card.old d n s.now).card) }
 {
     let verdict = load_store(card, d, n, s, which);
     LoadedC {

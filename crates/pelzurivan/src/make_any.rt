@@ -1,8 +1,8 @@
 // Making a sheet for any gate, for C.
 ghost use Rattle.std.specs.Prelude.{◌≡◌};
-ghost use Rattle.sheets.specs.Edition.{firstEdition};
-ghost use Rattle.any_gate.specs.MakeAny.{anyOutcome};
-ghost use Rattle.pelzurivan.specs.MakeSheet.{madeC};
+ghost use Rattle.sheets.specs.Edition.{first_edition};
+ghost use Rattle.any_gate.specs.MakeAny.{any_outcome};
+ghost use Rattle.pelzurivan.specs.MakeSheet.{made_c};
 
 use crate::make_sheet::MadeC;
 use any_gate::make_any::make_any;
@@ -18,11 +18,11 @@ pub extern "C" fn pelzurivan_make_any(
     sheet: &mut [u8],
     work: &mut [u8],
 ) -> MadeC
-    ensures { (result ≡ madeC (anyOutcome firstEdition desk n k t.now sheet.old work.old))
+    ensures { (result ≡ made_c (any_outcome first_edition desk n k t.now sheet.old work.old))
         × (sheet.new
-        ≡ (anyOutcome firstEdition desk n k t.now sheet.old work.old).sheet)
+        ≡ (any_outcome first_edition desk n k t.now sheet.old work.old).sheet)
         × (work.new
-        ≡ (anyOutcome firstEdition desk n k t.now sheet.old work.old).work) }
+        ≡ (any_outcome first_edition desk n k t.now sheet.old work.old).work) }
 {
     let answer = make_any(n, k, desk, t, sheet, work);
     let verdict = answer.verdict;

@@ -1,7 +1,7 @@
 // Making a sheet for any gate in a told edition, for C.
 ghost use Rattle.std.specs.Prelude.{◌≡◌};
-ghost use Rattle.any_gate.specs.MakeAnyTold.{anyTold};
-ghost use Rattle.pelzurivan.specs.MakeSheet.{madeC};
+ghost use Rattle.any_gate.specs.MakeAnyTold.{any_told};
+ghost use Rattle.pelzurivan.specs.MakeSheet.{made_c};
 
 use crate::make_sheet::MadeC;
 use any_gate::make_any_told::make_any_told;
@@ -19,11 +19,11 @@ pub extern "C" fn pelzurivan_make_any_told(
     sheet: &mut [u8],
     work: &mut [u8],
 ) -> MadeC
-    ensures { (result ≡ madeC (anyTold edition desk n k t.now sheet.old work.old))
+    ensures { (result ≡ made_c (any_told edition desk n k t.now sheet.old work.old))
         × (sheet.new
-        ≡ (anyTold edition desk n k t.now sheet.old work.old).sheet)
+        ≡ (any_told edition desk n k t.now sheet.old work.old).sheet)
         × (work.new
-        ≡ (anyTold edition desk n k t.now sheet.old work.old).work) }
+        ≡ (any_told edition desk n k t.now sheet.old work.old).work) }
 {
     let answer = make_any_told(edition, n, k, desk, t, sheet, work);
     let verdict = answer.verdict;

@@ -1,15 +1,15 @@
 // Making a sheet, for C.
 ghost use Rattle.std.specs.Prelude.{◌≡◌};
-ghost use Rattle.sheets.specs.Edition.{firstEdition};
-ghost use Rattle.making.specs.MakeSheet.{makeOutcome};
-ghost use Rattle.pelzurivan.specs.MakeSheet.{madeC};
+ghost use Rattle.sheets.specs.Edition.{first_edition};
+ghost use Rattle.making.specs.MakeSheet.{make_outcome};
+ghost use Rattle.pelzurivan.specs.MakeSheet.{made_c};
 
 use making::make_sheet::make_for_desk;
 use refusals::verdicts::number_of;
 
 // The number, how many cells.
 #[repr(C)]
-#[derive(Drop)]
+#[derive(Clone, Copy)]
 pub struct MadeC {
     pub number: u64,
     pub count: u64,
@@ -25,11 +25,11 @@ pub extern "C" fn pelzurivan_make_for_desk(
     sheet: &mut [u8],
     work: &mut [u8],
 ) -> MadeC
-    ensures { (result ≡ madeC (makeOutcome firstEdition desk n k t.now sheet.old work.old))
+    ensures { (result ≡ made_c (make_outcome first_edition desk n k t.now sheet.old work.old))
         × (sheet.new
-        ≡ (makeOutcome firstEdition desk n k t.now sheet.old work.old).sheet)
+        ≡ (make_outcome first_edition desk n k t.now sheet.old work.old).sheet)
         × (work.new
-        ≡ (makeOutcome firstEdition desk n k t.now sheet.old work.old).work) }
+        ≡ (make_outcome first_edition desk n k t.now sheet.old work.old).work) }
 {
     let answer = make_for_desk(n, k, desk, t, sheet, work);
     let verdict = answer.verdict;
@@ -48,11 +48,11 @@ pub extern "C" fn pelzurivan_make(
     sheet: &mut [u8],
     work: &mut [u8],
 ) -> MadeC
-    ensures { (result ≡ madeC (makeOutcome firstEdition 0 n k t.now sheet.old work.old))
+    ensures { (result ≡ made_c (make_outcome first_edition 0 n k t.now sheet.old work.old))
         × (sheet.new
-        ≡ (makeOutcome firstEdition 0 n k t.now sheet.old work.old).sheet)
+        ≡ (make_outcome first_edition 0 n k t.now sheet.old work.old).sheet)
         × (work.new
-        ≡ (makeOutcome firstEdition 0 n k t.now sheet.old work.old).work) }
+        ≡ (make_outcome first_edition 0 n k t.now sheet.old work.old).work) }
 {
     pelzurivan_make_for_desk(n, k, 0, t, sheet, work)
 }

@@ -1,7 +1,7 @@
 // Making a sheet in a told edition, for C.
 ghost use Rattle.std.specs.Prelude.{◌≡◌};
-ghost use Rattle.making.specs.MakeTold.{makeTold};
-ghost use Rattle.pelzurivan.specs.MakeSheet.{madeC};
+ghost use Rattle.making.specs.MakeTold.{make_told};
+ghost use Rattle.pelzurivan.specs.MakeSheet.{made_c};
 
 use crate::make_sheet::MadeC;
 use making::make_told::make_told;
@@ -19,11 +19,11 @@ pub extern "C" fn pelzurivan_make_told(
     sheet: &mut [u8],
     work: &mut [u8],
 ) -> MadeC
-    ensures { (result ≡ madeC (makeTold edition desk n k t.now sheet.old work.old))
+    ensures { (result ≡ made_c (make_told edition desk n k t.now sheet.old work.old))
         × (sheet.new
-        ≡ (makeTold edition desk n k t.now sheet.old work.old).sheet)
+        ≡ (make_told edition desk n k t.now sheet.old work.old).sheet)
         × (work.new
-        ≡ (makeTold edition desk n k t.now sheet.old work.old).work) }
+        ≡ (make_told edition desk n k t.now sheet.old work.old).work) }
 {
     let answer = make_told(edition, n, k, desk, t, sheet, work);
     let verdict = answer.verdict;

@@ -1,15 +1,15 @@
 // Rebuilding a table, for C.
 ghost use Rattle.std.specs.Prelude.{◌≡◌};
-ghost use Rattle.sheets.specs.Edition.{firstEdition};
-ghost use Rattle.rebuilding.specs.RebuildTable.{rebuildOwn};
-ghost use Rattle.pelzurivan.specs.RebuildTable.{rebuiltC};
+ghost use Rattle.sheets.specs.Edition.{first_edition};
+ghost use Rattle.rebuilding.specs.RebuildTable.{rebuild_own};
+ghost use Rattle.pelzurivan.specs.RebuildTable.{rebuilt_c};
 
 use rebuilding::rebuild_table::rebuild_table;
 use refusals::verdicts::{number_of, place_of};
 
 // The number, the index of a bad record (10) or of an unread one (15).
 #[repr(C)]
-#[derive(Drop)]
+#[derive(Clone, Copy)]
 pub struct RebuiltC {
     pub number: u64,
     pub index: u64,
@@ -18,8 +18,8 @@ pub struct RebuiltC {
 // Rebuilds a table from a sheet into lent bytes.
 #[unsafe(no_mangle)]
 pub extern "C" fn pelzurivan_rebuild(n: u64, s: &[u8], table: &mut [u8]) -> RebuiltC
-    ensures { (result ≡ rebuiltC (rebuildOwn firstEdition n s.now table.old))
-        × (table.new ≡ (rebuildOwn firstEdition n s.now table.old).table) }
+    ensures { (result ≡ rebuilt_c (rebuild_own first_edition n s.now table.old))
+        × (table.new ≡ (rebuild_own first_edition n s.now table.old).table) }
 {
     let verdict = rebuild_table(n, s, table);
     RebuiltC {

@@ -1,7 +1,7 @@
 // Rebuilding a table from a sheet of a told edition, for C.
 ghost use Rattle.std.specs.Prelude.{◌≡◌};
-ghost use Rattle.rebuilding.specs.RebuildTold.{rebuildTold};
-ghost use Rattle.pelzurivan.specs.RebuildTable.{rebuiltC};
+ghost use Rattle.rebuilding.specs.RebuildTold.{rebuild_told};
+ghost use Rattle.pelzurivan.specs.RebuildTable.{rebuilt_c};
 
 use crate::rebuild_table::RebuiltC;
 use rebuilding::rebuild_told::rebuild_told;
@@ -15,8 +15,8 @@ pub extern "C" fn pelzurivan_rebuild_told(
     s: &[u8],
     table: &mut [u8],
 ) -> RebuiltC
-    ensures { (result ≡ rebuiltC (rebuildTold edition n s.now table.old))
-        × (table.new ≡ (rebuildTold edition n s.now table.old).table) }
+    ensures { (result ≡ rebuilt_c (rebuild_told edition n s.now table.old))
+        × (table.new ≡ (rebuild_told edition n s.now table.old).table) }
 {
     let verdict = rebuild_told(edition, n, s, table);
     RebuiltC {

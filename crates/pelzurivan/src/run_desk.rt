@@ -1,7 +1,7 @@
 // Running a desk, for C.
 ghost use Rattle.std.specs.Prelude.{◌≡◌};
-ghost use Rattle.cards.specs.RunDesk.{runDeskOutcome};
-ghost use Rattle.pelzurivan.specs.RunSheet.{ranC};
+ghost use Rattle.cards.specs.RunDesk.{run_desk_outcome};
+ghost use Rattle.pelzurivan.specs.RunSheet.{ran_c};
 
 use crate::run_sheet::RanC;
 use desks::run_desk::run_desk;
@@ -10,7 +10,7 @@ use refusals::verdicts::{number_of, place_of};
 // Runs desk d of a card at the assignment x: one bit.
 #[unsafe(no_mangle)]
 pub extern "C" fn pelzurivan_run_desk(card: &[u8], d: u64, x: u64) -> RanC
-    ensures { result ≡ ranC (runDeskOutcome card.now d x) }
+    ensures { result ≡ ran_c (run_desk_outcome card.now d x) }
 {
     let answer = run_desk(card, d, x);
     let verdict = answer.verdict;

@@ -1,15 +1,15 @@
 // The shorter of two sheets, for C.
 ghost use Rattle.std.specs.Prelude.{◌≡◌};
-ghost use Rattle.sheets.specs.Edition.{firstEdition};
-ghost use Rattle.comparing.specs.Shorter.{keptOutcome};
-ghost use Rattle.pelzurivan.specs.Shorter.{shorterC};
+ghost use Rattle.sheets.specs.Edition.{first_edition};
+ghost use Rattle.comparing.specs.Shorter.{kept_outcome};
+ghost use Rattle.pelzurivan.specs.Shorter.{shorter_c};
 
 use comparing::shorter::{keep_shorter, part_of};
 use refusals::verdicts::{number_of, place_of};
 
 // Which of the two (0 none), its length in bytes, the number of the call beside, and what it names.
 #[repr(C)]
-#[derive(Drop)]
+#[derive(Clone, Copy)]
 pub struct ShorterC {
     pub which: u64,
     pub length: u64,
@@ -25,7 +25,7 @@ pub extern "C" fn pelzurivan_shorter<'a>(
     first: &'a [u8],
     second: &'a [u8],
 ) -> ShorterC
-    ensures { result ≡ shorterC (keptOutcome firstEdition n t.now first.now second.now)
+    ensures { result ≡ shorter_c (kept_outcome first_edition n t.now first.now second.now)
         first.now second.now }
 {
     let kept = keep_shorter(n, t, first, second);

@@ -1,9 +1,9 @@
 // The slack, for C.
 ghost use Rattle.std.specs.Prelude.{◌≡◌};
-ghost use Rattle.sheets.specs.Edition.{firstEdition};
-ghost use Rattle.settling.specs.Slack.{slackOwn};
-ghost use Rattle.pelzurivan.specs.InputTimes.{timesFromC};
-ghost use Rattle.pelzurivan.specs.Slack.{slackC};
+ghost use Rattle.sheets.specs.Edition.{first_edition};
+ghost use Rattle.settling.specs.Slack.{slack_own};
+ghost use Rattle.pelzurivan.specs.InputTimes.{times_from_c};
+ghost use Rattle.pelzurivan.specs.Slack.{slack_c};
 
 use crate::input_times::{TimesC, input_times};
 use refusals::verdicts::{number_of, place_of};
@@ -11,7 +11,7 @@ use settling::slack::slack;
 
 // The number, the first bad record, the slack in sixteenths.
 #[repr(C)]
-#[derive(Drop)]
+#[derive(Clone, Copy)]
 pub struct SlackC {
     pub number: u64,
     pub index: u64,
@@ -21,7 +21,7 @@ pub struct SlackC {
 // A deadline in sixteenths less the output's latest time.
 #[unsafe(no_mangle)]
 pub extern "C" fn pelzurivan_slack(n: u64, s: &[u8], delay: f64, c: TimesC, deadline: i64) -> SlackC
-    ensures { result ≡ slackC (slackOwn firstEdition n s.now delay (timesFromC c) deadline) }
+    ensures { result ≡ slack_c (slack_own first_edition n s.now delay (times_from_c c) deadline) }
 {
     let answer = slack(n, s, delay, input_times(c), deadline);
     let verdict = answer.verdict;

@@ -1,14 +1,14 @@
 // Showing that m cells are too few, for C.
 ghost use Rattle.std.specs.Prelude.{◌≡◌};
-ghost use Rattle.refuting.specs.TooFew.{tooFewOutcome};
-ghost use Rattle.pelzurivan.specs.TooFew.{shownC};
+ghost use Rattle.refuting.specs.TooFew.{too_few_outcome};
+ghost use Rattle.pelzurivan.specs.TooFew.{shown_c};
 
 use refusals::verdicts::{number_of, place_of};
 use refuting::too_few::too_few;
 
 // The number, and the byte at which the certificate fails (22).
 #[repr(C)]
-#[derive(Drop)]
+#[derive(Clone, Copy)]
 pub struct ShownC {
     pub number: u64,
     pub place: u64,
@@ -25,9 +25,9 @@ pub extern "C" fn pelzurivan_too_few<'a>(
     certificate: &'a [u8],
     work: &mut [u8],
 ) -> ShownC
-    ensures { (result ≡ shownC (tooFewOutcome edition n k m t.now certificate.now work.old))
+    ensures { (result ≡ shown_c (too_few_outcome edition n k m t.now certificate.now work.old))
         × (work.new
-        ≡ (tooFewOutcome edition n k m t.now certificate.now work.old).work) }
+        ≡ (too_few_outcome edition n k m t.now certificate.now work.old).work) }
 {
     let verdict = too_few(edition, n, k, m, t, certificate, work);
     ShownC {

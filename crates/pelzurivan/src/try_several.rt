@@ -1,8 +1,8 @@
 // Trying a named split with several first cells, for C.
 ghost use Rattle.std.specs.Prelude.{◌≡◌};
-ghost use Rattle.sheets.specs.Edition.{firstEdition};
-ghost use Rattle.splitting.specs.TrySplit.{tryOutcome};
-ghost use Rattle.pelzurivan.specs.TrySeveral.{triedSeveralC};
+ghost use Rattle.sheets.specs.Edition.{first_edition};
+ghost use Rattle.splitting.specs.TrySplit.{try_outcome};
+ghost use Rattle.pelzurivan.specs.TrySeveral.{tried_several_c};
 
 use crate::word::word;
 use refusals::verdicts::{number_of, place_of};
@@ -10,7 +10,7 @@ use several::try_several::try_several;
 
 // The number, the first cells' tables, and after 8 where the split breaks and how many different columns there are.
 #[repr(C)]
-#[derive(Drop)]
+#[derive(Clone, Copy)]
 pub struct TriedSeveralC {
     pub number: u64,
     pub first: u64,
@@ -31,8 +31,8 @@ pub extern "C" fn pelzurivan_try_several(
     t: &[u8],
     room: &mut [u8],
 ) -> TriedSeveralC
-    ensures { (result ≡ triedSeveralC (tryOutcome firstEdition n k r own shared t.now room.old))
-        × (room.new ≡ (tryOutcome firstEdition n k r own shared t.now room.old).room) }
+    ensures { (result ≡ tried_several_c (try_outcome first_edition n k r own shared t.now room.old))
+        × (room.new ≡ (try_outcome first_edition n k r own shared t.now room.old).room) }
 {
     let answer = try_several(n, k, r, own, shared, t, room);
     let verdict = answer.verdict;

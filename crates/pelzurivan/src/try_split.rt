@@ -1,8 +1,8 @@
 // Trying a named split, for C.
 ghost use Rattle.std.specs.Prelude.{◌≡◌};
-ghost use Rattle.sheets.specs.Edition.{firstEdition};
-ghost use Rattle.splitting.specs.TrySplit.{tryOutcome};
-ghost use Rattle.pelzurivan.specs.TrySplit.{triedC};
+ghost use Rattle.sheets.specs.Edition.{first_edition};
+ghost use Rattle.splitting.specs.TrySplit.{try_outcome};
+ghost use Rattle.pelzurivan.specs.TrySplit.{tried_c};
 
 use crate::word::word;
 use refusals::verdicts::{number_of, place_of};
@@ -10,7 +10,7 @@ use splitting::try_split::try_split;
 
 // The number, D, and after 8 where the split breaks and how many different columns there are.
 #[repr(C)]
-#[derive(Drop)]
+#[derive(Clone, Copy)]
 pub struct TriedC {
     pub number: u64,
     pub d: u64,
@@ -28,8 +28,8 @@ pub extern "C" fn pelzurivan_try(
     t: &[u8],
     room: &mut [u8],
 ) -> TriedC
-    ensures { (result ≡ triedC (tryOutcome firstEdition n k 1 own shared t.now room.old))
-        × (room.new ≡ (tryOutcome firstEdition n k 1 own shared t.now room.old).room) }
+    ensures { (result ≡ tried_c (try_outcome first_edition n k 1 own shared t.now room.old))
+        × (room.new ≡ (try_outcome first_edition n k 1 own shared t.now room.old).room) }
 {
     let answer = try_split(n, k, own, shared, t, room);
     let verdict = answer.verdict;

@@ -1,7 +1,7 @@
 // Trying a named split in a told edition, for C.
 ghost use Rattle.std.specs.Prelude.{◌≡◌};
-ghost use Rattle.splitting.specs.TryTold.{tryTold};
-ghost use Rattle.pelzurivan.specs.TryTold.{triedToldC};
+ghost use Rattle.splitting.specs.TryTold.{try_told};
+ghost use Rattle.pelzurivan.specs.TryTold.{tried_told_c};
 
 use crate::word::word;
 use refusals::verdicts::{number_of, place_of};
@@ -10,7 +10,7 @@ use splitting::try_told::try_told;
 // The number; D's 32 bytes as four words, the first being its lowest 64 bits; and after 8 where the split breaks and
 // how many different columns there are.
 #[repr(C)]
-#[derive(Drop)]
+#[derive(Clone, Copy)]
 pub struct TriedToldC {
     pub number: u64,
     pub d0: u64,
@@ -32,8 +32,8 @@ pub extern "C" fn pelzurivan_try_told(
     t: &[u8],
     room: &mut [u8],
 ) -> TriedToldC
-    ensures { (result ≡ triedToldC (tryTold edition n k own shared t.now room.old))
-        × (room.new ≡ (tryTold edition n k own shared t.now room.old).room) }
+    ensures { (result ≡ tried_told_c (try_told edition n k own shared t.now room.old))
+        × (room.new ≡ (try_told edition n k own shared t.now room.old).room) }
 {
     let answer = try_told(edition, n, k, own, shared, t, room);
     let verdict = answer.verdict;

@@ -1,14 +1,14 @@
 // Turning one three-input table into another, for C.
 ghost use Rattle.std.specs.Prelude.{◌≡◌};
-ghost use Rattle.turning.specs.Turn.{turnOutcome};
-ghost use Rattle.pelzurivan.specs.Turn.{turnedC};
+ghost use Rattle.turning.specs.Turn.{turn_outcome};
+ghost use Rattle.pelzurivan.specs.Turn.{turned_c};
 
 use refusals::verdicts::number_of;
 use turning::turn::turn;
 
 // The number, whether the output is flipped, the mask of input flips, the order of the inputs.
 #[repr(C)]
-#[derive(Drop)]
+#[derive(Clone, Copy)]
 pub struct TurnedC {
     pub number: u64,
     pub flip: u64,
@@ -21,7 +21,7 @@ pub struct TurnedC {
 // The first way that turns the one table into the other.
 #[unsafe(no_mangle)]
 pub extern "C" fn pelzurivan_turn(first: u8, second: u8) -> TurnedC
-    ensures { result ≡ turnedC (turnOutcome first second) }
+    ensures { result ≡ turned_c (turn_outcome first second) }
 {
     let answer = turn(first, second);
     let verdict = answer.verdict;

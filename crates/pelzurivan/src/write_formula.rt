@@ -1,15 +1,15 @@
 // Writing a sheet as a formula, for C.
 ghost use Rattle.std.specs.Prelude.{◌≡◌};
-ghost use Rattle.sheets.specs.Edition.{firstEdition};
-ghost use Rattle.printing.specs.WriteFormula.{writeOwn};
-ghost use Rattle.pelzurivan.specs.WriteFormula.{formulaWrittenC};
+ghost use Rattle.sheets.specs.Edition.{first_edition};
+ghost use Rattle.printing.specs.WriteFormula.{write_own};
+ghost use Rattle.pelzurivan.specs.WriteFormula.{formula_written_c};
 
 use printing::write_formula::write_formula;
 use refusals::verdicts::{number_of, place_of};
 
 // The number, the index of a bad record (10), and the text's length.
 #[repr(C)]
-#[derive(Drop)]
+#[derive(Clone, Copy)]
 pub struct FormulaWrittenC {
     pub number: u64,
     pub place: u64,
@@ -19,8 +19,8 @@ pub struct FormulaWrittenC {
 // Writes a sheet of n inputs as a formula into a lent room.
 #[unsafe(no_mangle)]
 pub extern "C" fn pelzurivan_write_formula(n: u64, s: &[u8], room: &mut [u8]) -> FormulaWrittenC
-    ensures { (result ≡ formulaWrittenC (writeOwn firstEdition n s.now room.old))
-        × (room.new ≡ (writeOwn firstEdition n s.now room.old).room) }
+    ensures { (result ≡ formula_written_c (write_own first_edition n s.now room.old))
+        × (room.new ≡ (write_own first_edition n s.now room.old).room) }
 {
     let answer = write_formula(n, s, room);
     let verdict = answer.verdict;

@@ -12,8 +12,8 @@ use borrow.Author.Tests.{eq-eqb, ne_eqb, eqb-true, eqb-false, le-ltb}
 use Rattle.bits.specs.Numbers.{val}
 use Rattle.sheets.specs.Network.{Cell, Wired}
 use Rattle.sheets.specs.Reading.{times, reads}
-use Rattle.printing.specs.Forms.{mark_of, flipsLow, flipsHigh}
-use Rattle.printing.specs.Print.{in_turn, bySides, flippedText, oneText, twoText, cellText, letterText, printed}
+use Rattle.printing.specs.Forms.{mark_of, flips_low, flips_high}
+use Rattle.printing.specs.Print.{in_turn, by_sides, flipped_text, one_text, two_text, cell_text, letter_text, printed}
 use Rattle.printing.specs.Printable.{AllPlain, Printable}
 
 -- the weight of what is read, each as often as it is
@@ -21,25 +21,25 @@ abbrev pub weighed : (ℕ → ℕ) → List ℕ → ℕ
 weighed m [] = 0
 weighed m (s ∷ l) = m s + weighed m l
 
-abbrev pub weighedIn : (ℕ → ℕ) → List Cell → ℕ
-weighedIn m [] = 0
-weighedIn m (c ∷ cs) = weighed m c.signals + weighedIn m cs
+abbrev pub weighed_in : (ℕ → ℕ) → List Cell → ℕ
+weighed_in m [] = 0
+weighed_in m (c ∷ cs) = weighed m c.signals + weighed_in m cs
 
 mul-sum : (a b c : ℕ) → (a + b) * c ≡ a * c + b * c
 mul-sum a b c = omega arith
 
 -- m' is m, with w at signal i, which weighed nothing
 module _ (m m' : ℕ → ℕ) (i w : ℕ) (same : (s : ℕ) → m' s ≡ m s + val (eqb i s) * w) where
-  list-more : (l : List ℕ) → weighed m' l ≡ weighed m l + times i l * w
-  list-more [] = omega arith
-  list-more (s ∷ l) = omega (arith, same s, list-more l, mul-sum (val (eqb i s)) (times i l) w)
+  list_more : (l : List ℕ) → weighed m' l ≡ weighed m l + times i l * w
+  list_more [] = omega arith
+  list_more (s ∷ l) = omega (arith, same s, list_more l, mul-sum (val (eqb i s)) (times i l) w)
 
-  cells-more : (cs : List Cell) → weighedIn m' cs ≡ weighedIn m cs + reads i cs * w
-  cells-more [] = omega arith
-  cells-more (c ∷ cs) = omega (
+  cells_more : (cs : List Cell) → weighed_in m' cs ≡ weighed_in m cs + reads i cs * w
+  cells_more [] = omega arith
+  cells_more (c ∷ cs) = omega (
     arith,
-    list-more c.signals,
-    cells-more cs,
+    list_more c.signals,
+    cells_more cs,
     mul-sum (times i c.signals) (reads i cs)
         w,
   )
@@ -57,8 +57,8 @@ abbrev pub Once : ℕ → List Cell → Type 0
 Once i cs = (j : ℕ) → j + 1 < length cs → reads (i + j) cs ≡ 1
 
 module _ (K : ℕ) where
-  later-once : (c : Cell) (cs : List Cell) (i : ℕ) → Wired K i (c ∷ cs) → Once i (c ∷ cs) → Once (suc i) cs
-  later-once c cs i w o j h =
+  later_once : (c : Cell) (cs : List Cell) (i : ℕ) → Wired K i (c ∷ cs) → Once i (c ∷ cs) → Once (suc i) cs
+  later_once c cs i w o j h =
       let q : suc i + j ≡ i + suc j = omega arith in
       omega (
         arith,
@@ -86,7 +86,7 @@ module _ (K : ℕ) where
     pub measured : (cs : List Cell) (c : Cell) (i : ℕ) (v : ℕ → A) → Wired K i (c ∷ cs) → Once i (c ∷ cs)
         → ((s : ℕ) → i ≤ s → measure (v s) ≡ 0)
         → measure (in_turn makes i (c ∷ cs) v (i + length cs)) ≤ k * (1 + length cs)
-        + weighedIn (λ s. measure (v s)) (c ∷ cs)
+        + weighed_in (λ s. measure (v s)) (c ∷ cs)
     unfolding in_turn
     measured [] c i v w o none =
         let q : i + 0 ≡ i = omega arith in
@@ -97,14 +97,14 @@ module _ (K : ℕ) where
         let t = makes c v in
         let u : ℕ → A = λ x. cond (eqb x i) (makes c v) (v x) in
         let q : suc i + length cs ≡ i + suc (length cs) = omega arith in
-        let rest = measured cs d (suc i) u w.2 (later-once c (d ∷ cs) i w o)
+        let rest = measured cs d (suc i) u w.2 (later_once c (d ∷ cs) i w o)
         (λ s h. ap (λ (b : Bool). measure (cond b t (v s))) (ne_eqb s i (λ e. omega arith)) ∙ none s (omega arith))
         in
         omega (
           arith,
           rest,
           ap (λ (x : ℕ). measure (in_turn makes (suc i) (d ∷ cs) u x)) q,
-          cells-more (λ s. measure (v s)) (λ s. measure (u s)) i (measure t) (λ s. one s (eqb s i) refl) (d ∷ cs),
+          cells_more (λ s. measure (v s)) (λ s. measure (u s)) i (measure t) (λ s. one s (eqb s i) refl) (d ∷ cs),
           ap (λ (r : ℕ). r * measure t) (first-once c d cs i w o),
           adds c v,
           mul-suc k (1 + length cs),
@@ -123,58 +123,58 @@ module _ (K : ℕ) where
 
 -- ---- the text of one cell
 
-flip-short : (f : Bool) (w : List ℕ) → length (flippedText f w) ≤ 1 + length w
-flip-short true w = omega arith
-flip-short false w = omega arith
+flip_short : (f : Bool) (w : List ℕ) → length (flipped_text f w) ≤ 1 + length w
+flip_short true w = omega arith
+flip_short false w = omega arith
 
-one-short : (a b f : Bool) (w : List ℕ) → length (cond a (48 ∷ []) (cond b (49 ∷ []) (flippedText f w))) ≤ 1 + length w
-one-short true b f w = omega arith
-one-short false true f w = omega arith
-one-short false false f w = flip-short f w
+one_short : (a b f : Bool) (w : List ℕ) → length (cond a (48 ∷ []) (cond b (49 ∷ []) (flipped_text f w))) ≤ 1 + length w
+one_short true b f w = omega arith
+one_short false true f w = omega arith
+one_short false false f w = flip_short f w
 
-two-short : (t : ℕ) (l r : List ℕ) → length (twoText t l r) ≤ 5 + (length l + length r)
-two-short t l r =
-    let a = flippedText (flipsLow t) l in
-    let b = flippedText (flipsHigh t) r in
+two_short : (t : ℕ) (l r : List ℕ) → length (two_text t l r) ≤ 5 + (length l + length r)
+two_short t l r =
+    let a = flipped_text (flips_low t) l in
+    let b = flipped_text (flips_high t) r in
     omega (
       arith,
       length-append a (mark_of t ∷ (b ++ (41 ∷ []))),
       length-append b (41 ∷ []),
-      flip-short (flipsLow t) l,
-      flip-short (flipsHigh t) r,
+      flip_short (flips_low t) l,
+      flip_short (flips_high t) r,
     )
 
-sides-short : (l : List ℕ) (t : ℕ) (v : ℕ → List ℕ) → length (bySides [] oneText twoText l t v) ≤ 5
+sides_short : (l : List ℕ) (t : ℕ) (v : ℕ → List ℕ) → length (by_sides [] one_text two_text l t v) ≤ 5
     + weighed (λ s. length (v s)) l
-sides-short [] t v = omega arith
-sides-short (a ∷ []) t v = omega (arith, one-short (eqb t 0) (eqb t 3) (eqb t 1) (v a))
-sides-short (a ∷ b ∷ l) t v = omega (arith, two-short t (v a) (v b))
+sides_short [] t v = omega arith
+sides_short (a ∷ []) t v = omega (arith, one_short (eqb t 0) (eqb t 3) (eqb t 1) (v a))
+sides_short (a ∷ b ∷ l) t v = omega (arith, two_short t (v a) (v b))
 
 -- ---- the whole text
 
-letter-short : (b : Bool) (j : ℕ) → length (cond b ((97 + j) ∷ []) []) ≤ 1
-letter-short true j = omega arith
-letter-short false j = omega arith
+letter_short : (b : Bool) (j : ℕ) → length (cond b ((97 + j) ∷ []) []) ≤ 1
+letter_short true j = omega arith
+letter_short false j = omega arith
 
-letters-short : (n : ℕ) (l : List ℕ) → weighed (λ s. length (letterText n s)) l ≤ length l
-letters-short n [] = omega arith
-letters-short n (s ∷ l) = omega (arith, letter-short (ltb s n) s, letters-short n l)
+letters_short : (n : ℕ) (l : List ℕ) → weighed (λ s. length (letter_text n s)) l ≤ length l
+letters_short n [] = omega arith
+letters_short n (s ∷ l) = omega (arith, letter_short (ltb s n) s, letters_short n l)
 
-read_short : (n : ℕ) (cs : List Cell) → AllPlain cs → weighedIn (λ s. length (letterText n s)) cs ≤ 2 * length cs
+read_short : (n : ℕ) (cs : List Cell) → AllPlain cs → weighed_in (λ s. length (letter_text n s)) cs ≤ 2 * length cs
 read_short n [] p = omega arith
-read_short n (c ∷ cs) p = omega (arith, letters-short n c.signals, p.0.few, read_short n cs p.1)
+read_short n (c ∷ cs) p = omega (arith, letters_short n c.signals, p.0.few, read_short n cs p.1)
 
 -- seven bytes a cell
-pub text-short : (n K : ℕ) (cs : List Cell) → 1 ≤ length cs → Wired K n cs → Printable n cs
+pub text_short : (n K : ℕ) (cs : List Cell) → 1 ≤ length cs → Wired K n cs → Printable n cs
     → length (printed n cs (n + (length cs - 1))) ≤ 7 * length cs
 unfolding printed
-text-short n K [] some w p = absurd (omega arith)
-text-short n K (c ∷ cs) some w p =
+text_short n K [] some w p = absurd (omega arith)
+text_short n K (c ∷ cs) some w p =
     let q : n + length cs ≡ n + (suc (length cs) - 1) = omega arith in
     omega (
       arith,
-      measured K cellText length 5 (λ c v. sides-short c.signals c.table v) cs c n (letterText n) w p.once
+      measured K cell_text length 5 (λ c v. sides_short c.signals c.table v) cs c n (letter_text n) w p.once
           (λ s h. ap (λ (b : Bool). length (cond b ((97 + s) ∷ []) [])) (le-ltb s n h)),
       read_short n (c ∷ cs) p.plain,
-      ap (λ (x : ℕ). length (in_turn cellText n (c ∷ cs) (letterText n) x)) q,
+      ap (λ (x : ℕ). length (in_turn cell_text n (c ∷ cs) (letter_text n) x)) q,
     )

@@ -9,27 +9,27 @@ use lib.ListN.{length, get_or, length-append}
 use lib.Seq.{sets, length-sets}
 use borrow.Author.Tests.{ne_eqb, lt-ltb}
 use Rattle.sheets.specs.declared.kinds.Edition.{Edition}
-use Rattle.sheets.specs.Edition.{IsEdition, mostRecords}
+use Rattle.sheets.specs.Edition.{IsEdition, most_records}
 use Rattle.sheets.specs.Network.{Cell}
 use Rattle.sheets.specs.Record.{cell_of}
-use Rattle.sheets.specs.Sheet.{recordAt, records, sheetCells}
-use Rattle.sheets.proofs.Places.{record-within}
-use Rattle.sheets.proofs.Wiring.{cells-length}
+use Rattle.sheets.specs.Sheet.{record_at, records, sheet_cells}
+use Rattle.sheets.proofs.Places.{record_within}
+use Rattle.sheets.proofs.Wiring.{cells_length}
 use Rattle.printing.specs.declared.pairs.Pair.{Pair}
-use Rattle.printing.specs.Forms.{mark_of, flipsLow, flipsHigh}
-use Rattle.printing.specs.Print.{bySides, flippedText, oneText, twoText, cellText, letterText, printed}
+use Rattle.printing.specs.Forms.{mark_of, flips_low, flips_high}
+use Rattle.printing.specs.Print.{by_sides, flipped_text, one_text, two_text, cell_text, letter_text, printed}
 use Rattle.printing.specs.Printable.{Plain}
-use Rattle.printing.specs.Pairs.{pairCell}
+use Rattle.printing.specs.Pairs.{pair_cell}
 use Rattle.printing.specs.Put.{Put, Room}
-use Rattle.printing.proofs.Cells.{cell-at, plain_at}
-use Rattle.printing.proofs.Turns.{noCell, cell_at, AlikeAt, turn_below, turn-cell, wired-at}
+use Rattle.printing.proofs.Cells.{cell_at_lem, plain_at}
+use Rattle.printing.proofs.Turns.{no_cell, cell_at, AlikeAt, turn_below, turn-cell, wired_at}
 
 -- ---- one after the other
 
-sets-append : (l : List ℕ) (i : ℕ) (v w : List ℕ) → sets l i (v ++ w) ≡ sets (sets l i v) (i + length v) w
-sets-append l i [] w = ap (λ (k : ℕ). sets l k w) (let e : i ≡ i + 0 = omega arith in e)
-sets-append l i (b ∷ v) w =
-    sets-append _ (suc i) v w ∙ ap (λ (k : ℕ). sets (sets l i (b ∷ v)) k w)
+sets_append : (l : List ℕ) (i : ℕ) (v w : List ℕ) → sets l i (v ++ w) ≡ sets (sets l i v) (i + length v) w
+sets_append l i [] w = ap (λ (k : ℕ). sets l k w) (let e : i ≡ i + 0 = omega arith in e)
+sets_append l i (b ∷ v) w =
+    sets_append _ (suc i) v w ∙ ap (λ (k : ℕ). sets (sets l i (b ∷ v)) k w)
     (let e : suc i + length v ≡ i + suc (length v) = omega arith in e)
 
 pub put-none : (room : List ℕ) (p : ℕ) → Put room p [] room p
@@ -38,7 +38,7 @@ put-none room p = record { bytes = refl; next = omega arith }
 put_then : {a b c : List ℕ} {p q r : ℕ} {v w : List ℕ} → Put a p v b q → Put b q w c r → Put a p (v ++ w) c r
 put_then {a} {b} {c} {p} {q} {r} {v} {w} x y =
     record {
-      bytes = y.bytes ∙ ap₂ (λ (l : List ℕ) (k : ℕ). sets l k w) x.bytes x.next ∙ sym (sets-append a p v w);
+      bytes = y.bytes ∙ ap₂ (λ (l : List ℕ) (k : ℕ). sets l k w) x.bytes x.next ∙ sym (sets_append a p v w);
       next = omega (arith, x.next, y.next, length-append v w);
     }
 
@@ -50,15 +50,15 @@ pub put-length : {a b : List ℕ} {p q : ℕ} {w : List ℕ} → Put a p w b q �
 put-length {a} {b} {p} {q} {w} x = ap length x.bytes ∙ length-sets a p w
 
 -- parts of a text, one after the other
-abbrev pub joinAll : List (List ℕ) → List ℕ
-joinAll [] = []
-joinAll (w ∷ ws) = w ++ joinAll ws
+abbrev pub join_all : List (List ℕ) → List ℕ
+join_all [] = []
+join_all (w ∷ ws) = w ++ join_all ws
 
 -- some of a text is put, and these parts are left
 pub record Stage (room : List ℕ) (p : ℕ) (whole : List ℕ) (rest : List (List ℕ)) (room' : List ℕ) (q : ℕ) : Type 0 where
   pub done : List ℕ
   pub put : Put room p done room' q
-  pub all : done ++ joinAll rest ≡ whole
+  pub all : done ++ join_all rest ≡ whole
   pub fits : p + length whole ≤ length room
 
 pub next : {room room' room'' : List ℕ} {p q r : ℕ} {whole w : List ℕ} {ws : List (List ℕ)}
@@ -68,15 +68,15 @@ next {w = w} {ws = ws} x y =
     record {
       done = x.done ++ w;
       put = put_then x.put y;
-      all = append_assoc x.done w (joinAll ws) ∙ x.all;
+      all = append_assoc x.done w (join_all ws) ∙ x.all;
       fits = x.fits;
     }
 
 -- where what was put is written in another way: a flip, or a byte, that is another's value
 pub next-flipped : {room room' room'' : List ℕ} {p q r : ℕ} {whole : List ℕ} {ws : List (List ℕ)} {f g : Bool}
-    (w : List ℕ) → f ≡ g → Stage room p whole (flippedText g w ∷ ws) room' q → Put room' q (flippedText f w) room'' r
+    (w : List ℕ) → f ≡ g → Stage room p whole (flipped_text g w ∷ ws) room' q → Put room' q (flipped_text f w) room'' r
     → Stage room p whole ws room'' r
-next-flipped w e x y = next x (put_as (ap (λ (t : Bool). flippedText t w) e) y)
+next-flipped w e x y = next x (put_as (ap (λ (t : Bool). flipped_text t w) e) y)
 
 pub next-byte : {room room' room'' : List ℕ} {p q r : ℕ} {whole : List ℕ} {ws : List (List ℕ)} {b d : ℕ} → b ≡ d
     → Stage room p whole ((d ∷ []) ∷ ws) room' q → Put room' q (b ∷ []) room'' r → Stage room p whole ws room'' r
@@ -92,8 +92,8 @@ has_room {room} {room'} {p} {q} {whole} {w} {ws} x =
       ap length x.put.bytes,
       length-sets room p x.done,
       length-append w
-          (joinAll ws),
-      length-append x.done (w ++ joinAll ws),
+          (join_all ws),
+      length-append x.done (w ++ join_all ws),
       ap length x.all,
     )
 
@@ -101,40 +101,40 @@ pub has_one : {room room' : List ℕ} {p q b : ℕ} {whole : List ℕ} {ws : Lis
     → Stage room p whole ((b ∷ []) ∷ ws) room' q → q < length room'
 has_one x = omega (arith, has_room x)
 
-pub all-put : {room room' : List ℕ} {p q : ℕ} {whole : List ℕ} → Stage room p whole [] room' q
+pub all_put : {room room' : List ℕ} {p q : ℕ} {whole : List ℕ} → Stage room p whole [] room' q
     → Put room p whole room' q
-all-put x = put_as (sym (append-nil x.done) ∙ x.all) x.put
+all_put x = put_as (sym (append-nil x.done) ∙ x.all) x.put
 
 -- ---- `!` or nothing
 
-pub flip-room : (f : Bool) (p l : ℕ) → f ≡ true → p + length (flippedText f []) ≤ l → p < l
+pub flip-room : (f : Bool) (p l : ℕ) → f ≡ true → p + length (flipped_text f []) ≤ l → p < l
 flip-room true p l e h = omega arith
 flip-room false p l e h = absurd (let z : ◌≡◌ {A = ℕ} 0 1 = cc in omega arith)
 
-pub flip-yes : {f : Bool} {a b : List ℕ} {p q : ℕ} → f ≡ true → Put a p (33 ∷ []) b q → Put a p (flippedText f []) b q
-flip-yes e x = put_as (ap (λ (t : Bool). flippedText t []) (sym e)) x
+pub flip_yes : {f : Bool} {a b : List ℕ} {p q : ℕ} → f ≡ true → Put a p (33 ∷ []) b q → Put a p (flipped_text f []) b q
+flip_yes e x = put_as (ap (λ (t : Bool). flipped_text t []) (sym e)) x
 
-pub flip-no : {f : Bool} {a : List ℕ} {p : ℕ} → f ≡ false → Put a p (flippedText f []) a p
-flip-no {f} {a} {p} e = put_as (ap (λ (t : Bool). flippedText t []) (sym e)) (put-none a p)
+pub flip_no : {f : Bool} {a : List ℕ} {p : ℕ} → f ≡ false → Put a p (flipped_text f []) a p
+flip_no {f} {a} {p} e = put_as (ap (λ (t : Bool). flipped_text t []) (sym e)) (put-none a p)
 
-flip-first : (f : Bool) (w : List ℕ) → flippedText f [] ++ w ≡ flippedText f w
+flip-first : (f : Bool) (w : List ℕ) → flipped_text f [] ++ w ≡ flipped_text f w
 flip-first true w = refl
 flip-first false w = refl
 
-flip-length : (f : Bool) (w : List ℕ) → length (flippedText f []) ≤ length (flippedText f w)
+flip-length : (f : Bool) (w : List ℕ) → length (flipped_text f []) ≤ length (flipped_text f w)
 flip-length true w = omega arith
 flip-length false w = omega arith
 
 -- ---- the cell of a signal
 
-text-sees : (c : Cell) (v w : ℕ → List ℕ) → AlikeAt c v w → cellText c v ≡ cellText c w
-text-sees c v w = go c.signals
+text_sees : (c : Cell) (v w : ℕ → List ℕ) → AlikeAt c v w → cell_text c v ≡ cell_text c w
+text_sees c v w = go c.signals
   where
     go : (l : List ℕ) → ((j : ℕ) → j < length l → v (get_or l j 0) ≡ w (get_or l j 0))
-        → bySides [] oneText twoText l c.table v ≡ bySides [] oneText twoText l c.table w
+        → by_sides [] one_text two_text l c.table v ≡ by_sides [] one_text two_text l c.table w
     go [] h = refl
-    go (a ∷ []) h = ap (oneText c.table) (h 0 (omega arith))
-    go (a ∷ b ∷ l) h = ap₂ (twoText c.table) (h 0 (omega arith)) (h 1 (omega arith))
+    go (a ∷ []) h = ap (one_text c.table) (h 0 (omega arith))
+    go (a ∷ b ∷ l) h = ap₂ (two_text c.table) (h 0 (omega arith)) (h 1 (omega arith))
 
 module _ {e : Edition} {n : ℕ} {s : List ℕ} {x : ℕ} {flip : Bool} {room : List ℕ} {p : ℕ} (h : Room e n s x flip room p)
   where
@@ -142,43 +142,43 @@ module _ {e : Edition} {n : ℕ} {s : List ℕ} {x : ℕ} {flip : Bool} {room : 
     m = records e s
 
     abbrev text : ℕ → List ℕ
-    text = printed n (sheetCells e s m)
+    text = printed n (sheet_cells e s m)
 
-    pub flip-fits : p + length (flippedText flip []) ≤ length room
-    flip-fits = omega (arith, h.fits, flip-length flip (text x))
+    pub flip_fits : p + length (flipped_text flip []) ≤ length room
+    flip_fits = omega (arith, h.fits, flip-length flip (text x))
 
     -- `!` or nothing is put, and the parts of the text are left
-    begun : {ws : List (List ℕ)} {room' : List ℕ} {q : ℕ} → text x ≡ joinAll ws
-        → Put room p (flippedText flip []) room' q
-        → Stage room p (flippedText flip (text x)) ws room' q
+    begun : {ws : List (List ℕ)} {room' : List ℕ} {q : ℕ} → text x ≡ join_all ws
+        → Put room p (flipped_text flip []) room' q
+        → Stage room p (flipped_text flip (text x)) ws room' q
     begun {ws} t y = record {
-      done = flippedText flip [];
+      done = flipped_text flip [];
       put = y;
-      all = flip-first flip (joinAll ws)
-          ∙ ap (flippedText flip) (sym t);
+      all = flip-first flip (join_all ws)
+          ∙ ap (flipped_text flip) (sym t);
       fits = h.fits;
     }
 
-    letter-text : x < n → text x ≡ (97 + x) ∷ []
+    letter_text_lem : x < n → text x ≡ (97 + x) ∷ []
     unfolding printed
-    letter-text l =
-        turn_below cellText (sheetCells e s m) n (letterText n) x l
+    letter_text_lem l =
+        turn_below cell_text (sheet_cells e s m) n (letter_text n) x l
         ∙ ap (λ (b : Bool). cond b ((97 + x) ∷ []) []) (lt-ltb x n l)
 
-    pub letter-parts : {room' : List ℕ} {q : ℕ} → x < n → Put room p (flippedText flip []) room' q
-        → Stage room p (flippedText flip (text x)) (((97 + x) ∷ []) ∷ []) room' q
-    letter-parts l y = begun {ws = ((97 + x) ∷ []) ∷ []} (letter-text l) y
+    pub letter_parts : {room' : List ℕ} {q : ℕ} → x < n → Put room p (flipped_text flip []) room' q
+        → Stage room p (flipped_text flip (text x)) (((97 + x) ∷ []) ∷ []) room' q
+    letter_parts l y = begun {ws = ((97 + x) ∷ []) ∷ []} (letter_text_lem l) y
 
     -- what its record is asked for
-    pub pair-ready : n ≤ x → IsEdition e × (x - n < mostRecords) × (e.size * (x - n) + e.size ≤ length s)
-        × Plain (cell_of e (recordAt e s (x - n)))
-    pair-ready g =
+    pub pair_ready : n ≤ x → IsEdition e × (x - n < most_records) × (e.size * (x - n) + e.size ≤ length s)
+        × Plain (cell_of e (record_at e s (x - n)))
+    pair_ready g =
         let l = h.signal in
         let q : 0 + (x - n) ≡ x - n = omega arith in (
           h.sheet.sound,
           omega (arith, h.sheet.most),
-          record-within e.size (x - n) m (length s) (omega arith) h.sheet.long,
-          subst (λ (k : ℕ). Plain (cell_of e (recordAt e s k))) q
+          record_within e.size (x - n) m (length s) (omega arith) h.sheet.long,
+          subst (λ (k : ℕ). Plain (cell_of e (record_at e s k))) q
               (plain_at e s m 0 h.sheet.plain (x - n) (omega arith)),
         )
 
@@ -187,93 +187,93 @@ pub record AtCell (e : Edition) (n : ℕ) (s : List ℕ) (x : ℕ) (flip : Bool)
     (room' : List ℕ) (q : ℕ) : Type 0 where
   pub has : Room e n s x flip room p
   pub above : n ≤ x
-  pub cell : pairCell c ≡ cell_of e (recordAt e s (x - n))
-  pub flipped : Put room p (flippedText flip []) room' q
+  pub cell : pair_cell c ≡ cell_of e (record_at e s (x - n))
+  pub flipped : Put room p (flipped_text flip []) room' q
 
 module _ {e : Edition} {n : ℕ} {s : List ℕ} {x : ℕ} {flip : Bool} {room : List ℕ} {p : ℕ} {c : Pair} {room' : List ℕ}
     {q : ℕ} (k : AtCell e n s x flip room p c room' q) where
   abbrev cells : List Cell
-  cells = sheetCells e s (records e s)
+  cells = sheet_cells e s (records e s)
 
   abbrev texts : ℕ → List ℕ
   texts = printed n cells
 
   below : x - n < length cells
-  below = omega (arith, k.above, k.has.signal, cells-length e s 0 (records e s))
+  below = omega (arith, k.above, k.has.signal, cells_length e s 0 (records e s))
 
-  the-cell : cell_at cells (x - n) ≡ pairCell c
-  the-cell =
+  the_cell : cell_at cells (x - n) ≡ pair_cell c
+  the_cell =
       let q : 0 + (x - n) ≡ x - n = omega (arith, k.above) in
-      cell-at e s (records e s) 0 (x - n) noCell (omega (arith, k.above, k.has.signal))
-      ∙ ap (λ (j : ℕ). cell_of e (recordAt e s j)) q ∙ sym k.cell
+      cell_at_lem e s (records e s) 0 (x - n) no_cell (omega (arith, k.above, k.has.signal))
+      ∙ ap (λ (j : ℕ). cell_of e (record_at e s j)) q ∙ sym k.cell
 
-  pair-text : texts x ≡ cellText (pairCell c) texts
+  pair_text : texts x ≡ cell_text (pair_cell c) texts
   unfolding printed
-  pair-text =
+  pair_text =
       let q : x ≡ n + (x - n) = omega (arith, k.above) in
-      ap texts q ∙ turn-cell cellText text-sees e.most cells n (letterText n) k.has.sheet.wired
+      ap texts q ∙ turn-cell cell_text text_sees e.most cells n (letter_text n) k.has.sheet.wired
       (x - n)
-      below ∙ ap (λ (k : Cell). cellText k texts) the-cell
+      below ∙ ap (λ (k : Cell). cell_text k texts) the_cell
 
-  reads-lower : (j : ℕ) → j < length (pairCell c).signals → get_or (pairCell c).signals j 0 < x
+  reads-lower : (j : ℕ) → j < length (pair_cell c).signals → get_or (pair_cell c).signals j 0 < x
   reads-lower j l =
-      let a = subst (λ (d : Cell). (i : ℕ) → i < length d.signals → get_or d.signals i 0 < n + (x - n)) the-cell
-      (wired-at e.most cells n k.has.sheet.wired (x - n) below) in
+      let a = subst (λ (d : Cell). (i : ℕ) → i < length d.signals → get_or d.signals i 0 < n + (x - n)) the_cell
+      (wired_at e.most cells n k.has.sheet.wired (x - n) below) in
       omega (arith, k.above, a j l)
 
   -- ( , ! or not, the lower signal, the mark, ! or not, the other, )
-  pub two-parts : c.two ≡ true → Stage room p (flippedText flip (texts x)) ((40 ∷ [])
-      ∷ flippedText (flipsLow c.table) (texts c.low) ∷ (mark_of c.table ∷ [])
-      ∷ flippedText (flipsHigh c.table) (texts c.high) ∷ (41 ∷ []) ∷ []) room' q
-  two-parts two = begun k.has {ws = (40 ∷ []) ∷ flippedText (flipsLow c.table) (texts c.low)
-      ∷ (mark_of c.table ∷ []) ∷ flippedText (flipsHigh c.table) (texts c.high) ∷ (41 ∷ []) ∷ []}
-      (pair-text ∙ ap (λ (t : Bool). bySides [] oneText twoText (cond t (c.low ∷ c.high ∷ []) (c.low ∷ []))
+  pub two-parts : c.two ≡ true → Stage room p (flipped_text flip (texts x)) ((40 ∷ [])
+      ∷ flipped_text (flips_low c.table) (texts c.low) ∷ (mark_of c.table ∷ [])
+      ∷ flipped_text (flips_high c.table) (texts c.high) ∷ (41 ∷ []) ∷ []) room' q
+  two-parts two = begun k.has {ws = (40 ∷ []) ∷ flipped_text (flips_low c.table) (texts c.low)
+      ∷ (mark_of c.table ∷ []) ∷ flipped_text (flips_high c.table) (texts c.high) ∷ (41 ∷ []) ∷ []}
+      (pair_text ∙ ap (λ (t : Bool). by_sides [] one_text two_text (cond t (c.low ∷ c.high ∷ []) (c.low ∷ []))
       c.table texts) two) k.flipped
 
-  one-text : c.two ≡ false → texts x ≡ oneText c.table (texts c.low)
-  one-text q = pair-text ∙ ap (λ (t : Bool). bySides [] oneText twoText
+  one_text_lem : c.two ≡ false → texts x ≡ one_text c.table (texts c.low)
+  one_text_lem q = pair_text ∙ ap (λ (t : Bool). by_sides [] one_text two_text
       (cond t (c.low ∷ c.high ∷ []) (c.low ∷ []))
       c.table texts) q
 
   -- `0` or `1`
-  pub digit-parts : (b t : ℕ) → oneText t (texts c.low) ≡ b ∷ [] → c.two ≡ false → c.table ≡ t
-      → Stage room p (flippedText flip (texts x)) ((b ∷ []) ∷ []) room' q
+  pub digit-parts : (b t : ℕ) → one_text t (texts c.low) ≡ b ∷ [] → c.two ≡ false → c.table ≡ t
+      → Stage room p (flipped_text flip (texts x)) ((b ∷ []) ∷ []) room' q
   digit-parts b t d one z = begun k.has {ws = (b ∷ []) ∷ []}
-      (one-text one ∙ ap (λ (i : ℕ). oneText i (texts c.low)) z ∙ d) k.flipped
+      (one_text_lem one ∙ ap (λ (i : ℕ). one_text i (texts c.low)) z ∙ d) k.flipped
 
   pub same_parts : c.two ≡ false → (c.table ≡ 0 → ⊥) → (c.table ≡ 3 → ⊥)
-      → Stage room p (flippedText flip (texts x)) (flippedText (eqb c.table 1) (texts c.low) ∷ []) room' q
+      → Stage room p (flipped_text flip (texts x)) (flipped_text (eqb c.table 1) (texts c.low) ∷ []) room' q
   same_parts one t u =
-      let w = flippedText (eqb c.table 1) (texts c.low) in
+      let w = flipped_text (eqb c.table 1) (texts c.low) in
       begun k.has {ws = w ∷ []}
-      (one-text one
+      (one_text_lem one
       ∙ ap₂ (λ (a b : Bool). cond a (48 ∷ []) (cond b (49 ∷ []) w)) (ne_eqb c.table 0 t) (ne_eqb c.table 3 u)
       ∙ sym (append-nil w)) k.flipped
 
   -- a side's room, where its flip is written as f; the signal falls
-  side-room : {y t : ℕ} {f g : Bool} {room'' : List ℕ} {r : ℕ} → y < x → x ≡ t → f ≡ g
-      → r + length (flippedText g (texts y)) ≤ length room'' → (y < t) × Room e n s y f room'' r
-  side-room {y} {t} {f} {g} {room''} {r} l z e h = (
+  side_room : {y t : ℕ} {f g : Bool} {room'' : List ℕ} {r : ℕ} → y < x → x ≡ t → f ≡ g
+      → r + length (flipped_text g (texts y)) ≤ length room'' → (y < t) × Room e n s y f room'' r
+  side_room {y} {t} {f} {g} {room''} {r} l z e h = (
     omega arith,
     record {
       sheet = k.has.sheet;
       signal = omega (arith, k.has.signal);
-      fits = subst (λ (b : Bool). r + length (flippedText b (texts y)) ≤ length room'') (sym e) h;
+      fits = subst (λ (b : Bool). r + length (flipped_text b (texts y)) ≤ length room'') (sym e) h;
     },
   )
 
-  pub low-room : {t : ℕ} {f g : Bool} {room'' : List ℕ} {r : ℕ} → x ≡ t → f ≡ g
-      → r + length (flippedText g (texts c.low)) ≤ length room'' → (c.low < t) × Room e n s c.low f room'' r
-  low-room z e h = side-room (go c.two reads-lower) z e h
+  pub low_room : {t : ℕ} {f g : Bool} {room'' : List ℕ} {r : ℕ} → x ≡ t → f ≡ g
+      → r + length (flipped_text g (texts c.low)) ≤ length room'' → (c.low < t) × Room e n s c.low f room'' r
+  low_room z e h = side_room (go c.two reads-lower) z e h
     where
       go : (b : Bool) → ((j : ℕ) → j < length (cond b (c.low ∷ c.high ∷ []) (c.low ∷ []))
           → get_or (cond b (c.low ∷ c.high ∷ []) (c.low ∷ [])) j 0 < x) → c.low < x
       go true a = a 0 (omega arith)
       go false a = a 0 (omega arith)
 
-  pub high-room : {t : ℕ} {f g : Bool} {room'' : List ℕ} {r : ℕ} → c.two ≡ true → x ≡ t → f ≡ g
-      → r + length (flippedText g (texts c.high)) ≤ length room'' → (c.high < t) × Room e n s c.high f room'' r
-  high-room two z e h = side-room (go c.two two reads-lower) z e h
+  pub high_room : {t : ℕ} {f g : Bool} {room'' : List ℕ} {r : ℕ} → c.two ≡ true → x ≡ t → f ≡ g
+      → r + length (flipped_text g (texts c.high)) ≤ length room'' → (c.high < t) × Room e n s c.high f room'' r
+  high_room two z e h = side_room (go c.two two reads-lower) z e h
     where
       go : (b : Bool) → b ≡ true → ((j : ℕ) → j < length (cond b (c.low ∷ c.high ∷ []) (c.low ∷ []))
           → get_or (cond b (c.low ∷ c.high ∷ []) (c.low ∷ [])) j 0 < x) → c.high < x

@@ -13,12 +13,12 @@ use Rattle.sheets.specs.Network.{Cell, output, run, Wired}
 use Rattle.printing.specs.Print.{in_turn}
 
 -- a cell that stands past the last
-abbrev pub noCell : Cell
-noCell = record { signals = []; table = 0 }
+abbrev pub no_cell : Cell
+no_cell = record { signals = []; table = 0 }
 
 -- cell j of them
 abbrev pub cell_at : List Cell → ℕ → Cell
-cell_at cs j = get_or cs j noCell
+cell_at cs j = get_or cs j no_cell
 
 -- v and w are alike at the signals of a cell
 abbrev pub AlikeAt : {A : Type 0} → Cell → (ℕ → A) → (ℕ → A) → Type 0
@@ -62,13 +62,13 @@ module _ {A B : Type 0} (f : Cell → (ℕ → A) → A) (g : Cell → (ℕ → 
     → ((j : ℕ) → j < length c.signals → get_or c.signals j 0 < i)
     → ((s : ℕ) → s < i → P s (v s) (w s)) → P i (f c v) (g c w)) where
   -- what a cell hands on holds of every signal
-  pub each-signal : (K : ℕ) (cs : List Cell) (i : ℕ) (v : ℕ → A) (w : ℕ → B) → b ≤ i → Each C cs → Wired K i cs
+  pub each_signal : (K : ℕ) (cs : List Cell) (i : ℕ) (v : ℕ → A) (w : ℕ → B) → b ≤ i → Each C cs → Wired K i cs
       → ((s : ℕ) → s < i → P s (v s) (w s))
       → (s : ℕ) → s < i + length cs → P s (in_turn f i cs v s) (in_turn g i cs w s)
   unfolding in_turn
-  each-signal K [] i v w low a k h s l = h s (omega arith)
-  each-signal K (c ∷ cs) i v w low a k h s l =
-      each-signal K cs (suc i) (λ t. cond (eqb t i) (f c v) (v t)) (λ t. cond (eqb t i) (g c w) (w t)) (omega arith)
+  each_signal K [] i v w low a k h s l = h s (omega arith)
+  each_signal K (c ∷ cs) i v w low a k h s l =
+      each_signal K cs (suc i) (λ t. cond (eqb t i) (f c v) (v t)) (λ t. cond (eqb t i) (g c w) (w t)) (omega arith)
       a.1 k.2
       (λ t q. one t q (eqb t i) refl) s (omega arith)
     where
@@ -87,17 +87,17 @@ run-turn (c ∷ cs) o p v h =
     run-turn cs (output c v) (suc p) u (ap (λ (t : Bool). cond t (output c v) (v (suc p)))
     (eq-eqb (suc p) (suc p) refl)) ∙ ap (in_turn output (suc (suc p)) cs u) q
 
-pub run-last : (c : Cell) (cs : List Cell) (n : ℕ) (v : ℕ → Bool) → run false n (c ∷ cs) v
+pub run_last : (c : Cell) (cs : List Cell) (n : ℕ) (v : ℕ → Bool) → run false n (c ∷ cs) v
     ≡ in_turn output n (c ∷ cs) v (n + length cs)
 unfolding run in_turn
-run-last c cs n v =
+run_last c cs n v =
     run-turn cs (output c v) n (λ t. cond (eqb t n) (output c v) (v t))
     (ap (λ (t : Bool). cond t (output c v) (v n)) (eq-eqb n n refl))
 
 -- a wired cell reads lower signals
-pub wired-at : (K : ℕ) (cs : List Cell) (i : ℕ) → Wired K i cs → (j : ℕ) → j < length cs → (k : ℕ) → k
+pub wired_at : (K : ℕ) (cs : List Cell) (i : ℕ) → Wired K i cs → (j : ℕ) → j < length cs → (k : ℕ) → k
     < length (cell_at cs j).signals
     → get_or (cell_at cs j).signals k 0 < i + j
-wired-at K [] i w j h k l = absurd (omega arith)
-wired-at K (c ∷ cs) i w zero h k l = omega (arith, w.1 k l)
-wired-at K (c ∷ cs) i w (suc j) h k l = omega (arith, wired-at K cs (suc i) w.2 j (omega arith) k l)
+wired_at K [] i w j h k l = absurd (omega arith)
+wired_at K (c ∷ cs) i w zero h k l = omega (arith, w.1 k l)
+wired_at K (c ∷ cs) i w (suc j) h k l = omega (arith, wired_at K cs (suc i) w.2 j (omega arith) k l)

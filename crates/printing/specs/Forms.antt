@@ -7,9 +7,9 @@ abbrev pub mark_of : ℕ → ℕ
 mark_of t = get_or (0 ∷ 38 ∷ 38 ∷ 0 ∷ 38 ∷ 0 ∷ 94 ∷ 124 ∷ 38 ∷ 94 ∷ 0 ∷ 124 ∷ 0 ∷ 124 ∷ 124 ∷ 0 ∷ []) t 0
 
 -- whether L has `!` before it
-abbrev pub flipsLow : ℕ → Bool
-flipsLow t = eqb (get_or (0 ∷ 1 ∷ 0 ∷ 0 ∷ 1 ∷ 0 ∷ 0 ∷ 1 ∷ 0 ∷ 0 ∷ 0 ∷ 0 ∷ 0 ∷ 1 ∷ 0 ∷ 0 ∷ []) t 0) 1
+abbrev pub flips_low : ℕ → Bool
+flips_low t = eqb (get_or (0 ∷ 1 ∷ 0 ∷ 0 ∷ 1 ∷ 0 ∷ 0 ∷ 1 ∷ 0 ∷ 0 ∷ 0 ∷ 0 ∷ 0 ∷ 1 ∷ 0 ∷ 0 ∷ []) t 0) 1
 
 -- whether R has
-abbrev pub flipsHigh : ℕ → Bool
-flipsHigh t = eqb (get_or (0 ∷ 1 ∷ 1 ∷ 0 ∷ 0 ∷ 0 ∷ 0 ∷ 1 ∷ 0 ∷ 1 ∷ 0 ∷ 1 ∷ 0 ∷ 0 ∷ 0 ∷ 0 ∷ []) t 0) 1
+abbrev pub flips_high : ℕ → Bool
+flips_high t = eqb (get_or (0 ∷ 1 ∷ 1 ∷ 0 ∷ 0 ∷ 0 ∷ 0 ∷ 1 ∷ 0 ∷ 1 ∷ 0 ∷ 1 ∷ 0 ∷ 0 ∷ 0 ∷ 0 ∷ []) t 0) 1

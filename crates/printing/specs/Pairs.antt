@@ -4,5 +4,5 @@ use Rattle.sheets.specs.Network.{Cell}
 use Rattle.printing.specs.declared.pairs.Pair.{Pair}
 
 -- the cell of two signals, or of one
-abbrev pub pairCell : Pair → Cell
-pairCell p = record { signals = cond p.two (p.low ∷ p.high ∷ []) (p.low ∷ []); table = p.table }
+abbrev pub pair_cell : Pair → Cell
+pair_cell p = record { signals = cond p.two (p.low ∷ p.high ∷ []) (p.low ∷ []); table = p.table }

@@ -6,8 +6,8 @@ use Rattle.tables.specs.Depends.{DependsOn}
 use Rattle.sheets.specs.declared.kinds.Edition.{Edition}
 use Rattle.sheets.specs.Network.{Cell}
 use Rattle.sheets.specs.Reading.{reads}
-use Rattle.sheets.specs.Sheet.{records, sheetCells}
-use Rattle.refusals.specs.Numbers.{ofText}
+use Rattle.sheets.specs.Sheet.{records, sheet_cells}
+use Rattle.refusals.specs.Numbers.{of_text}
 use Rattle.refusals.specs.Lines.{Line, line}
 use Rattle.printing.specs.Forms.{mark_of}
 
@@ -31,20 +31,20 @@ pub record Printable (n : ℕ) (cs : List Cell) : Type 0 where
 -- ---- the same as tests
 
 -- whether a cell is plain: it reads one signal, or two and has a printed form
-abbrev pub plainCell : Cell → Bool
-plainCell c = eqb (length c.signals) 1 || (eqb (length c.signals) 2 && ltb 0 (mark_of c.table))
+abbrev pub plain_cell : Cell → Bool
+plain_cell c = eqb (length c.signals) 1 || (eqb (length c.signals) 2 && ltb 0 (mark_of c.table))
 
 -- whether all are
-abbrev pub allPlain : List Cell → Bool
-allPlain [] = true
-allPlain (c ∷ cs) = plainCell c && allPlain cs
+abbrev pub all_plain_lem : List Cell → Bool
+all_plain_lem [] = true
+all_plain_lem (c ∷ cs) = plain_cell c && all_plain_lem cs
 
 -- each cell but the last is read once
-abbrev pub onceRead : ℕ → List Cell → Bool
-onceRead n cs = every (length cs - 1) (λ i. eqb (reads (n + i) cs) 1)
+abbrev pub once_read : ℕ → List Cell → Bool
+once_read n cs = every (length cs - 1) (λ i. eqb (reads (n + i) cs) 1)
 
 -- 16: any other sheet; place 0 is named
-abbrev pub notPrinted : Edition → ℕ → List ℕ → Line
-notPrinted e n s =
-    let cs = sheetCells e s (records e s) in
-    line ofText (not (allPlain cs && onceRead n cs))
+abbrev pub not_printed : Edition → ℕ → List ℕ → Line
+not_printed e n s =
+    let cs = sheet_cells e s (records e s) in
+    line of_text (not (all_plain_lem cs && once_read n cs))

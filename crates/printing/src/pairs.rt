@@ -1,19 +1,19 @@
 // Cells of one or two signals, and how their tables are printed.
 ghost use Rattle.std.specs.Prelude.{◌≡◌, ◌+◌, ◌*◌, ◌<◌, ◌≤◌, length};
 ghost use Rattle.bits.specs.Numbers.{val};
-ghost use Rattle.sheets.specs.Edition.{IsEdition, mostRecords};
+ghost use Rattle.sheets.specs.Edition.{IsEdition, most_records};
 ghost use Rattle.sheets.specs.Record.{byte_at, cell_of};
-ghost use Rattle.sheets.specs.Sheet.{recordAt};
+ghost use Rattle.sheets.specs.Sheet.{record_at};
 ghost use Rattle.sheets.specs.Reading.{times};
-ghost use Rattle.printing.specs.Forms.{mark_of, flipsLow, flipsHigh};
-ghost use Rattle.printing.specs.Printable.{Plain, plainCell};
-ghost use Rattle.printing.specs.Pairs.{pairCell};
+ghost use Rattle.printing.specs.Forms.{mark_of, flips_low, flips_high};
+ghost use Rattle.printing.specs.Printable.{Plain, plain_cell};
+ghost use Rattle.printing.specs.Pairs.{pair_cell};
 
 use records::rules::record_of;
 use sheets::kinds::Edition;
 
 // The lower signal, the other if there are two, and the table.
-#[derive(Drop)]
+#[derive(Clone, Copy)]
 pub struct Pair {
     pub two: bool,
     pub low: usize,
@@ -38,14 +38,14 @@ pub fn mark(t: usize) -> u8
 
 pub fn flips_low(t: usize) -> bool
     requires { t < 16 }
-    ensures { result ≡ flipsLow t }
+    ensures { result ≡ flips_low t }
 {
     FLIPS_LOW[t] == 1
 }
 
 pub fn flips_high(t: usize) -> bool
     requires { t < 16 }
-    ensures { result ≡ flipsHigh t }
+    ensures { result ≡ flips_high t }
 {
     FLIPS_HIGH[t] == 1
 }
@@ -53,7 +53,7 @@ pub fn flips_high(t: usize) -> bool
 // Whether a record reads one signal, or two and depends on both.
 pub fn plain(e: Edition, b: &[u8]) -> bool
     requires { IsEdition e × (length b.now ≡ e.size) }
-    ensures { result ≡ plainCell (cell_of e (byte_at b.now)) }
+    ensures { result ≡ plain_cell (cell_of e (byte_at b.now)) }
 {
     let k = b[0];
     if k == 1 {
@@ -70,7 +70,7 @@ pub fn plain(e: Edition, b: &[u8]) -> bool
 // The cell of such a record.
 fn pair_in(e: Edition, b: &[u8]) -> Pair
     requires { IsEdition e × (length b.now ≡ e.size) × Plain (cell_of e (byte_at b.now)) }
-    ensures { (pairCell result ≡ cell_of e (byte_at b.now)) × (result.table < 16) }
+    ensures { (pair_cell result ≡ cell_of e (byte_at b.now)) × (result.table < 16) }
 {
     let start = e.start;
     let k = b[0];
@@ -95,9 +95,9 @@ fn pair_in(e: Edition, b: &[u8]) -> Pair
 
 // The cell of record i.
 pub fn pair_of(e: Edition, s: &[u8], i: usize) -> Pair
-    requires { IsEdition e × (i < mostRecords) × (e.size * i + e.size ≤ length s.now)
-        × Plain (cell_of e (recordAt e s.now i)) }
-    ensures { (pairCell result ≡ cell_of e (recordAt e s.now i)) × (result.table < 16) }
+    requires { IsEdition e × (i < most_records) × (e.size * i + e.size ≤ length s.now)
+        × Plain (cell_of e (record_at e s.now i)) }
+    ensures { (pair_cell result ≡ cell_of e (record_at e s.now i)) × (result.table < 16) }
 {
     pair_in(e, record_of(e, s, i))
 }
@@ -114,7 +114,7 @@ fn one_if(t: bool) -> usize
 
 // How often it reads signal x.
 pub fn times_in(p: Pair, x: usize) -> usize
-    ensures { (result ≡ times x (pairCell p).signals) × (result ≤ 2) }
+    ensures { (result ≡ times x (pair_cell p).signals) × (result ≤ 2) }
 {
     let low = one_if(x == p.low);
     if p.two {

@@ -1,11 +1,11 @@
 // Whether a sheet is printed: its records read one or two signals, depend on both of two, and but for the last are each
 // read once.
 ghost use Rattle.std.specs.Prelude.{◌≡◌, ◌&&◌, ◌+◌, ◌*◌, ◌<◌, ◌≤◌, length};
-ghost use Rattle.tables.specs.Table.{mostInputs};
-ghost use Rattle.sheets.specs.Edition.{IsEdition, mostRecords};
-ghost use Rattle.sheets.specs.Sheet.{sheetCells};
+ghost use Rattle.tables.specs.Table.{most_inputs};
+ghost use Rattle.sheets.specs.Edition.{IsEdition, most_records};
+ghost use Rattle.sheets.specs.Sheet.{sheet_cells};
 ghost use Rattle.sheets.specs.Reading.{reads};
-ghost use Rattle.printing.specs.Printable.{AllPlain, allPlain, onceRead};
+ghost use Rattle.printing.specs.Printable.{AllPlain, all_plain, once_read};
 
 use crate::pairs::{pair_of, plain, times_in};
 use records::rules::record_of;
@@ -13,8 +13,8 @@ use sheets::kinds::Edition;
 
 // Whether each of m records is plain.
 fn all_plain(e: Edition, s: &[u8], m: usize) -> bool
-    requires { IsEdition e × (m ≤ mostRecords) × (e.size * m ≤ length s.now) }
-    ensures { result ≡ allPlain (sheetCells e s.now m) }
+    requires { IsEdition e × (m ≤ most_records) × (e.size * m ≤ length s.now) }
+    ensures { result ≡ all_plain (sheet_cells e s.now m) }
 {
     let mut i = 0;
     while i < m {
@@ -28,8 +28,8 @@ fn all_plain(e: Edition, s: &[u8], m: usize) -> bool
 
 // How often m plain records read signal x.
 fn reads_in(e: Edition, s: &[u8], m: usize, x: usize) -> usize
-    requires { IsEdition e × (m ≤ mostRecords) × (e.size * m ≤ length s.now) × AllPlain (sheetCells e s.now m) }
-    ensures { result ≡ reads x (sheetCells e s.now m) }
+    requires { IsEdition e × (m ≤ most_records) × (e.size * m ≤ length s.now) × AllPlain (sheet_cells e s.now m) }
+    ensures { result ≡ reads x (sheet_cells e s.now m) }
 {
     let mut c = 0;
     let mut i = 0;
@@ -42,9 +42,9 @@ fn reads_in(e: Edition, s: &[u8], m: usize, x: usize) -> usize
 
 // Whether each of m plain records but the last is read once.
 fn once_read(e: Edition, n: u32, s: &[u8], m: usize) -> bool
-    requires edition { IsEdition e × (m ≤ mostRecords) × (e.size * m ≤ length s.now) × AllPlain (sheetCells e s.now m) }
-    requires le_m { (1 ≤ m) × (n ≤ mostInputs) }
-    ensures { result ≡ onceRead n (sheetCells e s.now m) }
+    requires edition { IsEdition e × (m ≤ most_records) × (e.size * m ≤ length s.now) × AllPlain (sheet_cells e s.now m) }
+    requires le_m { (1 ≤ m) × (n ≤ most_inputs) }
+    ensures { result ≡ once_read n (sheet_cells e s.now m) }
 {
     let last = m - 1;
     let mut i = 0;
@@ -59,8 +59,8 @@ fn once_read(e: Edition, n: u32, s: &[u8], m: usize) -> bool
 
 // Whether a sheet of m records is printed.
 pub fn is_printed(e: Edition, n: u32, s: &[u8], m: usize) -> bool
-    requires { IsEdition e × (m ≤ mostRecords) × (e.size * m ≤ length s.now) × (1 ≤ m) × (n ≤ mostInputs) }
-    ensures { result ≡ (allPlain (sheetCells e s.now m) && onceRead n (sheetCells e s.now m)) }
+    requires { IsEdition e × (m ≤ most_records) × (e.size * m ≤ length s.now) × (1 ≤ m) × (n ≤ most_inputs) }
+    ensures { result ≡ (all_plain (sheet_cells e s.now m) && once_read n (sheet_cells e s.now m)) }
 {
     if !all_plain(e, s, m) {
         return false;

@@ -1,7 +1,7 @@
 // The writer of a signal: a letter or a cell, each side of a cell by the same rule again.
 ghost use Rattle.std.specs.Prelude.{[], ◌∷◌, ◌+◌, ◌<◌, ◌≤◌, length};
-ghost use Rattle.sheets.specs.Sheet.{records, sheetCells};
-ghost use Rattle.printing.specs.Print.{flippedText, printed};
+ghost use Rattle.sheets.specs.Sheet.{records, sheet_cells};
+ghost use Rattle.printing.specs.Print.{flipped_text, printed};
 ghost use Rattle.printing.specs.Put.{Put, Room};
 
 use crate::pairs::{flips_high, flips_low, mark, pair_of};
@@ -18,8 +18,8 @@ fn put(room: &mut [u8], at: usize, b: u8) -> usize
 
 // `!` or nothing.
 fn put_flip(room: &mut [u8], at: usize, flip: bool) -> usize
-    requires { at + length (flippedText flip []) ≤ length room.old }
-    ensures { Put room.old at (flippedText flip []) room.new result }
+    requires { at + length (flipped_text flip []) ≤ length room.old }
+    ensures { Put room.old at (flipped_text flip []) room.new result }
 {
     if flip {
         return put(room, at, b'!');
@@ -39,7 +39,7 @@ pub fn write(
 ) -> usize
     requires { Room e n s.now x flip room.old at }
     ensures { Put room.old at
-        (flippedText flip (printed n (sheetCells e s.now (records e s.now)) x))
+        (flipped_text flip (printed n (sheet_cells e s.now (records e s.now)) x))
         room.new result }
 {
     let from = put_flip(room, at, flip);

@@ -1,8 +1,8 @@
 // Writing a sheet as a formula into a lent room.
 ghost use Rattle.std.specs.Prelude.{◌≡◌};
-ghost use Rattle.sheets.specs.Edition.{IsEdition, firstEdition};
+ghost use Rattle.sheets.specs.Edition.{IsEdition, first_edition};
 ghost use Rattle.refusals.specs.Lines.{verdict};
-ghost use Rattle.printing.specs.WriteFormula.{writeLines, writeOutcome, writeOwn};
+ghost use Rattle.printing.specs.WriteFormula.{write_lines, write_outcome, write_own};
 
 use crate::printed::is_printed;
 use crate::signals::write;
@@ -13,7 +13,7 @@ use refusals::verdicts::{Refusal, Verdict, refuse};
 use sheets::kinds::Edition;
 
 // The text's length, if nothing is wrong.
-#[derive(Drop)]
+#[derive(Clone, Copy)]
 pub struct WriteAnswer {
     pub verdict: Verdict,
     pub length: usize,
@@ -22,7 +22,7 @@ pub struct WriteAnswer {
 // Lines 1, 6, 9, 10 and 16.
 fn write_form<'a>(e: Edition, d: u8, n: u64, s: &'a [u8], room: &'a [u8]) -> Verdict
     requires { IsEdition e }
-    ensures { result ≡ verdict (writeLines e d n s.now room.now) }
+    ensures { result ≡ verdict (write_lines e d n s.now room.now) }
 {
     if form::bad_inputs(n) {
         return refuse(Refusal::INPUTS);
@@ -45,7 +45,7 @@ fn write_form<'a>(e: Edition, d: u8, n: u64, s: &'a [u8], room: &'a [u8]) -> Ver
 // Writes a sheet of an edition, which is to be the desk d's.
 pub fn write_in(e: Edition, d: u8, n: u64, s: &[u8], room: &mut [u8]) -> WriteAnswer
     requires { IsEdition e }
-    ensures { record { answer = result; room = room.new } ≡ writeOutcome e d n s.now room.old }
+    ensures { record { answer = result; room = room.new } ≡ write_outcome e d n s.now room.old }
 {
     let form = write_form(e, d, n, s, room);
     let Verdict::Fine = form else {
@@ -66,7 +66,7 @@ pub fn write_in(e: Edition, d: u8, n: u64, s: &[u8], room: &mut [u8]) -> WriteAn
 // Writes a sheet of n inputs, whatever its desk, as a formula into a lent room.
 pub fn write_formula(n: u64, s: &[u8], room: &mut [u8]) -> WriteAnswer
     ensures { record { answer = result; room = room.new }
-        ≡ writeOwn firstEdition n s.now room.old }
+        ≡ write_own first_edition n s.now room.old }
 {
     let e = Edition::first();
     write_in(e, desk_of(e, s), n, s, room)

@@ -8,43 +8,43 @@ use lib.ListN.{length, get_or, drop, set, replicate, length-append, length-drop}
 use lib.Seq.{take_all}
 use borrow.Rule.Slice.PartMut.{put_mid, mid_of}
 use Rattle.sheets.specs.declared.kinds.Edition.{Edition}
-use Rattle.sheets.specs.Edition.{recordSize, firstEdition}
+use Rattle.sheets.specs.Edition.{record_size, first_edition}
 use Rattle.sheets.specs.Network.{Cell}
-use Rattle.sheets.specs.Writing.{sheetBytes}
+use Rattle.sheets.specs.Writing.{sheet_bytes}
 use Rattle.sheets.proofs.Wholes.{length-sheet}
-use Rattle.tables.specs.Work.{workLength}
+use Rattle.tables.specs.Work.{work_length}
 use Rattle.refusals.specs.declared.verdicts.Verdict.{Verdict}
 use Rattle.refusals.specs.declared.verdicts.Verdict.TheVariants.{Fine, Refused}
 use Rattle.refusals.specs.Lent.{into}
 use Rattle.refusals.specs.Lines.{verdict, number_of, reply}
 use Rattle.making.specs.declared.make_sheet.MakeAnswer.{MakeAnswer}
-use Rattle.making.specs.MakeSheet.{MakeOutcome, sheetFor, cells_in, makeLines, makeDone, makeNot, makeOutcome}
-use Rattle.programs.specs.BenchProgram.{mostWritten, asked, ProgramOutcome, shown, programOutcome}
+use Rattle.making.specs.MakeSheet.{MakeOutcome, sheet_for, cells_in, make_lines, make_done, make_not, make_outcome}
+use Rattle.programs.specs.BenchProgram.{most_written, asked, ProgramOutcome, shown, program_outcome}
 
 -- ---- the records made stand in the room for the sheet, so what is to be written stands in the room handed over
 
 -- a room that some bytes begin is as long as they are
-pub long-enough : (bytes room : List ℕ) → length bytes ≤ length (into bytes room)
-long-enough bytes room = omega (arith, length-append bytes (drop (length bytes) room))
+pub long_enough : (bytes room : List ℕ) → length bytes ≤ length (into bytes room)
+long_enough bytes room = omega (arith, length-append bytes (drop (length bytes) room))
 
 abbrev Fit : Edition → MakeOutcome → Type 0
 Fit e o = e.size * o.answer.count ≤ length o.sheet
 
 fit : (e : Edition) (d : ℕ) (cs : List Cell) (sheet work : List ℕ) (v : Verdict)
-    → Fit e (reply v (makeDone e d cs sheet work) (makeNot sheet work))
-fit e d cs sheet work Fine = omega (arith, length-sheet e d cs, long-enough (sheetBytes e d cs) sheet)
+    → Fit e (reply v (make_done e d cs sheet work) (make_not sheet work))
+fit e d cs sheet work Fine = omega (arith, length-sheet e d cs, long_enough (sheet_bytes e d cs) sheet)
 fit e d cs sheet work (Refused r) = omega arith
 
-make-fits : (e : Edition) (d n K : ℕ) (t sheet work : List ℕ) → Fit e (makeOutcome e d n K t sheet work)
-unfolding makeOutcome
-make-fits e d n K t sheet work =
-    fit e d (cells_in (sheetFor n K t)) sheet work (verdict (makeLines e d n K t sheet work))
+make_fits : (e : Edition) (d n K : ℕ) (t sheet work : List ℕ) → Fit e (make_outcome e d n K t sheet work)
+unfolding make_outcome
+make_fits e d n K t sheet work =
+    fit e d (cells_in (sheet_for n K t)) sheet work (verdict (make_lines e d n K t sheet work))
 
 pub within : {count : ℕ} {out work : List ℕ} (input : List ℕ)
-    → record { count = count; out = out; work = work } ≡ programOutcome input → count ≤ length out
+    → record { count = count; out = out; work = work } ≡ program_outcome input → count ≤ length out
 unfolding asked
 within input q =
-    let f : Fit firstEdition (asked input) = make-fits firstEdition 0 _ _ _ _ _ in
+    let f : Fit first_edition (asked input) = make_fits first_edition 0 _ _ _ _ _ in
     subst (λ (o : ProgramOutcome). o.count ≤ length o.out) (sym q) (omega arith)
 
 -- ---- both rooms cleared, make asked what the input asks, and its number stored in front of the part that it was lent
@@ -54,23 +54,23 @@ pub rest : (a : ℕ) (xs : List ℕ) → mid_of a (length xs - a) xs ≡ drop a 
 rest a xs = take_all (length xs - a) (drop a xs) (omega (arith, length-drop a xs))
 
 module _ (input out work o w ys ws : List ℕ) (n k start number : ℕ) (answer : MakeAnswer)
-    (long : length out ≡ mostWritten) (area : length work ≡ workLength)
+    (long : length out ≡ most_written) (area : length work ≡ work_length)
     (cleared : o ≡ replicate (length out) 0) (blank : w ≡ replicate (length work) 0)
     (inputs : n ≡ get_or input 0 0) (cell : k ≡ get_or input 1 0) (table : drop start input ≡ drop 2 input) where
   front : set (put_mid 1 (length o - 1) o ys) 0 number ≡ number ∷ ys
   front = rw (cleared, long) (ap (λ (l : List ℕ). number ∷ l) (append-nil ys))
 
-  same-question : makeOutcome firstEdition 0 n k (mid_of start (length input - start) input) (mid_of 1 (length o - 1) o) w
+  same_question : make_outcome first_edition 0 n k (mid_of start (length input - start) input) (mid_of 1 (length o - 1) o) w
       ≡ asked input
   unfolding asked
-  same-question = rw (inputs, cell, rest start input, table, cleared, long, blank, area)
+  same_question = rw (inputs, cell, rest start input, table, cleared, long, blank, area)
 
   pub handed : record { answer = answer; sheet = ys; work = ws }
-      ≡ makeOutcome firstEdition 0 n k (mid_of start (length input - start) input) (mid_of 1 (length o - 1) o) w
+      ≡ make_outcome first_edition 0 n k (mid_of start (length input - start) input) (mid_of 1 (length o - 1) o) w
       → number ≡ number_of answer.verdict
-      → record { count = 1 + recordSize * answer.count; out = set (put_mid 1 (length o - 1) o ys) 0 number; work = ws }
-      ≡ programOutcome input
+      → record { count = 1 + record_size * answer.count; out = set (put_mid 1 (length o - 1) o ys) 0 number; work = ws }
+      ≡ program_outcome input
   handed made v =
-      ap (λ (l : List ℕ). record { count = 1 + recordSize * answer.count; out = l; work = ws })
+      ap (λ (l : List ℕ). record { count = 1 + record_size * answer.count; out = l; work = ws })
       (front ∙ ap (λ (a : ℕ). a ∷ ys) v)
-      ∙ ap shown (made ∙ same-question)
+      ∙ ap shown (made ∙ same_question)

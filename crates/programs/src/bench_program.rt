@@ -1,8 +1,8 @@
 // The bench program but for its reading and writing: n, K and the table come in as bytes, and the answer number and
 // the sheet go out.
 ghost use Rattle.std.specs.Prelude.{◌≡◌, ◌≤◌, length, get_or, take, drop};
-ghost use Rattle.tables.specs.Work.{workLength};
-ghost use Rattle.programs.specs.BenchProgram.{mostWritten, programOutcome};
+ghost use Rattle.tables.specs.Work.{work_length};
+ghost use Rattle.programs.specs.BenchProgram.{most_written, program_outcome};
 
 use making::make_sheet::make_sheet;
 use refusals::verdicts::number_of;
@@ -33,8 +33,8 @@ pub fn cut_at(s: &[u8], i: usize) -> usize
 // Answers the input into the first bytes of out; how many they are. Both rooms are cleared first, so that nothing of
 // what they held matters.
 pub fn answer_input(input: &[u8], out: &mut [u8], work: &mut [u8]) -> usize
-    requires { (length out.old ≡ mostWritten) × (length work.old ≡ workLength) }
-    ensures { record { count = result; out = out.new; work = work.new } ≡ programOutcome input.now }
+    requires { (length out.old ≡ most_written) × (length work.old ≡ work_length) }
+    ensures { record { count = result; out = out.new; work = work.new } ≡ program_outcome input.now }
 {
     clear(out);
     clear(work);

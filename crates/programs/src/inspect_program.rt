@@ -1,9 +1,9 @@
 // The inspecting program but for its reading and writing: n, the table and the sheet come in as bytes, and the answer
 // number and the place go out in decimal.
 ghost use Rattle.std.specs.Prelude.{◌≡◌, ◌≤◌, length};
-ghost use Rattle.tables.specs.Table.{mostInputs, tableLength};
+ghost use Rattle.tables.specs.Table.{most_inputs, table_length};
 ghost use Rattle.refusals.specs.Lent.{into};
-ghost use Rattle.programs.specs.InspectProgram.{decimal, inspected, mostWritten, programOutcome};
+ghost use Rattle.programs.specs.InspectProgram.{decimal, inspected, most_written, program_outcome};
 
 use crate::bench_program::{byte_or_zero, cut_at};
 use inspection::check_sheet::check_sheet;
@@ -18,7 +18,7 @@ pub const MOST_WRITTEN: usize = 24;
 
 // How many bytes the table of n inputs has; where n is too large any number will do, since that is refused first.
 fn table_bytes(n: u64) -> usize
-    ensures { n ≤ mostInputs → result ≡ tableLength n }
+    ensures { n ≤ most_inputs → result ≡ table_length n }
 {
     if n > tables::MOST_INPUTS as u64 {
         return 0;
@@ -54,8 +54,8 @@ fn write_decimal(x: u64, out: &mut [u8]) -> usize
 // Answers the input into the first bytes of out; how many they are. The room is cleared first, so that nothing of what
 // it held matters.
 pub fn answer_input(input: &[u8], out: &mut [u8]) -> usize
-    requires { length out.old ≡ mostWritten }
-    ensures { record { count = result; out = out.new } ≡ programOutcome input.now }
+    requires { length out.old ≡ most_written }
+    ensures { record { count = result; out = out.new } ≡ program_outcome input.now }
 {
     clear(out);
     let verdict = inspect(input);

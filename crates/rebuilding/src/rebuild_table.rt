@@ -1,8 +1,8 @@
 // Rebuilding a table from a sheet.
 ghost use Rattle.std.specs.Prelude.{◌≡◌};
-ghost use Rattle.sheets.specs.Edition.{IsEdition, firstEdition};
+ghost use Rattle.sheets.specs.Edition.{IsEdition, first_edition};
 ghost use Rattle.refusals.specs.Lines.{verdict};
-ghost use Rattle.rebuilding.specs.RebuildTable.{rebuildLines, rebuildOutcome, rebuildOwn};
+ghost use Rattle.rebuilding.specs.RebuildTable.{rebuild_lines, rebuild_outcome, rebuild_own};
 
 use records::desk::desk_of;
 use refusals::form;
@@ -13,7 +13,7 @@ use sheets::kinds::Edition;
 // Lines 1, 3, 9, 10 and 15.
 fn rebuild_form<'a>(e: Edition, d: u8, n: u64, s: &'a [u8], table: &'a [u8]) -> Verdict
     requires { IsEdition e }
-    ensures { result ≡ verdict (rebuildLines e d n s.now table.now) }
+    ensures { result ≡ verdict (rebuild_lines e d n s.now table.now) }
 {
     let seen = form::sized(n, table);
     let Verdict::Fine = seen else {
@@ -26,7 +26,7 @@ fn rebuild_form<'a>(e: Edition, d: u8, n: u64, s: &'a [u8], table: &'a [u8]) -> 
 pub fn rebuild_in(e: Edition, d: u8, n: u64, s: &[u8], table: &mut [u8]) -> Verdict
     requires { IsEdition e }
     ensures { record { verdict = result; table = table.new }
-        ≡ rebuildOutcome e d n s.now table.old }
+        ≡ rebuild_outcome e d n s.now table.old }
 {
     let form = rebuild_form(e, d, n, s, table);
     let Verdict::Fine = form else {
@@ -41,7 +41,7 @@ pub fn rebuild_in(e: Edition, d: u8, n: u64, s: &[u8], table: &mut [u8]) -> Verd
 pub fn rebuild_own(e: Edition, n: u64, s: &[u8], table: &mut [u8]) -> Verdict
     requires { IsEdition e }
     ensures { record { verdict = result; table = table.new }
-        ≡ rebuildOwn e n s.now table.old }
+        ≡ rebuild_own e n s.now table.old }
 {
     rebuild_in(e, desk_of(e, s), n, s, table)
 }
@@ -49,7 +49,7 @@ pub fn rebuild_own(e: Edition, n: u64, s: &[u8], table: &mut [u8]) -> Verdict
 // Rebuilds the table of a sheet, whatever its desk, into a lent one.
 pub fn rebuild_table(n: u64, s: &[u8], table: &mut [u8]) -> Verdict
     ensures { record { verdict = result; table = table.new }
-        ≡ rebuildOwn firstEdition n s.now table.old }
+        ≡ rebuild_own first_edition n s.now table.old }
 {
     rebuild_own(Edition::first(), n, s, table)
 }

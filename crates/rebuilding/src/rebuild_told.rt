@@ -1,6 +1,6 @@
 // Rebuilding a table from a sheet of a told edition.
 ghost use Rattle.std.specs.Prelude.{◌≡◌};
-ghost use Rattle.rebuilding.specs.RebuildTold.{rebuildTold};
+ghost use Rattle.rebuilding.specs.RebuildTold.{rebuild_told};
 
 use crate::rebuild_table::rebuild_own;
 use refusals::form;
@@ -10,7 +10,7 @@ use sheets::kinds::Edition;
 // Rebuilds the table of a sheet of the edition with the number w, whatever its desk, into a lent one.
 pub fn rebuild_told(w: u64, n: u64, s: &[u8], table: &mut [u8]) -> Verdict
     ensures { record { verdict = result; table = table.new }
-        ≡ rebuildTold w n s.now table.old }
+        ≡ rebuild_told w n s.now table.old }
 {
     let told = form::told(w, n);
     let Verdict::Fine = told else {

@@ -1,14 +1,14 @@
 // The desk that a sheet is for.
 ghost use Rattle.std.specs.Prelude.{◌≡◌};
 ghost use Rattle.sheets.specs.Edition.{IsEdition};
-ghost use Rattle.sheets.specs.Desk.{deskOf};
+ghost use Rattle.sheets.specs.Desk.{desk_of};
 
 use sheets::kinds::{Edition, Sheet};
 
 // The desk that the first record says; 0 where there is no such byte, or it says none.
 pub fn desk_of(e: Edition, s: &[u8]) -> u8
     requires { IsEdition e }
-    ensures { result ≡ deskOf e s.now }
+    ensures { result ≡ desk_of e s.now }
 {
     let at = e.most + 1;
     if s.len() <= at {

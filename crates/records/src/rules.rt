@@ -1,17 +1,17 @@
 // The record rules, and a sheet looked over by them.
 ghost use Rattle.std.specs.Prelude.{◌≡◌, ◌+◌, ◌-◌, ◌*◌, ◌<◌, ◌≤◌, length};
-ghost use Rattle.tables.specs.Table.{mostInputs};
-ghost use Rattle.sheets.specs.Edition.{IsEdition, mostRecords};
-ghost use Rattle.sheets.specs.Record.{spareOk, byteOk, byte_at, keeps};
-ghost use Rattle.sheets.specs.Sheet.{recordBytes, firstBad};
+ghost use Rattle.tables.specs.Table.{most_inputs};
+ghost use Rattle.sheets.specs.Edition.{IsEdition, most_records};
+ghost use Rattle.sheets.specs.Record.{spare_ok, byte_ok, byte_at, keeps};
+ghost use Rattle.sheets.specs.Sheet.{record_bytes, first_bad};
 ghost use Rattle.records.specs.Look.{Saw};
 
 use sheets::kinds::{Edition, HeldCell, Sheet};
 
 // The bytes of record i.
 pub fn record_of(e: Edition, s: &[u8], i: usize) -> &[u8]
-    requires { IsEdition e × (i < mostRecords) × (e.size * i + e.size ≤ length s.now) }
-    ensures { result.now ≡ recordBytes e s.now i }
+    requires { IsEdition e × (i < most_records) × (e.size * i + e.size ≤ length s.now) }
+    ensures { result.now ≡ record_bytes e s.now i }
 {
     let a = e.size * i;
     let z = a + e.size;
@@ -21,7 +21,7 @@ pub fn record_of(e: Edition, s: &[u8], i: usize) -> &[u8]
 // Whether byte m of a table of w bits has no bit from w up.
 fn spare_ok(w: usize, m: usize, x: u8) -> bool
     requires { (w ≤ 256) × (m < 48) }
-    ensures { result ≡ spareOk w m x }
+    ensures { result ≡ spare_ok w m x }
 {
     let from = 8 * m;
     if w <= from {
@@ -37,7 +37,7 @@ fn spare_ok(w: usize, m: usize, x: u8) -> bool
 // Whether byte j + 1 of a record of k signals, which is x after p, keeps the rules.
 fn byte_ok(e: Edition, d: u8, top: usize, k: usize, j: usize, p: u8, x: u8) -> bool
     requires { IsEdition e × (k ≤ e.most) × (j + 1 < e.size) }
-    ensures { result ≡ byteOk e d top k j p x }
+    ensures { result ≡ byte_ok e d top k j p x }
 {
     if j < e.most {
         if j < k {
@@ -86,8 +86,8 @@ pub fn record_ok(e: Edition, d: u8, top: usize, b: &[u8]) -> bool
 
 // The first of m records that breaks the rules, and m where none does.
 pub fn first_bad(e: Edition, d: u8, n: u32, s: &[u8], m: usize) -> usize
-    requires { IsEdition e × (m ≤ mostRecords) × (n ≤ mostInputs) × (e.size * m ≤ length s.now) }
-    ensures { result ≡ firstBad e d n s.now m }
+    requires { IsEdition e × (m ≤ most_records) × (n ≤ most_inputs) × (e.size * m ≤ length s.now) }
+    ensures { result ≡ first_bad e d n s.now m }
 {
     let inputs = n as usize;
     let mut i = 0;
@@ -101,7 +101,7 @@ pub fn first_bad(e: Edition, d: u8, n: u32, s: &[u8], m: usize) -> usize
 }
 
 // What looking a sheet over finds: a wrong length, the first bad record, or how many records there are.
-#[derive(Drop)]
+#[derive(Clone, Copy)]
 pub enum Looked {
     Length,
     BadAt(usize),
@@ -109,7 +109,7 @@ pub enum Looked {
 }
 
 pub fn look(e: Edition, d: u8, n: u32, s: &[u8]) -> Looked
-    requires { IsEdition e × (n ≤ mostInputs) }
+    requires { IsEdition e × (n ≤ most_inputs) }
     ensures { Saw e d n s.now result }
 {
     let len = s.len();

@@ -8,33 +8,33 @@ use lib.ListN.{length, replicate}
 use borrow.Author.Tests.{le-leb, le-ltb, ltb-false}
 use Rattle.bits.proofs.Bools.{or-none}
 use Rattle.sheets.specs.declared.kinds.Edition.{Edition}
-use Rattle.sheets.specs.Edition.{mostRecords}
-use Rattle.tables.specs.Work.{workLength}
+use Rattle.sheets.specs.Edition.{most_records}
+use Rattle.tables.specs.Work.{work_length}
 use Rattle.refusals.specs.declared.verdicts.Refusal.{Refusal}
 use Rattle.refusals.specs.declared.verdicts.Verdict.{Verdict}
 use Rattle.refusals.specs.declared.verdicts.Verdict.TheVariants.{Refused}
 use Rattle.refusals.specs.Lines.{Line, verdict, number_of}
-use Rattle.refusals.specs.Refusals.{shortSheet}
-use Rattle.refusals.specs.Lent.{workAfter}
-use Rattle.refusals.proofs.Lines.{all-numbers, a-number}
+use Rattle.refusals.specs.Refusals.{short_sheet}
+use Rattle.refusals.specs.Lent.{work_after}
+use Rattle.refusals.proofs.Lines.{all_numbers, a_number}
 
-pub work-found : (v : Verdict) (work : List ℕ) → 1 ≤ number_of v → number_of v ≤ 7 → workAfter v work ≡ work
-work-found v work h g = rw (le-leb 1 (number_of v) h, le-leb (number_of v) 7 g)
+pub work_found : (v : Verdict) (work : List ℕ) → 1 ≤ number_of v → number_of v ≤ 7 → work_after v work ≡ work
+work_found v work h g = rw (le-leb 1 (number_of v) h, le-leb (number_of v) 7 g)
 
 -- so it stays where lines refuse that have the numbers 1 to 7
-pub form-leaves : (ls : List Line) (r : Refusal) → all-numbers (λ k. leb 1 k && leb k 7) ls ≡ true → verdict ls
-    ≡ Refused r → (work : List ℕ) → workAfter (Refused r) work ≡ work
-form-leaves ls r o e work = ap (λ (t : Bool). cond t work (replicate (length work) 0))
-    (a-number (λ k. leb 1 k && leb k 7) ls r o e)
+pub form_leaves : (ls : List Line) (r : Refusal) → all_numbers (λ k. leb 1 k && leb k 7) ls ≡ true → verdict ls
+    ≡ Refused r → (work : List ℕ) → work_after (Refused r) work ≡ work
+form_leaves ls r o e work = ap (λ (t : Bool). cond t work (replicate (length work) 0))
+    (a_number (λ k. leb 1 k && leb k 7) ls r o e)
 
 -- line 6 of make: both the sheet's bytes and the work area are long enough
 module _ (e : Edition) (sheet work : List ℕ) where
-  pub both_long : e.size * mostRecords ≤ length sheet → workLength ≤ length work → (shortSheet e sheet work).holds
+  pub both_long : e.size * most_records ≤ length sheet → work_length ≤ length work → (short_sheet e sheet work).holds
       ≡ false
-  both_long h g = rw (le-ltb (length sheet) (e.size * mostRecords) h, le-ltb (length work) workLength g)
+  both_long h g = rw (le-ltb (length sheet) (e.size * most_records) h, le-ltb (length work) work_length g)
 
-  pub long-both : (shortSheet e sheet work).holds ≡ false → (e.size * mostRecords ≤ length sheet)
-      × (workLength ≤ length work)
-  long-both h =
+  pub long_both : (short_sheet e sheet work).holds ≡ false → (e.size * most_records ≤ length sheet)
+      × (work_length ≤ length work)
+  long_both h =
       let w = or-none _ _ h in
-      (ltb-false (length sheet) (e.size * mostRecords) w.0, ltb-false (length work) workLength w.1)
+      (ltb-false (length sheet) (e.size * most_records) w.0, ltb-false (length work) work_length w.1)

@@ -14,7 +14,7 @@ use Rattle.bits.proofs.Bools.{and_left, and_right}
 use Rattle.refusals.specs.declared.verdicts.Refusal.{Refusal}
 use Rattle.refusals.specs.declared.verdicts.Verdict.{Verdict}
 use Rattle.refusals.specs.declared.verdicts.Verdict.TheVariants.{Fine, Refused}
-use Rattle.refusals.specs.Lines.{Line, verdict, InOrder, number_of, placeOf, reply, line_at, Given}
+use Rattle.refusals.specs.Lines.{Line, verdict, InOrder, number_of, place_of, reply, line_at, Given}
 
 pick : Line → Verdict → Bool → Verdict
 pick l v t = cond t (Refused l.gives) v
@@ -23,9 +23,9 @@ refused : Verdict → ℕ
 refused Fine = 0
 refused (Refused r) = 1
 
-pub not-fine : (r : Refusal) → Fine ≡ Refused r → ⊥
+pub not_fine : (r : Refusal) → Fine ≡ Refused r → ⊥
 unfolding refused
-not-fine r e = let z : ◌≡◌ {A = ℕ} 0 1 = ap refused e in omega arith
+not_fine r e = let z : ◌≡◌ {A = ℕ} 0 1 = ap refused e in omega arith
 
 -- ---- a part of the lines, and those that follow it
 
@@ -38,7 +38,7 @@ passes (l ∷ ls) ms s = ap (pick l (verdict (ls ++ ms))) s.0 ∙ passes ls ms s
 -- where it refuses, that is the verdict
 pub stops : (ls ms : List Line) (r : Refusal) → verdict ls ≡ Refused r → verdict (ls ++ ms) ≡ Refused r
 unfolding pick
-stops [] ms r e = absurd (not-fine r e)
+stops [] ms r e = absurd (not_fine r e)
 stops (l ∷ ls) ms r e = go l.holds e (stops ls ms r)
   where
     go : (t : Bool) → pick l (verdict ls) t ≡ Refused r → (verdict ls ≡ Refused r → verdict (ls ++ ms) ≡ Refused r)
@@ -53,26 +53,26 @@ lapses [] ms s = sym (ap verdict (append-nil ms)) ∙ passes ms [] s
 lapses (l ∷ ls) ms s = ap (λ (v : Verdict). pick l v l.holds) (lapses ls ms s)
 
 -- where it is fine it is in order
-pub in_order : (ls : List Line) → verdict ls ≡ Fine → InOrder ls
+pub in_order_lem : (ls : List Line) → verdict ls ≡ Fine → InOrder ls
 unfolding pick
-in_order [] e = tt
-in_order (l ∷ ls) e = go l.holds refl e (in_order ls)
+in_order_lem [] e = tt
+in_order_lem (l ∷ ls) e = go l.holds refl e (in_order_lem ls)
   where
     go : (t : Bool) → l.holds ≡ t → pick l (verdict ls) t ≡ Fine → (verdict ls ≡ Fine → InOrder ls) → InOrder (l ∷ ls)
-    go true h q ih = absurd (not-fine l.gives (sym q))
+    go true h q ih = absurd (not_fine l.gives (sym q))
     go false h q ih = (h, ih q)
 
 -- a call whose first lines are looked at before the others: what it returns and leaves
 module _ {A : Type 0} (ls ms : List Line) (done : A) (refused : Refusal → A) where
   -- those refuse
-  pub refused-by : (v : Verdict) (r : Refusal) → v ≡ verdict ls → v ≡ Refused r → refused r
+  pub refused_by : (v : Verdict) (r : Refusal) → v ≡ verdict ls → v ≡ Refused r → refused r
       ≡ reply (verdict (ls ++ ms)) done refused
-  refused-by v r q e = ap (λ (u : Verdict). reply u done refused) (sym (stops ls ms r (sym q ∙ e)))
+  refused_by v r q e = ap (λ (u : Verdict). reply u done refused) (sym (stops ls ms r (sym q ∙ e)))
 
   -- those are in order
-  pub left-to : (v : Verdict) → v ≡ verdict ls → v ≡ Fine → reply (verdict ms) done refused
+  pub left_to : (v : Verdict) → v ≡ verdict ls → v ≡ Fine → reply (verdict ms) done refused
       ≡ reply (verdict (ls ++ ms)) done refused
-  left-to v q e = ap (λ (u : Verdict). reply u done refused) (sym (passes ls ms (in_order ls (sym q ∙ e))))
+  left_to v q e = ap (λ (u : Verdict). reply u done refused) (sym (passes ls ms (in_order_lem ls (sym q ∙ e))))
 
 -- ---- the same step by step, as the code goes: each line before the first that holds is passed over
 
@@ -95,17 +95,17 @@ module _ (ls ms : List Line) (v : Verdict) (looked : v ≡ verdict ls) where
 
   -- those are in order: the others decide, which a look at them or the first that holds does
   pub goes_on : v ≡ Fine → {w : Verdict} → w ≡ verdict ms → w ≡ verdict (ls ++ ms)
-  goes_on e f = f ∙ sym (passes ls ms (in_order ls (sym looked ∙ e)))
+  goes_on e f = f ∙ sym (passes ls ms (in_order_lem ls (sym looked ∙ e)))
 
   pub decided : v ≡ Fine → {w : Verdict} → First ms w → w ≡ verdict (ls ++ ms)
   decided e f = goes_on e (decides ms f)
 
 -- ---- number k is given exactly when the line with number k holds and no earlier line does
 
-given-there : (ls : List Line) (k : ℕ) → (k ≡ 0 → ⊥) → number_of (verdict ls) ≡ k → Given k ls
+given_there : (ls : List Line) (k : ℕ) → (k ≡ 0 → ⊥) → number_of (verdict ls) ≡ k → Given k ls
 unfolding pick
-given-there [] k some e = absurd (some (sym e))
-given-there (l ∷ ls) k some e = go l.holds refl e (given-there ls k some)
+given_there [] k some e = absurd (some (sym e))
+given_there (l ∷ ls) k some e = go l.holds refl e (given_there ls k some)
   where
     before : (g : Given k ls) → l.holds ≡ false → (j : ℕ) → j < suc g.at → (line_at (l ∷ ls) j).holds ≡ false
     before g h zero m = h
@@ -128,10 +128,10 @@ given-there (l ∷ ls) k some e = go l.holds refl e (given-there ls k some)
       earlier = before g h;
     }
 
-there-given : (ls : List Line) (k : ℕ) → Given k ls → number_of (verdict ls) ≡ k
+there_given : (ls : List Line) (k : ℕ) → Given k ls → number_of (verdict ls) ≡ k
 unfolding pick
-there-given [] k g = absurd (not-suc-le-zero g.within)
-there-given (l ∷ ls) k g = go g.at g.within g.number g.holds g.earlier (there-given ls k)
+there_given [] k g = absurd (not-suc-le-zero g.within)
+there_given (l ∷ ls) k g = go g.at g.within g.number g.holds g.earlier (there_given ls k)
   where
     go : (i : ℕ) → i < suc (length ls) → (line_at (l ∷ ls) i).gives.number ≡ k → (line_at (l ∷ ls) i).holds ≡ true
         → ((j : ℕ) → j < i → (line_at (l ∷ ls) j).holds ≡ false) → (Given k ls → number_of (verdict ls) ≡ k)
@@ -142,7 +142,7 @@ there-given (l ∷ ls) k g = go g.at g.within g.number g.holds g.earlier (there-
         ∙ ih (record { at = i; within = omega arith; number = n; holds = h; earlier = λ j m. e (suc j) (omega arith) })
 
 pub given : (ls : List Line) (k : ℕ) → (k ≡ 0 → ⊥) → (number_of (verdict ls) ≡ k) ↔ Given k ls
-given ls k some = (given-there ls k some, there-given ls k)
+given ls k some = (given_there ls k some, there_given ls k)
 
 -- ---- and 0, done, exactly when no line holds
 
@@ -170,22 +170,22 @@ passed (l ∷ ls) ms k o e = go l.holds refl e
 pub another : (ls : List Line) (k : ℕ) (r : Refusal) → others k ls ≡ true → verdict ls ≡ Refused r → r.number ≡ k → ⊥
 another ls k r o e q =
     let w = passed ls [] k o (ap (λ (l : List Line). number_of (verdict l)) (append-nil ls) ∙ ap number_of e ∙ q) in
-    not-fine r (sym (passes ls [] w.0) ∙ ap verdict (append-nil ls) ∙ e)
+    not_fine r (sym (passes ls [] w.0) ∙ ap verdict (append-nil ls) ∙ e)
 
 -- the numbers of all lines pass the test, and so does that of a refusal by them
-abbrev pub all-numbers : (ℕ → Bool) → List Line → Bool
-all-numbers p [] = true
-all-numbers p (l ∷ ls) = p l.gives.number && all-numbers p ls
+abbrev pub all_numbers : (ℕ → Bool) → List Line → Bool
+all_numbers p [] = true
+all_numbers p (l ∷ ls) = p l.gives.number && all_numbers p ls
 
-pub a-number : (p : ℕ → Bool) (ls : List Line) (r : Refusal) → all-numbers p ls ≡ true → verdict ls ≡ Refused r
+pub a_number : (p : ℕ → Bool) (ls : List Line) (r : Refusal) → all_numbers p ls ≡ true → verdict ls ≡ Refused r
     → p r.number ≡ true
 unfolding pick
-a-number p [] r o e = absurd (not-fine r e)
-a-number p (l ∷ ls) r o e = go l.holds e (a-number p ls r (and_right (p l.gives.number) (all-numbers p ls) o))
+a_number p [] r o e = absurd (not_fine r e)
+a_number p (l ∷ ls) r o e = go l.holds e (a_number p ls r (and_right (p l.gives.number) (all_numbers p ls) o))
   where
     go : (t : Bool) → pick l (verdict ls) t ≡ Refused r → (verdict ls ≡ Refused r → p r.number ≡ true)
         → p r.number ≡ true
-    go true q ih = ap (λ (v : Verdict). p (number_of v)) (sym q) ∙ and_left (p l.gives.number) (all-numbers p ls) o
+    go true q ih = ap (λ (v : Verdict). p (number_of v)) (sym q) ∙ and_left (p l.gives.number) (all_numbers p ls) o
     go false q ih = ih q
 
 -- a number that one line alone has is given by that line, which holds
@@ -205,23 +205,23 @@ held ls l ms k o p some e = go l.holds refl w.1
         (ap (λ (m : List Line). number_of (verdict m)) (append-nil ms) ∙ q)).1))
 
 -- the lines whose number passes the test name something; the others name nothing
-abbrev pub naming-only : (ℕ → Bool) → List Line → Bool
-naming-only p [] = true
-naming-only p (l ∷ ls) = (p l.gives.number || eqb l.gives.place 0) && naming-only p ls
+abbrev pub naming_only : (ℕ → Bool) → List Line → Bool
+naming_only p [] = true
+naming_only p (l ∷ ls) = (p l.gives.number || eqb l.gives.place 0) && naming_only p ls
 
-pub names-nothing : (p : ℕ → Bool) (ls : List Line) → naming-only p ls ≡ true → p (number_of (verdict ls)) ≡ false
-    → placeOf (verdict ls) ≡ 0
+pub names_nothing : (p : ℕ → Bool) (ls : List Line) → naming_only p ls ≡ true → p (number_of (verdict ls)) ≡ false
+    → place_of (verdict ls) ≡ 0
 unfolding pick
-names-nothing p [] o h = refl
-names-nothing p (l ∷ ls) o h = go l.holds h
-    (names-nothing p ls (and_right (p l.gives.number || eqb l.gives.place 0) (naming-only p ls) o))
+names_nothing p [] o h = refl
+names_nothing p (l ∷ ls) o h = go l.holds h
+    (names_nothing p ls (and_right (p l.gives.number || eqb l.gives.place 0) (naming_only p ls) o))
   where
     go : (t : Bool) → p (number_of (pick l (verdict ls) t)) ≡ false
-        → (p (number_of (verdict ls)) ≡ false → placeOf (verdict ls) ≡ 0) → placeOf (pick l (verdict ls) t) ≡ 0
+        → (p (number_of (verdict ls)) ≡ false → place_of (verdict ls) ≡ 0) → place_of (pick l (verdict ls) t) ≡ 0
     go true q ih =
         eqb-true l.gives.place 0
         (sym (ap (λ (t : Bool). t || eqb l.gives.place 0) q)
-        ∙ and_left (p l.gives.number || eqb l.gives.place 0) (naming-only p ls) o)
+        ∙ and_left (p l.gives.number || eqb l.gives.place 0) (naming_only p ls) o)
     go false q ih = ih q
 
 -- no line has the number 0, so 0 is given exactly when no line holds

@@ -8,14 +8,14 @@ use Rattle.refusals.specs.declared.verdicts.Refusal.{Refusal}
 use Rattle.refusals.specs.declared.verdicts.Verdict.{Verdict}
 use Rattle.refusals.specs.declared.verdicts.Verdict.TheVariants.{Refused}
 use Rattle.refusals.specs.Lines.{Line, verdict, reply}
-use Rattle.refusals.specs.Lent.{workAfter}
-use Rattle.refusals.proofs.Lines.{all-numbers, refused-by}
-use Rattle.refusals.proofs.Lent.{form-leaves}
+use Rattle.refusals.specs.Lent.{work_after}
+use Rattle.refusals.proofs.Lines.{all_numbers, refused_by}
+use Rattle.refusals.proofs.Lent.{form_leaves}
 
 -- they refuse: what is answered with the work area as it was found is what the call is to return and leave
-pub form-refuses : {A : Type 0} (ls ms : List Line) (done : A) (none : Verdict → List ℕ → A) (work : List ℕ)
-    → all-numbers (λ k. leb 1 k && leb k 7) ls ≡ true → (v : Verdict) (r : Refusal) → v ≡ verdict ls → v ≡ Refused r
-    → none v work ≡ reply (verdict (ls ++ ms)) done (λ r. none (Refused r) (workAfter (Refused r) work))
-form-refuses ls ms done none work form v r looked e =
-    ap₂ none e (sym (form-leaves ls r form (sym looked ∙ e) work))
-    ∙ refused-by ls ms done (λ r. none (Refused r) (workAfter (Refused r) work)) v r looked e
+pub form_refuses : {A : Type 0} (ls ms : List Line) (done : A) (none : Verdict → List ℕ → A) (work : List ℕ)
+    → all_numbers (λ k. leb 1 k && leb k 7) ls ≡ true → (v : Verdict) (r : Refusal) → v ≡ verdict ls → v ≡ Refused r
+    → none v work ≡ reply (verdict (ls ++ ms)) done (λ r. none (Refused r) (work_after (Refused r) work))
+form_refuses ls ms done none work form v r looked e =
+    ap₂ none e (sym (form_leaves ls r form (sym looked ∙ e) work))
+    ∙ refused_by ls ms done (λ r. none (Refused r) (work_after (Refused r) work)) v r looked e

@@ -8,5 +8,5 @@ abbrev pub into : List ℕ → List ℕ → List ℕ
 into bytes room = bytes ++ drop (length bytes) room
 
 -- a work area after a verdict: as it was found after 1 to 7, else (0, done, and what the table itself says) zeros
-abbrev pub workAfter : Verdict → List ℕ → List ℕ
-workAfter v work = cond (leb 1 (number_of v) && leb (number_of v) 7) work (replicate (length work) 0)
+abbrev pub work_after : Verdict → List ℕ → List ℕ
+work_after v work = cond (leb 1 (number_of v) && leb (number_of v) 7) work (replicate (length work) 0)

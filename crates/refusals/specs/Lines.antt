@@ -37,9 +37,9 @@ number_of Fine = 0
 number_of (Refused r) = r.number
 
 -- what the verdict names besides, else 0
-abbrev pub placeOf : Verdict → ℕ
-placeOf Fine = 0
-placeOf (Refused r) = r.place
+abbrev pub place_of : Verdict → ℕ
+place_of Fine = 0
+place_of (Refused r) = r.place
 
 -- what a call returns and leaves: `done` where nothing is wrong, else what goes with the refusal
 abbrev pub reply : {A : Type 0} → Verdict → A → (Refusal → A) → A

@@ -3,94 +3,94 @@
 use Rattle.std.specs.Prelude.{ℕ}
 
 -- how many inputs (Refusals)
-abbrev pub ofInputs : ℕ
-ofInputs = 1
+abbrev pub of_inputs : ℕ
+of_inputs = 1
 
 -- the cell size, and the edition (Refusals)
-abbrev pub ofCell : ℕ
-ofCell = 2
+abbrev pub of_cell : ℕ
+of_cell = 2
 
-abbrev pub ofEdition : ℕ
-ofEdition = 2
+abbrev pub of_edition : ℕ
+of_edition = 2
 
 -- a table's length, and its spare bits (Refusals)
-abbrev pub ofTable : ℕ
-ofTable = 3
+abbrev pub of_table : ℕ
+of_table = 3
 
-abbrev pub ofSpare : ℕ
-ofSpare = 4
+abbrev pub of_spare : ℕ
+of_spare = 4
 
 -- the sets of a split, and the desk of a sheet to be made (Refusals)
-abbrev pub ofSets : ℕ
-ofSets = 5
+abbrev pub of_sets : ℕ
+of_sets = 5
 
-abbrev pub ofDesk : ℕ
-ofDesk = 5
+abbrev pub of_desk : ℕ
+of_desk = 5
 
 -- how many cells may be too few (refuting, TooFew)
-abbrev pub ofCells : ℕ
-ofCells = 5
+abbrev pub of_cells : ℕ
+of_cells = 5
 
 -- lent bytes that are too few (Refusals; of the writer of formulas: printing, WriteFormula; of a certificate's work
 -- area: refuting, TooFew)
-abbrev pub ofRoom : ℕ
-ofRoom = 6
+abbrev pub of_room : ℕ
+of_room = 6
 
 -- nothing to split (Refusals)
-abbrev pub ofNothing : ℕ
-ofNothing = 7
+abbrev pub of_nothing : ℕ
+of_nothing = 7
 
 -- no split (Refusals; of make: making, Refusals; of find with several first cells: several, FindSeveral; of make_any:
 -- any_gate, MakeAny)
-abbrev pub ofSplit : ℕ
-ofSplit = 8
+abbrev pub of_split : ℕ
+of_split = 8
 
 -- a sheet's length, and a record (Refusals; of a desk's count: cards, Refusals)
-abbrev pub ofSheet : ℕ
-ofSheet = 9
+abbrev pub of_sheet : ℕ
+of_sheet = 9
 
-abbrev pub ofRecord : ℕ
-ofRecord = 10
+abbrev pub of_record : ℕ
+of_record = 10
 
 -- the assignment, the first difference, a record that none reads (Refusals)
-abbrev pub ofAssignment : ℕ
-ofAssignment = 11
+abbrev pub of_assignment : ℕ
+of_assignment = 11
 
-abbrev pub ofDifference : ℕ
-ofDifference = 12
+abbrev pub of_difference : ℕ
+of_difference = 12
 
-abbrev pub ofUnread : ℕ
-ofUnread = 15
+abbrev pub of_unread : ℕ
+of_unread = 15
 
 -- times, and sixteenths (settling, Refusals)
-abbrev pub ofTime : ℕ
-ofTime = 13
+abbrev pub of_time : ℕ
+of_time = 13
 
-abbrev pub ofSlack : ℕ
-ofSlack = 14
+abbrev pub of_slack : ℕ
+of_slack = 14
 
 -- a text that is no formula, a sheet that is not printed (formulas, Refusals; printing, Printable)
-abbrev pub ofText : ℕ
-ofText = 16
+abbrev pub of_text : ℕ
+of_text = 16
 
 -- more records than a sheet has (any_gate, MakeAny)
-abbrev pub ofLength : ℕ
-ofLength = 17
+abbrev pub of_length : ℕ
+of_length = 17
 
 -- a closed desk, another desk, a card's length (cards, Refusals)
-abbrev pub ofClosed : ℕ
-ofClosed = 18
+abbrev pub of_closed : ℕ
+of_closed = 18
 
-abbrev pub ofOtherDesk : ℕ
-ofOtherDesk = 19
+abbrev pub of_other_desk : ℕ
+of_other_desk = 19
 
-abbrev pub ofCard : ℕ
-ofCard = 20
+abbrev pub of_card : ℕ
+of_card = 20
 
 -- no way to turn one table into another (turning, Turn)
-abbrev pub ofTurn : ℕ
-ofTurn = 21
+abbrev pub of_turn : ℕ
+of_turn = 21
 
 -- a certificate that doesn't show it (refuting, TooFew)
-abbrev pub ofShown : ℕ
-ofShown = 22
+abbrev pub of_shown : ℕ
+of_shown = 22

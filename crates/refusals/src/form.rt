@@ -1,12 +1,12 @@
 // Lines that several calls share: 1 to 4 of a gate, 1 and 2 of a told edition, 1, 9, 10 and 15 of a sheet.
 ghost use Rattle.std.specs.Prelude.{◌≡◌, not, ◌&&◌, [], ◌∷◌, ◌≤◌, leb};
-ghost use Rattle.tables.specs.Table.{mostInputs};
+ghost use Rattle.tables.specs.Table.{most_inputs};
 ghost use Rattle.sheets.specs.Edition.{IsEdition};
 ghost use Rattle.refusals.specs.Lines.{verdict, InOrder};
-ghost use Rattle.refusals.specs.Refusals.{badInputs, badCell, badEdition, badTable};
-ghost use Rattle.refusals.specs.Refusals.{sizedLines, tableLines, gateLines};
-ghost use Rattle.refusals.specs.Refusals.{sheetLines, unreadRecord, readSheetLines};
-ghost use Rattle.refusals.specs.Refusals.{toldForm};
+ghost use Rattle.refusals.specs.Refusals.{bad_inputs, bad_cell, bad_edition, bad_table};
+ghost use Rattle.refusals.specs.Refusals.{sized_lines, table_lines, gate_lines};
+ghost use Rattle.refusals.specs.Refusals.{sheet_lines, unread_record, read_sheet_lines};
+ghost use Rattle.refusals.specs.Refusals.{told_form};
 
 use crate::verdicts::{Refusal, Verdict, refuse, refuse_at};
 use records::rules;
@@ -26,29 +26,29 @@ pub fn outside(low: u64, x: u64, high: u64) -> bool
 
 // Line 1: n outside 1 to 16.
 pub fn bad_inputs(n: u64) -> bool
-    ensures { result ≡ (badInputs n).holds }
+    ensures { result ≡ (bad_inputs n).holds }
 {
     outside(1, n, tables::MOST_INPUTS as u64)
 }
 
 // Line 2: K outside 2 to the largest cell.
 fn bad_cell(e: Edition, k: u64) -> bool
-    ensures { result ≡ (badCell e k).holds }
+    ensures { result ≡ (bad_cell e k).holds }
 {
     outside(2, k, e.most as u64)
 }
 
 // Line 3: a wrong length.
 fn bad_table(n: u32, t: &[u8]) -> bool
-    requires { n ≤ mostInputs }
-    ensures { result ≡ (badTable n t.now).holds }
+    requires { n ≤ most_inputs }
+    ensures { result ≡ (bad_table n t.now).holds }
 {
     t.len() != tables::length_for(n)
 }
 
 // Lines 1 and 3.
 pub fn sized(n: u64, t: &[u8]) -> Verdict
-    ensures { result ≡ verdict (sizedLines n t.now) }
+    ensures { result ≡ verdict (sized_lines n t.now) }
 {
     if bad_inputs(n) {
         return refuse(Refusal::INPUTS);
@@ -61,7 +61,7 @@ pub fn sized(n: u64, t: &[u8]) -> Verdict
 
 // Lines 1, 3 and 4; a table of three inputs or more has no spare bits.
 pub fn table(n: u64, t: &[u8]) -> Verdict
-    ensures { result ≡ verdict (tableLines n t.now) }
+    ensures { result ≡ verdict (table_lines n t.now) }
 {
     let seen = sized(n, t);
     let Verdict::Fine = seen else {
@@ -75,7 +75,7 @@ pub fn table(n: u64, t: &[u8]) -> Verdict
 
 // Lines 1 to 4.
 pub fn gate(e: Edition, n: u64, k: u64, t: &[u8]) -> Verdict
-    ensures { result ≡ verdict (gateLines e n k t.now) }
+    ensures { result ≡ verdict (gate_lines e n k t.now) }
 {
     if bad_inputs(n) {
         return refuse(Refusal::INPUTS);
@@ -88,14 +88,14 @@ pub fn gate(e: Edition, n: u64, k: u64, t: &[u8]) -> Verdict
 
 // Line 2: the number of the edition is neither 1 nor 2.
 fn bad_edition(w: u64) -> bool
-    ensures { result ≡ (badEdition w).holds }
+    ensures { result ≡ (bad_edition w).holds }
 {
     outside(1, w, Edition::LAST)
 }
 
 // Lines 1 and 2 of a call that is told the edition.
 pub fn told(w: u64, n: u64) -> Verdict
-    ensures { result ≡ verdict (toldForm w n) }
+    ensures { result ≡ verdict (told_form w n) }
 {
     if bad_inputs(n) {
         return refuse(Refusal::INPUTS);
@@ -108,8 +108,8 @@ pub fn told(w: u64, n: u64) -> Verdict
 
 // Lines 9 and 10.
 pub fn sheet(e: Edition, d: u8, n: u32, s: &[u8]) -> Verdict
-    requires { IsEdition e × (n ≤ mostInputs) }
-    ensures { result ≡ verdict (sheetLines e d n s.now) }
+    requires { IsEdition e × (n ≤ most_inputs) }
+    ensures { result ≡ verdict (sheet_lines e d n s.now) }
 {
     let seen = rules::look(e, d, n, s);
     match seen {
@@ -122,7 +122,7 @@ pub fn sheet(e: Edition, d: u8, n: u32, s: &[u8]) -> Verdict
 // Lines 1, 9 and 10.
 pub fn sheet_for(e: Edition, d: u8, n: u64, s: &[u8]) -> Verdict
     requires { IsEdition e }
-    ensures { result ≡ verdict (badInputs n ∷ sheetLines e d n s.now) }
+    ensures { result ≡ verdict (bad_inputs n ∷ sheet_lines e d n s.now) }
 {
     if bad_inputs(n) {
         return refuse(Refusal::INPUTS);
@@ -132,8 +132,8 @@ pub fn sheet_for(e: Edition, d: u8, n: u64, s: &[u8]) -> Verdict
 
 // Line 15, of a sheet that lines 9 and 10 let through.
 pub fn all_read(e: Edition, d: u8, n: u32, s: &[u8]) -> Verdict
-    requires { IsEdition e × (n ≤ mostInputs) × InOrder (sheetLines e d n s.now) }
-    ensures { result ≡ verdict (unreadRecord e n s.now ∷ []) }
+    requires { IsEdition e × (n ≤ most_inputs) × InOrder (sheet_lines e d n s.now) }
+    ensures { result ≡ verdict (unread_record e n s.now ∷ []) }
 {
     let m = s.len() / e.size;
     let i = who_reads(e, n, s, m).first;
@@ -145,8 +145,8 @@ pub fn all_read(e: Edition, d: u8, n: u32, s: &[u8]) -> Verdict
 
 // Lines 9, 10 and 15.
 pub fn read_sheet(e: Edition, d: u8, n: u32, s: &[u8]) -> Verdict
-    requires { IsEdition e × (n ≤ mostInputs) }
-    ensures { result ≡ verdict (readSheetLines e d n s.now) }
+    requires { IsEdition e × (n ≤ most_inputs) }
+    ensures { result ≡ verdict (read_sheet_lines e d n s.now) }
 {
     let seen = sheet(e, d, n, s);
     let Verdict::Fine = seen else {

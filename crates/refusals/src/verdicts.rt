@@ -1,10 +1,10 @@
 // The table of refusals: the numbers and what they say. specs/Refusals.antt says exactly when each is given.
 ghost use Rattle.std.specs.Prelude.{◌≡◌};
 ghost use Rattle.refusals.specs.declared.verdicts.Verdict.TheVariants.{Refused};
-ghost use Rattle.refusals.specs.Lines.{refusal, number_of, placeOf};
+ghost use Rattle.refusals.specs.Lines.{refusal, number_of, place_of};
 
 // Why a call says no, and what it names besides, else 0.
-#[derive(Drop)]
+#[derive(Clone, Copy)]
 pub struct Refusal {
     pub number: u8,
     pub place: u64,
@@ -64,7 +64,7 @@ impl Refusal {
 }
 
 // What looking at a call's lines comes to.
-#[derive(Drop)]
+#[derive(Clone, Copy)]
 pub enum Verdict {
     Fine,
     Refused(Refusal),
@@ -102,7 +102,7 @@ pub fn number_of(v: Verdict) -> u8
 
 // What is named besides, else 0.
 pub fn place_of(v: Verdict) -> u64
-    ensures { result ≡ placeOf v }
+    ensures { result ≡ place_of v }
 {
     match v {
         Verdict::Fine => 0,

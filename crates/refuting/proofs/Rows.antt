@@ -8,16 +8,16 @@ use lib.Dec.{leb, ltb}
 use lib.ListN.{length}
 use borrow.Author.Tests.{le-leb, lt-leb, leb-true, ltb-true}
 use Rattle.bits.specs.Below.{every}
-use Rattle.bits.proofs.Below.{every-at}
+use Rattle.bits.proofs.Below.{every_at}
 use Rattle.bits.proofs.Bools.{and_left, and_right}
 use Rattle.clauses.specs.declared.variables.Size.{Size}
-use Rattle.clauses.specs.Step.{rowsIn, row_at}
+use Rattle.clauses.specs.Step.{rows_in, row_at}
 use Rattle.clauses.specs.Shapes.{HasRows}
-use Rattle.refuting.specs.Steps.{mostRows, headerInOrder}
+use Rattle.refuting.specs.Steps.{most_rows, header_in_order}
 
 module _ (n : ℕ) (c : List ℕ) where
   abbrev R : ℕ
-  R = rowsIn c
+  R = rows_in c
 
   abbrev rows : Bool
   rows = every R (λ a. ltb (row_at c a) (2 ^ n))
@@ -38,42 +38,42 @@ module _ (n : ℕ) (c : List ℕ) where
   third-off false b = refl
 
   -- no row, too many, or not all there
-  pub no_rows : R ≡ 0 → false ≡ headerInOrder n c
-  unfolding headerInOrder
-  no_rows h = sym (ap (λ (a : Bool). all a (leb R mostRows) (leb (2 + 2 * R) (length c))) (lt-leb 1 R (omega arith)))
+  pub no_rows : R ≡ 0 → false ≡ header_in_order n c
+  unfolding header_in_order
+  no_rows h = sym (ap (λ (a : Bool). all a (leb R most_rows) (leb (2 + 2 * R) (length c))) (lt-leb 1 R (omega arith)))
 
-  pub many-rows : mostRows < R → false ≡ headerInOrder n c
-  unfolding headerInOrder
-  many-rows h = sym (ap (λ (b : Bool). all (leb 1 R) b (leb (2 + 2 * R) (length c))) (lt-leb R mostRows h)
+  pub many_rows : most_rows < R → false ≡ header_in_order n c
+  unfolding header_in_order
+  many_rows h = sym (ap (λ (b : Bool). all (leb 1 R) b (leb (2 + 2 * R) (length c))) (lt-leb R most_rows h)
       ∙ second-off (leb 1 R) (leb (2 + 2 * R) (length c)))
 
-  pub cut-rows : length c < 2 + 2 * R → false ≡ headerInOrder n c
-  unfolding headerInOrder
-  cut-rows h = sym (ap (λ (d : Bool). all (leb 1 R) (leb R mostRows) d) (lt-leb (2 + 2 * R) (length c) h)
-      ∙ third-off (leb 1 R) (leb R mostRows))
+  pub cut_rows : length c < 2 + 2 * R → false ≡ header_in_order n c
+  unfolding header_in_order
+  cut_rows h = sym (ap (λ (d : Bool). all (leb 1 R) (leb R most_rows) d) (lt-leb (2 + 2 * R) (length c) h)
+      ∙ third-off (leb 1 R) (leb R most_rows))
 
-  pub by_rows : 1 ≤ R → R ≤ mostRows → 2 + 2 * R ≤ length c → rows ≡ headerInOrder n c
-  unfolding headerInOrder
+  pub by_rows : 1 ≤ R → R ≤ most_rows → 2 + 2 * R ≤ length c → rows ≡ header_in_order n c
+  unfolding header_in_order
   by_rows h k l =
-      sym (ap₂ (λ (a b : Bool). all a b (leb (2 + 2 * R) (length c))) (le-leb 1 R h) (le-leb R mostRows k)
+      sym (ap₂ (λ (a b : Bool). all a b (leb (2 + 2 * R) (length c))) (le-leb 1 R h) (le-leb R most_rows k)
       ∙ ap (λ (d : Bool). d && rows) (le-leb (2 + 2 * R) (length c) l))
 
   -- what a header in order has
-  module _ (h : headerInOrder n c ≡ true) where
+  module _ (h : header_in_order n c ≡ true) where
     abbrev last : Bool
     last = leb (2 + 2 * R) (length c) && rows
 
-    tail : (leb R mostRows && last) ≡ true
-    unfolding headerInOrder
-    tail = and_right (leb 1 R) (leb R mostRows && last) h
+    tail : (leb R most_rows && last) ≡ true
+    unfolding header_in_order
+    tail = and_right (leb 1 R) (leb R most_rows && last) h
 
-    pub few-rows : R ≤ mostRows
-    few-rows = leb-true R mostRows (and_left (leb R mostRows) last tail)
+    pub few_rows : R ≤ most_rows
+    few_rows = leb-true R most_rows (and_left (leb R most_rows) last tail)
 
-    pub rows-there : 2 + 2 * R ≤ length c
-    rows-there = leb-true (2 + 2 * R) (length c) (and_left (leb (2 + 2 * R) (length c)) rows (and_right (leb R mostRows) last tail))
+    pub rows_there : 2 + 2 * R ≤ length c
+    rows_there = leb-true (2 + 2 * R) (length c) (and_left (leb (2 + 2 * R) (length c)) rows (and_right (leb R most_rows) last tail))
 
-    pub rows-below : (a : ℕ) → a < R → row_at c a < 2 ^ n
-    rows-below a l =
-        ltb-true (row_at c a) (2 ^ n) (every-at R (λ a. ltb (row_at c a) (2 ^ n))
-        (and_right (leb (2 + 2 * R) (length c)) rows (and_right (leb R mostRows) last tail)) a l)
+    pub rows_below : (a : ℕ) → a < R → row_at c a < 2 ^ n
+    rows_below a l =
+        ltb-true (row_at c a) (2 ^ n) (every_at R (λ a. ltb (row_at c a) (2 ^ n))
+        (and_right (leb (2 + 2 * R) (length c)) rows (and_right (leb R most_rows) last tail)) a l)

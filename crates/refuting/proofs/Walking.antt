@@ -8,22 +8,22 @@ use lib.Dec.{eqb, leb, ltb}
 use lib.ListN.{length}
 use borrow.Author.Tests.{le-ltb, lt-ltb, leb-true}
 use Rattle.bits.proofs.Bools.{and_left}
-use Rattle.clauses.specs.Clause.{Question, inOrder}
-use Rattle.clauses.specs.Step.{rowsIn, kind_at, givenAt, stepLength}
-use Rattle.following.specs.Following.{derivedInOrder}
-use Rattle.refuting.specs.Steps.{Shown, shown, notShown, stepInOrder, alsoAt, is_empty, ended, steps, allSteps}
+use Rattle.clauses.specs.Clause.{Question, in_order_lem}
+use Rattle.clauses.specs.Step.{rows_in, kind_at, given_at, step_length}
+use Rattle.following.specs.Following.{derived_in_order}
+use Rattle.refuting.specs.Steps.{Shown, shown, not_shown, step_in_order, also_at, is_empty, ended, steps, all_steps}
 
 module _ (q : Question) (c : List ℕ) where
   -- one turn: what comes after it, and whether the end is reached and the step in order
   turn : ℕ → Bool → Shown → Bool → Bool → Shown
-  turn at empty after inside order = cond inside (cond order after (notShown at)) (ended q c empty)
+  turn at empty after inside order = cond inside (cond order after (not_shown at)) (ended q c empty)
 
   -- a step in order is not empty
-  moves : (begun : ℕ → Bool) (at : ℕ) → stepInOrder q c begun at ≡ true → 1 ≤ stepLength c at
-  unfolding stepInOrder
+  moves : (begun : ℕ → Bool) (at : ℕ) → step_in_order q c begun at ≡ true → 1 ≤ step_length c at
+  unfolding step_in_order
   moves begun at h =
-      leb-true 1 (stepLength c at) (and_left (leb 1 (stepLength c at)) (leb (at + stepLength c at) (length c)
-      && cond (eqb (kind_at c at) 0) (derivedInOrder q c at begun) (inOrder q.size q.table (givenAt c at))) h)
+      leb-true 1 (step_length c at) (and_left (leb 1 (step_length c at)) (leb (at + step_length c at) (length c)
+      && cond (eqb (kind_at c at) 0) (derived_in_order q c at begun) (in_order_lem q.size q.table (given_at c at))) h)
 
   -- as many turns as there are bytes left are enough
   enough : (k m at : ℕ) (begun : ℕ → Bool) (empty : Bool) → length c ≤ at + k → length c ≤ at + m
@@ -31,49 +31,49 @@ module _ (q : Question) (c : List ℕ) where
   unfolding steps turn
   enough zero zero at begun empty h g = refl
   enough zero (suc m) at begun empty h g =
-      sym (ap (λ (b : Bool). turn at empty (steps q c m (at + stepLength c at) (alsoAt q c at begun) (is_empty q c at)) b
-      (stepInOrder q c begun at)) (le-ltb at (length c) (omega arith)))
+      sym (ap (λ (b : Bool). turn at empty (steps q c m (at + step_length c at) (also_at q c at begun) (is_empty q c at)) b
+      (step_in_order q c begun at)) (le-ltb at (length c) (omega arith)))
   enough (suc k) zero at begun empty h g =
-      ap (λ (b : Bool). turn at empty (steps q c k (at + stepLength c at) (alsoAt q c at begun) (is_empty q c at)) b
-      (stepInOrder q c begun at)) (le-ltb at (length c) (omega arith))
+      ap (λ (b : Bool). turn at empty (steps q c k (at + step_length c at) (also_at q c at begun) (is_empty q c at)) b
+      (step_in_order q c begun at)) (le-ltb at (length c) (omega arith))
   enough (suc k) (suc m) at begun empty h g =
-      go (stepInOrder q c begun at) refl (λ s. enough k m (at + stepLength c at) (alsoAt q c at begun) (is_empty q c at)
+      go (step_in_order q c begun at) refl (λ s. enough k m (at + step_length c at) (also_at q c at begun) (is_empty q c at)
       (omega arith) (omega arith))
     where
-      go : (t : Bool) → stepInOrder q c begun at ≡ t
-          → (1 ≤ stepLength c at → steps q c k (at + stepLength c at) (alsoAt q c at begun) (is_empty q c at)
-          ≡ steps q c m (at + stepLength c at) (alsoAt q c at begun) (is_empty q c at))
-          → turn at empty (steps q c k (at + stepLength c at) (alsoAt q c at begun) (is_empty q c at)) (ltb at (length c)) t
-          ≡ turn at empty (steps q c m (at + stepLength c at) (alsoAt q c at begun) (is_empty q c at)) (ltb at (length c)) t
+      go : (t : Bool) → step_in_order q c begun at ≡ t
+          → (1 ≤ step_length c at → steps q c k (at + step_length c at) (also_at q c at begun) (is_empty q c at)
+          ≡ steps q c m (at + step_length c at) (also_at q c at begun) (is_empty q c at))
+          → turn at empty (steps q c k (at + step_length c at) (also_at q c at begun) (is_empty q c at)) (ltb at (length c)) t
+          ≡ turn at empty (steps q c m (at + step_length c at) (also_at q c at begun) (is_empty q c at)) (ltb at (length c)) t
       go true e ih = ap (λ (s : Shown). turn at empty s (ltb at (length c)) true) (ih (moves begun at e))
       go false e ih = refl
 
   -- the steps from here on come to what all come to
   abbrev pub From : ℕ → (ℕ → Bool) → Bool → Type 0
-  From at begun empty = (k : ℕ) → length c ≤ at + k → steps q c k at begun empty ≡ allSteps q c
+  From at begun empty = (k : ℕ) → length c ≤ at + k → steps q c k at begun empty ≡ all_steps q c
 
-  pub from_first : {at : ℕ} {begun : ℕ → Bool} → at ≡ 2 + 2 * rowsIn c → begun ≡ (λ p. false) → From at begun false
+  pub from_first : {at : ℕ} {begun : ℕ → Bool} → at ≡ 2 + 2 * rows_in c → begun ≡ (λ p. false) → From at begun false
   from_first {at} {begun} e d k h =
       ap₂ (λ (a : ℕ) (b : ℕ → Bool). steps q c k a b false) e d
-      ∙ enough k (length c) (2 + 2 * rowsIn c) (λ p. false) false (omega arith) (omega arith)
+      ∙ enough k (length c) (2 + 2 * rows_in c) (λ p. false) false (omega arith) (omega arith)
 
   module _ (at : ℕ) (begun : ℕ → Bool) (empty : Bool) (f : From at begun empty) where
-    pub from_next : at < length c → stepInOrder q c begun at ≡ true
-        → From (at + stepLength c at) (alsoAt q c at begun) (is_empty q c at)
+    pub from_next : at < length c → step_in_order q c begun at ≡ true
+        → From (at + step_length c at) (also_at q c at begun) (is_empty q c at)
     unfolding steps turn
     from_next l h k g =
-        enough k (k + stepLength c at) (at + stepLength c at) (alsoAt q c at begun) (is_empty q c at) g (omega arith)
-        ∙ sym (ap₂ (turn at empty (steps q c (k + stepLength c at) (at + stepLength c at) (alsoAt q c at begun)
+        enough k (k + step_length c at) (at + step_length c at) (also_at q c at begun) (is_empty q c at) g (omega arith)
+        ∙ sym (ap₂ (turn at empty (steps q c (k + step_length c at) (at + step_length c at) (also_at q c at begun)
         (is_empty q c at))) (lt-ltb at (length c) l) h)
-        ∙ f (suc (k + stepLength c at)) (omega arith)
+        ∙ f (suc (k + step_length c at)) (omega arith)
 
-    pub from-bad : at < length c → stepInOrder q c begun at ≡ false → notShown at ≡ allSteps q c
+    pub from-bad : at < length c → step_in_order q c begun at ≡ false → not_shown at ≡ all_steps q c
     unfolding steps turn
     from-bad l h =
-        sym (ap₂ (turn at empty (steps q c (length c) (at + stepLength c at) (alsoAt q c at begun) (is_empty q c at)))
+        sym (ap₂ (turn at empty (steps q c (length c) (at + step_length c at) (also_at q c at begun) (is_empty q c at)))
         (lt-ltb at (length c) l) h)
         ∙ f (suc (length c)) (omega arith)
 
-    pub from_end : length c ≤ at → ended q c empty ≡ allSteps q c
+    pub from_end : length c ≤ at → ended q c empty ≡ all_steps q c
     unfolding steps
     from_end h = f zero (omega arith)

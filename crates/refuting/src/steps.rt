@@ -1,14 +1,14 @@
 // A certificate's steps, one after the other.
 ghost use Rattle.std.specs.Prelude.{◌≡◌, false, cond, ◌&&◌, ℕ, ◌+◌, ◌<◌, eqb, length};
-ghost use Rattle.tables.specs.Table.{tableBit, tableLength};
+ghost use Rattle.tables.specs.Table.{table_bit, table_length};
 ghost use Rattle.clauses.specs.Variables.{IsSize, variables};
-ghost use Rattle.clauses.specs.Clause.{inOrder};
-ghost use Rattle.clauses.specs.Step.{questionIn, kind_at, literalsAt, givenAt};
+ghost use Rattle.clauses.specs.Clause.{in_order};
+ghost use Rattle.clauses.specs.Step.{question_in, kind_at, literals_at, given_at};
 ghost use Rattle.clauses.specs.Shapes.{HasRows};
-ghost use Rattle.following.specs.Following.{derivedInOrder};
-ghost use Rattle.following.specs.Standing.{Clean, Kept, begunIn, Ready};
-ghost use Rattle.refuting.specs.Steps.{allSteps};
-ghost use Rattle.refuting.specs.Looking.{lengthThere, AllOf, shownAs};
+ghost use Rattle.following.specs.Following.{derived_in_order};
+ghost use Rattle.following.specs.Standing.{Clean, Kept, begun_in, Ready};
+ghost use Rattle.refuting.specs.Steps.{all_steps};
+ghost use Rattle.refuting.specs.Looking.{length_there, AllOf, shown_as};
 
 use clauses::fields::{given_at, length_of};
 use clauses::given::in_order;
@@ -20,7 +20,7 @@ use refusals::verdicts::{Refusal, Verdict, refuse_at};
 // The length of a step of kind 0; 0 if not all of it is there.
 fn derived_length(c: &[u8], at: usize) -> usize
     requires { (at < length c.now) × (kind_at c.now at ≡ 0) }
-    ensures { result ≡ lengthThere c.now at }
+    ensures { result ≡ length_there c.now at }
 {
     let left = c.len() - at;
     if left < 7 {
@@ -40,7 +40,7 @@ fn derived_length(c: &[u8], at: usize) -> usize
 // The length of the step at a place; 0 if there is no such kind, or not all of it is there.
 fn length_there(c: &[u8], at: usize) -> usize
     requires { at < length c.now }
-    ensures { result ≡ lengthThere c.now at }
+    ensures { result ≡ length_there c.now at }
 {
     let kind = c[at];
     if kind == 0 {
@@ -55,12 +55,12 @@ fn length_there(c: &[u8], at: usize) -> usize
 
 // Whether the step at a place, all of which is there, is in order.
 fn is_in_order<'a>(z: Size, t: &'a [u8], c: &'a [u8], at: usize, work: &mut [u8]) -> bool
-    requires { IsSize z × HasRows z c.now × (length t.now ≡ tableLength z.inputs) × AllOf c.now at
+    requires { IsSize z × HasRows z c.now × (length t.now ≡ table_length z.inputs) × AllOf c.now at
         × Ready z t.now c.now work.old }
     ensures { (result ≡ cond (eqb (kind_at c.now at) 0)
-        (derivedInOrder (questionIn z t.now c.now) c.now at
-        (begunIn (variables z) (length c.now) work.old))
-        (inOrder z (tableBit t.now) (givenAt c.now at)))
+        (derived_in_order (question_in z t.now c.now) c.now at
+        (begun_in (variables z) (length c.now) work.old))
+        (in_order z (table_bit t.now) (given_at c.now at)))
         × Clean (variables z) work.new
         × Kept (variables z) (variables z + length c.now) work.old work.new }
 {
@@ -73,7 +73,7 @@ fn is_in_order<'a>(z: Size, t: &'a [u8], c: &'a [u8], at: usize, work: &mut [u8]
 // Whether the step at a place, all of which is there, is an empty clause.
 fn is_empty(c: &[u8], at: usize) -> bool
     requires { AllOf c.now at }
-    ensures { result ≡ (eqb (kind_at c.now at) 0 && eqb (literalsAt c.now at) 0) }
+    ensures { result ≡ (eqb (kind_at c.now at) 0 && eqb (literals_at c.now at) 0) }
 {
     if c[at] != 0 {
         return false;
@@ -83,9 +83,9 @@ fn is_empty(c: &[u8], at: usize) -> bool
 
 // All steps: fine if they show it, else where they don't. Where each begins is marked in the work area.
 pub fn look_through<'a>(z: Size, t: &'a [u8], c: &'a [u8], work: &mut [u8]) -> Verdict
-    requires { IsSize z × HasRows z c.now × (length t.now ≡ tableLength z.inputs) × Ready z t.now c.now work.old
-        × ((j : ℕ) → begunIn (variables z) (length c.now) work.old j ≡ false) }
-    ensures { result ≡ shownAs (allSteps (questionIn z t.now c.now) c.now) }
+    requires { IsSize z × HasRows z c.now × (length t.now ≡ table_length z.inputs) × Ready z t.now c.now work.old
+        × ((j : ℕ) → begun_in (variables z) (length c.now) work.old j ≡ false) }
+    ensures { result ≡ shown_as (all_steps (question_in z t.now c.now) c.now) }
 {
     let all = all_variables(z);
     let mut at = 2 + 2 * z.rows;

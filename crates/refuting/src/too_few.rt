@@ -1,9 +1,9 @@
 // Showing, by a certificate, that no network of m cells or fewer carries a table.
 ghost use Rattle.std.specs.Prelude.{◌≡◌, ◌+◌, ◌*◌, ◌≤◌, ltb, length};
-ghost use Rattle.tables.specs.Table.{mostInputs, tableLength};
-ghost use Rattle.sheets.specs.Edition.{IsEdition, mostRecords};
+ghost use Rattle.tables.specs.Table.{most_inputs, table_length};
+ghost use Rattle.sheets.specs.Edition.{IsEdition, most_records};
 ghost use Rattle.refusals.specs.Lines.{verdict};
-ghost use Rattle.refuting.specs.TooFew.{fewForm, certificateLines, fewIn, fewAfter, tooFewOutcome};
+ghost use Rattle.refuting.specs.TooFew.{few_form, certificate_lines, few_in, few_after, too_few_outcome};
 
 use crate::header::header_in_order;
 use crate::steps::look_through;
@@ -16,7 +16,7 @@ use tables::clear;
 
 // Lines 1 to 5.
 fn few_form(e: Edition, n: u64, k: u64, m: u64, t: &[u8]) -> Verdict
-    ensures { result ≡ verdict (fewForm e n k m t.now) }
+    ensures { result ≡ verdict (few_form e n k m t.now) }
 {
     let gate = form::gate(e, n, k, t);
     let Verdict::Fine = gate else {
@@ -40,9 +40,9 @@ fn is_short(all: usize, many: usize, room: usize) -> bool
 
 // Lines 6 and 22, the others being in order.
 fn look_at<'a>(n: u64, k: u64, m: u64, t: &'a [u8], c: &'a [u8], work: &mut [u8]) -> Verdict
-    requires { (n ≤ mostInputs) × (k ≤ 8) × (1 ≤ m) × (m ≤ mostRecords) × (length t.now ≡ tableLength n) }
+    requires { (n ≤ most_inputs) × (k ≤ 8) × (1 ≤ m) × (m ≤ most_records) × (length t.now ≡ table_length n) }
     ensures { record { verdict = result; work = work.new }
-        ≡ fewAfter work.old (verdict (certificateLines n k m t.now c.now work.old)) }
+        ≡ few_after work.old (verdict (certificate_lines n k m t.now c.now work.old)) }
 {
     if !header_in_order(n as u32, c) {
         clear(work);
@@ -75,7 +75,7 @@ fn few_in<'a>(
 ) -> Verdict
     requires { IsEdition e }
     ensures { record { verdict = result; work = work.new }
-        ≡ fewAfter work.old (verdict (fewIn e n k m t.now c.now work.old)) }
+        ≡ few_after work.old (verdict (few_in e n k m t.now c.now work.old)) }
 {
     let form = few_form(e, n, k, m, t);
     let Verdict::Fine = form else {
@@ -95,7 +95,7 @@ pub fn too_few<'a>(
     work: &mut [u8],
 ) -> Verdict
     ensures { record { verdict = result; work = work.new }
-        ≡ tooFewOutcome w n k m t.now c.now work.old }
+        ≡ too_few_outcome w n k m t.now c.now work.old }
 {
     let told = form::told(w, n);
     let Verdict::Fine = told else {

@@ -1,9 +1,9 @@
 // Writing a first-edition sheet in the second edition.
 ghost use Rattle.std.specs.Prelude.{◌≡◌, ◌++◌, ◌*◌, ◌≤◌, length, drop};
-ghost use Rattle.sheets.specs.Edition.{IsEdition, mostRecords, firstEdition, secondEdition};
+ghost use Rattle.sheets.specs.Edition.{IsEdition, most_records, first_edition, second_edition};
 ghost use Rattle.sheets.specs.Sheet.{AllReadable};
 ghost use Rattle.refusals.specs.Lines.{verdict};
-ghost use Rattle.rewriting.specs.Rewrite.{rewritten, rewriteLines, rewriteOutcome, rewriteOwn};
+ghost use Rattle.rewriting.specs.Rewrite.{rewritten, rewrite_lines, rewrite_outcome, rewrite_own};
 
 use crate::cells::cell_of;
 use records::desk::desk_of;
@@ -14,7 +14,7 @@ use sheets::kinds::{Edition, Sheet};
 use sheets::writing::put;
 
 // How many records, if nothing is wrong.
-#[derive(Drop)]
+#[derive(Clone, Copy)]
 pub struct RewriteAnswer {
     pub verdict: Verdict,
     pub count: usize,
@@ -23,7 +23,7 @@ pub struct RewriteAnswer {
 // Lines 1, 6, 9, 10 and 15.
 fn rewrite_form<'a>(e: Edition, f: Edition, d: u8, n: u64, s: &'a [u8], room: &'a [u8]) -> Verdict
     requires { IsEdition e × IsEdition f }
-    ensures { result ≡ verdict (rewriteLines e f d n s.now room.now) }
+    ensures { result ≡ verdict (rewrite_lines e f d n s.now room.now) }
 {
     if form::bad_inputs(n) {
         return refuse(Refusal::INPUTS);
@@ -36,7 +36,7 @@ fn rewrite_form<'a>(e: Edition, f: Edition, d: u8, n: u64, s: &'a [u8], room: &'
 
 // The cells of m records of the edition e as records of the edition f; the bytes after the last stay.
 fn write_cells(e: Edition, f: Edition, d: u8, s: &[u8], m: usize, room: &mut [u8])
-    requires edition { IsEdition e × (m ≤ mostRecords) × (e.size * m ≤ length s.now) × AllReadable e s.now m }
+    requires edition { IsEdition e × (m ≤ most_records) × (e.size * m ≤ length s.now) × AllReadable e s.now m }
     requires edition_2 { IsEdition f × (e.most ≤ f.most) × (f.size * m ≤ length room.old) }
     ensures { room.new ≡ rewritten e f d s.now m ++ drop (f.size * m) room.old }
 {
@@ -51,7 +51,7 @@ fn write_cells(e: Edition, f: Edition, d: u8, s: &[u8], m: usize, room: &mut [u8
 pub fn rewrite_in(e: Edition, f: Edition, d: u8, n: u64, s: &[u8], room: &mut [u8]) -> RewriteAnswer
     requires { IsEdition e × IsEdition f × (e.most ≤ f.most) }
     ensures { record { answer = result; room = room.new }
-        ≡ rewriteOutcome e f d n s.now room.old }
+        ≡ rewrite_outcome e f d n s.now room.old }
 {
     let form = rewrite_form(e, f, d, n, s, room);
     let Verdict::Fine = form else {
@@ -71,7 +71,7 @@ pub fn rewrite_in(e: Edition, f: Edition, d: u8, n: u64, s: &[u8], room: &mut [u
 // Writes a first-edition sheet, whatever its desk, in the second edition: how many records.
 pub fn rewrite(n: u64, s: &[u8], room: &mut [u8]) -> RewriteAnswer
     ensures { record { answer = result; room = room.new }
-        ≡ rewriteOwn firstEdition secondEdition n s.now room.old }
+        ≡ rewrite_own first_edition second_edition n s.now room.old }
 {
     let e = Edition::first();
     rewrite_in(e, Edition::second(), desk_of(e, s), n, s, room)

@@ -1,34 +1,34 @@
 -- Run a sheet at an assignment: one bit.
 use Rattle.std.specs.Prelude.{false, List, [], ◌∷◌, ◌++◌, ℕ}
 use Rattle.sheets.specs.declared.kinds.Edition.{Edition}
-use Rattle.sheets.specs.Desk.{deskOf}
-use Rattle.sheets.specs.Sheet.{records, sheetBit}
+use Rattle.sheets.specs.Desk.{desk_of}
+use Rattle.sheets.specs.Sheet.{records, sheet_bit}
 use Rattle.refusals.specs.declared.verdicts.Refusal.{Refusal}
 use Rattle.refusals.specs.declared.verdicts.Verdict.TheVariants.{Fine, Refused}
 use Rattle.refusals.specs.Lines.{Line, verdict, reply}
-use Rattle.refusals.specs.Refusals.{badInputs, sheetLines, badAssignment, unreadRecord}
+use Rattle.refusals.specs.Refusals.{bad_inputs, sheet_lines, bad_assignment, unread_record}
 use Rattle.running.specs.declared.run_sheet.RunAnswer.{RunAnswer}
 
 -- form: 1, 9, 10 and 11
-abbrev pub runForm : Edition → ℕ → ℕ → List ℕ → ℕ → List Line
-runForm e d n s x = badInputs n ∷ (sheetLines e d n s ++ (badAssignment n x ∷ []))
+abbrev pub run_form : Edition → ℕ → ℕ → List ℕ → ℕ → List Line
+run_form e d n s x = bad_inputs n ∷ (sheet_lines e d n s ++ (bad_assignment n x ∷ []))
 
 -- and 15
-abbrev pub runLines : Edition → ℕ → ℕ → List ℕ → ℕ → List Line
-runLines e d n s x = runForm e d n s x ++ (unreadRecord e n s ∷ [])
+abbrev pub run_lines : Edition → ℕ → ℕ → List ℕ → ℕ → List Line
+run_lines e d n s x = run_form e d n s x ++ (unread_record e n s ∷ [])
 
 -- done: the bit that the network of the sheet gives
-abbrev pub runDone : Edition → ℕ → List ℕ → ℕ → RunAnswer
-runDone e n s x = record { verdict = Fine; bit = sheetBit e n s (records e s) x }
+abbrev pub run_done : Edition → ℕ → List ℕ → ℕ → RunAnswer
+run_done e n s x = record { verdict = Fine; bit = sheet_bit e n s (records e s) x }
 
 -- refused: the bit is 0
-abbrev pub runNot : Refusal → RunAnswer
-runNot r = record { verdict = Refused r; bit = false }
+abbrev pub run_not : Refusal → RunAnswer
+run_not r = record { verdict = Refused r; bit = false }
 
 -- what run is to return where the sheet is to be the desk d's, whatever is handed over
-unfoldable pub runOutcome : Edition → ℕ → ℕ → List ℕ → ℕ → RunAnswer
-runOutcome e d n s x = reply (verdict (runLines e d n s x)) (runDone e n s x) runNot
+unfoldable pub run_outcome : Edition → ℕ → ℕ → List ℕ → ℕ → RunAnswer
+run_outcome e d n s x = reply (verdict (run_lines e d n s x)) (run_done e n s x) run_not
 
 -- and for the sheet's own desk
-abbrev pub runOwn : Edition → ℕ → List ℕ → ℕ → RunAnswer
-runOwn e n s x = runOutcome e (deskOf e s) n s x
+abbrev pub run_own : Edition → ℕ → List ℕ → ℕ → RunAnswer
+run_own e n s x = run_outcome e (desk_of e s) n s x

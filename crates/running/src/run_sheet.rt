@@ -1,8 +1,8 @@
 // Running a sheet at an assignment.
 ghost use Rattle.std.specs.Prelude.{◌≡◌};
-ghost use Rattle.sheets.specs.Edition.{IsEdition, firstEdition};
+ghost use Rattle.sheets.specs.Edition.{IsEdition, first_edition};
 ghost use Rattle.refusals.specs.Lines.{verdict};
-ghost use Rattle.running.specs.RunSheet.{runLines, runOutcome, runOwn};
+ghost use Rattle.running.specs.RunSheet.{run_lines, run_outcome, run_own};
 
 use records::desk::desk_of;
 use refusals::form;
@@ -11,7 +11,7 @@ use runs::running::bit_of;
 use sheets::kinds::Edition;
 
 // The bit, if nothing is wrong.
-#[derive(Drop)]
+#[derive(Clone, Copy)]
 pub struct RunAnswer {
     pub verdict: Verdict,
     pub bit: bool,
@@ -20,7 +20,7 @@ pub struct RunAnswer {
 // Lines 1, 9, 10, 11 and 15.
 fn run_form(e: Edition, d: u8, n: u64, s: &[u8], x: u64) -> Verdict
     requires { IsEdition e }
-    ensures { result ≡ verdict (runLines e d n s.now x) }
+    ensures { result ≡ verdict (run_lines e d n s.now x) }
 {
     let seen = form::sheet_for(e, d, n, s);
     let Verdict::Fine = seen else {
@@ -35,7 +35,7 @@ fn run_form(e: Edition, d: u8, n: u64, s: &[u8], x: u64) -> Verdict
 // Runs a sheet of an edition, which is to be the desk d's, at the assignment x.
 pub fn run_in(e: Edition, d: u8, n: u64, s: &[u8], x: u64) -> RunAnswer
     requires { IsEdition e }
-    ensures { result ≡ runOutcome e d n s.now x }
+    ensures { result ≡ run_outcome e d n s.now x }
 {
     let form = run_form(e, d, n, s, x);
     let Verdict::Fine = form else {
@@ -54,14 +54,14 @@ pub fn run_in(e: Edition, d: u8, n: u64, s: &[u8], x: u64) -> RunAnswer
 // Runs a sheet of an edition, whatever its desk, at the assignment x.
 pub fn run_own(e: Edition, n: u64, s: &[u8], x: u64) -> RunAnswer
     requires { IsEdition e }
-    ensures { result ≡ runOwn e n s.now x }
+    ensures { result ≡ run_own e n s.now x }
 {
     run_in(e, desk_of(e, s), n, s, x)
 }
 
 // Runs a sheet, whatever its desk, at the assignment x.
 pub fn run_sheet(n: u64, s: &[u8], x: u64) -> RunAnswer
-    ensures { result ≡ runOwn firstEdition n s.now x }
+    ensures { result ≡ run_own first_edition n s.now x }
 {
     run_own(Edition::first(), n, s, x)
 }

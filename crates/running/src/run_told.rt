@@ -1,6 +1,6 @@
 // Running a sheet of a told edition at an assignment.
 ghost use Rattle.std.specs.Prelude.{◌≡◌};
-ghost use Rattle.running.specs.RunTold.{runTold};
+ghost use Rattle.running.specs.RunTold.{run_told};
 
 use crate::run_sheet::{RunAnswer, run_own};
 use refusals::form;
@@ -9,7 +9,7 @@ use sheets::kinds::Edition;
 
 // Runs a sheet of the edition with the number w, whatever its desk, at the assignment x.
 pub fn run_told(w: u64, n: u64, s: &[u8], x: u64) -> RunAnswer
-    ensures { result ≡ runTold w n s.now x }
+    ensures { result ≡ run_told w n s.now x }
 {
     let told = form::told(w, n);
     let Verdict::Fine = told else {

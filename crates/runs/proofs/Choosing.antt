@@ -14,18 +14,18 @@ use lib.Seq.{get_or-set_same, get_or-set_other}
 use borrow.Author.Tests.{lt-ltb, le-ltb, ltb-true, ltb-false, eqb-true, eqb-false}
 use Rattle.bits.specs.Numbers.{bit, val, number}
 use Rattle.bits.specs.Patterns.{pattern}
-use Rattle.bits.proofs.Numbers.{bit_below, bit-shr, bit-mod, bit-zero, number_bit, number-ext, number_lt, number-mod}
+use Rattle.bits.proofs.Numbers.{bit_below, bit-shr, bit-mod, bit-zero, number_bit, number_ext, number_lt, number-mod}
 use Rattle.bits.proofs.Numbers.{val-lt}
 use Rattle.bits.proofs.Sums.{number_append, bit_not}
 use Rattle.bits.proofs.Filling.{Filled}
-use Rattle.tables.specs.Table.{tableLength, tableBit}
+use Rattle.tables.specs.Table.{table_length, table_bit}
 use Rattle.tables.specs.Words.{WordAt}
-use Rattle.runs.specs.Words.{inputWord, lane}
+use Rattle.runs.specs.Words.{input_word, lane}
 use Rattle.sheets.specs.declared.kinds.Edition.{Edition}
 use Rattle.sheets.specs.Network.{output}
-use Rattle.sheets.specs.Record.{byte_at, cellBit, cell_of}
+use Rattle.sheets.specs.Record.{byte_at, cell_bit, cell_of}
 use Rattle.runs.specs.Running.{input_at, Runnable}
-use Rattle.runs.proofs.Runs.{number_short, output-at, table-room, table-part, part_length}
+use Rattle.runs.proofs.Runs.{number_short, output_at, table-room, table-part, part_length}
 
 -- ---- of a cell's table inputs 6 and 7 choose a word, and the others a bit of it
 
@@ -53,8 +53,8 @@ module _ (e : Edition) (r : List ℕ) (w : Runnable e r) (v : ℕ → Bool) {q :
       ) in
       omega (arith, w.long, table-room e w.sound (byte_at r 0) (64 * q + number 6 f) w.readable.few h)
 
-  pub word-there : WordAt part (64 * q)
-  word-there = record {
+  pub word_there : WordAt part (64 * q)
+  word_there = record {
     long = λ h. elim (dec_lt e.most 6) [ yes g ↦ absurd (short h g) | no g ↦ long (omega arith) ];
     short = λ h. omega (arith, room, part_length e r);
   }
@@ -82,24 +82,24 @@ module _ (e : Edition) (r : List ℕ) (w : Runnable e r) (v : ℕ → Bool) {q :
                 ∙ pow-add 2 3 (e.most - 6),
           )
 
-  pub output-word : (t : ℕ) → ((k : ℕ) → 64 * q % 64 + k < 64 → bit t k ≡ tableBit part (64 * q + k))
+  pub output-word : (t : ℕ) → ((k : ℕ) → 64 * q % 64 + k < 64 → bit t k ≡ table_bit part (64 * q + k))
       → bit t (number 6 f) ≡ output (cell_of e (byte_at r)) v
   output-word t at =
       at (number 6 f) (omega (arith, number_lt 6 f)) ∙ table-part e r (64 * q + number 6 f) room
-      ∙ ap (cellBit e (byte_at r)) all
-      ∙ sym (output-at e (byte_at r) v 8 (omega (arith, w.sound.eight, w.readable.few)))
+      ∙ ap (cell_bit e (byte_at r)) all
+      ∙ sym (output_at e (byte_at r) v 8 (omega (arith, w.sound.eight, w.readable.few)))
 
 -- ---- an input's word
 
-pub input-low : (j w : ℕ) → j < 6 → pattern j ≡ inputWord j w
+pub input_low : (j w : ℕ) → j < 6 → pattern j ≡ input_word j w
 unfolding pattern
-input-low j w h =
-    number-ext 64 (λ x. bit x j) (λ i. bit (64 * w + i) j)
+input_low j w h =
+    number_ext 64 (λ x. bit x j) (λ i. bit (64 * w + i) j)
     (λ i l. let q : i + w * 2 ^ 6 ≡ 64 * w + i = omega arith in sym (bit_below i w 6 j h) ∙ ap (λ (x : ℕ). bit x j) q)
 
-pub input-high : (j w : ℕ) (t : Bool) → 6 ≤ j → bit w (j - 6) ≡ t → inputWord j w ≡ number 64 (λ i. t)
-input-high j w t h e =
-    number-ext 64 (λ i. bit (64 * w + i) j) (λ i. t)
+pub input_high : (j w : ℕ) (t : Bool) → 6 ≤ j → bit w (j - 6) ≡ t → input_word j w ≡ number 64 (λ i. t)
+input_high j w t h e =
+    number_ext 64 (λ i. bit (64 * w + i) j) (λ i. t)
     (λ i l.
     let p : j ≡ 6 + (j - 6) = omega arith in
     let q : (64 * w + i) / 2 ^ 6 ≡ w = omega arith in
@@ -129,9 +129,9 @@ four-bit s i (suc (suc (suc zero))) l h g = bit_not 64 0 i (lit< tt) h ∙ ap no
     go false = refl
 four-bit s i (suc (suc (suc (suc z)))) l h g = absurd (omega arith)
 
-pub pair-bit : (t : List ℕ) (s h i : ℕ) → s < 2 ^ 64 → i < 64
-    → bit (get_or (four s) (get_or t (h / 4) 0 / 2 ^ (2 * (h % 4)) % 4) 0) i ≡ tableBit t (2 * h + val (bit s i))
-pair-bit t s h i l g =
+pub pair_bit : (t : List ℕ) (s h i : ℕ) → s < 2 ^ 64 → i < 64
+    → bit (get_or (four s) (get_or t (h / 4) 0 / 2 ^ (2 * (h % 4)) % 4) 0) i ≡ table_bit t (2 * h + val (bit s i))
+pair_bit t s h i l g =
     let y = get_or t (h / 4) 0 / 2 ^ (2 * (h % 4)) in
     let b = val (bit s i) in
     let u = val-lt (bit s i) in
@@ -155,7 +155,7 @@ above_more n g j h l =
     let e : number (n - j) (λ i. g (j + i)) ≡ val (g j) + r * 2 =
     ap (λ (k : ℕ). number k (λ i. g (j + i))) q ∙ number_append 1 (n - (j + 1)) (λ i. g (j + i))
     ∙ ap₂ (λ (a b : ℕ). a + b * 2) (ap (λ (i : ℕ). 0 + val (g i) * 2 ^ 0) z ∙ omega arith)
-    (number-ext (n - (j + 1)) (λ i. g (j + (1 + i))) (λ i. g (j + 1 + i))
+    (number_ext (n - (j + 1)) (λ i. g (j + (1 + i))) (λ i. g (j + 1 + i))
     (λ i k. let p : j + (1 + i) ≡ j + 1 + i = omega arith in ap g p)) in
     let d : (val (g j) + r * 2) * 2 ^ j ≡ val (g j) * 2 ^ j + r * 2 ^ (j + 1) =
     add-mul (val (g j)) (r * 2) (2 ^ j) ∙ ap (λ (x : ℕ). val (g j) * 2 ^ j + x)
@@ -178,8 +178,8 @@ module _ (T f : ℕ → Bool) (n : ℕ) where
       ∙ omega arith)
 
   -- input 1 + j chooses too
-  pub left-more : (j h : ℕ) → j < n → left j h ≡ cond (f (1 + j)) (left (j + 1) (2 ^ j + h)) (left (j + 1) h)
-  left-more j h l = ap (λ (x : ℕ). T (2 * x + val (f 0))) (sym (above_more n (λ i. f (1 + i)) j h l)) ∙ go (f (1 + j))
+  pub left_more : (j h : ℕ) → j < n → left j h ≡ cond (f (1 + j)) (left (j + 1) (2 ^ j + h)) (left (j + 1) h)
+  left_more j h l = ap (λ (x : ℕ). T (2 * x + val (f 0))) (sym (above_more n (λ i. f (1 + i)) j h l)) ∙ go (f (1 + j))
     where
       at : ℕ → Bool
       at x = left (j + 1) x
@@ -188,22 +188,22 @@ module _ (T f : ℕ → Bool) (n : ℕ) where
       go true = let q : h + 1 * 2 ^ j ≡ 2 ^ j + h = omega arith in ap at q
       go false = let q : h + 0 * 2 ^ j ≡ h = omega arith in ap at q
 
-  pub left-all : left 0 0 ≡ T (number (1 + n) f)
+  pub left_all : left 0 0 ≡ T (number (1 + n) f)
   unfolding number
-  left-all =
+  left_all =
       let q : n - 0 ≡ n = omega arith in
       let e : number (n - 0) (λ i. f (1 + (0 + i))) ≡ number n (λ i. f (1 + i)) =
       ap (λ (k : ℕ). number k (λ i. f (1 + (0 + i)))) q
-      ∙ number-ext n (λ i. f (1 + (0 + i))) (λ i. f (1 + i))
+      ∙ number_ext n (λ i. f (1 + (0 + i))) (λ i. f (1 + i))
       (λ i l. let p : 1 + (0 + i) ≡ 1 + i = omega arith in ap f p) in
       ap T (omega (arith, e, number_append 1 n f))
 
 -- ---- words in places
 
 -- what was stored from the front, read in one of its bits
-pub lane-filled : {end : ℕ} {f : ℕ → ℕ} {before after : List ℕ} {i : ℕ} → Filled 0 end f before after i → (j h : ℕ) → h
+pub lane_filled : {end : ℕ} {f : ℕ → ℕ} {before after : List ℕ} {i : ℕ} → Filled 0 end f before after i → (j h : ℕ) → h
     < i → lane after j h ≡ bit (f h) j
-lane-filled {after = after} w j h l = ap (λ (m : ℕ). lane after j m) (sym (zero-add h))
+lane_filled {after = after} w j h l = ap (λ (m : ℕ). lane after j m) (sym (zero-add h))
     ∙ ap (λ (x : ℕ). bit x j) (w.new h l)
 
 pub lane-set : (words : List ℕ) (t o i h : ℕ) → t < length words → lane (set words t o) i h
@@ -218,7 +218,7 @@ lane-set words t o i h l = go (eqb h t) refl
 -- the places of v hold what is left of a cell's table where input 0 and those above j, of 1 + n, have chosen
 module _ (e : Edition) (b : ℕ → ℕ) (words : List ℕ) (n : ℕ) where
   abbrev at : ℕ → ℕ → ℕ → Bool
-  at i = left (cellBit e b) (input_at b (lane words i)) n
+  at i = left (cell_bit e b) (input_at b (lane words i)) n
 
   abbrev pub Left : List ℕ → ℕ → Type 0
   Left v j = (h i : ℕ) → h < 2 ^ j → i < 64 → lane v i h ≡ at i j h
@@ -237,13 +237,13 @@ module _ (e : Edition) (b : ℕ → ℕ) (words : List ℕ) (n : ℕ) where
       ∙ ap₂ (cond (input_at b (lane words i) (1 + (j - 1))))
       (w (half + h) i (omega arith) k ∙ ap₂ (at i) (sym t) (ap (λ (x : ℕ). x + h) q))
       (w h i (omega arith) k ∙ ap (λ (x : ℕ). at i x h) (sym t))
-      ∙ sym (left-more (cellBit e b) (input_at b (lane words i)) n (j - 1) h (omega arith))
+      ∙ sym (left_more (cell_bit e b) (input_at b (lane words i)) n (j - 1) h (omega arith))
 
   pub left-output : (v : List ℕ) → b 0 ≤ 1 + n → Left v 0 → (i : ℕ) → i < 64 → lane v i 0
       ≡ output (cell_of e b) (lane words i)
   left-output v h w i l =
-      w 0 i (lit< tt) l ∙ left-all (cellBit e b) (input_at b (lane words i)) n
-      ∙ sym (output-at e b (lane words i) (1 + n) h)
+      w 0 i (lit< tt) l ∙ left_all (cell_bit e b) (input_at b (lane words i)) n
+      ∙ sym (output_at e b (lane words i) (1 + n) h)
 
 -- ---- a word's first 2 ^ n bits
 
@@ -251,10 +251,10 @@ pub first_short : (n o : ℕ) → n < 6 → o % 2 ^ (2 ^ n) ≡ number 64 (λ i.
 first_short n o h = sym (number-mod (2 ^ n) o)
     ∙ sym (number_short (2 ^ n) 64 (bit o) (omega (arith, pow_mono {i = n} {j = 6} (omega arith))))
 
-pub first-whole : (n o : ℕ) → 6 ≤ n → o < 2 ^ 64 → o ≡ number 64 (λ i. ltb i (2 ^ n) && bit o i)
-first-whole n o h l =
+pub first_whole : (n o : ℕ) → 6 ≤ n → o < 2 ^ 64 → o ≡ number 64 (λ i. ltb i (2 ^ n) && bit o i)
+first_whole n o h l =
     sym (number_bit 64 o l)
-    ∙ number-ext 64 (bit o) (λ i. ltb i (2 ^ n) && bit o i)
+    ∙ number_ext 64 (bit o) (λ i. ltb i (2 ^ n) && bit o i)
     (λ i g. sym (ap (λ (t : Bool). t && bit o i) (lt-ltb i (2 ^ n) (omega (arith, pow_mono {i = 6} {j = n} h)))))
 
 -- are those of F from 64 w on
@@ -262,7 +262,7 @@ pub first_of : (n w o : ℕ) (F : ℕ → Bool) → 64 * w < 2 ^ n
     → ((i : ℕ) → i < 64 → 64 * w + i < 2 ^ n → F (64 * w + i) ≡ bit o i)
     → number 64 (λ i. ltb i (2 ^ n) && bit o i) ≡ number 64 (λ i. ltb (64 * w + i) (2 ^ n) && F (64 * w + i))
 first_of n w o F some at =
-    number-ext 64 (λ i. ltb i (2 ^ n) && bit o i) (λ i. ltb (64 * w + i) (2 ^ n) && F (64 * w + i))
+    number_ext 64 (λ i. ltb i (2 ^ n) && bit o i) (λ i. ltb (64 * w + i) (2 ^ n) && F (64 * w + i))
     (λ i l. go i l (ltb (64 * w + i) (2 ^ n)) refl)
   where
     past : (i : ℕ) → i < 64 → 2 ^ n ≤ 64 * w + i → 2 ^ n ≤ i
@@ -280,8 +280,8 @@ first_of n w o F some at =
     go i l false q = ap (λ (t : Bool). t && bit o i) (le-ltb i (2 ^ n) (past i l (ltb-false (64 * w + i) (2 ^ n) q)))
 
 -- byte i of a table is in a word of it
-pub word-starts : (n i : ℕ) → i < tableLength n → 64 * (i / 8) < 2 ^ n
-word-starts n i h = elim (dec_lt n 3) [
+pub word_starts : (n i : ℕ) → i < table_length n → 64 * (i / 8) < 2 ^ n
+word_starts n i h = elim (dec_lt n 3) [
   | yes l ↦ let z : n - 3 ≡ 0 = omega arith in omega (arith, ap (λ (k : ℕ). 2 ^ k) z, pow_pos n)
   | no l ↦ let q : 3 + (n - 3) ≡ n = omega arith in omega (arith, ap (λ (k : ℕ). 2 ^ k) q, pow-add 2 3 (n - 3))
 ]

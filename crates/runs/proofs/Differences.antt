@@ -13,27 +13,27 @@ use borrow.Author.Tests.{lt-ltb, le-ltb, not-true, not-false}
 use Rattle.bits.specs.Numbers.{bit}
 use Rattle.bits.specs.Below.{least, IsLeast}
 use Rattle.bits.proofs.Bools.{clash, beq_same, same-beq}
-use Rattle.bits.proofs.Below.{every-at}
-use Rattle.bits.proofs.Least.{is-least, least-of}
-use Rattle.bits.proofs.Numbers.{bit-number, bit-zero, number_bit, number-ext, number_lt}
-use Rattle.tables.specs.Table.{tableLength, tableBit, spareClear}
+use Rattle.bits.proofs.Below.{every_at}
+use Rattle.bits.proofs.Least.{is_least, least-of}
+use Rattle.bits.proofs.Numbers.{bit-number, bit-zero, number_bit, number_ext, number_lt}
+use Rattle.tables.specs.Table.{table_length, table_bit, spare_clear}
 use Rattle.tables.specs.Words.{WordAt}
 use Rattle.sheets.specs.declared.kinds.Edition.{Edition}
-use Rattle.sheets.specs.Sheet.{sheetBit}
-use Rattle.runs.specs.Words.{sheetWord}
-use Rattle.runs.specs.Checking.{differs, firstDifference, apart}
+use Rattle.sheets.specs.Sheet.{sheet_bit}
+use Rattle.runs.specs.Words.{sheet_word}
+use Rattle.runs.specs.Checking.{differs, first_difference, apart}
 
 not-apart : (a b i : ℕ) → bit a i ≡ bit b i → apart a b i ≡ false
 not-apart a b i h = ap not (same-beq (bit a i) (bit b i) h)
 
 -- a table's bits from 2 ^ n up are 0, past its end too
-pub spare-false : (n : ℕ) (t : List ℕ) → length t ≡ tableLength n → spareClear n t ≡ true → (x : ℕ) → 2 ^ n ≤ x
-    → tableBit t x ≡ false
-unfolding spareClear
-spare-false n t long spare x h = elim (dec_lt x 8) [
+pub spare_false : (n : ℕ) (t : List ℕ) → length t ≡ table_length n → spare_clear n t ≡ true → (x : ℕ) → 2 ^ n ≤ x
+    → table_bit t x ≡ false
+unfolding spare_clear
+spare_false n t long spare x h = elim (dec_lt x 8) [
   | yes l ↦
-      not-true (tableBit t x) (sym (ap (λ (s : Bool). s || not (tableBit t x)) (le-ltb x (2 ^ n) h))
-      ∙ every-at 8 (λ y. ltb y (2 ^ n) || not (tableBit t y)) spare x l)
+      not-true (table_bit t x) (sym (ap (λ (s : Bool). s || not (table_bit t x)) (le-ltb x (2 ^ n) h))
+      ∙ every_at 8 (λ y. ltb y (2 ^ n) || not (table_bit t y)) spare x l)
   | no l ↦ ap (λ (b : ℕ). bit b (x % 8)) (get_or-eq_default t 0 (past l)) ∙ bit-zero (x % 8)
 ]
   where
@@ -45,8 +45,8 @@ spare-false n t long spare x h = elim (dec_lt x 8) [
     ]
 
 -- the word of the table at a multiple of 64 lies in it
-pub word-there : (n : ℕ) (t : List ℕ) → length t ≡ tableLength n → (f : ℕ) → f % 64 ≡ 0 → f < 2 ^ n → WordAt t f
-word-there n t long f z l = elim (dec_lt n 6) [
+pub word_there : (n : ℕ) (t : List ℕ) → length t ≡ table_length n → (f : ℕ) → f % 64 ≡ 0 → f < 2 ^ n → WordAt t f
+word_there n t long f z l = elim (dec_lt n 6) [
   | yes g ↦
       let p = pow_mono {i = n - 3} {j = 2} (omega arith) in
       let q = pow_mono {i = n} {j = 5} (omega arith) in
@@ -62,34 +62,34 @@ word-there n t long f z l = elim (dec_lt n 6) [
       }
 ]
 
-module _ (e : Edition) (n : ℕ) (s : List ℕ) (m : ℕ) (t : List ℕ) (long : length t ≡ tableLength n)
-    (spare : spareClear n t ≡ true)
-    (f a b : ℕ) (z : f % 64 ≡ 0) (given : a ≡ sheetWord e n s m (f / 64))
-    (asked : (k : ℕ) → f % 64 + k < 64 → bit b k ≡ tableBit t (f + k))
+module _ (e : Edition) (n : ℕ) (s : List ℕ) (m : ℕ) (t : List ℕ) (long : length t ≡ table_length n)
+    (spare : spare_clear n t ≡ true)
+    (f a b : ℕ) (z : f % 64 ≡ 0) (given : a ≡ sheet_word e n s m (f / 64))
+    (asked : (k : ℕ) → f % 64 + k < 64 → bit b k ≡ table_bit t (f + k))
   where
     whole : 64 * (f / 64) ≡ f
     whole = omega (arith, z)
 
     -- the sheet's word, place by place
-    given-at : (k : ℕ) → k < 64 → bit a k ≡ (ltb (f + k) (2 ^ n) && sheetBit e n s m (f + k))
-    given-at k h =
+    given_at : (k : ℕ) → k < 64 → bit a k ≡ (ltb (f + k) (2 ^ n) && sheet_bit e n s m (f + k))
+    given_at k h =
         ap (λ (v : ℕ). bit v k) given ∙ bit-number 64
-        (λ i. ltb (64 * (f / 64) + i) (2 ^ n) && sheetBit e n s m (64 * (f / 64) + i)) k h
-        ∙ ap (λ (v : ℕ). ltb (v + k) (2 ^ n) && sheetBit e n s m (v + k)) whole
+        (λ i. ltb (64 * (f / 64) + i) (2 ^ n) && sheet_bit e n s m (64 * (f / 64) + i)) k h
+        ∙ ap (λ (v : ℕ). ltb (v + k) (2 ^ n) && sheet_bit e n s m (v + k)) whole
 
-    asked-at : (k : ℕ) → k < 64 → bit b k ≡ tableBit t (f + k)
-    asked-at k h = asked k (omega (arith, z))
+    asked_at : (k : ℕ) → k < 64 → bit b k ≡ table_bit t (f + k)
+    asked_at k h = asked k (omega (arith, z))
 
     -- within the table a place differs exactly as its assignment does; past it none does
     inside : (k : ℕ) → k < 64 → f + k < 2 ^ n → apart a b k ≡ differs e n s m t (f + k)
     inside k h l =
-        ap₂ (λ (u v : Bool). not (beq u v)) (given-at k h
-        ∙ ap (λ (v : Bool). v && sheetBit e n s m (f + k)) (lt-ltb (f + k) (2 ^ n) l)) (asked-at k h)
+        ap₂ (λ (u v : Bool). not (beq u v)) (given_at k h
+        ∙ ap (λ (v : Bool). v && sheet_bit e n s m (f + k)) (lt-ltb (f + k) (2 ^ n) l)) (asked_at k h)
 
     past : (k : ℕ) → k < 64 → 2 ^ n ≤ f + k → apart a b k ≡ false
     past k h l =
-        not-apart a b k (given-at k h ∙ ap (λ (v : Bool). v && sheetBit e n s m (f + k)) (le-ltb (f + k) (2 ^ n) l)
-        ∙ sym (asked-at k h ∙ spare-false n t long spare (f + k) l))
+        not-apart a b k (given_at k h ∙ ap (λ (v : Bool). v && sheet_bit e n s m (f + k)) (le-ltb (f + k) (2 ^ n) l)
+        ∙ sym (asked_at k h ∙ spare_false n t long spare (f + k) l))
 
     -- the same word: no assignment of it differs
     pub same_word : a ≡ b → (x : ℕ) → f ≤ x → x < f + 64 → x < 2 ^ n → differs e n s m t x ≡ false
@@ -102,10 +102,10 @@ module _ (e : Edition) (n : ℕ) (s : List ℕ) (m : ℕ) (t : List ℕ) (long :
 
     -- different words, of 64 bits both: the lowest place at which they differ is the least assignment that does
     pub apart-word : (a ≡ b → ⊥) → b < 2 ^ 64 → ((x : ℕ) → x < f → x < 2 ^ n → differs e n s m t x ≡ false) → f
-        + least 64 (apart a b) ≡ firstDifference e n s m t
+        + least 64 (apart a b) ≡ first_difference e n s m t
     apart-word q w before =
         let i = least 64 (apart a b) in
-        let l = is-least 64 (apart a b) in
+        let l = is_least 64 (apart a b) in
         let h : i < 64 = low l in
         let g : f + i < 2 ^ n = within i h (l.here h) in
         sym (least-of (2 ^ n) (differs e n s m t) (f + i) (record {
@@ -118,7 +118,7 @@ module _ (e : Edition) (n : ℕ) (s : List ℕ) (m : ℕ) (t : List ℕ) (long :
         equal : ((k : ℕ) → k < 64 → apart a b k ≡ false) → a ≡ b
         equal h =
             let p = sym (number_bit 64 a (subst (λ (v : ℕ). v < 2 ^ 64) (sym given) (number_lt 64 _))) in
-            p ∙ number-ext 64 (bit a) (bit b) (λ k l. beq_same (bit a k) (bit b k)
+            p ∙ number_ext 64 (bit a) (bit b) (λ k l. beq_same (bit a k) (bit b k)
             (not-false (beq (bit a k) (bit b k)) (h k l))) ∙ number_bit 64 b w
 
         low : IsLeast 64 (apart a b) (least 64 (apart a b)) → least 64 (apart a b) < 64
@@ -136,7 +136,7 @@ module _ (e : Edition) (n : ℕ) (s : List ℕ) (m : ℕ) (t : List ℕ) (long :
           | no l ↦
               let k = x - f in
               let r : f + k ≡ x = omega arith in
-              let d = is-least 64 (apart a b) in
+              let d = is_least 64 (apart a b) in
               let i : k < 64 = omega (arith, d.within) in
               sym (inside k i (omega arith) ∙ ap (differs e n s m t) r) ∙ d.before k (omega arith)
         ]

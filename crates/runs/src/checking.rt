@@ -2,10 +2,10 @@
 ghost use Rattle.std.specs.Prelude.{◌≡◌, true, ◌*◌, ◌<◌, ◌≤◌, length};
 ghost use Rattle.bits.specs.Numbers.{bit};
 ghost use Rattle.bits.specs.Below.{least};
-ghost use Rattle.tables.specs.Table.{mostInputs, tableLength, spareClear};
-ghost use Rattle.sheets.specs.Edition.{IsEdition, mostRecords};
+ghost use Rattle.tables.specs.Table.{most_inputs, table_length, spare_clear};
+ghost use Rattle.sheets.specs.Edition.{IsEdition, most_records};
 ghost use Rattle.sheets.specs.Sheet.{AllReadable};
-ghost use Rattle.runs.specs.Checking.{apart, firstDifference};
+ghost use Rattle.runs.specs.Checking.{apart, first_difference};
 
 use crate::words::sheet_word;
 use sheets::kinds::Edition;
@@ -35,9 +35,9 @@ fn first_apart(a: u64, b: u64) -> u32
 
 // The least assignment at which the sheet of m records doesn't give the table's bit, and 2 ^ n where there is none.
 pub fn first_difference<'a>(e: Edition, n: u32, s: &'a [u8], m: usize, t: &'a [u8]) -> u32
-    requires edition { IsEdition e × (m ≤ mostRecords) × (n ≤ mostInputs) × (e.size * m ≤ length s.now) × AllReadable e s.now m }
-    requires t_len { (length t.now ≡ tableLength n) × (spareClear n t.now ≡ true) }
-    ensures { result ≡ firstDifference e n s.now m t.now }
+    requires edition { IsEdition e × (m ≤ most_records) × (n ≤ most_inputs) × (e.size * m ≤ length s.now) × AllReadable e s.now m }
+    requires t_len { (length t.now ≡ table_length n) × (spare_clear n t.now ≡ true) }
+    ensures { result ≡ first_difference e n s.now m t.now }
 {
     let all: u32 = 1 << n;
     let mut from: u32 = 0;

@@ -1,12 +1,12 @@
 // Running a sheet at an assignment, and rebuilding its table.
 ghost use Rattle.std.specs.Prelude.{◌≡◌, ◌*◌, ◌^◌, ◌<◌, ◌≤◌, length};
 ghost use Rattle.bits.specs.Numbers.{bit, number};
-ghost use Rattle.tables.specs.Table.{mostInputs, tableLength};
+ghost use Rattle.tables.specs.Table.{most_inputs, table_length};
 ghost use Rattle.sheets.specs.Network.{output};
-ghost use Rattle.sheets.specs.Edition.{IsEdition, mostRecords};
+ghost use Rattle.sheets.specs.Edition.{IsEdition, most_records};
 ghost use Rattle.sheets.specs.Record.{byte_at, cell_of};
 ghost use Rattle.runs.specs.Running.{input_at, Runnable};
-ghost use Rattle.sheets.specs.Sheet.{AllReadable, sheetBit, rebuilt};
+ghost use Rattle.sheets.specs.Sheet.{AllReadable, sheet_bit, rebuilt};
 
 use crate::words::sheet_word;
 use bits::patterns::half;
@@ -54,10 +54,10 @@ fn output_of(e: Edition, b: &[u8], w: u32) -> bool
 // What a sheet of m records gives at the assignment x. The word holds the signals so far: the inputs, then each
 // record's output.
 pub fn bit_of(e: Edition, n: u32, s: &[u8], m: usize, x: u32) -> bool
-    requires edition { IsEdition e × (m ≤ mostRecords) × (n ≤ mostInputs) × (e.size * m ≤ length s.now)
+    requires edition { IsEdition e × (m ≤ most_records) × (n ≤ most_inputs) × (e.size * m ≤ length s.now)
         × AllReadable e s.now m }
     requires x_bound { x < 2 ^ n }
-    ensures { result ≡ sheetBit e n s.now m x }
+    ensures { result ≡ sheet_bit e n s.now m x }
 {
     let mut w = x;
     let mut o = false;
@@ -74,9 +74,9 @@ pub fn bit_of(e: Edition, n: u32, s: &[u8], m: usize, x: u32) -> bool
 
 // The table of a sheet of m records, into a lent one of its length, which is written whole.
 pub fn rebuild(e: Edition, n: u32, s: &[u8], m: usize, out: &mut [u8])
-    requires edition { IsEdition e × (m ≤ mostRecords) × (n ≤ mostInputs) × (e.size * m ≤ length s.now)
+    requires edition { IsEdition e × (m ≤ most_records) × (n ≤ most_inputs) × (e.size * m ≤ length s.now)
         × AllReadable e s.now m }
-    requires out_len { length out.old ≡ tableLength n }
+    requires out_len { length out.old ≡ table_length n }
     ensures { out.new ≡ rebuilt e n s.now m }
 {
     let mut o: u64 = 0;

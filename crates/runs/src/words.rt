@@ -1,13 +1,13 @@
 // A sheet's table 64 assignments at a time. The word of a signal has, as bit i, its value at assignment 64 w + i.
 ghost use Rattle.std.specs.Prelude.{◌≡◌, cond, ◌&&◌, ℕ, ◌+◌, ◌-◌, ◌*◌, ◌^◌, ◌<◌, ◌≤◌, ltb, length};
 ghost use Rattle.bits.specs.Numbers.{bit, val, number};
-ghost use Rattle.tables.specs.Table.{mostInputs, tableBit};
+ghost use Rattle.tables.specs.Table.{most_inputs, table_bit};
 ghost use Rattle.sheets.specs.Network.{output};
-ghost use Rattle.sheets.specs.Edition.{IsEdition, mostRecords};
-ghost use Rattle.sheets.specs.Record.{byte_at, cellBit, cell_of};
+ghost use Rattle.sheets.specs.Edition.{IsEdition, most_records};
+ghost use Rattle.sheets.specs.Record.{byte_at, cell_bit, cell_of};
 ghost use Rattle.runs.specs.Running.{input_at, Runnable};
 ghost use Rattle.sheets.specs.Sheet.{AllReadable};
-ghost use Rattle.runs.specs.Words.{sheetWord, inputWord, lane};
+ghost use Rattle.runs.specs.Words.{sheet_word, input_word, lane};
 
 use bits::patterns::{choose, of_input};
 use records::rules::record_of;
@@ -20,8 +20,8 @@ const PAIRS: usize = 128;
 
 // The word of input j: a pattern below 6; from there on all assignments have the same value.
 pub fn input_word(j: u32, w: u32) -> u64
-    requires { j < mostInputs }
-    ensures { result ≡ inputWord j w }
+    requires { j < most_inputs }
+    ensures { result ≡ input_word j w }
 {
     if j < 6 {
         return of_input(j);
@@ -34,7 +34,7 @@ pub fn input_word(j: u32, w: u32) -> u64
 
 // The words of the signals before the first record: the inputs', and 0 for the records to come.
 fn inputs(n: u32, w: u32) -> [u64; SIGNALS]
-    requires { n ≤ mostInputs }
+    requires { n ≤ most_inputs }
     ensures { (length result ≡ 32) × ((i s : ℕ) → i < 64 → 64 * w + i < 2 ^ n → lane result i s ≡ bit (64 * w + i) s) }
 {
     let end = n as usize;
@@ -70,7 +70,7 @@ fn cell_input<'a>(e: Edition, b: &'a [u8], words: &'a [u64], j: usize) -> u64
 // For each pair h of a table's bits, 2 h and 2 h + 1, the word that the word of input 0 chooses from it.
 fn pairs(t: &[u8], first: u64, many: usize, v: &mut [u64])
     requires { (many ≤ 4 * length t.now) × (many ≤ length v.old) }
-    ensures { (h i : ℕ) → h < many → i < 64 → lane v.new i h ≡ tableBit t.now
+    ensures { (h i : ℕ) → h < many → i < 64 → lane v.new i h ≡ table_bit t.now
         (2 * h + val (bit first i)) }
 {
     let four = [0, !first, first, !0];
@@ -108,7 +108,7 @@ fn first_half<'a>(e: Edition, b: &'a [u8], words: &'a [u64], v: &mut [u64]) -> u
     requires { Runnable e b.now × (32 ≤ length words.now) × (128 ≤ length v.old) }
     ensures value { result ≡ byte_at b.now 0 - 1 }
     ensures by_index { (h i : ℕ) → h < 2 ^ result → i < 64
-        → lane v.new i h ≡ cellBit e (byte_at b.now)
+        → lane v.new i h ≡ cell_bit e (byte_at b.now)
         (2 * h + val (input_at (byte_at b.now) (lane words.now i) 0)) }
 {
     let start = e.start;
@@ -134,7 +134,7 @@ fn cell_word<'a>(e: Edition, b: &'a [u8], words: &'a [u64], v: &mut [u64]) -> u6
 
 // The first 2 ^ n bits of a word, the others 0.
 pub fn first_bits(n: u32, o: u64) -> u64
-    requires { n ≤ mostInputs }
+    requires { n ≤ most_inputs }
     ensures { result ≡ number 64 (λ i. ltb i (2 ^ n) && bit o i) }
 {
     if n < 6 {
@@ -147,10 +147,10 @@ pub fn first_bits(n: u32, o: u64) -> u64
 
 // Word w of the table of a sheet of m records.
 pub fn sheet_word(e: Edition, n: u32, s: &[u8], m: usize, w: u32) -> u64
-    requires edition { IsEdition e × (m ≤ mostRecords) × (n ≤ mostInputs) × (e.size * m ≤ length s.now)
+    requires edition { IsEdition e × (m ≤ most_records) × (n ≤ most_inputs) × (e.size * m ≤ length s.now)
         × AllReadable e s.now m }
     requires w_bound { 64 * w < 2 ^ n }
-    ensures { result ≡ sheetWord e n s.now m w }
+    ensures { result ≡ sheet_word e n s.now m w }
 {
     let from = n as usize;
     let mut words = inputs(n, w);

@@ -12,20 +12,20 @@ use Rattle.bits.specs.Sets.{union, size}
 use Rattle.bits.proofs.Bools.{clash, false_of, and_right, or_left}
 use Rattle.bits.proofs.Counting.{size-part, size-or}
 use Rattle.bits.proofs.Numbers.{bit-zero}
-use Rattle.bits.proofs.Sizes.{size-le, size-lt, size-more, size-sum}
+use Rattle.bits.proofs.Sizes.{size-le, size-lt, size_more, size-sum}
 use Rattle.bits.proofs.Machine.{bit-or}
-use Rattle.splits.specs.Columns.{fewColumns}
+use Rattle.splits.specs.Columns.{few_columns}
 use Rattle.best.specs.Search.{none, best}
 use Rattle.witness.specs.Witness.{Inside}
-use Rattle.witness.proofs.Members.{power-bit, bit-within}
+use Rattle.witness.proofs.Members.{power_bit, bit_within}
 use Rattle.search.specs.Owning.{Owns, NoneOwns, Takes, Bad}
-use Rattle.search.proofs.Early.{never-best}
+use Rattle.search.proofs.Early.{never_best}
 
 -- ---- one own mask
 module _ {n k r : ℕ} {F : ℕ → Bool} {P : ℕ} where
   -- its own inputs are taken
-  pub takes-own : (count : ℕ) → count ≡ size n (bit P) → Takes n k r F P P count
-  takes-own count e = record {
+  pub takes_own : (count : ℕ) → count ≡ size n (bit P) → Takes n k r F P P count
+  takes_own count e = record {
     least = λ A B w. omega (
       arith,
       e,
@@ -35,9 +35,9 @@ module _ {n k r : ℕ} {F : ℕ → Bool} {P : ℕ} where
   }
 
   -- then one of each bad set
-  pub takes-more : (used q count : ℕ) → Bad n r F P used q → Takes n k r F P used count
+  pub takes_more : (used q count : ℕ) → Bad n r F P used q → Takes n k r F P used count
       → Takes n k r F P (bit_or used q) (count + 1)
-  takes-more used q count bad w = record { least = λ A B o. omega (arith, w.least A B o, one A B o, sum A B) }
+  takes_more used q count bad w = record { least = λ A B o. omega (arith, w.least A B o, one A B o, sum A B) }
     where
       -- where none of it were, it would be free
       one : (A B : ℕ) → Owns n k r F P A B → 1 ≤ size n (λ j. bit q j && (bit A j || bit B j))
@@ -47,8 +47,8 @@ module _ {n k r : ℕ} {F : ℕ → Bool} {P : ℕ} where
           within j h = at (bit A j) refl h
             where
               at : (t : Bool) → bit A j ≡ t → (t || bit B j) ≡ true → j < n
-              at true e g = bit-within A n j o.candidate.belowA e
-              at false e g = bit-within B n j o.candidate.belowB g
+              at true e g = bit_within A n j o.candidate.below_a e
+              at false e g = bit_within B n j o.candidate.below_b g
 
           free : size n (λ j. bit q j && (bit A j || bit B j)) ≡ 0 → (j : ℕ) → bit q j ≡ true → (bit A j || bit B j)
               ≡ false
@@ -89,18 +89,18 @@ module _ {n k r : ℕ} {F : ℕ → Bool} {P : ℕ} where
 
 -- ---- all own masks
 module _ {n k r : ℕ} {F : ℕ → Bool} {P : ℕ} where
-  pub owns-big : (p left : ℕ) → p < left → NoneOwns n k r F P p left
-  owns-big p left h = record { none = λ A B o l. omega (arith, size-le p (bit A)) }
+  pub owns_big : (p left : ℕ) → p < left → NoneOwns n k r F P p left
+  owns_big p left h = record { none = λ A B o l. omega (arith, size-le p (bit A)) }
 
-  pub owns-leaf : (p left : ℕ) → NoneOwns n k r F P 0 0 → NoneOwns n k r F P p left
-  owns-leaf p left w = record { none = λ A B o l. w.none A B o (omega arith) }
+  pub owns_leaf : (p left : ℕ) → NoneOwns n k r F P 0 0 → NoneOwns n k r F P p left
+  owns_leaf p left w = record { none = λ A B o l. w.none A B o (omega arith) }
 
   -- position j is own, or not
-  pub owns-next : (j p left taken : ℕ) → j + 1 ≡ p → taken ≡ bit_or P (2 ^ j) → NoneOwns n k r F P j left
+  pub owns_next : (j p left taken : ℕ) → j + 1 ≡ p → taken ≡ bit_or P (2 ^ j) → NoneOwns n k r F P j left
       → NoneOwns n k r F taken j (left - 1) → NoneOwns n k r F P p left
-  owns-next j p left taken down is out with = record {
+  owns_next j p left taken down is out with = record {
     none = λ A B o l. go A B o (bit A j) refl (omega
-        (arith, size-more j (bit A), ap (λ (i : ℕ). size i (bit A)) down));
+        (arith, size_more j (bit A), ap (λ (i : ℕ). size i (bit A)) down));
   }
     where
       go : (A B : ℕ) → Owns n k r F P A B → (t : Bool) → bit A j ≡ t → left ≤ size j (bit A) + val (bit A j) → ⊥
@@ -112,12 +112,12 @@ module _ {n k r : ℕ} {F : ℕ → Bool} {P : ℕ} where
             where
               at : (t : Bool) → bit P i ≡ t → (t || bit (2 ^ j) i) ≡ true → bit A i ≡ true
               at true f g = o.inside i f
-              at false f g = ap (bit A) (eqb-true i j (sym (power-bit j i) ∙ g)) ∙ e
+              at false f g = ap (bit A) (eqb-true i j (sym (power_bit j i) ∙ g)) ∙ e
       go A B o false e l = out.none A B o (omega (arith, ap val e))
 
 -- with no own input asked, that is every candidate
 pub owns_none : {n k r : ℕ} {F : ℕ → Bool} → NoneOwns n k r F 0 n (r + 1) → best n r F k ≡ none
 owns_none {n} {k} {r} {F} w =
-    never-best n r F k (λ A B c. false_of (fewColumns n F (bit A) (bit B) (2 ^ r)) (λ e.
+    never_best n r F k (λ A B c. false_of (few_columns n F (bit A) (bit B) (2 ^ r)) (λ e.
     w.none A B (record { candidate = c; inside = λ j h. absurd (clash h (bit-zero j)); few = e })
     (omega (arith, c.more))))

@@ -2,7 +2,7 @@
 use Rattle.std.specs.Prelude.{◌≡◌, Bool, true, false, ◌&&◌, ◌||◌, ℕ, ◌^◌, ◌≤◌}
 use Rattle.bits.specs.Numbers.{bit}
 use Rattle.bits.specs.Sets.{size}
-use Rattle.splits.specs.Columns.{fewColumns}
+use Rattle.splits.specs.Columns.{few_columns}
 use Rattle.best.specs.Best.{Candidate}
 use Rattle.witness.specs.Witness.{Inside, RulesOut}
 
@@ -10,7 +10,7 @@ use Rattle.witness.specs.Witness.{Inside, RulesOut}
 pub record Owns (n k r : ℕ) (F : ℕ → Bool) (P A B : ℕ) : Type 0 where
   pub candidate : Candidate n k r A B
   pub inside : Inside (bit P) (bit A)
-  pub few : fewColumns n F (bit A) (bit B) (2 ^ r) ≡ true
+  pub few : few_columns n F (bit A) (bit B) (2 ^ r) ≡ true
 
 -- there is none with `left` own inputs or more below position p
 pub record NoneOwns (n k r : ℕ) (F : ℕ → Bool) (P p left : ℕ) : Type 0 where

@@ -1,12 +1,12 @@
 // The best split over the inputs that count.
 ghost use Rattle.std.specs.Prelude.{◌≡◌, false, ◌≤◌, length, replicate};
 ghost use Rattle.bits.specs.Numbers.{bit};
-ghost use Rattle.tables.specs.Table.{mostInputs, tableLength, tableBit};
+ghost use Rattle.tables.specs.Table.{most_inputs, table_length, table_bit};
 ghost use Rattle.tables.specs.Counting.{CountingIn};
 ghost use Rattle.best.specs.Answers.{answer_of};
-ghost use Rattle.best.specs.Counting.{spreadAnswer, bestCounting};
-ghost use Rattle.best.specs.Walk.{mostFirst};
-ghost use Rattle.search.specs.Counted.{isFew, splitIn, FoundCounting};
+ghost use Rattle.best.specs.Counting.{spread_answer, best_counting};
+ghost use Rattle.best.specs.Walk.{most_first};
+ghost use Rattle.search.specs.Counted.{is_few, split_in, FoundCounting};
 
 use crate::search::find_with;
 use best::Found;
@@ -16,7 +16,7 @@ use tables::counting::{CountingInputs, counting_inputs};
 
 // What a search over the inputs that count finds: that at most k of them do; an own and a shared mask in the caller's
 // positions; or nothing.
-#[derive(Drop)]
+#[derive(Clone, Copy)]
 pub enum Counted {
     Few,
     Split(u16, u16),
@@ -25,8 +25,8 @@ pub enum Counted {
 
 // Masks over the members of a mask, spread back to the members.
 fn spread_back(n: u32, mask: u16, found: Found) -> Counted
-    requires { n ≤ mostInputs }
-    ensures { (isFew result ≡ false) × (splitIn result ≡ spreadAnswer n (bit mask) (answer_of found)) }
+    requires { n ≤ most_inputs }
+    ensures { (is_few result ≡ false) × (split_in result ≡ spread_answer n (bit mask) (answer_of found)) }
 {
     let Found::Split(own, shared) = found else {
         return Counted::Nothing;
@@ -45,9 +45,9 @@ pub fn search_counting(
     k: u32,
     work: &mut [u8],
 ) -> Counted
-    requires { (length t.now ≡ tableLength n) × (n ≤ mostInputs) × (r ≤ mostFirst) × (k ≤ mostInputs)
-        × (length t.now ≤ length work.old) × CountingIn n (tableBit t.now) counting }
-    ensures { (isFew result ≡ false) × (splitIn result ≡ bestCounting n r (tableBit t.now) k)
+    requires { (length t.now ≡ table_length n) × (n ≤ most_inputs) × (r ≤ most_first) × (k ≤ most_inputs)
+        × (length t.now ≤ length work.old) × CountingIn n (table_bit t.now) counting }
+    ensures { (is_few result ≡ false) × (split_in result ≡ best_counting n r (table_bit t.now) k)
         × (work.new ≡ replicate (length work.old) 0) }
 {
     set_aside(t, n, counting.mask, work);
@@ -58,7 +58,7 @@ pub fn search_counting(
 
 // The same; where at most k inputs count nothing is looked for, and the work area stays.
 pub fn find_counting(t: &[u8], n: u32, r: u32, k: u32, work: &mut [u8]) -> Counted
-    requires { (length t.now ≡ tableLength n) × (n ≤ mostInputs) × (r ≤ mostFirst) × (k ≤ mostInputs)
+    requires { (length t.now ≡ table_length n) × (n ≤ most_inputs) × (r ≤ most_first) × (k ≤ most_inputs)
         × (length t.now ≤ length work.old) }
     ensures { FoundCounting n r k t.now work.old result work.new }
 {

@@ -1,8 +1,8 @@
 // Whether no r + 1 inputs can be own, by many points: then there is no split, and no walk is needed.
 ghost use Rattle.std.specs.Prelude.{◌≡◌, true, ◌*◌, ◌^◌, ◌<◌, ◌≤◌, length};
 ghost use Rattle.std.specs.Int.Bits.{bit_or};
-ghost use Rattle.tables.specs.Table.{mostInputs, tableBit};
-ghost use Rattle.best.specs.Walk.{mostFirst};
+ghost use Rattle.tables.specs.Table.{most_inputs, table_bit};
+ghost use Rattle.best.specs.Walk.{most_first};
 ghost use Rattle.search.specs.Owning.{NoneOwns, Bad};
 
 use bits::sets::members;
@@ -10,8 +10,8 @@ use witness::crowd::many_somewhere;
 
 // Whether two inputs, each a mask, are not used yet and cannot both be free where those of `own` are own.
 fn bad_two(t: &[u8], n: u32, r: u32, own: u16, used: u32, e: u32, f: u32) -> bool
-    requires { (n ≤ mostInputs) × (r ≤ mostFirst) × (2 ^ n ≤ 8 * length t.now) }
-    ensures { result ≡ true → Bad n r (tableBit t.now) own used (bit_or e f) }
+    requires { (n ≤ most_inputs) × (r ≤ most_first) × (2 ^ n ≤ 8 * length t.now) }
+    ensures { result ≡ true → Bad n r (table_bit t.now) own used (bit_or e f) }
 {
     if used & (e | f) != 0 {
         return false;
@@ -23,8 +23,8 @@ fn bad_two(t: &[u8], n: u32, r: u32, own: u16, used: u32, e: u32, f: u32) -> boo
 // and with so many twos apart that is more than k. Twos are taken from the lowest inputs on, whose bits lie in one
 // word; of a two that isn't shown the lower input is passed over.
 fn dead_own(t: &[u8], n: u32, r: u32, k: u32, own: u16) -> bool
-    requires { (n ≤ mostInputs) × (r ≤ mostFirst) × (2 ^ n ≤ 8 * length t.now) × (k ≤ mostInputs) × (own < 2 ^ n) }
-    ensures { result ≡ true → NoneOwns n k r (tableBit t.now) own 0 0 }
+    requires { (n ≤ most_inputs) × (r ≤ most_first) × (2 ^ n ≤ 8 * length t.now) × (k ≤ most_inputs) × (own < 2 ^ n) }
+    ensures { result ≡ true → NoneOwns n k r (table_bit t.now) own 0 0 }
 {
     let all: u32 = 1 << n;
     let mut used = own as u32;
@@ -55,9 +55,9 @@ fn dead_own(t: &[u8], n: u32, r: u32, k: u32, own: u16) -> bool
 // Whether no split has the mask acc and `left` positions below p or more among its own inputs. It ends at the first
 // own mask of which that isn't shown.
 pub fn none_owns(t: &[u8], n: u32, r: u32, k: u32, p: u32, acc: u16, left: u32) -> bool
-    requires { (n ≤ mostInputs) × (r ≤ mostFirst) × (2 ^ n ≤ 8 * length t.now) × (k ≤ mostInputs) × (acc < 2 ^ n)
+    requires { (n ≤ most_inputs) × (r ≤ most_first) × (2 ^ n ≤ 8 * length t.now) × (k ≤ most_inputs) × (acc < 2 ^ n)
         × (p ≤ n) }
-    ensures { result ≡ true → NoneOwns n k r (tableBit t.now) acc p left }
+    ensures { result ≡ true → NoneOwns n k r (table_bit t.now) acc p left }
 {
     if left > p {
         return true;

@@ -2,10 +2,10 @@
 ghost use Rattle.std.specs.Prelude.{◌≡◌, ℕ, ◌+◌, ◌*◌, ◌^◌, ◌<◌, ◌≤◌, length};
 ghost use Rattle.bits.specs.Numbers.{bit};
 ghost use Rattle.bits.specs.Sets.{size};
-ghost use Rattle.tables.specs.Table.{mostInputs, tableBit};
-ghost use Rattle.best.specs.Search.{split, above, first, ofSizes, best};
+ghost use Rattle.tables.specs.Table.{most_inputs, table_bit};
+ghost use Rattle.best.specs.Search.{split, above, first, of_sizes, best};
 ghost use Rattle.best.specs.Answers.{answer_of};
-ghost use Rattle.best.specs.Walk.{mostFirst};
+ghost use Rattle.best.specs.Walk.{most_first};
 ghost use Rattle.walks.specs.Known.{Known};
 ghost use Rattle.witness.specs.Points.{Wide};
 ghost use Rattle.known.specs.Notes.{BadPairs};
@@ -28,8 +28,8 @@ fn with_own<'a>(
     most: u32,
     notes: &mut [u32],
 ) -> Found
-    requires { Known n r t.now notes.old × BadPairs n (tableBit t.now) (2 ^ r) pairs.now × (most ≤ mostInputs) }
-    ensures { (answer_of result ≡ first (most + 1) (ofSizes n r (tableBit t.now) p))
+    requires { Known n r t.now notes.old × BadPairs n (table_bit t.now) (2 ^ r) pairs.now × (most ≤ most_inputs) }
+    ensures { (answer_of result ≡ first (most + 1) (of_sizes n r (table_bit t.now) p))
         × Known n r t.now notes.new }
 {
     let mut q: u32 = 0;
@@ -46,9 +46,9 @@ fn with_own<'a>(
 // The best split with r first cells of k inputs, if it has more than `low` own inputs: the largest own sets first, by
 // what is known of pairs.
 fn walk_all<'a>(t: &'a [u8], n: u32, r: u32, pairs: &'a [u16], k: u32, low: u32) -> Found
-    requires n_le_most_inputs { (n ≤ mostInputs) × (r ≤ mostFirst) × (2 ^ n ≤ 8 * length t.now) × (k ≤ mostInputs) × (r ≤ low) }
-    requires bad_pairs { BadPairs n (tableBit t.now) (2 ^ r) pairs.now }
-    ensures { answer_of result ≡ above n low (best n r (tableBit t.now) k) }
+    requires n_le_most_inputs { (n ≤ most_inputs) × (r ≤ most_first) × (2 ^ n ≤ 8 * length t.now) × (k ≤ most_inputs) × (r ≤ low) }
+    requires bad_pairs { BadPairs n (table_bit t.now) (2 ^ r) pairs.now }
+    ensures { answer_of result ≡ above n low (best n r (table_bit t.now) k) }
 {
     let mut notes = blank();
     let mut i: u32 = 0;
@@ -65,9 +65,9 @@ fn walk_all<'a>(t: &'a [u8], n: u32, r: u32, pairs: &'a [u16], k: u32, low: u32)
 // The very first candidate: the least own mask of k inputs, and nothing shared. Where it is possible, it is the best
 // split.
 pub fn first_try(t: &[u8], n: u32, r: u32, k: u32) -> Found
-    requires { (n ≤ mostInputs) × (r ≤ mostFirst) × (2 ^ n ≤ 8 * length t.now) }
+    requires { (n ≤ most_inputs) × (r ≤ most_first) × (2 ^ n ≤ 8 * length t.now) }
     ensures { (A B : ℕ) → answer_of result ≡ split A B
-        → (best n r (tableBit t.now) k ≡ split A B) × (size n (bit A) ≡ k) }
+        → (best n r (table_bit t.now) k ≡ split A B) × (size n (bit A) ≡ k) }
 {
     if k <= r {
         return Found::Nothing;
@@ -82,8 +82,8 @@ pub fn first_try(t: &[u8], n: u32, r: u32, k: u32) -> Found
 // The best split with one first cell of a table of one word or more, if it has more than `low` own inputs, by what its
 // triples say of pairs.
 fn by_pairs(t: &[u8], n: u32, k: u32, low: u32) -> Found
-    requires { Wide n t.now × (1 ≤ low) × (low < k) × (k ≤ mostInputs) }
-    ensures { answer_of result ≡ above n low (best n 1 (tableBit t.now) k) }
+    requires { Wide n t.now × (1 ≤ low) × (low < k) × (k ≤ most_inputs) }
+    ensures { answer_of result ≡ above n low (best n 1 (table_bit t.now) k) }
 {
     let mut pairs = unknown();
     fill(t, n, k - 2, &mut pairs);
@@ -96,8 +96,8 @@ fn by_pairs(t: &[u8], n: u32, k: u32, low: u32) -> Found
 // The best split with r first cells of k inputs, if it has more than `low` own inputs: who has a split that good needs
 // no other.
 pub fn find_above(t: &[u8], n: u32, r: u32, k: u32, low: u32) -> Found
-    requires { (n ≤ mostInputs) × (r ≤ mostFirst) × (2 ^ n ≤ 8 * length t.now) × (k ≤ mostInputs) × (r ≤ low) }
-    ensures { answer_of result ≡ above n low (best n r (tableBit t.now) k) }
+    requires { (n ≤ most_inputs) × (r ≤ most_first) × (2 ^ n ≤ 8 * length t.now) × (k ≤ most_inputs) × (r ≤ low) }
+    ensures { answer_of result ≡ above n low (best n r (table_bit t.now) k) }
 {
     if k <= low {
         return Found::Nothing;
@@ -116,8 +116,8 @@ pub fn find_above(t: &[u8], n: u32, r: u32, k: u32, low: u32) -> Found
 
 // The best split with r first cells of k inputs. What splits at once is answered before any table of pairs is filled.
 pub fn find_with(t: &[u8], n: u32, r: u32, k: u32) -> Found
-    requires { (n ≤ mostInputs) × (r ≤ mostFirst) × (2 ^ n ≤ 8 * length t.now) × (k ≤ mostInputs) }
-    ensures { answer_of result ≡ best n r (tableBit t.now) k }
+    requires { (n ≤ most_inputs) × (r ≤ most_first) × (2 ^ n ≤ 8 * length t.now) × (k ≤ most_inputs) }
+    ensures { answer_of result ≡ best n r (table_bit t.now) k }
 {
     let early = first_try(t, n, r, k);
     if let Found::Split(a, b) = early {

@@ -11,17 +11,17 @@ use lib.ListN.{get_or}
 use borrow.Author.Tests.{le-leb, lt-leb}
 use Rattle.bits.specs.Numbers.{bit, number}
 use Rattle.bits.specs.Lists.{list_of}
-use Rattle.bits.proofs.Numbers.{number-ext, number_bit, bit_high, bit-zero}
-use Rattle.tables.specs.Cells.{joined, tableNumber}
+use Rattle.bits.proofs.Numbers.{number_ext, number_bit, bit_high, bit-zero}
+use Rattle.tables.specs.Cells.{joined, table_number}
 use Rattle.sheets.specs.Network.{Cell}
-use Rattle.cofactors.specs.Cofactors.{selector, selecting, cellsEach}
-use Rattle.selectors.specs.Standing.{wordCell, spaced, from}
+use Rattle.cofactors.specs.Cofactors.{selector, selecting, cells_each}
+use Rattle.selectors.specs.Standing.{word_cell, spaced, from}
 
 -- such a table as a number
-pub one_word : (T : ℕ) → T < 2 ^ 64 → tableNumber (record { words = T ∷ 0 ∷ 0 ∷ 0 ∷ [] }) ≡ T
+pub one_word : (T : ℕ) → T < 2 ^ 64 → table_number (record { words = T ∷ 0 ∷ 0 ∷ 0 ∷ [] }) ≡ T
 unfolding joined
 one_word T h =
-    number-ext 256 (λ x. bit (get_or (T ∷ 0 ∷ 0 ∷ 0 ∷ []) (x / 64) 0) (x % 64)) (bit T) same
+    number_ext 256 (λ x. bit (get_or (T ∷ 0 ∷ 0 ∷ 0 ∷ []) (x / 64) 0) (x % 64)) (bit T) same
     ∙ number_bit 256 T (lt_of_lt_of_le h (lit≤ tt))
   where
     zeros : (i : ℕ) → 1 ≤ i → get_or (T ∷ 0 ∷ 0 ∷ 0 ∷ []) i 0 ≡ 0
@@ -50,37 +50,37 @@ module _ (l : List ℕ) (i at base step x p : ℕ) (here : p ≡ get_or l at 0) 
   abbrev f : ℕ → ℕ
   f t = spaced base step (x + t)
 
-  q-here : p ≡ q 0
-  q-here = here ∙ ap (λ (j : ℕ). get_or l j 0) (let e : at ≡ at + 0 = omega arith in e)
+  q_here : p ≡ q 0
+  q_here = here ∙ ap (λ (j : ℕ). get_or l j 0) (let e : at ≡ at + 0 = omega arith in e)
 
-  f-here : base + step * x ≡ f 0
-  f-here = ap (λ (j : ℕ). base + step * j) (let e : x ≡ x + 0 = omega arith in e)
+  f_here : base + step * x ≡ f 0
+  f_here = ap (λ (j : ℕ). base + step * j) (let e : x ≡ x + 0 = omega arith in e)
 
   -- one of two, by three cells
-  pub three-cells : (record { signals = p ∷ (base + step * x) ∷ []; table = 4 }
+  pub three_cells_lem : (record { signals = p ∷ (base + step * x) ∷ []; table = 4 }
       ∷ record { signals = p ∷ (base + step * (x + 1)) ∷ []; table = 8 }
       ∷ record { signals = i ∷ (i + 1) ∷ []; table = 14 } ∷ []) ≡ selecting false 1 i q f
-  three-cells =
-      let a = q-here in
-      let b = f-here in
+  three_cells_lem =
+      let a = q_here in
+      let b = f_here in
       let e : i + 1 ≡ suc i = omega arith in
       cc
 
   -- by one
-  pub of_two : (u : List ℕ) → wordCell 3 (p ∷ (base + step * x) ∷ (base + step * (x + 1)) ∷ u) 228 ∷ []
+  pub of_two : (u : List ℕ) → word_cell 3 (p ∷ (base + step * x) ∷ (base + step * (x + 1)) ∷ u) 228 ∷ []
       ≡ selecting true 1 i q f
   unfolding list_of number
-  of_two u = ap₂ (λ (a b : ℕ). record { signals = a ∷ b ∷ f 1 ∷ []; table = 228 } ∷ []) q-here f-here
+  of_two u = ap₂ (λ (a b : ℕ). record { signals = a ∷ b ∷ f 1 ∷ []; table = 228 } ∷ []) q_here f_here
 
   -- one of four
   pub of_four : (p₂ : ℕ) → p₂ ≡ get_or l (at + 1) 0 → (u : List ℕ)
-      → wordCell 6 (p ∷ p₂ ∷ (base + step * x) ∷ (base + step * (x + 1)) ∷ (base + step * (x + 2))
+      → word_cell 6 (p ∷ p₂ ∷ (base + step * x) ∷ (base + step * (x + 1)) ∷ (base + step * (x + 2))
       ∷ (base + step * (x + 3)) ∷ u) 18364758544493064720 ∷ [] ≡ selecting true 2 i q f
   unfolding list_of number
   of_four p₂ e u =
       ap₂ (λ (a c : ℕ). record {
         signals = a ∷ c ∷ (base + step * x) ∷ f 1 ∷ f 2 ∷ f 3 ∷ [];
         table = 18364758544493064720;
-      } ∷ []) q-here e
+      } ∷ []) q_here e
       ∙ ap (λ (b : ℕ). record { signals = q 0 ∷ q 1 ∷ b ∷ f 1 ∷ f 2 ∷ f 3 ∷ []; table = 18364758544493064720 } ∷ [])
-      f-here
+      f_here

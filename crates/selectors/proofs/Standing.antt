@@ -10,24 +10,24 @@ use lib.Pow.{pow_pos}
 use Rattle.sheets.specs.declared.kinds.Sheet.{Sheet}
 use Rattle.sheets.specs.Network.{Cell}
 use Rattle.sheets.specs.Held.{cells_of}
-use Rattle.cofactors.specs.Cofactors.{selecting, cellsEach, join_of, total, levels, widths}
+use Rattle.cofactors.specs.Cofactors.{selecting, cells_each, join_of, total, levels, widths}
 use Rattle.cofactors.proofs.Levels.{group, level-length}
 use Rattle.cofactors.proofs.Cofactors.{widths-total}
 use Rattle.steps.specs.declared.signals.Signals.{Signals}
-use Rattle.steps.specs.Stage.{signalsOf}
+use Rattle.steps.specs.Stage.{signals_of}
 use Rattle.selectors.specs.declared.levels.Stand.{Stand}
 use Rattle.selectors.specs.Standing.{spaced, from, ahead, InRoom, OneLevel, NextWidth}
-use Rattle.selectors.proofs.Widths.{some-width, few-each}
+use Rattle.selectors.proofs.Widths.{some_width, few_each}
 
 module _ (k : ℕ) (l : Signals) (s : Stand) (w : ℕ) (width : NextWidth k s.left w) where
   abbrev p : ℕ
-  p = cellsEach (leb 3 k)
+  p = cells_each (leb 3 k)
 
   abbrev m : ℕ
   m = 2 ^ (s.left - w)
 
   abbrev q : ℕ → ℕ
-  q = from (signalsOf l) s.at
+  q = from (signals_of l) s.at
 
   abbrev f : ℕ → ℕ
   f = spaced s.base s.step
@@ -38,7 +38,7 @@ module _ (k : ℕ) (l : Signals) (s : Stand) (w : ℕ) (width : NextWidth k s.le
 
   -- and those after it
   abbrev later : List Cell
-  later = levels (leb 3 k) (s.next + p * m) (widths k (s.left - w)) (from (signalsOf l) (s.at + w))
+  later = levels (leb 3 k) (s.next + p * m) (widths k (s.left - w)) (from (signals_of l) (s.at + w))
       (spaced (s.next + p - 1) p)
 
   splits : ahead k l s ≡ here ++ later
@@ -49,9 +49,9 @@ module _ (k : ℕ) (l : Signals) (s : Stand) (w : ℕ) (width : NextWidth k s.le
       ++ levels (leb 3 k) (s.next + p * 2 ^ j) (widths k (s.left - w)) (λ t. q (w + t))
       (λ g. s.next + p * g + (p - 1))) (widths-total k (s.left - w))
       ∙ ap₂ (λ (a b : ℕ → ℕ). here ++ levels (leb 3 k) (s.next + p * m) (widths k (s.left - w)) a b)
-      (fun_ext (λ t. ap (λ (j : ℕ). get_or (signalsOf l) j 0)
+      (fun_ext (λ t. ap (λ (j : ℕ). get_or (signals_of l) j 0)
       (let e : s.at + (w + t) ≡ s.at + w + t = omega arith in e)))
-      (fun_ext (λ g. let e : s.next + p * g + (p - 1) ≡ s.next + p - 1 + p * g = omega (arith, (few-each k).0) in e))
+      (fun_ext (λ g. let e : s.next + p * g + (p - 1) ≡ s.next + p - 1 + p * g = omega (arith, (few_each k).0) in e))
 
   long : length (ahead k l s) ≡ p * m + length later
   long = ap length splits ∙ length-append here later
@@ -62,11 +62,11 @@ module _ (k : ℕ) (l : Signals) (s : Stand) (w : ℕ) (width : NextWidth k s.le
     pub level-room : s.next + p * m ≤ 100
     level-room = omega (arith, long, room.next)
 
-    pub level-few : s.sheet.count + p * m ≤ 15
-    level-few = omega (arith, long, room.few)
+    pub level_few : s.sheet.count + p * m ≤ 15
+    level_few = omega (arith, long, room.few)
 
-    pub level-places : s.at + w ≤ l.count
-    level-places = omega (arith, room.places, width.within)
+    pub level_places : s.at + w ≤ l.count
+    level_places = omega (arith, room.places, width.within)
 
     module _ (sheet : Sheet) (cells : cells_of sheet ≡ cells_of s.sheet ++ here) (count : sheet.count
         ≡ s.sheet.count + p * m) where
@@ -82,8 +82,8 @@ module _ (k : ℕ) (l : Signals) (s : Stand) (w : ℕ) (width : NextWidth k s.le
 
       pub one-level : OneLevel k l s r
       one-level =
-          let each = few-each k in
-          let one = some-width width.fits in
+          let each = few_each k in
+          let one = some_width width.fits in
           let whole : p * 1 ≤ p * m = mul-le-mul_left p (pow_pos (s.left - w)) in
           record {
             cells = ap (λ (l : List Cell). l ++ later) cells ∙ append_assoc (cells_of s.sheet) here later

@@ -10,20 +10,20 @@ use lib.ListN.{length, get_or, length-append}
 use lib.Pow.{pow-add}
 use Rattle.bits.specs.Numbers.{bit, number}
 use Rattle.bits.specs.Lists.{list_of}
-use Rattle.bits.proofs.Numbers.{number-ext, bit-number}
+use Rattle.bits.proofs.Numbers.{number_ext, bit-number}
 use Rattle.bits.proofs.Lists.{length-list, list_at, list_ext}
-use Rattle.tables.specs.Table.{tableBit}
+use Rattle.tables.specs.Table.{table_bit}
 use Rattle.sheets.specs.declared.kinds.Sheet.{Sheet}
 use Rattle.sheets.specs.Held.{cells_of}
 use Rattle.sheets.specs.Network.{Cell}
-use Rattle.cofactors.specs.Cofactors.{cofactor, levels, byOnes, byTwos, widths, cofactorCells}
-use Rattle.cofactors.specs.Cofactors.{cofactorCount, mostSelecting}
+use Rattle.cofactors.specs.Cofactors.{cofactor, levels, by_ones, by_twos, widths, cofactor_cells}
+use Rattle.cofactors.specs.Cofactors.{cofactor_count, most_selecting}
 use Rattle.cofactors.specs.Chosen.{Near}
-use Rattle.cofactors.proofs.Count.{cofactors-count, count_most}
+use Rattle.cofactors.proofs.Count.{cofactors_count, count_most}
 use Rattle.steps.specs.declared.signals.Signals.{Signals}
-use Rattle.steps.specs.Stage.{signalsOf}
+use Rattle.steps.specs.Stage.{signals_of}
 use Rattle.selectors.specs.declared.levels.Stand.{Stand}
-use Rattle.selectors.specs.Standing.{partBit, partCell, spaced, from, ahead, InRoom}
+use Rattle.selectors.specs.Standing.{part_bit, part_cell, spaced, from, ahead, InRoom}
 
 module _ (k n : ℕ) (l : Signals) (t : List ℕ) (near : Near k l.count) where
   abbrev c : ℕ
@@ -33,22 +33,22 @@ module _ (k n : ℕ) (l : Signals) (t : List ℕ) (near : Near k l.count) where
   s = c - k
 
   abbrev T : ℕ
-  T = number (2 ^ c) (tableBit t)
+  T = number (2 ^ c) (table_bit t)
 
   abbrev read : List ℕ
   read = list_of k (λ j. get_or l.at j 0)
 
-  count : length (signalsOf l) ≡ l.count
+  count : length (signals_of l) ≡ l.count
   count = length-list c (λ j. get_or l.at j 0)
 
   -- the parts are the cofactors
-  parts : (v : ℕ) → v < 2 ^ s → partCell read t k v ≡ cofactor k (signalsOf l) T v
+  parts : (v : ℕ) → v < 2 ^ s → part_cell read t k v ≡ cofactor k (signals_of l) T v
   parts v h =
       ap₂ (λ (l : List ℕ) (T : ℕ). record { signals = l; table = T })
-      (list_ext k (λ j. get_or l.at j 0) (λ j. get_or (signalsOf l) j 0)
+      (list_ext k (λ j. get_or l.at j 0) (λ j. get_or (signals_of l) j 0)
       (λ j g. sym (list_at c (λ j. get_or l.at j 0) j 0 (omega (arith, near.more)))))
-      (number-ext (2 ^ k) (partBit t k v) (λ y. bit T (v * 2 ^ k + y)) (λ y g.
-      sym (bit-number (2 ^ c) (tableBit t) (v * 2 ^ k + y) (inside y g))))
+      (number_ext (2 ^ k) (part_bit t k v) (λ y. bit T (v * 2 ^ k + y)) (λ y g.
+      sym (bit-number (2 ^ c) (table_bit t) (v * 2 ^ k + y) (inside y g))))
     where
       inside : (y : ℕ) → y < 2 ^ k → v * 2 ^ k + y < 2 ^ l.count
       inside y g =
@@ -63,55 +63,55 @@ module _ (k n : ℕ) (l : Signals) (t : List ℕ) (near : Near k l.count) where
 
   -- what is to come after them
   abbrev coming : List Cell
-  coming = levels (leb 3 k) (n + 2 ^ s) (widths k s) (from (signalsOf l) k) (spaced n 1)
+  coming = levels (leb 3 k) (n + 2 ^ s) (widths k s) (from (signals_of l) k) (spaced n 1)
 
-  starts : list_of (2 ^ s) (partCell read t k) ++ coming ≡ cofactorCells k n (signalsOf l) T
-  unfolding cofactorCells
+  starts : list_of (2 ^ s) (part_cell read t k) ++ coming ≡ cofactor_cells k n (signals_of l) T
+  unfolding cofactor_cells
   starts =
-      ap₂ (λ (a : List Cell) (f : ℕ → ℕ). a ++ levels (leb 3 k) (n + 2 ^ s) (widths k s) (from (signalsOf l) k) f)
-      (list_ext (2 ^ s) (partCell read t k) (cofactor k (signalsOf l) T) parts)
+      ap₂ (λ (a : List Cell) (f : ℕ → ℕ). a ++ levels (leb 3 k) (n + 2 ^ s) (widths k s) (from (signals_of l) k) f)
+      (list_ext (2 ^ s) (part_cell read t k) (cofactor k (signals_of l) T) parts)
       (fun_ext (λ x. let e : n + 1 * x ≡ n + x = omega arith in e))
-      ∙ ap (λ (m : ℕ). list_of (2 ^ m) (cofactor k (signalsOf l) T) ++ levels (leb 3 k) (n + 2 ^ m) (widths k m)
-      (from (signalsOf l) k) (λ v. n + v)) (ap (λ (m : ℕ). m - k) (sym count))
+      ∙ ap (λ (m : ℕ). list_of (2 ^ m) (cofactor k (signals_of l) T) ++ levels (leb 3 k) (n + 2 ^ m) (widths k m)
+      (from (signals_of l) k) (λ v. n + v)) (ap (λ (m : ℕ). m - k) (sym count))
 
   -- a sheet has room for them all
   room : 2 ^ s + length coming ≤ 15
   room =
-      let cells = cofactors-count k n (signalsOf l) T (omega (arith, near.more, count)) (omega (arith, near.few, count)) in
-      let e : length (signalsOf l) - k ≡ s = omega (arith, count) in
+      let cells = cofactors_count k n (signals_of l) T (omega (arith, near.more, count)) (omega (arith, near.few, count)) in
+      let e : length (signals_of l) - k ≡ s = omega (arith, count) in
       omega (
         arith,
-        length-append (list_of (2 ^ s) (partCell read t k)) coming,
-        length-list (2 ^ s) (partCell read t k),
+        length-append (list_of (2 ^ s) (part_cell read t k)) coming,
+        length-list (2 ^ s) (part_cell read t k),
         ap length starts,
         cells,
-        ap (cofactorCount k) e,
+        ap (cofactor_count k) e,
         (count_most k s (omega (arith, near.more)) (omega (arith, near.few))).1,
       )
 
   -- few signals select
-  pub few-left : l.count - k ≤ 3
-  few-left = omega (arith, near.few, go (leb 3 k))
+  pub few_left : l.count - k ≤ 3
+  few_left = omega (arith, near.few, go (leb 3 k))
     where
       go : (t : Bool) → cond t 3 2 ≤ 3
       go true = omega arith
       go false = omega arith
 
   -- so the work begins
-  pub begins : (sheet : Sheet) (m : ℕ) → m ≡ 2 ^ (l.count - k) → cells_of sheet ≡ list_of m (partCell read t k)
+  pub begins : (sheet : Sheet) (m : ℕ) → m ≡ 2 ^ (l.count - k) → cells_of sheet ≡ list_of m (part_cell read t k)
       → sheet.count ≡ m → n ≤ 16 → k ≤ 16
-      → (cells_of sheet ++ levels (leb 3 k) (n + m) (widths k (l.count - k)) (from (signalsOf l) k) (spaced n 1)
-      ≡ cofactorCells k n (signalsOf l) (number (2 ^ l.count) (tableBit t)))
+      → (cells_of sheet ++ levels (leb 3 k) (n + m) (widths k (l.count - k)) (from (signals_of l) k) (spaced n 1)
+      ≡ cofactor_cells k n (signals_of l) (number (2 ^ l.count) (table_bit t)))
       × InRoom k l (record { sheet = sheet; at = k; left = l.count - k; base = n; step = 1; next = n + m })
   begins sheet m e cells long h g =
-      let same : levels (leb 3 k) (n + m) (widths k s) (from (signalsOf l) k) (spaced n 1) ≡ coming =
-      ap (λ (m : ℕ). levels (leb 3 k) (n + m) (widths k s) (from (signalsOf l) k) (spaced n 1)) e in
-      let sum : length (levels (leb 3 k) (n + m) (widths k s) (from (signalsOf l) k) (spaced n 1)) ≡ length coming =
+      let same : levels (leb 3 k) (n + m) (widths k s) (from (signals_of l) k) (spaced n 1) ≡ coming =
+      ap (λ (m : ℕ). levels (leb 3 k) (n + m) (widths k s) (from (signals_of l) k) (spaced n 1)) e in
+      let sum : length (levels (leb 3 k) (n + m) (widths k s) (from (signals_of l) k) (spaced n 1)) ≡ length coming =
       ap length same in (
-        ap₂ (λ (a b : List Cell). a ++ b) (cells ∙ ap (λ (m : ℕ). list_of m (partCell read t k)) e) same ∙ starts,
+        ap₂ (λ (a b : List Cell). a ++ b) (cells ∙ ap (λ (m : ℕ). list_of m (part_cell read t k)) e) same ∙ starts,
         record {
           few = omega (arith, room);
-          left = few-left;
+          left = few_left;
           places = omega (arith, near.more);
           base = omega arith;
           step = omega arith;
@@ -123,9 +123,9 @@ module _ (k n : ℕ) (l : Signals) (t : List ℕ) (near : Near k l.count) where
 pub none_left : (k : ℕ) (l : Signals) (s : Stand) → s.left ≡ 0 → ahead k l s ≡ []
 unfolding levels
 none_left k l s e =
-    ap (λ (ws : List ℕ). levels (leb 3 k) s.next ws (from (signalsOf l) s.at) (spaced s.base s.step))
+    ap (λ (ws : List ℕ). levels (leb 3 k) s.next ws (from (signals_of l) s.at) (spaced s.base s.step))
     (ap (widths k) e ∙ go (leb 6 k))
   where
-    go : (t : Bool) → cond t (byTwos 0) (byOnes 0) ≡ []
+    go : (t : Bool) → cond t (by_twos 0) (by_ones 0) ≡ []
     go true = refl
     go false = refl

@@ -2,27 +2,27 @@
 use Rattle.std.specs.Prelude.{◌≡◌, ◌⊎◌, Bool, List, ◌∷◌, ◌++◌, ℕ, ◌+◌, ◌-◌, ◌*◌, ◌^◌, ◌<◌, ◌≤◌, leb, length, get_or}
 use Rattle.bits.specs.Numbers.{number}
 use Rattle.bits.specs.Lists.{list_of}
-use Rattle.tables.specs.Table.{tableBit}
-use Rattle.sheets.specs.Edition.{mostRecords}
+use Rattle.tables.specs.Table.{table_bit}
+use Rattle.sheets.specs.Edition.{most_records}
 use Rattle.sheets.specs.Held.{cells_of}
 use Rattle.sheets.specs.Network.{Cell}
-use Rattle.chains.specs.Chain.{lastCell}
+use Rattle.chains.specs.Chain.{last_cell}
 use Rattle.cofactors.specs.Cofactors.{levels, widths}
 use Rattle.steps.specs.declared.signals.Signals.{Signals}
-use Rattle.steps.specs.Stage.{signalsOf}
+use Rattle.steps.specs.Stage.{signals_of}
 use Rattle.selectors.specs.declared.levels.Stand.{Stand}
 
 -- bit y of part v of a table, 2 ^ k bits a part
-abbrev pub partBit : List ℕ → ℕ → ℕ → ℕ → Bool
-partBit t k v y = tableBit t (v * 2 ^ k + y)
+abbrev pub part_bit : List ℕ → ℕ → ℕ → ℕ → Bool
+part_bit t k v y = table_bit t (v * 2 ^ k + y)
 
 -- that part as a cell over the signals l
-abbrev pub partCell : List ℕ → List ℕ → ℕ → ℕ → Cell
-partCell l t k v = lastCell l (number (2 ^ k) (partBit t k v))
+abbrev pub part_cell : List ℕ → List ℕ → ℕ → ℕ → Cell
+part_cell l t k v = last_cell l (number (2 ^ k) (part_bit t k v))
 
 -- a cell with a table of one word
-abbrev pub wordCell : ℕ → List ℕ → ℕ → Cell
-wordCell k l T = record { signals = list_of k (λ j. get_or l j 0); table = T }
+abbrev pub word_cell : ℕ → List ℕ → ℕ → Cell
+word_cell k l T = record { signals = list_of k (λ j. get_or l j 0); table = T }
 
 -- signals at equal distances
 abbrev pub spaced : ℕ → ℕ → ℕ → ℕ
@@ -41,11 +41,11 @@ pub record Small (a b c : ℕ) : Type 0 where
 -- the cells that are still to come
 abbrev pub ahead : ℕ → Signals → Stand → List Cell
 ahead k l s =
-    levels (leb 3 k) s.next (widths k s.left) (from (signalsOf l) s.at) (spaced s.base s.step)
+    levels (leb 3 k) s.next (widths k s.left) (from (signals_of l) s.at) (spaced s.base s.step)
 
 -- a sheet has room for them, and a byte for their signals
 pub record InRoom (k : ℕ) (l : Signals) (s : Stand) : Type 0 where
-  pub few : s.sheet.count + length (ahead k l s) ≤ mostRecords
+  pub few : s.sheet.count + length (ahead k l s) ≤ most_records
   pub left : s.left ≤ 3
   pub places : s.at + s.left ≤ l.count
   pub base : s.base ≤ s.next

@@ -1,13 +1,13 @@
 // The sheet of cofactors: a cell for each cofactor, then level by level the cells that select.
 ghost use Rattle.std.specs.Prelude.{◌≡◌, ◌^◌, ◌<◌, ◌≤◌, length};
 ghost use Rattle.bits.specs.Numbers.{number};
-ghost use Rattle.tables.specs.Table.{mostInputs, tableBit};
+ghost use Rattle.tables.specs.Table.{most_inputs, table_bit};
 ghost use Rattle.tables.specs.Work.{half};
-ghost use Rattle.sheets.specs.Edition.{largestCell};
+ghost use Rattle.sheets.specs.Edition.{largest_cell};
 ghost use Rattle.sheets.specs.Held.{cells_of};
-ghost use Rattle.cofactors.specs.Cofactors.{cofactorCells};
+ghost use Rattle.cofactors.specs.Cofactors.{cofactor_cells};
 ghost use Rattle.cofactors.specs.Chosen.{Near};
-ghost use Rattle.steps.specs.Stage.{signalsOf, Listed};
+ghost use Rattle.steps.specs.Stage.{signals_of, Listed};
 ghost use Rattle.selectors.specs.Standing.{NextWidth, InRoom, OneLevel};
 
 use crate::cofactor::cofactor_cells;
@@ -17,7 +17,7 @@ use steps::signals::Signals;
 
 // The cells so far; so many signals are left to select, from the place `at` on; they select from those at base,
 // base + step, ..; the next cell gives signal `next`.
-#[derive(Drop)]
+#[derive(Clone, Copy)]
 pub struct Stand {
     pub sheet: Sheet,
     pub at: usize,
@@ -65,8 +65,8 @@ fn one_level(k: u32, l: Signals, s: Stand) -> Stand
 
 // The sheet of cofactors of the table at hand over the signals l of a gate of n inputs.
 pub fn cofactor_sheet(t: &[u8], n: u32, l: Signals, k: u32) -> Sheet
-    requires { (n ≤ mostInputs) × (2 ≤ k) × (k ≤ largestCell) × Listed l × Near k l.count × (length t.now ≡ half) }
-    ensures { cells_of result ≡ cofactorCells k n (signalsOf l) (number (2 ^ l.count) (tableBit t.now)) }
+    requires { (n ≤ most_inputs) × (2 ≤ k) × (k ≤ largest_cell) × Listed l × Near k l.count × (length t.now ≡ half) }
+    ensures { cells_of result ≡ cofactor_cells k n (signals_of l) (number (2 ^ l.count) (table_bit t.now)) }
 {
     let at = k as usize;
     let left = l.count as u32 - k;

@@ -1,10 +1,10 @@
 // The cells that select one of several signals.
 ghost use Rattle.std.specs.Prelude.{◌≡◌, ◌⊎◌, [], ◌∷◌, ◌++◌, ◌+◌, ◌*◌, ◌^◌, ◌<◌, ◌≤◌, leb};
-ghost use Rattle.sheets.specs.Edition.{mostRecords};
-ghost use Rattle.sheets.specs.Held.{networkCell, cells_of};
-ghost use Rattle.cofactors.specs.Cofactors.{selecting, cellsEach, join_of};
-ghost use Rattle.steps.specs.Stage.{signalsOf, Listed};
-ghost use Rattle.selectors.specs.Standing.{wordCell, spaced, from, Small};
+ghost use Rattle.sheets.specs.Edition.{most_records};
+ghost use Rattle.sheets.specs.Held.{network_cell, cells_of};
+ghost use Rattle.cofactors.specs.Cofactors.{selecting, cells_each, join_of};
+ghost use Rattle.steps.specs.Stage.{signals_of, Listed};
+ghost use Rattle.selectors.specs.Standing.{word_cell, spaced, from, Small};
 
 use sheets::kinds::{HeldCell, Sheet};
 use steps::signals::Signals;
@@ -24,7 +24,7 @@ const OR: u64 = 14;
 
 // A cell with a table of one word.
 fn word_cell(k: usize, signals: [u8; HeldCell::MOST], table: u64) -> HeldCell
-    ensures { networkCell result ≡ wordCell k signals table }
+    ensures { network_cell result ≡ word_cell k signals table }
 {
     HeldCell {
         k: k,
@@ -37,7 +37,7 @@ fn word_cell(k: usize, signals: [u8; HeldCell::MOST], table: u64) -> HeldCell
 
 // A cell of two inputs.
 fn two_cell(x: u8, y: u8, table: u64) -> HeldCell
-    ensures { networkCell result ≡ record { signals = x ∷ y ∷ []; table = table } }
+    ensures { network_cell result ≡ record { signals = x ∷ y ∷ []; table = table } }
 {
     let none = HeldCell::UNUSED;
     word_cell(2, [x, y, none, none, none, none, none, none], table)
@@ -45,7 +45,7 @@ fn two_cell(x: u8, y: u8, table: u64) -> HeldCell
 
 // With cells of two inputs: the signal p selects x or y, in three cells, the first giving signal `next`.
 fn by_three(sheet: Sheet, next: u8, p: u8, x: u8, y: u8) -> Sheet
-    requires { (sheet.count + 3 ≤ mostRecords) × (next ≤ 100) }
+    requires { (sheet.count + 3 ≤ most_records) × (next ≤ 100) }
     ensures { (cells_of result ≡ cells_of sheet ++ (record { signals = p ∷ x ∷ []; table = 4 }
         ∷ record { signals = p ∷ y ∷ []; table = 8 } ∷ record { signals = next ∷ (next + 1) ∷ []; table = 14 } ∷ []))
         × (result.count ≡ sheet.count + 3) }
@@ -57,7 +57,7 @@ fn by_three(sheet: Sheet, next: u8, p: u8, x: u8, y: u8) -> Sheet
 
 // How many cells select one signal.
 pub fn cells_each(k: u32) -> u8
-    ensures { (result ≡ cellsEach (leb 3 k)) × (1 ≤ result) × (result ≤ 3) }
+    ensures { (result ≡ cells_each (leb 3 k)) × (1 ≤ result) × (result ≤ 3) }
 {
     if k < 3 {
         return 3;
@@ -77,10 +77,10 @@ fn select(
     step: u8,
     x: u8,
 ) -> Sheet
-    requires { (sheet.count + cellsEach (leb 3 k) ≤ mostRecords) × ((w ≡ 1) ⊎ ((w ≡ 2) × (3 ≤ k))) × Listed l
+    requires { (sheet.count + cells_each (leb 3 k) ≤ most_records) × ((w ≡ 1) ⊎ ((w ≡ 2) × (3 ≤ k))) × Listed l
         × (at + w ≤ l.count) × Small base step next × (x ≤ 8) }
-    ensures { (cells_of result ≡ cells_of sheet ++ selecting (leb 3 k) w next (from (signalsOf l) at) (λ t. spaced base step (x + t)))
-        × (result.count ≡ sheet.count + cellsEach (leb 3 k)) }
+    ensures { (cells_of result ≡ cells_of sheet ++ selecting (leb 3 k) w next (from (signals_of l) at) (λ t. spaced base step (x + t)))
+        × (result.count ≡ sheet.count + cells_each (leb 3 k)) }
 {
     let q = l.at;
     let p = q[at];
@@ -112,11 +112,11 @@ pub fn level(
     step: u8,
     many: u8,
 ) -> Sheet
-    requires { (held.count + cellsEach (leb 3 k) * many ≤ mostRecords) × ((w ≡ 1) ⊎ ((w ≡ 2) × (3 ≤ k))) × Listed l
-        × (at + w ≤ l.count) × Small base step (next + cellsEach (leb 3 k) * many) × (2 ^ w * many ≤ 8) }
-    ensures { (cells_of result ≡ cells_of held ++ join_of many (λ g. selecting (leb 3 k) w (next + cellsEach (leb 3 k) * g)
-        (from (signalsOf l) at) (λ t. spaced base step (2 ^ w * g + t))))
-        × (result.count ≡ held.count + cellsEach (leb 3 k) * many) }
+    requires { (held.count + cells_each (leb 3 k) * many ≤ most_records) × ((w ≡ 1) ⊎ ((w ≡ 2) × (3 ≤ k))) × Listed l
+        × (at + w ≤ l.count) × Small base step (next + cells_each (leb 3 k) * many) × (2 ^ w * many ≤ 8) }
+    ensures { (cells_of result ≡ cells_of held ++ join_of many (λ g. selecting (leb 3 k) w (next + cells_each (leb 3 k) * g)
+        (from (signals_of l) at) (λ t. spaced base step (2 ^ w * g + t))))
+        × (result.count ≡ held.count + cells_each (leb 3 k) * many) }
 {
     let each = cells_each(k);
     let mut sheet = held;

@@ -2,14 +2,14 @@
 ghost use Rattle.std.specs.Prelude.{◌≡◌, true, false, List, ◌^◌, ◌≤◌, length, replicate};
 ghost use Rattle.bits.specs.Numbers.{bit, number};
 ghost use Rattle.bits.specs.Sets.{size};
-ghost use Rattle.tables.specs.Table.{mostInputs, tableLength, tableBit};
-ghost use Rattle.tables.specs.Counting.{kept, tableOver};
-ghost use Rattle.tables.specs.Work.{workLength};
-ghost use Rattle.sheets.specs.Edition.{largestCell};
+ghost use Rattle.tables.specs.Table.{most_inputs, table_length, table_bit};
+ghost use Rattle.tables.specs.Counting.{kept, table_over};
+ghost use Rattle.tables.specs.Work.{work_length};
+ghost use Rattle.sheets.specs.Edition.{largest_cell};
 ghost use Rattle.sheets.specs.Network.{Cell};
 ghost use Rattle.sheets.specs.Held.{cells_of};
 ghost use Rattle.chains.specs.Chain.{pick, Made, made, inputs};
-ghost use Rattle.cofactors.specs.Cofactors.{cofactorCells};
+ghost use Rattle.cofactors.specs.Cofactors.{cofactor_cells};
 ghost use Rattle.cofactors.specs.Any.{shorter, otherwise};
 ghost use Rattle.cofactors.specs.Chosen.{Near};
 ghost use Rattle.steps.specs.Chaining.{Tells};
@@ -26,7 +26,7 @@ use tables::{HALF, clear};
 
 // Whether a sheet of cofactors has room for so many inputs that count.
 fn is_near(k: u32, many: u32) -> bool
-    requires { k ≤ largestCell }
+    requires { k ≤ largest_cell }
     ensures { (result ≡ true → Near k many) × (result ≡ false → Near k many → ⊥) }
 {
     if many <= k {
@@ -40,10 +40,10 @@ fn is_near(k: u32, many: u32) -> bool
 
 // The sheet of cofactors of a gate's table, with what does not count set aside; the work area is cleared.
 fn cofactors_of(t: &[u8], n: u32, mask: u16, k: u32, work: &mut [u8]) -> Sheet
-    requires le_n { (1 ≤ n) × (n ≤ mostInputs) × (2 ≤ k) × (k ≤ largestCell) × (length t.now ≡ tableLength n)
-        × (workLength ≤ length work.old) }
-    requires mask_value { (mask ≡ kept n (tableBit t.now)) × Near k (size n (bit mask)) }
-    ensures { (cells_of result ≡ cofactorCells k n (pick n (bit mask) (inputs n)) (tableOver n (bit mask) (tableBit t.now)))
+    requires le_n { (1 ≤ n) × (n ≤ most_inputs) × (2 ≤ k) × (k ≤ largest_cell) × (length t.now ≡ table_length n)
+        × (work_length ≤ length work.old) }
+    requires mask_value { (mask ≡ kept n (table_bit t.now)) × Near k (size n (bit mask)) }
+    ensures { (cells_of result ≡ cofactor_cells k n (pick n (bit mask) (inputs n)) (table_over n (bit mask) (table_bit t.now)))
         × (work.new ≡ replicate (length work.old) 0) }
 {
     set_aside(t, n, mask, work);
@@ -83,9 +83,9 @@ fn few_cells(chain: ChainEnd) -> bool
 // What is made of a gate's table with up to three first cells at each step, or from its cofactors, whichever has fewer
 // cells; the work area is cleared.
 pub fn several_or_cofactors(t: &[u8], n: u32, k: u32, work: &mut [u8]) -> ChainEnd
-    requires { (1 ≤ n) × (n ≤ mostInputs) × (2 ≤ k) × (k ≤ largestCell) × (length t.now ≡ tableLength n)
-        × (workLength ≤ length work.old) }
-    ensures { Tells result (otherwise n k (number (2 ^ n) (tableBit t.now)))
+    requires { (1 ≤ n) × (n ≤ most_inputs) × (2 ≤ k) × (k ≤ largest_cell) × (length t.now ≡ table_length n)
+        × (work_length ≤ length work.old) }
+    ensures { Tells result (otherwise n k (number (2 ^ n) (table_bit t.now)))
         × (work.new ≡ replicate (length work.old) 0) }
 {
     let chain = chain_upto(t, n, Split::MOST_FIRST as u32, k, work);

@@ -1,37 +1,37 @@
 -- The slack: how much earlier than a deadline, in sixteenths, the output settles.
 use Rattle.std.specs.Prelude.{true, List, [], ◌∷◌, ◌++◌, ℕ, ℤ, pos, ◌-ℤ◌, Float}
 use Rattle.sheets.specs.declared.kinds.Edition.{Edition}
-use Rattle.sheets.specs.Desk.{deskOf}
+use Rattle.sheets.specs.Desk.{desk_of}
 use Rattle.times.specs.declared.input_time.InputTime.{InputTime}
 use Rattle.times.specs.Signals.{settled}
-use Rattle.times.specs.Sixteenths.{sixteenthsOf}
+use Rattle.times.specs.Sixteenths.{sixteenths_of}
 use Rattle.refusals.specs.declared.verdicts.Refusal.{Refusal}
 use Rattle.refusals.specs.declared.verdicts.Verdict.TheVariants.{Fine, Refused}
 use Rattle.refusals.specs.Lines.{Line, verdict, reply}
 use Rattle.settling.specs.declared.slack.SlackAnswer.{SlackAnswer}
-use Rattle.settling.specs.Refusals.{badSlack}
-use Rattle.settling.specs.Settle.{settleLines}
+use Rattle.settling.specs.Refusals.{bad_slack}
+use Rattle.settling.specs.Settle.{settle_lines}
 
 -- 1, 9, 10, 13 and 14
-abbrev pub slackLines : Edition → ℕ → ℕ → List ℕ → Float → List InputTime → ℤ → List Line
-slackLines e d n s delay ts deadline = settleLines e d n s delay ts ++ (badSlack n delay ts deadline ∷ [])
+abbrev pub slack_lines : Edition → ℕ → ℕ → List ℕ → Float → List InputTime → ℤ → List Line
+slack_lines e d n s delay ts deadline = settle_lines e d n s delay ts ++ (bad_slack n delay ts deadline ∷ [])
 
 -- done: the deadline less the output's latest time; below zero is an answer
-abbrev pub slackDone : Edition → ℕ → List ℕ → Float → List InputTime → ℤ → SlackAnswer
-slackDone e n s delay ts deadline = record {
+abbrev pub slack_done : Edition → ℕ → List ℕ → Float → List InputTime → ℤ → SlackAnswer
+slack_done e n s delay ts deadline = record {
   verdict = Fine;
-  slack = deadline -ℤ pos (sixteenthsOf (settled true e n s delay ts));
+  slack = deadline -ℤ pos (sixteenths_of (settled true e n s delay ts));
 }
 
 -- refused: the slack is 0
-abbrev pub slackNot : Refusal → SlackAnswer
-slackNot r = record { verdict = Refused r; slack = pos 0 }
+abbrev pub slack_not : Refusal → SlackAnswer
+slack_not r = record { verdict = Refused r; slack = pos 0 }
 
 -- what slack is to return where the sheet is to be the desk d's, whatever is handed over
-unfoldable pub slackOutcome : Edition → ℕ → ℕ → List ℕ → Float → List InputTime → ℤ → SlackAnswer
-slackOutcome e d n s delay ts deadline =
-    reply (verdict (slackLines e d n s delay ts deadline)) (slackDone e n s delay ts deadline) slackNot
+unfoldable pub slack_outcome : Edition → ℕ → ℕ → List ℕ → Float → List InputTime → ℤ → SlackAnswer
+slack_outcome e d n s delay ts deadline =
+    reply (verdict (slack_lines e d n s delay ts deadline)) (slack_done e n s delay ts deadline) slack_not
 
 -- and for the sheet's own desk
-abbrev pub slackOwn : Edition → ℕ → List ℕ → Float → List InputTime → ℤ → SlackAnswer
-slackOwn e n s delay ts deadline = slackOutcome e (deskOf e s) n s delay ts deadline
+abbrev pub slack_own : Edition → ℕ → List ℕ → Float → List InputTime → ℤ → SlackAnswer
+slack_own e n s delay ts deadline = slack_outcome e (desk_of e s) n s delay ts deadline

@@ -2,11 +2,11 @@
 ghost use Rattle.std.specs.Prelude.{◌≡◌, not, ◌&&◌, ◌||◌, ◌*◌, ◌<◌, ◌≤◌, length};
 ghost use Rattle.bits.specs.Numbers.{bit};
 ghost use Rattle.bits.specs.Below.{every};
-ghost use Rattle.tables.specs.Table.{mostInputs};
-ghost use Rattle.sheets.specs.Edition.{IsEdition, mostRecords};
+ghost use Rattle.tables.specs.Table.{most_inputs};
+ghost use Rattle.sheets.specs.Edition.{IsEdition, most_records};
 ghost use Rattle.sheets.specs.Sheet.{AllReadable};
-ghost use Rattle.times.specs.InputTimes.{soundTime, given, timeAt};
-ghost use Rattle.settling.specs.Refusals.{inputSound};
+ghost use Rattle.times.specs.InputTimes.{sound_time, given, time_at};
+ghost use Rattle.settling.specs.Refusals.{input_sound};
 
 use sheets::kinds::Edition;
 use times::input_time::{InputTime, is_given, sound_time};
@@ -14,8 +14,8 @@ use unread::reading::who_reads;
 
 // Whether what is said of input j is sound, and a time is given unless the mask of the signals that are read lacks it.
 fn input_sound(read: u32, times: [InputTime; 16], j: usize) -> bool
-    requires { j < mostInputs }
-    ensures { result ≡ (soundTime (timeAt times j) && (given (timeAt times j) || not (bit read j))) }
+    requires { j < most_inputs }
+    ensures { result ≡ (sound_time (time_at times j) && (given (time_at times j) || not (bit read j))) }
 {
     let time = times[j];
     if !sound_time(time) {
@@ -29,10 +29,10 @@ fn input_sound(read: u32, times: [InputTime; 16], j: usize) -> bool
 
 // Whether what is said of each of the n inputs is sound, and a time is given where one of m cells reads it.
 pub fn inputs_sound(e: Edition, n: u32, s: &[u8], m: usize, times: [InputTime; 16]) -> bool
-    requires edition { IsEdition e × (m ≤ mostRecords) × (n ≤ mostInputs) × (e.size * m ≤ length s.now)
+    requires edition { IsEdition e × (m ≤ most_records) × (n ≤ most_inputs) × (e.size * m ≤ length s.now)
         × AllReadable e s.now m }
     requires le_m { 1 ≤ m }
-    ensures { result ≡ every n (inputSound e s.now m times) }
+    ensures { result ≡ every n (input_sound e s.now m times) }
 {
     let read = who_reads(e, n, s, m).read;
     let inputs = n as usize;

@@ -1,12 +1,12 @@
 // When does the gate settle?
 ghost use Rattle.std.specs.Prelude.{◌≡◌, ◌≤◌};
-ghost use Rattle.tables.specs.Table.{mostInputs};
-ghost use Rattle.sheets.specs.Edition.{IsEdition, firstEdition};
+ghost use Rattle.tables.specs.Table.{most_inputs};
+ghost use Rattle.sheets.specs.Edition.{IsEdition, first_edition};
 ghost use Rattle.sheets.specs.Sheet.{records};
 ghost use Rattle.times.specs.Reading.{Timed};
 ghost use Rattle.times.specs.Signals.{settled};
 ghost use Rattle.refusals.specs.Lines.{verdict};
-ghost use Rattle.settling.specs.Settle.{settleLines, settleOutcome, settleOwn};
+ghost use Rattle.settling.specs.Settle.{settle_lines, settle_outcome, settle_own};
 
 use crate::reading::inputs_sound;
 use records::desk::desk_of;
@@ -17,7 +17,7 @@ use times::input_time::{InputTime, in_range, plain_zero};
 use times::signals::{output_time, times_of_inputs};
 
 // The output's earliest and latest time, if nothing is wrong.
-#[derive(Drop)]
+#[derive(Clone, Copy)]
 pub struct SettleAnswer {
     pub verdict: Verdict,
     pub earliest: f64,
@@ -27,7 +27,7 @@ pub struct SettleAnswer {
 // Lines 1, 9, 10 and 13.
 fn settle_form(e: Edition, d: u8, n: u64, s: &[u8], delay: f64, times: [InputTime; 16]) -> Verdict
     requires { IsEdition e }
-    ensures { result ≡ verdict (settleLines e d n s.now delay times) }
+    ensures { result ≡ verdict (settle_lines e d n s.now delay times) }
 {
     let seen = form::sheet_for(e, d, n, s);
     let Verdict::Fine = seen else {
@@ -45,7 +45,7 @@ fn settle_form(e: Edition, d: u8, n: u64, s: &[u8], delay: f64, times: [InputTim
 
 // The output's latest time (late), or its earliest.
 fn settle_at(late: bool, e: Edition, n: u32, s: &[u8], delay: f64, times: [InputTime; 16]) -> f64
-    requires { Timed e s.now (records e s.now) × (n ≤ mostInputs) }
+    requires { Timed e s.now (records e s.now) × (n ≤ most_inputs) }
     ensures { result ≡ settled late e n s.now delay times }
 {
     let inputs = times_of_inputs(late, n, times);
@@ -63,7 +63,7 @@ pub fn settle_in(
     times: [InputTime; 16],
 ) -> SettleAnswer
     requires { IsEdition e }
-    ensures { result ≡ settleOutcome e d n s.now delay times }
+    ensures { result ≡ settle_outcome e d n s.now delay times }
 {
     let form = settle_form(e, d, n, s, delay, times);
     let Verdict::Fine = form else {
@@ -83,7 +83,7 @@ pub fn settle_in(
 
 // The output's earliest and latest time, from each input's time and one delay for all cells.
 pub fn settle(n: u64, s: &[u8], delay: f64, times: [InputTime; 16]) -> SettleAnswer
-    ensures { result ≡ settleOwn firstEdition n s.now delay times }
+    ensures { result ≡ settle_own first_edition n s.now delay times }
 {
     let e = Edition::first();
     settle_in(e, desk_of(e, s), n, s, delay, times)

@@ -1,12 +1,12 @@
 // The slack: how much earlier than a deadline the output settles.
 ghost use Rattle.std.specs.Prelude.{◌≡◌, true, [], ◌∷◌, ◌≤◌};
 ghost use Rattle.bits.specs.Below.{every};
-ghost use Rattle.tables.specs.Table.{mostInputs};
-ghost use Rattle.sheets.specs.Edition.{IsEdition, firstEdition};
-ghost use Rattle.times.specs.InputTimes.{in_range, soundTime, timeAt};
+ghost use Rattle.tables.specs.Table.{most_inputs};
+ghost use Rattle.sheets.specs.Edition.{IsEdition, first_edition};
+ghost use Rattle.times.specs.InputTimes.{in_range, sound_time, time_at};
 ghost use Rattle.refusals.specs.Lines.{verdict};
-ghost use Rattle.settling.specs.Refusals.{badSlack};
-ghost use Rattle.settling.specs.Slack.{slackOutcome, slackOwn};
+ghost use Rattle.settling.specs.Refusals.{bad_slack};
+ghost use Rattle.settling.specs.Slack.{slack_outcome, slack_own};
 
 use crate::settle::settle_in;
 use records::desk::desk_of;
@@ -16,7 +16,7 @@ use times::input_time::InputTime;
 use times::sixteenths::{count_of, deadline_ok, in_sixteenths, inputs_in_sixteenths};
 
 // The slack in sixteenths, if nothing is wrong.
-#[derive(Drop)]
+#[derive(Clone, Copy)]
 pub struct SlackAnswer {
     pub verdict: Verdict,
     pub slack: i64,
@@ -24,8 +24,8 @@ pub struct SlackAnswer {
 
 // Line 14.
 fn slack_form(n: u32, delay: f64, times: [InputTime; 16], deadline: i64) -> Verdict
-    requires { (n ≤ mostInputs) × (in_range delay ≡ true) × (every n (λ j. soundTime (timeAt times j)) ≡ true) }
-    ensures { result ≡ verdict (badSlack n delay times deadline ∷ []) }
+    requires { (n ≤ most_inputs) × (in_range delay ≡ true) × (every n (λ j. sound_time (time_at times j)) ≡ true) }
+    ensures { result ≡ verdict (bad_slack n delay times deadline ∷ []) }
 {
     if !in_sixteenths(delay) {
         return refuse(Refusal::SLACK);
@@ -50,7 +50,7 @@ pub fn slack_in(
     deadline: i64,
 ) -> SlackAnswer
     requires { IsEdition e }
-    ensures { result ≡ slackOutcome e d n s.now delay times deadline }
+    ensures { result ≡ slack_outcome e d n s.now delay times deadline }
 {
     let answer = settle_in(e, d, n, s, delay, times);
     let settled = answer.verdict;
@@ -75,7 +75,7 @@ pub fn slack_in(
 
 // A deadline in sixteenths less the output's latest time.
 pub fn slack(n: u64, s: &[u8], delay: f64, times: [InputTime; 16], deadline: i64) -> SlackAnswer
-    ensures { result ≡ slackOwn firstEdition n s.now delay times deadline }
+    ensures { result ≡ slack_own first_edition n s.now delay times deadline }
 {
     let e = Edition::first();
     slack_in(e, desk_of(e, s), n, s, delay, times, deadline)

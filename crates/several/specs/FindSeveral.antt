@@ -1,38 +1,38 @@
 -- Find the best split with 1, 2 or 3 first cells: how many, and two masks.
 use Rattle.std.specs.Prelude.{Bool, true, false, List, [], ◌∷◌, ◌++◌, ℕ}
-use Rattle.tables.specs.Table.{tableBit}
-use Rattle.splits.specs.Columns.{mostFirst}
+use Rattle.tables.specs.Table.{table_bit}
+use Rattle.splits.specs.Columns.{most_first}
 use Rattle.sheets.specs.declared.kinds.Edition.{Edition}
 use Rattle.refusals.specs.declared.verdicts.Refusal.{Refusal}
 use Rattle.refusals.specs.declared.verdicts.Verdict.TheVariants.{Fine, Refused}
-use Rattle.refusals.specs.Numbers.{ofSplit}
+use Rattle.refusals.specs.Numbers.{of_split}
 use Rattle.refusals.specs.Lines.{Line, line, verdict, reply}
-use Rattle.refusals.specs.Refusals.{nothingToSplit}
-use Rattle.refusals.specs.Lent.{workAfter}
-use Rattle.finding.specs.FindBest.{findForm}
+use Rattle.refusals.specs.Refusals.{nothing_to_split}
+use Rattle.refusals.specs.Lent.{work_after}
+use Rattle.finding.specs.FindBest.{find_form}
 use Rattle.several.specs.declared.find_several.FindSeveralAnswer.{FindSeveralAnswer}
-use Rattle.choices.specs.Search.{Choice, nothing, choice, bestOver}
+use Rattle.choices.specs.Search.{Choice, nothing, choice, best_over}
 
 -- the best split of a gate's table with 1 to 3 first cells
-abbrev pub bestSeveral : ℕ → ℕ → List ℕ → Choice
-bestSeveral n K t = bestOver n (tableBit t) K mostFirst
+abbrev pub best_several : ℕ → ℕ → List ℕ → Choice
+best_several n K t = best_over n (table_bit t) K most_first
 
 -- whether there is none
-abbrev pub isNothing : Choice → Bool
-isNothing nothing = true
-isNothing (choice r A B) = false
+abbrev pub is_nothing : Choice → Bool
+is_nothing nothing = true
+is_nothing (choice r A B) = false
 
 -- 8: none is possible with 1, 2 or 3 first cells
-abbrev pub noneSeveral : Choice → Line
-noneSeveral c = line ofSplit (isNothing c)
+abbrev pub none_several : Choice → Line
+none_several c = line of_split (is_nothing c)
 
 -- what the table says: 7 and 8
-abbrev pub severalSays : ℕ → ℕ → List ℕ → List Line
-severalSays n K t = nothingToSplit n K t ∷ noneSeveral (bestSeveral n K t) ∷ []
+abbrev pub several_says : ℕ → ℕ → List ℕ → List Line
+several_says n K t = nothing_to_split n K t ∷ none_several (best_several n K t) ∷ []
 
 -- all lines: find's form and room, and these
-abbrev pub severalLines : Edition → ℕ → ℕ → List ℕ → List ℕ → List Line
-severalLines e n K t work = findForm e n K t work ++ severalSays n K t
+abbrev pub several_lines : Edition → ℕ → ℕ → List ℕ → List ℕ → List Line
+several_lines e n K t work = find_form e n K t work ++ several_says n K t
 
 -- the answer, and the work area afterwards
 pub record FindSeveralOutcome : Type 0 where
@@ -50,25 +50,25 @@ own_of nothing = 0
 own_of (choice r A B) = A
 
 -- and its shared mask
-abbrev pub sharedOf : Choice → ℕ
-sharedOf nothing = 0
-sharedOf (choice r A B) = B
+abbrev pub shared_of : Choice → ℕ
+shared_of nothing = 0
+shared_of (choice r A B) = B
 
 -- done: how many first cells, and the masks
-abbrev pub severalDone : Choice → List ℕ → FindSeveralOutcome
-severalDone c work = record {
-  answer = record { verdict = Fine; first = first_of c; own = own_of c; shared = sharedOf c };
-  work = workAfter Fine work;
+abbrev pub several_done : Choice → List ℕ → FindSeveralOutcome
+several_done c work = record {
+  answer = record { verdict = Fine; first = first_of c; own = own_of c; shared = shared_of c };
+  work = work_after Fine work;
 }
 
 -- refused: all three are 0
-abbrev pub severalNot : List ℕ → Refusal → FindSeveralOutcome
-severalNot work why = record {
+abbrev pub several_not : List ℕ → Refusal → FindSeveralOutcome
+several_not work why = record {
   answer = record { verdict = Refused why; first = 0; own = 0; shared = 0 };
-  work = workAfter (Refused why) work;
+  work = work_after (Refused why) work;
 }
 
 -- what find is to return and leave, whatever is handed over
-unfoldable pub findSeveralOutcome : Edition → ℕ → ℕ → List ℕ → List ℕ → FindSeveralOutcome
-findSeveralOutcome e n K t work =
-    reply (verdict (severalLines e n K t work)) (severalDone (bestSeveral n K t) work) (severalNot work)
+unfoldable pub find_several_outcome : Edition → ℕ → ℕ → List ℕ → List ℕ → FindSeveralOutcome
+find_several_outcome e n K t work =
+    reply (verdict (several_lines e n K t work)) (several_done (best_several n K t) work) (several_not work)

@@ -1,11 +1,11 @@
 // Finding the best split with several first cells.
 ghost use Rattle.std.specs.Prelude.{◌≡◌, ◌≤◌, length};
-ghost use Rattle.tables.specs.Table.{mostInputs, tableLength};
-ghost use Rattle.sheets.specs.Edition.{firstEdition};
-ghost use Rattle.tables.specs.Work.{workLength};
+ghost use Rattle.tables.specs.Table.{most_inputs, table_length};
+ghost use Rattle.sheets.specs.Edition.{first_edition};
+ghost use Rattle.tables.specs.Work.{work_length};
 ghost use Rattle.refusals.specs.Lines.{verdict, reply};
-ghost use Rattle.several.specs.FindSeveral.{bestSeveral, severalSays, severalDone, severalNot};
-ghost use Rattle.several.specs.FindSeveral.{findSeveralOutcome};
+ghost use Rattle.several.specs.FindSeveral.{best_several, several_says, several_done, several_not};
+ghost use Rattle.several.specs.FindSeveral.{find_several_outcome};
 
 use choices::counted::find_over;
 use finding::find_best::find_form;
@@ -14,7 +14,7 @@ use sheets::kinds::Edition;
 use tables::counting::counting_inputs;
 
 // How many first cells, the own and the shared mask, if nothing is wrong.
-#[derive(Drop)]
+#[derive(Clone, Copy)]
 pub struct FindSeveralAnswer {
     pub verdict: Verdict,
     pub first: u32,
@@ -36,10 +36,10 @@ fn without(verdict: Verdict) -> FindSeveralAnswer
 
 // Lines 7 and 8: the best over 1, 2 and 3 first cells, or that at most k inputs count, or that none is possible.
 fn search(n: u32, k: u32, t: &[u8], work: &mut [u8]) -> FindSeveralAnswer
-    requires { (n ≤ mostInputs) × (k ≤ mostInputs) × (length t.now ≡ tableLength n) × (workLength ≤ length work.old) }
+    requires { (n ≤ most_inputs) × (k ≤ most_inputs) × (length t.now ≡ table_length n) × (work_length ≤ length work.old) }
     ensures { record { answer = result; work = work.new }
-        ≡ reply (verdict (severalSays n k t.now))
-        (severalDone (bestSeveral n k t.now) work.old) (severalNot work.old) }
+        ≡ reply (verdict (several_says n k t.now))
+        (several_done (best_several n k t.now) work.old) (several_not work.old) }
 {
     let counting = counting_inputs(t, n);
     if counting.many <= k {
@@ -60,7 +60,7 @@ fn search(n: u32, k: u32, t: &[u8], work: &mut [u8]) -> FindSeveralAnswer
 // Finds the best split with 1, 2 or 3 first cells: how many, and two masks.
 pub fn find_several(n: u64, k: u64, t: &[u8], work: &mut [u8]) -> FindSeveralAnswer
     ensures { record { answer = result; work = work.new }
-        ≡ findSeveralOutcome firstEdition n k t.now work.old }
+        ≡ find_several_outcome first_edition n k t.now work.old }
 {
     let form = find_form(Edition::first(), n, k, t, work);
     let Verdict::Fine = form else {

@@ -1,7 +1,7 @@
 // Trying a named split with several first cells.
 ghost use Rattle.std.specs.Prelude.{◌≡◌};
-ghost use Rattle.sheets.specs.Edition.{firstEdition};
-ghost use Rattle.splitting.specs.TrySplit.{tryOutcome};
+ghost use Rattle.sheets.specs.Edition.{first_edition};
+ghost use Rattle.splitting.specs.TrySplit.{try_outcome};
 
 use sheets::kinds::Edition;
 use splitting::try_split::{TryAnswer, try_in};
@@ -17,7 +17,7 @@ pub fn try_several(
     room: &mut [u8],
 ) -> TryAnswer
     ensures { record { answer = result; room = room.new }
-        ≡ tryOutcome firstEdition n k r own shared t.now room.old }
+        ≡ try_outcome first_edition n k r own shared t.now room.old }
 {
     try_in(Edition::first(), n, k, r, own, shared, t, room)
 }

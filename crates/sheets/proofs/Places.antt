@@ -9,7 +9,7 @@ use lib.Pow.{pow-add}
 use lib.Seq.{length-take-le}
 use Rattle.sheets.specs.declared.kinds.Edition.{Edition}
 use Rattle.sheets.specs.Edition.{IsEdition}
-use Rattle.sheets.specs.Sheet.{recordBytes}
+use Rattle.sheets.specs.Sheet.{record_bytes}
 
 -- an edition's table has 2 ^ most bits
 pub table-bits : (e : Edition) → IsEdition e → 8 * (e.size - e.start) ≡ 2 ^ e.most
@@ -19,9 +19,9 @@ table-bits e o =
     omega (arith, o.ends)
 
 -- record i of m lies within them
-pub record-within : (z i m l : ℕ) → i < m → z * m ≤ l → z * i + z ≤ l
-record-within z i m l h g = let k = mul-le-mul_left {m = suc i} {n = m} z h in omega (arith, mul-suc z i)
+pub record_within : (z i m l : ℕ) → i < m → z * m ≤ l → z * i + z ≤ l
+record_within z i m l h g = let k = mul-le-mul_left {m = suc i} {n = m} z h in omega (arith, mul-suc z i)
 
-pub record-length : (e : Edition) (s : List ℕ) (i : ℕ) → e.size * i + e.size ≤ length s → length (recordBytes e s i)
+pub record_length : (e : Edition) (s : List ℕ) (i : ℕ) → e.size * i + e.size ≤ length s → length (record_bytes e s i)
     ≡ e.size
-record-length e s i h = length-take-le e.size (drop (e.size * i) s) (omega (arith, length-drop (e.size * i) s))
+record_length e s i h = length-take-le e.size (drop (e.size * i) s) (omega (arith, length-drop (e.size * i) s))

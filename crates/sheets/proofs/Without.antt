@@ -11,14 +11,14 @@ use lib.Dec.{eqb}
 use lib.ListN.{length, get_or, take, drop, length-map}
 use borrow.Author.Tests.{eq-eqb, ne_eqb, lt-ltb, le-ltb, eqb-true, eqb-false}
 use Rattle.bits.specs.Numbers.{bit, number}
-use Rattle.bits.proofs.Numbers.{number-ext}
+use Rattle.bits.proofs.Numbers.{number_ext}
 use Rattle.sheets.specs.declared.kinds.Edition.{Edition}
 use Rattle.sheets.specs.Edition.{IsEdition}
-use Rattle.sheets.specs.Sheet.{sheetCells, sheetBit, firstBad}
+use Rattle.sheets.specs.Sheet.{sheet_cells, sheet_bit, first_bad}
 use Rattle.sheets.specs.Network.{Cell, output, run, Wired, Gives}
-use Rattle.sheets.specs.Reading.{times, reads, unreadCell, unread, lowered, renumbered, without}
-use Rattle.sheets.proofs.Wiring.{cells-length, good-wired}
-use Rattle.sheets.proofs.Unread.{times-at}
+use Rattle.sheets.specs.Reading.{times, reads, unread_cell, unread, lowered, renumbered, without}
+use Rattle.sheets.proofs.Wiring.{cells_length, good_wired}
+use Rattle.sheets.proofs.Unread.{times_at}
 
 -- the signal g is taken away, and those above it move down
 module _ (g : ℕ) where
@@ -46,11 +46,11 @@ module _ (g : ℕ) where
       let l = c.signals in
       ap (bit c.table)
       (ap (λ (k : ℕ). number k (λ j. v (get_or (map (lowered g) l) j 0))) (length-map l (lowered g))
-      ∙ number-ext (length l) (λ j. v (get_or (map (lowered g) l) j 0)) (λ j. w (get_or l j 0)) (λ j h.
+      ∙ number_ext (length l) (λ j. v (get_or (map (lowered g) l) j 0)) (λ j. w (get_or l j 0)) (λ j h.
       ap v (map_at l j h) ∙ sym (moved (get_or l j 0) (below j h) (λ q. other l j h q none))))
     where
       other : (l : List ℕ) (j : ℕ) → j < length l → get_or l j 0 ≡ g → times g l ≡ 0 → ⊥
-      other l j h q z = let one = subst (λ (y : ℕ). 1 ≤ times y l) q (times-at l j h) in omega arith
+      other l j h q z = let one = subst (λ (y : ℕ). 1 ≤ times y l) q (times_at l j h) in omega arith
 
   -- one signal more, u + 1 among the old numbers and u among the new
   moved_more : (u : ℕ) (w v : ℕ → Bool) (o : Bool) → g ≤ u → Moved (suc u) w v
@@ -97,20 +97,20 @@ module _ (g : ℕ) where
       rest-none a q = omega arith
 
   -- and are wired as before
-  same-wired : (K u : ℕ) (cs : List Cell) → g ≤ u → Wired K (suc u) cs → reads g cs ≡ 0
+  same_wired : (K u : ℕ) (cs : List Cell) → g ≤ u → Wired K (suc u) cs → reads g cs ≡ 0
       → Wired K u (map (renumbered g) cs)
-  same-wired K u [] h wired none = tt
-  same-wired K u (c ∷ cs) h wired none = (
+  same_wired K u [] h wired none = tt
+  same_wired K u (c ∷ cs) h wired none = (
     subst (λ (k : ℕ). k ≤ K) (sym (length-map c.signals (lowered g))) wired.0,
     λ j l.
         let m : j < length c.signals = subst (λ (k : ℕ). j < k) (length-map c.signals (lowered g)) l in
         subst (λ (x : ℕ). x < u) (sym (map_at c.signals j m))
         (lower (get_or c.signals j 0) (wired.1 j m) (other j m)),
-    same-wired K (suc u) cs (omega arith) wired.2 (omega arith),
+    same_wired K (suc u) cs (omega arith) wired.2 (omega arith),
   )
     where
       other : (j : ℕ) → j < length c.signals → get_or c.signals j 0 ≡ g → ⊥
-      other j m q = let one = subst (λ (y : ℕ). 1 ≤ times y c.signals) q (times-at c.signals j m) in omega arith
+      other j m q = let one = subst (λ (y : ℕ). 1 ≤ times y c.signals) q (times_at c.signals j m) in omega arith
 
       lower : (x : ℕ) → x < suc u → (x ≡ g → ⊥) → lowered g x < u
       lower x l o = elim (dec_lt x g) [
@@ -150,17 +150,17 @@ same-without K n (suc i) (c ∷ cs) o v wired h none =
     ∙ same-without K (suc n) i cs (output c v) (λ s. cond (eqb s n) (output c v) (v s)) wired.2 (omega arith)
     (subst (λ (g : ℕ). reads g (drop (suc i) cs) ≡ 0) (shift n i) none)
 
-without-wired : (K n i : ℕ) (cs : List Cell) → Wired K n cs → i < length cs → reads (n + i) (drop (suc i) cs) ≡ 0
+without_wired : (K n i : ℕ) (cs : List Cell) → Wired K n cs → i < length cs → reads (n + i) (drop (suc i) cs) ≡ 0
     → Wired K n (without n i cs)
-without-wired K n i [] wired h none = absurd (not-suc-le-zero h)
-without-wired K n zero (c ∷ cs) wired h none =
+without_wired K n i [] wired h none = absurd (not-suc-le-zero h)
+without_wired K n zero (c ∷ cs) wired h none =
     subst (λ (g : ℕ). Wired K n (map (renumbered g) cs)) (sym (add-zero n))
-    (same-wired n K n cs (omega arith) wired.2 (subst (λ (g : ℕ). reads g cs ≡ 0) (add-zero n) none))
-without-wired K n (suc i) (c ∷ cs) wired h none =
+    (same_wired n K n cs (omega arith) wired.2 (subst (λ (g : ℕ). reads g cs ≡ 0) (add-zero n) none))
+without_wired K n (suc i) (c ∷ cs) wired h none =
     subst (Wired K n) (sym (without-next n i c cs)) (
       wired.0,
       wired.1,
-      without-wired K (suc n) i cs wired.2 (omega arith)
+      without_wired K (suc n) i cs wired.2 (omega arith)
           (subst (λ (g : ℕ). reads g (drop (suc i) cs) ≡ 0) (shift n i) none),
     )
 
@@ -176,21 +176,21 @@ without-length n (suc i) (c ∷ cs) h = omega (
 )
 
 -- a network without a cell, not its last, that isn't read is a network that gives the same
-pub without-gives : (n K i : ℕ) (F : ℕ → Bool) (cs : List Cell) → Gives n K F cs → i + 1 < length cs → unreadCell n cs i
+pub without_gives : (n K i : ℕ) (F : ℕ → Bool) (cs : List Cell) → Gives n K F cs → i + 1 < length cs → unread_cell n cs i
     ≡ true → Gives n K F (without n i cs)
-without-gives n K i F cs N h u =
+without_gives n K i F cs N h u =
     let none = eqb-true (reads (n + i) (drop (suc i) cs)) 0 u in record {
       some = omega (arith, without-length n i cs (omega arith));
-      wired = without-wired K n i cs N.wired (omega arith) none;
+      wired = without_wired K n i cs N.wired (omega arith) none;
       gives = λ x l. same-without K n i cs false (bit x) N.wired h none ∙ N.gives x l;
     }
 
 -- so a sheet's unread record, not its last, can be taken away
-pub sheet-without : (e : Edition) → IsEdition e → (d n : ℕ) (s : List ℕ) (m i : ℕ) → firstBad e d n s m ≡ m → i + 1 < m
+pub sheet-without : (e : Edition) → IsEdition e → (d n : ℕ) (s : List ℕ) (m i : ℕ) → first_bad e d n s m ≡ m → i + 1 < m
     → unread e n s m i ≡ true
-    → Gives n e.most (sheetBit e n s m) (without n i (sheetCells e s m))
-unfolding sheetBit
+    → Gives n e.most (sheet_bit e n s m) (without n i (sheet_cells e s m))
+unfolding sheet_bit
 sheet-without e o d n s m i good h u =
-    let l = cells-length e s 0 m in
-    without-gives n e.most i (sheetBit e n s m) (sheetCells e s m)
-    (record { some = omega arith; wired = good-wired e d n s o m good; gives = λ x b. refl }) (omega arith) u
+    let l = cells_length e s 0 m in
+    without_gives n e.most i (sheet_bit e n s m) (sheet_cells e s m)
+    (record { some = omega arith; wired = good_wired e d n s o m good; gives = λ x b. refl }) (omega arith) u

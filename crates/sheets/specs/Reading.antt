@@ -5,7 +5,7 @@ use Rattle.bits.specs.Below.{least}
 use Rattle.bits.specs.Lists.{list_of}
 use Rattle.sheets.specs.declared.kinds.Edition.{Edition}
 use Rattle.sheets.specs.Network.{Cell}
-use Rattle.sheets.specs.Sheet.{recordAt, sheetCells}
+use Rattle.sheets.specs.Sheet.{record_at, sheet_cells}
 
 -- how often a list has signal s
 abbrev pub times : ℕ → List ℕ → ℕ
@@ -18,8 +18,8 @@ reads s [] = 0
 reads s (c ∷ cs) = times s c.signals + reads s cs
 
 -- no cell reads signal s
-abbrev pub noneReads : ℕ → List Cell → Bool
-noneReads s cs = eqb (reads s cs) 0
+abbrev pub none_reads : ℕ → List Cell → Bool
+none_reads s cs = eqb (reads s cs) 0
 
 -- ---- cells of a network of n inputs, in which cell i gives signal n + i
 
@@ -28,8 +28,8 @@ abbrev pub AllRead : ℕ → List Cell → Type 0
 AllRead n cs = (i : ℕ) → i + 1 < length cs → 1 ≤ reads (n + i) (drop (suc i) cs)
 
 -- no later cell reads cell i
-abbrev pub unreadCell : ℕ → List Cell → ℕ → Bool
-unreadCell n cs i = noneReads (n + i) (drop (suc i) cs)
+abbrev pub unread_cell : ℕ → List Cell → ℕ → Bool
+unread_cell n cs i = none_reads (n + i) (drop (suc i) cs)
 
 -- a signal's number where the signal g is taken away
 abbrev pub lowered : ℕ → ℕ → ℕ
@@ -51,8 +51,8 @@ pub record IsRead (e : Edition) (n : ℕ) (s : List ℕ) (m i : ℕ) : Type 0 wh
   pub later : i < reader
   pub within : reader < m
   pub place : ℕ
-  pub among : place < recordAt e s reader 0
-  pub names : recordAt e s reader (place + 1) ≡ n + i
+  pub among : place < record_at e s reader 0
+  pub names : record_at e s reader (place + 1) ≡ n + i
 
 -- each of m records but the last is read
 abbrev pub EachRead : Edition → ℕ → List ℕ → ℕ → Type 0
@@ -68,12 +68,12 @@ pub record IsFirstUnread (e : Edition) (n : ℕ) (s : List ℕ) (m i : ℕ) : Ty
 
 -- record i of m isn't read
 abbrev pub unread : Edition → ℕ → List ℕ → ℕ → ℕ → Bool
-unread e n s m i = unreadCell n (sheetCells e s m) i
+unread e n s m i = unread_cell n (sheet_cells e s m) i
 
 -- the first of m records but the last that isn't, and the last where each other is
-abbrev pub firstUnread : Edition → ℕ → List ℕ → ℕ → ℕ
-firstUnread e n s m = least (m - 1) (unread e n s m)
+abbrev pub first_unread : Edition → ℕ → List ℕ → ℕ → ℕ
+first_unread e n s m = least (m - 1) (unread e n s m)
 
 -- a mask, bit x of which says that signal x is read, with the signals of a record besides
-abbrev pub alsoRead : (ℕ → ℕ) → ℕ → ℕ
-alsoRead b w = number 32 (λ x. bit w x || ltb 0 (times x (list_of (b 0) (λ j. b (j + 1)))))
+abbrev pub also_read : (ℕ → ℕ) → ℕ → ℕ
+also_read b w = number 32 (λ x. bit w x || ltb 0 (times x (list_of (b 0) (λ j. b (j + 1)))))

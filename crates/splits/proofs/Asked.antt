@@ -18,46 +18,46 @@ use Rattle.bits.proofs.Spreading.{gather-lt, gather_ext}
 use Rattle.bits.proofs.Members.{Place, place, gather-place}
 use Rattle.tables.specs.Depends.{DependsOn}
 use Rattle.tables.specs.Counting.{AlikeBut, Ignores}
-use Rattle.splits.specs.Split.{readsD, readsH, inputH, Possible}
-use Rattle.splits.specs.Pair.{code_at, bitH}
-use Rattle.splits.proofs.Few.{column-there, codeAt-gather, pair-gives}
-use Rattle.splits.proofs.Possible.{possible-few}
-use Rattle.splits.proofs.Respect.{possible-of}
+use Rattle.splits.specs.Split.{reads_d, reads_h, input_h, Possible}
+use Rattle.splits.specs.Pair.{code_at, bit_h}
+use Rattle.splits.proofs.Few.{column_there, code_at_gather, pair_gives}
+use Rattle.splits.proofs.Possible.{possible_few}
+use Rattle.splits.proofs.Respect.{possible_of}
 
 module _ (n : ℕ) (F : ℕ → Bool) (A B : ℕ → Bool) (apart : Apart n A B) (r : ℕ) (P : Possible n F A B r) where
   abbrev k : ℕ
-  k = size n (readsH A B)
+  k = size n (reads_h A B)
 
   abbrev H : ℕ → Bool
-  H = bitH n F A B
+  H = bit_h n F A B
 
   -- what the first cells give at x
   pub code : ℕ → ℕ
-  code x = code_at n F A B (gather n (readsD A B) x)
+  code x = code_at n F A B (gather n (reads_d A B) x)
 
-  pub code-small : (x : ℕ) → code x < 2 ^ r
+  pub code_small : (x : ℕ) → code x < 2 ^ r
   unfolding code
-  code-small x =
+  code_small x =
       omega (
         arith,
-        codeAt-gather n F A B x,
-        column-there n F A B (gather n B x) (gather n A x) (gather-lt n A x),
-        possible-few n F A B apart r P (gather n B x),
+        code_at_gather n F A B x,
+        column_there n F A B (gather n B x) (gather n A x) (gather-lt n A x),
+        possible_few n F A B apart r P (gather n B x),
       )
 
-  pub code-sees : (x y : ℕ) → Agree n (readsD A B) x y → code x ≡ code y
+  pub code_sees : (x y : ℕ) → Agree n (reads_d A B) x y → code x ≡ code y
   unfolding code
-  code-sees x y h = ap (code_at n F A B) (gather_ext n (readsD A B) x y h)
+  code_sees x y h = ap (code_at n F A B) (gather_ext n (reads_d A B) x y h)
 
-  pub gives : (x : ℕ) → x < 2 ^ n → F x ≡ H (inputH n A B x (code x))
+  pub gives : (x : ℕ) → x < 2 ^ n → F x ≡ H (input_h n A B x (code x))
   unfolding code
-  gives x h = pair-gives n F A B x h
+  gives x h = pair_gives n F A B x h
 
   -- ---- H's input: a shared or free input at its place, and behind them the code
-  pub input-lt : (x d : ℕ) → d < 2 ^ r → inputH n A B x d < 2 ^ (k + r)
-  input-lt x d h = omega (
+  pub input_lt : (x d : ℕ) → d < 2 ^ r → input_h n A B x d < 2 ^ (k + r)
+  input_lt x d h = omega (
     arith,
-    gather-lt n (readsH A B) x,
+    gather-lt n (reads_h A B) x,
     mul-le-mul_right (2 ^ k) h,
     suc-mul d (2 ^ k),
     pow-add 2 k
@@ -65,43 +65,43 @@ module _ (n : ℕ) (F : ℕ → Bool) (A B : ℕ → Bool) (apart : Apart n A B)
     mul_comm (2 ^ k) (2 ^ r),
   )
 
-  pub input-low : (x d q : ℕ) → q < k → (w : Place n (readsH A B) q) → bit (inputH n A B x d) q ≡ bit x w.at
-  input-low x d q g w = bit_below (gather n (readsH A B) x) d k q g ∙ gather-place n (readsH A B) x q w
+  pub input_low : (x d q : ℕ) → q < k → (w : Place n (reads_h A B) q) → bit (input_h n A B x d) q ≡ bit x w.at
+  input_low x d q g w = bit_below (gather n (reads_h A B) x) d k q g ∙ gather-place n (reads_h A B) x q w
 
-  pub input-high : (x d t : ℕ) → bit (inputH n A B x d) (k + t) ≡ bit d t
-  input-high x d t =
-      sym (bit-shr (inputH n A B x d) k t)
-      ∙ ap (λ (m : ℕ). bit m t) (ap (λ (m : ℕ). m / 2 ^ k) (add_comm (gather n (readsH A B) x) (d * 2 ^ k))
-      ∙ high d k (gather-lt n (readsH A B) x))
+  pub input_high : (x d t : ℕ) → bit (input_h n A B x d) (k + t) ≡ bit d t
+  input_high x d t =
+      sym (bit-shr (input_h n A B x d) k t)
+      ∙ ap (λ (m : ℕ). bit m t) (ap (λ (m : ℕ). m / 2 ^ k) (add_comm (gather n (reads_h A B) x) (d * 2 ^ k))
+      ∙ high d k (gather-lt n (reads_h A B) x))
 
-  input-alike : (x y d j : ℕ) → AlikeBut n j x y
-      → AlikeBut (k + r) (size j (readsH A B)) (inputH n A B x d) (inputH n A B y d)
-  input-alike x y d j alike i l ne = elim (dec_lt i k) [
-    | yes g ↦ low g (place n (readsH A B) i g)
+  input_alike : (x y d j : ℕ) → AlikeBut n j x y
+      → AlikeBut (k + r) (size j (reads_h A B)) (input_h n A B x d) (input_h n A B y d)
+  input_alike x y d j alike i l ne = elim (dec_lt i k) [
+    | yes g ↦ low g (place n (reads_h A B) i g)
     | no g ↦ let e : i ≡ k + (i - k) = omega arith in
-        ap (bit (inputH n A B x d)) e ∙ input-high x d (i - k)
-        ∙ sym (ap (bit (inputH n A B y d)) e ∙ input-high y d (i - k))
+        ap (bit (input_h n A B x d)) e ∙ input_high x d (i - k)
+        ∙ sym (ap (bit (input_h n A B y d)) e ∙ input_high y d (i - k))
   ]
     where
-      low : i < k → Place n (readsH A B) i → bit (inputH n A B x d) i ≡ bit (inputH n A B y d) i
+      low : i < k → Place n (reads_h A B) i → bit (input_h n A B x d) i ≡ bit (input_h n A B y d) i
       low g w =
-          input-low x d i g w
-          ∙ alike w.at w.below (λ e. ne (sym w.rank ∙ ap (λ (p : ℕ). size p (readsH A B)) e))
-          ∙ sym (input-low y d i g w)
+          input_low x d i g w
+          ∙ alike w.at w.below (λ e. ne (sym w.rank ∙ ap (λ (p : ℕ). size p (reads_h A B)) e))
+          ∙ sym (input_low y d i g w)
 
   -- ---- a free input
-  pub free-counts : (j : ℕ) → readsD A B j ≡ false → DependsOn n F j → DependsOn (k + r) H (size j (readsH A B))
-  free-counts j out p = record {
-    x = inputH n A B p.x (code p.x);
-    y = inputH n A B p.y (code p.x);
-    belowX = input-lt p.x (code p.x) (code-small p.x);
-    belowY = input-lt p.y (code p.x) (code-small p.x);
-    alike = input-alike p.x p.y (code p.x) j p.alike;
+  pub free_counts : (j : ℕ) → reads_d A B j ≡ false → DependsOn n F j → DependsOn (k + r) H (size j (reads_h A B))
+  free_counts j out p = record {
+    x = input_h n A B p.x (code p.x);
+    y = input_h n A B p.y (code p.x);
+    below_x = input_lt p.x (code p.x) (code_small p.x);
+    below_y = input_lt p.y (code p.x) (code_small p.x);
+    alike = input_alike p.x p.y (code p.x) j p.alike;
     differ = λ e. p.differ (
-        gives p.x p.belowX ∙ e
-        ∙ ap (λ (d : ℕ). H (inputH n A B p.y d)) (code-sees p.x p.y
-        (λ i h m. p.alike i h (λ z. clash m (ap (readsD A B) z ∙ out))))
-        ∙ sym (gives p.y p.belowY));
+        gives p.x p.below_x ∙ e
+        ∙ ap (λ (d : ℕ). H (input_h n A B p.y d)) (code_sees p.x p.y
+        (λ i h m. p.alike i h (λ z. clash m (ap (reads_d A B) z ∙ out))))
+        ∙ sym (gives p.y p.below_y));
   }
 
   -- ---- a shared input
@@ -118,8 +118,8 @@ module _ (n : ℕ) (F : ℕ → Bool) (A B : ℕ → Bool) (apart : Apart n A B)
     clear-alike : (x : ℕ) → AlikeBut n j x (clear x)
     clear-alike x i h ne = sym (clear-bit x i h false (ne_eqb i j ne) ∙ and-true (bit x i))
 
-    readsD-more : (i : ℕ) → i < n → readsD A B i ≡ true → readsD A' B' i ≡ true
-    readsD-more i h e = ap₂ ◌||◌ (own i h) (shared i h) ∙ go (A i) (B i) (eqb i j) e
+    reads_d_more : (i : ℕ) → i < n → reads_d A B i ≡ true → reads_d A' B' i ≡ true
+    reads_d_more i h e = ap₂ ◌||◌ (own i h) (shared i h) ∙ go (A i) (B i) (eqb i j) e
       where
         go : (s t u : Bool) → (s || t) ≡ true → ((s || u) || (t && not u)) ≡ true
         go true t u e = refl
@@ -127,8 +127,8 @@ module _ (n : ℕ) (F : ℕ → Bool) (A B : ℕ → Bool) (apart : Apart n A B)
         go false true false e = refl
         go false false u e = absurd (clash e refl)
 
-    readsH-other : (i : ℕ) → i < n → eqb i j ≡ false → readsH A B i ≡ true → readsH A' B' i ≡ true
-    readsH-other i h ne e = ap₂ (λ (s t : Bool). t || not (s || t)) (own i h) (shared i h)
+    reads_h_other : (i : ℕ) → i < n → eqb i j ≡ false → reads_h A B i ≡ true → reads_h A' B' i ≡ true
+    reads_h_other i h ne e = ap₂ (λ (s t : Bool). t || not (s || t)) (own i h) (shared i h)
         ∙ go (A i) (B i) (eqb i j) ne e
       where
         go : (s t u : Bool) → u ≡ false → (t || not (s || t)) ≡ true → ((t && not u) || not ((s || u) || (t && not u)))
@@ -138,50 +138,50 @@ module _ (n : ℕ) (F : ℕ → Bool) (A B : ℕ → Bool) (apart : Apart n A B)
         go true false false q e = e
         go false false false q e = refl
 
-    pub shared-to-own : Ignores (k + r) H (size j (readsH A B)) → Possible n F A' B' r
-    shared-to-own idle =
-        possible-of n F A' B' r (λ t x. bit (code x) t) (λ d x. H (inputH n A B (clear x) d))
-        (λ t x y h. ap (λ (d : ℕ). bit d t) (code-sees x y (λ i l m. h i l (readsD-more i l m))))
+    pub shared_to_own : Ignores (k + r) H (size j (reads_h A B)) → Possible n F A' B' r
+    shared_to_own idle =
+        possible_of n F A' B' r (λ t x. bit (code x) t) (λ d x. H (input_h n A B (clear x) d))
+        (λ t x y h. ap (λ (d : ℕ). bit d t) (code_sees x y (λ i l m. h i l (reads_d_more i l m))))
         (λ d x y h. ap (λ (g : ℕ). H (g + d * 2 ^ k))
-        (gather_ext n (readsH A B) (clear x) (clear y) (λ i l m. same x y h i l m (eqb i j) refl)))
+        (gather_ext n (reads_h A B) (clear x) (clear y) (λ i l m. same x y h i l m (eqb i j) refl)))
         (λ x h. gives x h
-        ∙ idle (inputH n A B x (code x)) (inputH n A B (clear x) (code x)) (input-lt x (code x) (code-small x))
-        (input-lt (clear x) (code x) (code-small x))
-        (input-alike x (clear x) (code x) j (clear-alike x))
-        ∙ ap (λ (d : ℕ). H (inputH n A B (clear x) d)) (sym (number_bit r (code x) (code-small x))))
+        ∙ idle (input_h n A B x (code x)) (input_h n A B (clear x) (code x)) (input_lt x (code x) (code_small x))
+        (input_lt (clear x) (code x) (code_small x))
+        (input_alike x (clear x) (code x) j (clear-alike x))
+        ∙ ap (λ (d : ℕ). H (input_h n A B (clear x) d)) (sym (number_bit r (code x) (code_small x))))
       where
-        same : (x y : ℕ) → Agree n (readsH A' B') x y → (i : ℕ) → i < n → readsH A B i ≡ true → (t : Bool) → eqb i j ≡ t
+        same : (x y : ℕ) → Agree n (reads_h A' B') x y → (i : ℕ) → i < n → reads_h A B i ≡ true → (t : Bool) → eqb i j ≡ t
             → bit (clear x) i ≡ bit (clear y) i
         same x y h i l m t e = clear-bit x i l t e ∙ go t e ∙ sym (clear-bit y i l t e)
           where
             go : (t : Bool) → eqb i j ≡ t → (bit x i && not t) ≡ (bit y i && not t)
             go true e = and-false (bit x i) ∙ sym (and-false (bit y i))
-            go false e = ap (λ (s : Bool). s && true) (h i l (readsH-other i l e m))
+            go false e = ap (λ (s : Bool). s && true) (h i l (reads_h_other i l e m))
 
 -- ---- D's output, with one first cell
 pub output-counts : (n : ℕ) (F : ℕ → Bool) (A B : ℕ → Bool) → Apart n A B → Possible n F A B 1 → (j : ℕ) → j < n → A j
     ≡ true → DependsOn n F j
-    → DependsOn (size n (readsH A B) + 1) (bitH n F A B) (size n (readsH A B))
+    → DependsOn (size n (reads_h A B) + 1) (bit_h n F A B) (size n (reads_h A B))
 output-counts n F A B apart P j l own p =
     let d = code n F A B apart 1 P in
-    let k = size n (readsH A B) in
+    let k = size n (reads_h A B) in
     record {
-      x = inputH n A B p.x (d p.x);
-      y = inputH n A B p.y (d p.y);
-      belowX = input-lt n F A B apart 1 P p.x (d p.x) (code-small n F A B apart 1 P p.x);
-      belowY = input-lt n F A B apart 1 P p.y (d p.y) (code-small n F A B apart 1 P p.y);
+      x = input_h n A B p.x (d p.x);
+      y = input_h n A B p.y (d p.y);
+      below_x = input_lt n F A B apart 1 P p.x (d p.x) (code_small n F A B apart 1 P p.x);
+      below_y = input_lt n F A B apart 1 P p.y (d p.y) (code_small n F A B apart 1 P p.y);
       alike = λ i h ne. let g : i < k = omega arith in
-          bit_below (gather n (readsH A B) p.x) (d p.x) k i g ∙ ap (λ (v : ℕ). bit v i) same
-          ∙ sym (bit_below (gather n (readsH A B) p.y) (d p.y) k i g);
-      differ = λ e. p.differ (gives n F A B apart 1 P p.x p.belowX ∙ e
-          ∙ sym (gives n F A B apart 1 P p.y p.belowY));
+          bit_below (gather n (reads_h A B) p.x) (d p.x) k i g ∙ ap (λ (v : ℕ). bit v i) same
+          ∙ sym (bit_below (gather n (reads_h A B) p.y) (d p.y) k i g);
+      differ = λ e. p.differ (gives n F A B apart 1 P p.x p.below_x ∙ e
+          ∙ sym (gives n F A B apart 1 P p.y p.below_y));
     }
   where
-    not-read : (s t : Bool) → (t ≡ true → s ≡ false) → s ≡ true → (t || not (s || t)) ≡ false
-    not-read s true f e = sym e ∙ f refl
-    not-read true false f e = refl
-    not-read false false f e = sym e
+    not_read : (s t : Bool) → (t ≡ true → s ≡ false) → s ≡ true → (t || not (s || t)) ≡ false
+    not_read s true f e = sym e ∙ f refl
+    not_read true false f e = refl
+    not_read false false f e = sym e
 
-    same : gather n (readsH A B) p.x ≡ gather n (readsH A B) p.y
-    same = gather_ext n (readsH A B) p.x p.y
-        (λ i h m. p.alike i h (λ z. clash m (ap (readsH A B) z ∙ not-read (A j) (B j) (apart j l) own)))
+    same : gather n (reads_h A B) p.x ≡ gather n (reads_h A B) p.y
+    same = gather_ext n (reads_h A B) p.x p.y
+        (λ i h m. p.alike i h (λ z. clash m (ap (reads_h A B) z ∙ not_read (A j) (B j) (apart j l) own)))

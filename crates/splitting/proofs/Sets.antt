@@ -12,89 +12,89 @@ use Rattle.bits.specs.Numbers.{bit}
 use Rattle.bits.specs.Sets.{disjoint, size}
 use Rattle.bits.proofs.Bools.{or-none}
 use Rattle.bits.proofs.Disjoint.{disjoint-apart}
-use Rattle.tables.specs.Table.{tableLength, tableBit}
-use Rattle.splits.specs.Columns.{mostFirst, columns}
-use Rattle.splits.specs.Pair.{inputsH}
+use Rattle.tables.specs.Table.{table_length, table_bit}
+use Rattle.splits.specs.Columns.{most_first, columns}
+use Rattle.splits.specs.Pair.{inputs_h}
 use Rattle.splits.proofs.Respect.{inputs-H}
 use Rattle.charts.specs.declared.pair.FirstCells.{FirstCells}
-use Rattle.charts.specs.Cells.{noCells}
+use Rattle.charts.specs.Cells.{no_cells}
 use Rattle.best.specs.Best.{Candidate}
 use Rattle.refusals.specs.declared.verdicts.Refusal.{Refusal}
 use Rattle.refusals.specs.declared.verdicts.Verdict.{Verdict}
 use Rattle.refusals.specs.declared.verdicts.Verdict.TheVariants.{Refused}
 use Rattle.refusals.specs.Lines.{Line, verdict, reply}
-use Rattle.refusals.specs.Refusals.{badSets}
-use Rattle.refusals.proofs.Lines.{others, another, refused-by}
+use Rattle.refusals.specs.Refusals.{bad_sets}
+use Rattle.refusals.proofs.Lines.{others, another, refused_by}
 use Rattle.refusals.proofs.Tests.{inside}
-use Rattle.splitting.specs.TrySplit.{TryOutcome, tryNot}
+use Rattle.splitting.specs.TrySplit.{TryOutcome, try_not}
 
 module _ (n K r A B : ℕ) where
-  pub bad-first : not (leb 1 r && leb r mostFirst) ≡ true → (badSets n K r A B).holds ≡ true
+  pub bad-first : not (leb 1 r && leb r most_first) ≡ true → (bad_sets n K r A B).holds ≡ true
   bad-first h = rw h
 
-  module _ (f : not (leb 1 r && leb r mostFirst) ≡ false) where
-    pub high-own : 2 ^ n ≤ A → (badSets n K r A B).holds ≡ true
-    high-own h = rw (f, le-leb (2 ^ n) A h)
+  module _ (f : not (leb 1 r && leb r most_first) ≡ false) where
+    pub high_own : 2 ^ n ≤ A → (bad_sets n K r A B).holds ≡ true
+    high_own h = rw (f, le-leb (2 ^ n) A h)
 
     module _ (a : A < 2 ^ n) where
-      pub high-shared : 2 ^ n ≤ B → (badSets n K r A B).holds ≡ true
-      high-shared h = rw (f, lt-leb (2 ^ n) A a, le-leb (2 ^ n) B h)
+      pub high_shared : 2 ^ n ≤ B → (bad_sets n K r A B).holds ≡ true
+      high_shared h = rw (f, lt-leb (2 ^ n) A a, le-leb (2 ^ n) B h)
 
       module _ (b : B < 2 ^ n) where
-        pub overlap : disjoint n (bit A) (bit B) ≡ false → (badSets n K r A B).holds ≡ true
+        pub overlap : disjoint n (bit A) (bit B) ≡ false → (bad_sets n K r A B).holds ≡ true
         overlap h = rw (f, lt-leb (2 ^ n) A a, lt-leb (2 ^ n) B b, h)
 
-        pub few-own : disjoint n (bit A) (bit B) ≡ true → size n (bit A) ≤ r → (badSets n K r A B).holds ≡ true
-        few-own d h = rw (f, lt-leb (2 ^ n) A a, lt-leb (2 ^ n) B b, d, le-leb (size n (bit A)) r h)
+        pub few_own : disjoint n (bit A) (bit B) ≡ true → size n (bit A) ≤ r → (bad_sets n K r A B).holds ≡ true
+        few_own d h = rw (f, lt-leb (2 ^ n) A a, lt-leb (2 ^ n) B b, d, le-leb (size n (bit A)) r h)
 
-        pub by-sizes : disjoint n (bit A) (bit B) ≡ true → r < size n (bit A)
-            → (badSets n K r A B).holds ≡ ltb K (size n (bit A) + size n (bit B))
-        by-sizes d h = rw (f, lt-leb (2 ^ n) A a, lt-leb (2 ^ n) B b, d, lt-leb (size n (bit A)) r h)
+        pub by_sizes : disjoint n (bit A) (bit B) ≡ true → r < size n (bit A)
+            → (bad_sets n K r A B).holds ≡ ltb K (size n (bit A) + size n (bit B))
+        by_sizes d h = rw (f, lt-leb (2 ^ n) A a, lt-leb (2 ^ n) B b, d, lt-leb (size n (bit A)) r h)
 
   -- line 5 lets candidates through, for any larger cell too, with at most 3 first cells
-  module _ (h : (badSets n K r A B).holds ≡ false) where
-    pub most-first : r ≤ mostFirst
-    most-first = (inside 1 r mostFirst (or-none (not (leb 1 r && leb r mostFirst)) _ h).0).1
+  module _ (h : (bad_sets n K r A B).holds ≡ false) where
+    pub most_first_lem : r ≤ most_first
+    most_first_lem = (inside 1 r most_first (or-none (not (leb 1 r && leb r most_first)) _ h).0).1
 
     pub candidate : (L : ℕ) → K ≤ L → Candidate n L r A B
     candidate L k =
-        let o = or-none (not (leb 1 r && leb r mostFirst)) _ h in
+        let o = or-none (not (leb 1 r && leb r most_first)) _ h in
         let p = or-none (leb (2 ^ n) A) _ o.1 in
         let q = or-none (leb (2 ^ n) B) _ p.1 in
         let d = or-none (not (disjoint n (bit A) (bit B))) _ q.1 in
         let s = or-none (leb (size n (bit A)) r) _ d.1 in
         record {
-          belowA = leb-false (2 ^ n) A p.0;
-          belowB = leb-false (2 ^ n) B q.0;
+          below_a = leb-false (2 ^ n) A p.0;
+          below_b = leb-false (2 ^ n) B q.0;
           apart = (disjoint-apart n (bit A) (bit B)).0 (not-false (disjoint n (bit A) (bit B)) d.0);
           more = leb-false (size n (bit A)) r s.0;
           most = le_trans (ltb-false K (size n (bit A) + size n (bit B)) s.1) k;
         }
 
 -- the bytes of H's table: it reads all inputs but the own ones, and the first cells' outputs
-pub bytes-H : {n K r A B : ℕ} → Candidate n K r A B → (F : ℕ → Bool) → tableLength (n + r - size n (bit A))
-    ≡ tableLength (inputsH n F (bit A) (bit B) r)
-bytes-H {n} {K} {r} {A} {B} c F =
-    let e : n + r - size n (bit A) ≡ inputsH n F (bit A) (bit B) r = omega
-    (arith, inputs-H n (bit A) (bit B) c.apart F r) in ap tableLength e
+pub bytes_H : {n K r A B : ℕ} → Candidate n K r A B → (F : ℕ → Bool) → table_length (n + r - size n (bit A))
+    ≡ table_length (inputs_h n F (bit A) (bit B) r)
+bytes_H {n} {K} {r} {A} {B} c F =
+    let e : n + r - size n (bit A) ≡ inputs_h n F (bit A) (bit B) r = omega
+    (arith, inputs-H n (bit A) (bit B) c.apart F r) in ap table_length e
 
 -- lines of which none is 8 refuse without counting columns, whatever comes after them
-pub refused-before : (ls ms : List Line) → others 8 ls ≡ true → (n A B : ℕ) (t room : List ℕ) (done : TryOutcome)
-    (v : Verdict) (why : Refusal) (d : FirstCells) → v ≡ verdict ls → v ≡ Refused why → d ≡ noCells
+pub refused_before : (ls ms : List Line) → others 8 ls ≡ true → (n A B : ℕ) (t room : List ℕ) (done : TryOutcome)
+    (v : Verdict) (why : Refusal) (d : FirstCells) → v ≡ verdict ls → v ≡ Refused why → d ≡ no_cells
     → record { answer = record { verdict = v; d = d; columns = 0 }; room = room }
-    ≡ reply (verdict (ls ++ ms)) done (tryNot n A B t room)
-refused-before ls ms o n A B t room done v why d looked e none =
+    ≡ reply (verdict (ls ++ ms)) done (try_not n A B t room)
+refused_before ls ms o n A B t room done v why d looked e none =
     ap₂ (λ (v : Verdict) (d : FirstCells). record { answer = record { verdict = v; d = d; columns = 0 }; room = room })
     e none
     ∙ ap (λ (b : Bool). record {
       answer = record {
         verdict = Refused why;
-        d = noCells;
-        columns = cond b (length (columns n (tableBit t) (bit A) (bit B) why.place)) 0;
+        d = no_cells;
+        columns = cond b (length (columns n (table_bit t) (bit A) (bit B) why.place)) 0;
       };
       room = room;
     }) (sym (ne_eqb why.number 8 (another ls 8 why o (sym looked ∙ e))))
-    ∙ refused-by ls ms done (tryNot n A B t room) v why looked e
+    ∙ refused_by ls ms done (try_not n A B t room) v why looked e
 
 -- what is said of a split's numbers is said of those it was made of
 pub carried : {n n' a a' b b' : ℕ} (P : ℕ → ℕ → ℕ → Type 0) → n ≡ n' → a ≡ a' → b ≡ b' → P n a b → P n' a' b'

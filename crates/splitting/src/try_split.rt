@@ -2,14 +2,14 @@
 ghost use Rattle.std.specs.Prelude.{◌≡◌, [], ◌∷◌, ◌+◌, ◌-◌, ◌^◌, ◌<◌, ◌≤◌, length};
 ghost use Rattle.bits.specs.Numbers.{bit};
 ghost use Rattle.bits.specs.Sets.{size};
-ghost use Rattle.tables.specs.Table.{mostInputs, tableLength};
-ghost use Rattle.splits.specs.Columns.{mostFirst};
+ghost use Rattle.tables.specs.Table.{most_inputs, table_length};
+ghost use Rattle.splits.specs.Columns.{most_first};
 ghost use Rattle.columns.specs.Reading.{Held};
 ghost use Rattle.best.specs.Best.{Candidate};
-ghost use Rattle.sheets.specs.Edition.{IsEdition, largestCell, firstEdition};
+ghost use Rattle.sheets.specs.Edition.{IsEdition, largest_cell, first_edition};
 ghost use Rattle.refusals.specs.Lines.{verdict, reply};
-ghost use Rattle.refusals.specs.Refusals.{badSets, notPossible};
-ghost use Rattle.splitting.specs.TrySplit.{tryForm, tryDone, tryNot, tryOutcome};
+ghost use Rattle.refusals.specs.Refusals.{bad_sets, not_possible};
+ghost use Rattle.splitting.specs.TrySplit.{try_form, try_done, try_not, try_outcome};
 
 use crate::filling;
 use bits::sets::members;
@@ -22,7 +22,7 @@ use sheets::kinds::Edition;
 
 // The first cells' tables, if nothing is wrong; H is in the lent room. After 8, which names where the split breaks, how
 // many different columns there are.
-#[derive(Drop)]
+#[derive(Clone, Copy)]
 pub struct TryAnswer {
     pub verdict: Verdict,
     pub d: FirstCells,
@@ -31,8 +31,8 @@ pub struct TryAnswer {
 
 // Line 5: r outside 1 to 3; A or B names a position from n up; they overlap; A not above r; A and B together above K.
 fn bad_sets(n: u32, k: u32, r: u64, own: u64, shared: u64) -> bool
-    requires { n ≤ mostInputs }
-    ensures { result ≡ (badSets n k r own shared).holds }
+    requires { n ≤ most_inputs }
+    ensures { result ≡ (bad_sets n k r own shared).holds }
 {
     if form::outside(1, r, Split::MOST_FIRST) {
         return true;
@@ -56,8 +56,8 @@ fn bad_sets(n: u32, k: u32, r: u64, own: u64, shared: u64) -> bool
 
 // How many bytes H's table has: H reads all inputs but the own ones, and the first cells' outputs.
 fn bytes_of_h(n: u32, r: u32, own: u16) -> usize
-    requires { (n ≤ mostInputs) × (own < 2 ^ n) × (r < size n (bit own)) × (r ≤ mostFirst) }
-    ensures { (result ≡ tableLength (n + r - size n (bit own))) × (result ≤ tableLength mostInputs) }
+    requires { (n ≤ most_inputs) × (own < 2 ^ n) × (r < size n (bit own)) × (r ≤ most_first) }
+    ensures { (result ≡ table_length (n + r - size n (bit own))) × (result ≤ table_length most_inputs) }
 {
     tables::length_for(n + r - members(own))
 }
@@ -74,7 +74,7 @@ fn try_form<'a>(
     room: &'a [u8],
 ) -> Verdict
     requires { IsEdition e }
-    ensures { result ≡ verdict (tryForm e n k r own shared t.now room.now) }
+    ensures { result ≡ verdict (try_form e n k r own shared t.now room.now) }
 {
     let gate = form::gate(e, n, k, t);
     let Verdict::Fine = gate else {
@@ -93,13 +93,13 @@ fn try_form<'a>(
 // A split whose sets are good: the tables of r first cells, and H into a room that is long enough, or that it isn't
 // possible.
 fn pair_of(t: &[u8], s: Split, r: u32, room: &mut [u8]) -> TryAnswer
-    requires held { Held s × Candidate s.n largestCell r s.own s.shared × (length t.now ≡ tableLength s.n)
-        × (r ≤ mostFirst) }
-    requires own_in_bounds { tableLength (s.n + r - size s.n (bit s.own)) ≤ length room.old }
+    requires held { Held s × Candidate s.n largest_cell r s.own s.shared × (length t.now ≡ table_length s.n)
+        × (r ≤ most_first) }
+    requires own_in_bounds { table_length (s.n + r - size s.n (bit s.own)) ≤ length room.old }
     ensures { record { answer = result; room = room.new }
-        ≡ reply (verdict (notPossible s.n r s.own s.shared t.now ∷ []))
-        (tryDone s.n r s.own s.shared t.now room.old)
-        (tryNot s.n s.own s.shared t.now room.old) }
+        ≡ reply (verdict (not_possible s.n r s.own s.shared t.now ∷ []))
+        (try_done s.n r s.own s.shared t.now room.old)
+        (try_not s.n s.own s.shared t.now room.old) }
 {
     let broken = break_of(t, s, 1 << r);
     if 0 < broken.columns {
@@ -129,7 +129,7 @@ pub fn try_in(
 ) -> TryAnswer
     requires { IsEdition e }
     ensures { record { answer = result; room = room.new }
-        ≡ tryOutcome e n k r own shared t.now room.old }
+        ≡ try_outcome e n k r own shared t.now room.old }
 {
     let form = try_form(e, n, k, r, own, shared, t, room);
     let Verdict::Fine = form else {
@@ -150,7 +150,7 @@ pub fn try_in(
 // Tries the split with the masks own and shared: D, and H into the lent room.
 pub fn try_split(n: u64, k: u64, own: u64, shared: u64, t: &[u8], room: &mut [u8]) -> TryAnswer
     ensures { record { answer = result; room = room.new }
-        ≡ tryOutcome firstEdition n k 1 own shared t.now room.old }
+        ≡ try_outcome first_edition n k 1 own shared t.now room.old }
 {
     try_in(Edition::first(), n, k, 1, own, shared, t, room)
 }

@@ -1,6 +1,6 @@
 // Trying a named split into cells of a told edition.
 ghost use Rattle.std.specs.Prelude.{◌≡◌};
-ghost use Rattle.splitting.specs.TryTold.{tryTold};
+ghost use Rattle.splitting.specs.TryTold.{try_told};
 
 use crate::try_split::{TryAnswer, try_in};
 use charts::pair::FirstCells;
@@ -20,7 +20,7 @@ pub fn try_told(
     room: &mut [u8],
 ) -> TryAnswer
     ensures { record { answer = result; room = room.new }
-        ≡ tryTold w n k own shared t.now room.old }
+        ≡ try_told w n k own shared t.now room.old }
 {
     let told = form::told(w, n);
     let Verdict::Fine = told else {

@@ -8,52 +8,52 @@ use lib.ListN.{length, get_or}
 use Rattle.bits.specs.Numbers.{bit, number}
 use Rattle.bits.specs.Sets.{size}
 use Rattle.bits.specs.Lists.{list_of}
-use Rattle.bits.proofs.Numbers.{number-ext}
+use Rattle.bits.proofs.Numbers.{number_ext}
 use Rattle.bits.proofs.Lists.{length-list}
 use Rattle.columns.specs.declared.split.Split.{Split}
-use Rattle.splits.specs.Split.{readsD, readsH}
-use Rattle.splits.specs.Pair.{tableD, tableH, bitH}
-use Rattle.splits.specs.Columns.{mostFirst, fewColumns}
-use Rattle.splits.proofs.Possible.{possible-iff}
+use Rattle.splits.specs.Split.{reads_d, reads_h}
+use Rattle.splits.specs.Pair.{table_d, table_h, bit_h}
+use Rattle.splits.specs.Columns.{most_first, few_columns}
+use Rattle.splits.proofs.Possible.{possible_iff}
 use Rattle.best.specs.Best.{Candidate}
 use Rattle.choices.specs.Best.{BestUpTo}
-use Rattle.choices.specs.Search.{nothing, choice, bestUpTo}
-use Rattle.choices.proofs.Best.{upto-best}
+use Rattle.choices.specs.Search.{nothing, choice, best_up_to}
+use Rattle.choices.proofs.Best.{upto_best}
 use Rattle.sheets.specs.Network.{Cell}
-use Rattle.sheets.specs.Edition.{largestCell}
-use Rattle.chains.specs.Chain.{pick, Made, stuck, made, behind, chain, lastCell, signalsAfter}
+use Rattle.sheets.specs.Edition.{largest_cell}
+use Rattle.chains.specs.Chain.{pick, Made, stuck, made, behind, chain, last_cell, signals_after}
 use Rattle.chains.proofs.View.{after-inputs, after-length}
-use Rattle.chains.proofs.Same.{table-ends, table-stops, table-goes, next-number, behind-none, behind-behind}
+use Rattle.chains.proofs.Same.{table_ends, table_stops, table_goes, next-number, behind-none, behind-behind}
 use Rattle.steps.specs.declared.signals.Signals.{Signals}
 use Rattle.steps.specs.declared.pile.Pile.{Pile}
 use Rattle.steps.specs.declared.chaining.Stage.{Stage}
-use Rattle.steps.specs.Stage.{signalsOf, Listed}
-use Rattle.steps.specs.Area.{atHand}
-use Rattle.tables.specs.Work.{workLength}
+use Rattle.steps.specs.Stage.{signals_of, Listed}
+use Rattle.steps.specs.Area.{at_hand}
+use Rattle.tables.specs.Work.{work_length}
 use Rattle.steps.specs.Pile.{Piled}
-use Rattle.steps.specs.Chaining.{dCell, Stepped}
-use Rattle.steps.proofs.Piling.{grown-piled}
+use Rattle.steps.specs.Chaining.{d_cell, Stepped}
+use Rattle.steps.proofs.Piling.{grown_piled}
 
-signals-length : (s : Signals) → length (signalsOf s) ≡ s.count
-signals-length s = length-list s.count (λ j. get_or s.at j 0)
+signals_length : (s : Signals) → length (signals_of s) ≡ s.count
+signals_length s = length-list s.count (λ j. get_or s.at j 0)
 
 -- with up to m first cells of size K: the cells written so far, and what is left to do, in so many turns
 module _ (n m K : ℕ) (whole : Made) where
   pub record Underway (pile : Pile) (signals : Signals) (work : List ℕ) : Type 0 where
     pub listed : Listed signals
     pub some : 1 ≤ signals.count
-    pub room : pile.count + mostFirst * signals.count ≤ mostFirst * n
-    pub long : workLength ≤ length work
+    pub room : pile.count + most_first * signals.count ≤ most_first * n
+    pub long : work_length ≤ length work
     pub written : List Cell
     pub piled : Piled pile written
     pub turns : ℕ
     pub enough : signals.count ≤ turns
     pub rest : whole ≡ behind written
-        (chain m turns K (n + pile.count) (signalsOf signals) (number (2 ^ length (signalsOf signals)) (atHand work)))
+        (chain m turns K (n + pile.count) (signals_of signals) (number (2 ^ length (signals_of signals)) (at_hand work)))
 
   module _ (pile : Pile) (signals : Signals) (work : List ℕ) (g : Underway pile signals work) where
     abbrev l : List ℕ
-    l = signalsOf signals
+    l = signals_of signals
 
     abbrev k : ℕ
     k = g.turns - 1
@@ -63,128 +63,128 @@ module _ (n m K : ℕ) (whole : Made) where
     left = omega (arith, g.enough, g.some)
 
     rest_more : whole ≡ behind g.written (chain m (suc k) K (n + pile.count) l
-        (number (2 ^ length l) (atHand work)))
+        (number (2 ^ length l) (at_hand work)))
     rest_more = g.rest ∙ ap (λ (f : ℕ). behind g.written
-        (chain m f K (n + pile.count) l (number (2 ^ length l) (atHand work)))) left
+        (chain m f K (n + pile.count) l (number (2 ^ length l) (at_hand work)))) left
 
-    pub following-stops : K < signals.count → bestUpTo signals.count (atHand work) K m ≡ nothing → whole ≡ stuck
-    following-stops h e =
+    pub following_stops : K < signals.count → best_up_to signals.count (at_hand work) K m ≡ nothing → whole ≡ stuck
+    following_stops h e =
         rest_more ∙ ap (behind g.written)
-        (table-stops m k K (n + pile.count) l (atHand work) (omega (arith, signals-length signals))
-        (ap (λ (c : ℕ). bestUpTo c (atHand work) K m) (signals-length signals) ∙ e))
+        (table_stops m k K (n + pile.count) l (at_hand work) (omega (arith, signals_length signals))
+        (ap (λ (c : ℕ). best_up_to c (at_hand work) K m) (signals_length signals) ∙ e))
 
     -- the final cell
-    pub following-ends : signals.count ≤ K → whole
-        ≡ made (g.written ++ (lastCell l (number (2 ^ signals.count) (atHand work)) ∷ []))
-    following-ends h =
-        rest_more ∙ ap (behind g.written) (table-ends m k K (n + pile.count) l (atHand work)
-        (omega (arith, signals-length signals)))
-        ∙ ap (λ (c : ℕ). made (g.written ++ (lastCell l (number (2 ^ c) (atHand work)) ∷ []))) (signals-length signals)
+    pub following_ends : signals.count ≤ K → whole
+        ≡ made (g.written ++ (last_cell l (number (2 ^ signals.count) (at_hand work)) ∷ []))
+    following_ends h =
+        rest_more ∙ ap (behind g.written) (table_ends m k K (n + pile.count) l (at_hand work)
+        (omega (arith, signals_length signals)))
+        ∙ ap (λ (c : ℕ). made (g.written ++ (last_cell l (number (2 ^ c) (at_hand work)) ∷ []))) (signals_length signals)
 
     -- one split
-    module _ (s : Split) (r : ℕ) (inputs_are : s.n ≡ signals.count) (more : K < signals.count) (few : m ≤ mostFirst)
-        (found : bestUpTo signals.count (atHand work) K m ≡ choice r s.own s.shared)
+    module _ (s : Split) (r : ℕ) (inputs_are : s.n ≡ signals.count) (more : K < signals.count) (few : m ≤ most_first)
+        (found : best_up_to signals.count (at_hand work) K m ≡ choice r s.own s.shared)
         (q : Stage) (after : List ℕ) (w : Stepped (record { pile = pile; signals = signals }) (n + pile.count) r s work
         q after) where
       abbrev next : ℕ
       next = n + pile.count
 
-      n-is : s.n ≡ length l
-      n-is = inputs_are ∙ sym (signals-length signals)
+      n_is : s.n ≡ length l
+      n_is = inputs_are ∙ sym (signals_length signals)
 
-      found_here : bestUpTo (length l) (atHand work) K m ≡ choice r s.own s.shared
-      found_here = ap (λ (c : ℕ). bestUpTo c (atHand work) K m) (signals-length signals) ∙ found
+      found_here : best_up_to (length l) (at_hand work) K m ≡ choice r s.own s.shared
+      found_here = ap (λ (c : ℕ). best_up_to c (at_hand work) K m) (signals_length signals) ∙ found
 
-      is-best : BestUpTo (length l) K m (atHand work) r s.own s.shared
-      is-best = (upto-best (length l) K (atHand work) m r s.own s.shared).0 found_here
+      is_best_lem : BestUpTo (length l) K m (at_hand work) r s.own s.shared
+      is_best_lem = (upto_best (length l) K (at_hand work) m r s.own s.shared).0 found_here
 
-      signals-are : signalsOf q.signals ≡ signalsAfter l r s.own s.shared next
-      signals-are = w.signals ∙ ap (λ (c : ℕ). pick c (readsH (bit s.own) (bit s.shared)) l
-          ++ list_of r (λ t. next + t)) n-is
+      signals_are : signals_of q.signals ≡ signals_after l r s.own s.shared next
+      signals_are = w.signals ∙ ap (λ (c : ℕ). pick c (reads_h (bit s.own) (bit s.shared)) l
+          ++ list_of r (λ t. next + t)) n_is
 
-      count-are : q.signals.count ≡ length (signalsAfter l r s.own s.shared next)
-      count-are = sym (signals-length q.signals) ∙ ap length signals-are
+      count_are : q.signals.count ≡ length (signals_after l r s.own s.shared next)
+      count_are = sym (signals_length q.signals) ∙ ap length signals_are
 
-      cells_are : list_of r (dCell s (atHand work) l) ≡ list_of r (λ t. record {
-        signals = pick (length l) (readsD (bit s.own) (bit s.shared)) l;
-        table = tableD (length l) (atHand work) (bit s.own) (bit s.shared) t;
+      cells_are : list_of r (d_cell s (at_hand work) l) ≡ list_of r (λ t. record {
+        signals = pick (length l) (reads_d (bit s.own) (bit s.shared)) l;
+        table = table_d (length l) (at_hand work) (bit s.own) (bit s.shared) t;
       })
       cells_are = ap (λ (c : ℕ). list_of r (λ t. record {
-        signals = pick c (readsD (bit s.own) (bit s.shared)) l;
-        table = tableD c (atHand work) (bit s.own) (bit s.shared) t;
-      })) n-is
+        signals = pick c (reads_d (bit s.own) (bit s.shared)) l;
+        table = table_d c (at_hand work) (bit s.own) (bit s.shared) t;
+      })) n_is
 
       -- H's number is that of the table at hand
-      number_is : tableH (length l) (atHand work) (bit s.own) (bit s.shared) r
-          ≡ number (2 ^ length (signalsOf q.signals)) (atHand after)
-      number_is = next-number m k K next l (atHand work) r s.own s.shared
-          ∙ number-ext (2 ^ length (signalsAfter l r s.own s.shared next))
-          (bitH (length l) (atHand work) (bit s.own) (bit s.shared)) (atHand after)
+      number_is : table_h (length l) (at_hand work) (bit s.own) (bit s.shared) r
+          ≡ number (2 ^ length (signals_of q.signals)) (at_hand after)
+      number_is = next-number m k K next l (at_hand work) r s.own s.shared
+          ∙ number_ext (2 ^ length (signals_after l r s.own s.shared next))
+          (bit_h (length l) (at_hand work) (bit s.own) (bit s.shared)) (at_hand after)
           same
-          ∙ ap (λ (c : ℕ). number (2 ^ c) (atHand after)) (ap length (sym signals-are))
+          ∙ ap (λ (c : ℕ). number (2 ^ c) (at_hand after)) (ap length (sym signals_are))
         where
-          same : (x : ℕ) → x < 2 ^ length (signalsAfter l r s.own s.shared next)
-              → bitH (length l) (atHand work) (bit s.own) (bit s.shared) x ≡ atHand after x
+          same : (x : ℕ) → x < 2 ^ length (signals_after l r s.own s.shared next)
+              → bit_h (length l) (at_hand work) (bit s.own) (bit s.shared) x ≡ at_hand after x
           same x g =
-              ap (λ (c : ℕ). bitH c (atHand work) (bit s.own) (bit s.shared) x) (sym n-is)
+              ap (λ (c : ℕ). bit_h c (at_hand work) (bit s.own) (bit s.shared) x) (sym n_is)
               ∙ sym (w.table.bits x (subst (λ (c : ℕ). x < 2 ^ c) (after-inputs l r s.own s.shared next
-              ∙ ap (λ (c : ℕ). size c (readsH (bit s.own) (bit s.shared)) + r) (sym n-is)) g))
+              ∙ ap (λ (c : ℕ). size c (reads_h (bit s.own) (bit s.shared)) + r) (sym n_is)) g))
 
       -- what comes after the cells
       abbrev later : Made
-      later = chain m k K (next + r) (signalsAfter l r s.own s.shared next)
-          (tableH (length l) (atHand work) (bit s.own) (bit s.shared) r)
+      later = chain m k K (next + r) (signals_after l r s.own s.shared next)
+          (table_h (length l) (at_hand work) (bit s.own) (bit s.shared) r)
 
-      shorter : length (signalsAfter l r s.own s.shared next) + size (length l) (bit s.own) ≡ length l + r
-      shorter = after-length l next is-best
+      shorter : length (signals_after l r s.own s.shared next) + size (length l) (bit s.own) ≡ length l + r
+      shorter = after-length l next is_best_lem
 
-      pub following-shrinks : q.signals.count < signals.count
-      following-shrinks = omega (arith, shorter, is-best.works.candidate.more, count-are, signals-length signals)
+      pub following_shrinks : q.signals.count < signals.count
+      following_shrinks = omega (arith, shorter, is_best_lem.works.candidate.more, count_are, signals_length signals)
 
-      pile-count : q.pile.count ≡ pile.count + r
-      pile-count = w.cells.count ∙ ap (λ (c : ℕ). pile.count + c) (length-list r (dCell s (atHand work) l))
+      pile_count : q.pile.count ≡ pile.count + r
+      pile_count = w.cells.count ∙ ap (λ (c : ℕ). pile.count + c) (length-list r (d_cell s (at_hand work) l))
 
-      pub following-goes : Underway q.pile q.signals after
-      following-goes = record {
+      pub following_goes : Underway q.pile q.signals after
+      following_goes = record {
         listed = w.listed;
         some = omega (
           arith,
           shorter,
-          is-best.works.candidate.most,
-          is-best.works.some,
-          count-are,
+          is_best_lem.works.candidate.most,
+          is_best_lem.works.some,
+          count_are,
           more,
-          signals-length signals,
+          signals_length signals,
         );
-        room = omega (arith, pile-count, following-shrinks, is-best.works.most, few, g.room);
+        room = omega (arith, pile_count, following_shrinks, is_best_lem.works.most, few, g.room);
         long = omega (arith, w.table.long, g.long);
-        written = g.written ++ list_of r (dCell s (atHand work) l);
-        piled = grown-piled w.cells g.piled;
+        written = g.written ++ list_of r (d_cell s (at_hand work) l);
+        piled = grown_piled w.cells g.piled;
         turns = k;
-        enough = omega (arith, left, g.enough, following-shrinks);
+        enough = omega (arith, left, g.enough, following_shrinks);
         rest = rest_more
-            ∙ ap (behind g.written) (table-goes m k K next l (atHand work) (omega (arith, signals-length signals)) r
+            ∙ ap (behind g.written) (table_goes m k K next l (at_hand work) (omega (arith, signals_length signals)) r
             s.own s.shared found_here)
             ∙ behind-behind g.written (list_of r (λ t. record {
-              signals = pick (length l) (readsD (bit s.own) (bit s.shared)) l;
-              table = tableD (length l) (atHand work) (bit s.own) (bit s.shared) t;
+              signals = pick (length l) (reads_d (bit s.own) (bit s.shared)) l;
+              table = table_d (length l) (at_hand work) (bit s.own) (bit s.shared) t;
             })) later
             ∙ ap (λ (cs : List Cell). behind (g.written ++ cs) later) (sym cells_are)
-            ∙ ap₂ (λ (c : List ℕ) (T : ℕ). behind (g.written ++ list_of r (dCell s (atHand work) l))
-            (chain m k K (next + r) c T)) (sym signals-are) number_is
-            ∙ ap (λ (i : ℕ). behind (g.written ++ list_of r (dCell s (atHand work) l))
-            (chain m k K i (signalsOf q.signals) (number (2 ^ length (signalsOf q.signals)) (atHand after))))
+            ∙ ap₂ (λ (c : List ℕ) (T : ℕ). behind (g.written ++ list_of r (d_cell s (at_hand work) l))
+            (chain m k K (next + r) c T)) (sym signals_are) number_is
+            ∙ ap (λ (i : ℕ). behind (g.written ++ list_of r (d_cell s (at_hand work) l))
+            (chain m k K i (signals_of q.signals) (number (2 ^ length (signals_of q.signals)) (at_hand after))))
             from;
       }
         where
           from : n + pile.count + r ≡ n + q.pile.count
-          from = omega (arith, pile-count)
+          from = omega (arith, pile_count)
 
-pub following-starts : (n m K : ℕ) (pile : Pile) (signals : Signals) (work : List ℕ) → workLength ≤ length work
+pub following_starts : (n m K : ℕ) (pile : Pile) (signals : Signals) (work : List ℕ) → work_length ≤ length work
     → Piled pile []
     → Listed signals → 1 ≤ signals.count → signals.count ≤ n
-    → Underway n m K (chain m n K n (signalsOf signals) (number (2 ^ signals.count) (atHand work))) pile signals work
-following-starts n m K pile signals work long empty listed some room = record {
+    → Underway n m K (chain m n K n (signals_of signals) (number (2 ^ signals.count) (at_hand work))) pile signals work
+following_starts n m K pile signals work long empty listed some room = record {
   listed = listed;
   some = some;
   room = omega (arith, empty.count);
@@ -194,9 +194,9 @@ following-starts n m K pile signals work long empty listed some room = record {
   turns = n;
   enough = room;
   rest = sym (behind-none _)
-      ∙ ap (λ (i : ℕ). behind [] (chain m n K i (signalsOf signals) (number (2 ^ signals.count) (atHand work)))) from
-      ∙ ap (λ (c : ℕ). behind [] (chain m n K (n + pile.count) (signalsOf signals) (number (2 ^ c) (atHand work))))
-      (sym (signals-length signals));
+      ∙ ap (λ (i : ℕ). behind [] (chain m n K i (signals_of signals) (number (2 ^ signals.count) (at_hand work)))) from
+      ∙ ap (λ (c : ℕ). behind [] (chain m n K (n + pile.count) (signals_of signals) (number (2 ^ c) (at_hand work))))
+      (sym (signals_length signals));
 }
   where
     from : n ≡ n + pile.count
@@ -205,25 +205,25 @@ following-starts n m K pile signals work long empty listed some room = record {
 -- what the code's split needs to know of the best one
 pub record Sound (m : ℕ) (F : ℕ → Bool) (s : Split) (r : ℕ) : Type 0 where
   pub some : 1 ≤ r
-  pub most : r ≤ mostFirst
-  pub candidate : Candidate s.n largestCell r s.own s.shared
-  pub few : fewColumns s.n F (bit s.own) (bit s.shared) (2 ^ r) ≡ true
+  pub most : r ≤ most_first
+  pub candidate : Candidate s.n largest_cell r s.own s.shared
+  pub few : few_columns s.n F (bit s.own) (bit s.shared) (2 ^ r) ≡ true
 
-pub split-sound : (s : Split) (c m K r : ℕ) (F : ℕ → Bool) → s.n ≡ c → K ≤ largestCell → m ≤ mostFirst
-    → bestUpTo c F K m ≡ choice r s.own s.shared
+pub split_sound : (s : Split) (c m K r : ℕ) (F : ℕ → Bool) → s.n ≡ c → K ≤ largest_cell → m ≤ most_first
+    → best_up_to c F K m ≡ choice r s.own s.shared
     → Sound m F s r
-split-sound s c m K r F inputs h few e =
-    let b = (upto-best s.n K F m r s.own s.shared).0 (ap (λ (k : ℕ). bestUpTo k F K m) inputs ∙ e) in
+split_sound s c m K r F inputs h few e =
+    let b = (upto_best s.n K F m r s.own s.shared).0 (ap (λ (k : ℕ). best_up_to k F K m) inputs ∙ e) in
     let k = b.works.candidate in
     record {
       some = b.works.some;
       most = omega (arith, b.works.most);
       candidate = record {
-        belowA = k.belowA;
-        belowB = k.belowB;
+        below_a = k.below_a;
+        below_b = k.below_b;
         apart = k.apart;
         more = k.more;
         most = omega (arith, k.most);
       };
-      few = (possible-iff s.n F (bit s.own) (bit s.shared) k.apart r).1 b.works.possible;
+      few = (possible_iff s.n F (bit s.own) (bit s.shared) k.apart r).1 b.works.possible;
     }

@@ -13,23 +13,23 @@ use lib.Pow.{pow_mono}
 use borrow.Author.Tests.{lt-ltb}
 use Rattle.bits.specs.Numbers.{bit, number}
 use Rattle.bits.proofs.Numbers.{bit-number}
-use Rattle.tables.specs.Table.{mostInputs, tableLength, tableBit, byte_of}
+use Rattle.tables.specs.Table.{most_inputs, table_length, table_bit, byte_of}
 use Rattle.tables.proofs.Bytes.{length-holds}
 use Rattle.tables.proofs.Setting.{take-number}
 use Rattle.columns.specs.declared.split.Split.{Split}
-use Rattle.steps.specs.Area.{atHand, nextBit, nextInputs, NextStored, NextTable}
-use Rattle.tables.specs.Work.{half, workLength}
+use Rattle.steps.specs.Area.{at_hand, next_bit, next_inputs, NextStored, NextTable}
+use Rattle.tables.specs.Work.{half, work_length}
 
-module _ (work : List ℕ) (h : workLength ≤ length work) where
-  pub half-whole : length (take half work) ≡ half
-  half-whole = length-take-le half work (omega arith)
+module _ (work : List ℕ) (h : work_length ≤ length work) where
+  pub half_whole : length (take half work) ≡ half
+  half_whole = length-take-le half work (omega arith)
 
-  pub half-bits : (m : ℕ) → m ≤ mostInputs → 2 ^ m ≤ 8 * length (take half work)
-  half-bits m l = omega (arith, half-whole, pow_mono {i = m} {j = mostInputs} l)
+  pub half-bits : (m : ℕ) → m ≤ most_inputs → 2 ^ m ≤ 8 * length (take half work)
+  half-bits m l = omega (arith, half_whole, pow_mono {i = m} {j = most_inputs} l)
 
 -- the table at hand is what stands in front
-pub at-hand : (work : List ℕ) (m : ℕ) → m ≤ mostInputs → number (2 ^ m) (atHand work) ≡ number (2 ^ m) (tableBit work)
-at-hand work m h = take-number work half m (pow_mono {i = m} {j = mostInputs} h)
+pub at_hand_lem : (work : List ℕ) (m : ℕ) → m ≤ most_inputs → number (2 ^ m) (at_hand work) ≡ number (2 ^ m) (table_bit work)
+at_hand_lem work m h = take-number work half m (pow_mono {i = m} {j = most_inputs} h)
 
 -- a byte of a function's table has its bits
 byte-bit : (m : ℕ) (f : ℕ → Bool) (x : ℕ) → x < 2 ^ m → bit (byte_of m f (x / 8)) (x % 8) ≡ f x
@@ -38,18 +38,18 @@ byte-bit m f x h =
     bit-number 8 (λ j. ltb (x / 8 * 8 + j) (2 ^ m) && f (x / 8 * 8 + j)) (x % 8) (mod-lt x (lit< tt))
     ∙ ap (λ (y : ℕ). ltb y (2 ^ m) && f y) e ∙ ap (λ (t : Bool). t && f x) (lt-ltb x (2 ^ m) h)
 
-pub taken_back : (s : Split) (r len : ℕ) (before stored after : List ℕ) → len ≡ tableLength (nextInputs s r before)
+pub taken_back : (s : Split) (r len : ℕ) (before stored after : List ℕ) → len ≡ table_length (next_inputs s r before)
     → len ≤ half → NextStored s r len before stored
     → ((i : ℕ) → i < len → get_or after i 0 ≡ get_or stored (half + i) 0) → length after ≡ length stored
     → NextTable s r before after
 taken_back s r len before stored after e small w back long = record { long = long ∙ w.long; bits = at }
   where
     m : ℕ
-    m = nextInputs s r before
+    m = next_inputs s r before
 
-    at : (x : ℕ) → x < 2 ^ nextInputs s r before → atHand after x ≡ nextBit s before x
+    at : (x : ℕ) → x < 2 ^ next_inputs s r before → at_hand after x ≡ next_bit s before x
     at x h =
-        let l : x / 8 < len = omega (arith, e, length-holds (nextInputs s r before)) in
+        let l : x / 8 < len = omega (arith, e, length-holds (next_inputs s r before)) in
         ap (λ (y : ℕ). bit y (x % 8)) (get_or-take half after (x / 8) 0 (omega arith) ∙ back (x / 8) l
         ∙ w.bytes (x / 8) l)
-        ∙ byte-bit (nextInputs s r before) (nextBit s before) x h
+        ∙ byte-bit (next_inputs s r before) (next_bit s before) x h

@@ -2,43 +2,43 @@
 use Rattle.std.specs.Prelude.{◌≡◌, Bool, true, false, List, [], ◌++◌, ℕ, ◌+◌, ◌^◌, ◌≤◌, length, replicate}
 use Rattle.bits.specs.Numbers.{bit, number}
 use Rattle.bits.specs.Lists.{list_of}
-use Rattle.tables.specs.Table.{tableBit}
+use Rattle.tables.specs.Table.{table_bit}
 use Rattle.columns.specs.declared.split.Split.{Split}
-use Rattle.splits.specs.Split.{readsD, readsH}
-use Rattle.splits.specs.Pair.{tableD}
+use Rattle.splits.specs.Split.{reads_d, reads_h}
+use Rattle.splits.specs.Pair.{table_d}
 use Rattle.sheets.specs.Network.{Cell}
-use Rattle.sheets.specs.Edition.{mostRecords}
+use Rattle.sheets.specs.Edition.{most_records}
 use Rattle.sheets.specs.Held.{cells_of}
 use Rattle.chains.specs.Chain.{pick, Made, stuck, made}
-use Rattle.chains.specs.Aside.{cellsAside}
+use Rattle.chains.specs.Aside.{cells_aside}
 use Rattle.steps.specs.declared.chaining.Stage.{Stage}
 use Rattle.steps.specs.declared.chaining.ChainEnd.{ChainEnd}
-use Rattle.steps.specs.Stage.{signalsOf, Listed}
-use Rattle.steps.specs.Area.{atHand, NextTable}
+use Rattle.steps.specs.Stage.{signals_of, Listed}
+use Rattle.steps.specs.Area.{at_hand, NextTable}
 use Rattle.steps.specs.Pile.{Grown}
 
 -- first cell t: the signals of A and B, and its table, where s splits the table F over the signals l
-abbrev pub dCell : Split → (ℕ → Bool) → List ℕ → ℕ → Cell
-dCell s F l t = record {
-  signals = pick s.n (readsD (bit s.own) (bit s.shared)) l;
-  table = tableD s.n F (bit s.own) (bit s.shared) t;
+abbrev pub d_cell : Split → (ℕ → Bool) → List ℕ → ℕ → Cell
+d_cell s F l t = record {
+  signals = pick s.n (reads_d (bit s.own) (bit s.shared)) l;
+  table = table_d s.n F (bit s.own) (bit s.shared) t;
 }
 
 -- one step: the r first cells are on the pile, the signals are those of B and C and then the cells' own, and H is the
 -- table at hand
 pub record Stepped (g : Stage) (next r : ℕ) (s : Split) (before : List ℕ) (q : Stage) (after : List ℕ) : Type 0 where
-  pub cells : Grown g.pile (list_of r (dCell s (atHand before) (signalsOf g.signals))) q.pile
+  pub cells : Grown g.pile (list_of r (d_cell s (at_hand before) (signals_of g.signals))) q.pile
   pub listed : Listed q.signals
-  pub signals : signalsOf q.signals ≡ pick s.n (readsH (bit s.own) (bit s.shared))
-      (signalsOf g.signals) ++ list_of r (λ t. next + t)
+  pub signals : signals_of q.signals ≡ pick s.n (reads_h (bit s.own) (bit s.shared))
+      (signals_of g.signals) ++ list_of r (λ t. next + t)
   pub table : NextTable s r before after
 
 -- what is told of a chain: that it is stuck; or how many cells it has, and these where a sheet has room for them
 abbrev pub Tells : ChainEnd → Made → Type 0
 Tells r stuck = (r.finished ≡ false) × (r.sheet.count ≡ 0) × (cells_of r.sheet ≡ [])
-Tells r (made cs) = (r.finished ≡ true) × (r.count ≡ length cs) × (length cs ≤ mostRecords → cells_of r.sheet ≡ cs)
+Tells r (made cs) = (r.finished ≡ true) × (r.count ≡ length cs) × (length cs ≤ most_records → cells_of r.sheet ≡ cs)
 
 -- the cells of a gate's table, with up to m first cells at each step; the work area is zeros
 pub record ChainedUpTo (m n K : ℕ) (t work : List ℕ) (r : ChainEnd) (work' : List ℕ) : Type 0 where
-  pub told : Tells r (cellsAside m n K (number (2 ^ n) (tableBit t)))
+  pub told : Tells r (cells_aside m n K (number (2 ^ n) (table_bit t)))
   pub cleared : work' ≡ replicate (length work) 0

@@ -2,11 +2,11 @@
 ghost use Rattle.std.specs.Prelude.{◌≡◌, ℕ, ◌+◌, ◌^◌, ◌<◌, ◌≤◌, length, get_or};
 ghost use Rattle.bits.specs.Numbers.{bit};
 ghost use Rattle.bits.specs.Sets.{size};
-ghost use Rattle.tables.specs.Table.{mostInputs};
-ghost use Rattle.splits.specs.Columns.{mostFirst};
+ghost use Rattle.tables.specs.Table.{most_inputs};
+ghost use Rattle.splits.specs.Columns.{most_first};
 ghost use Rattle.columns.specs.Reading.{Held, Chart};
-ghost use Rattle.steps.specs.Area.{atHand, nextInputs, NextStored, NextTable};
-ghost use Rattle.tables.specs.Work.{half, workLength};
+ghost use Rattle.steps.specs.Area.{at_hand, next_inputs, NextStored, NextTable};
+ghost use Rattle.tables.specs.Work.{half, work_length};
 
 use bits::sets::parts;
 use charts::pair::{h_byte, h_word};
@@ -16,8 +16,8 @@ use tables::{HALF, length_for};
 
 // The first len bytes of H's table, with r first cells, into the second half: byte by byte.
 fn store_bytes(work: &mut [u8], s: Split, r: u32, seen: &[u16], len: usize)
-    requires { Held s × (len ≤ half) × (workLength ≤ length work.old) × Chart s (atHand work.old) (2 ^ r) seen.now
-        × (r ≤ mostFirst) }
+    requires { Held s × (len ≤ half) × (work_length ≤ length work.old) × Chart s (at_hand work.old) (2 ^ r) seen.now
+        × (r ≤ most_first) }
     ensures { NextStored s r len work.old work.new }
 {
     let limit: usize = 1 << r;
@@ -32,8 +32,8 @@ fn store_bytes(work: &mut [u8], s: Split, r: u32, seen: &[u16], len: usize)
 
 // The same by words, where nothing is shared and the free inputs make whole words.
 fn store_words(work: &mut [u8], s: Split, r: u32, seen: &[u16], len: usize)
-    requires held { Held s × (len ≤ half) × (workLength ≤ length work.old) × Chart s (atHand work.old) (2 ^ r) seen.now
-        × (r ≤ mostFirst) }
+    requires held { Held s × (len ≤ half) × (work_length ≤ length work.old) × Chart s (at_hand work.old) (2 ^ r) seen.now
+        × (r ≤ most_first) }
     requires shared_value { (s.shared ≡ 0) × (64 ≤ 2 ^ size s.n (bit s.free)) }
     ensures { NextStored s r len work.old work.new }
 {
@@ -52,8 +52,8 @@ fn store_words(work: &mut [u8], s: Split, r: u32, seen: &[u16], len: usize)
 
 // The same, by words where it can be.
 fn store_next(work: &mut [u8], s: Split, r: u32, seen: &[u16], len: usize)
-    requires { Held s × (len ≤ half) × (workLength ≤ length work.old) × Chart s (atHand work.old) (2 ^ r) seen.now
-        × (r ≤ mostFirst) }
+    requires { Held s × (len ≤ half) × (work_length ≤ length work.old) × Chart s (at_hand work.old) (2 ^ r) seen.now
+        × (r ≤ most_first) }
     ensures { NextStored s r len work.old work.new }
 {
     if s.shared == 0 {
@@ -67,7 +67,7 @@ fn store_next(work: &mut [u8], s: Split, r: u32, seen: &[u16], len: usize)
 
 // The first len bytes of the second half, back to the first.
 fn take_next(work: &mut [u8], len: usize)
-    requires { (len ≤ half) × (workLength ≤ length work.old) }
+    requires { (len ≤ half) × (work_length ≤ length work.old) }
     ensures { ((i : ℕ) → i < len → get_or work.new i 0 ≡ get_or work.old (half + i) 0)
         × (length work.new ≡ length work.old) }
 {
@@ -81,8 +81,8 @@ fn take_next(work: &mut [u8], len: usize)
 
 // H becomes the table at hand, by the chart of the columns; it has m inputs.
 pub fn next_table(work: &mut [u8], s: Split, r: u32, seen: &[u16], m: u32)
-    requires { Held s × (workLength ≤ length work.old) × (m ≤ mostInputs) × (m ≡ nextInputs s r work.old)
-        × Chart s (atHand work.old) (2 ^ r) seen.now × (r ≤ mostFirst) }
+    requires { Held s × (work_length ≤ length work.old) × (m ≤ most_inputs) × (m ≡ next_inputs s r work.old)
+        × Chart s (at_hand work.old) (2 ^ r) seen.now × (r ≤ most_first) }
     ensures { NextTable s r work.old work.new }
 {
     let len = length_for(m);

@@ -2,17 +2,17 @@
 ghost use Rattle.std.specs.Prelude.{◌≡◌, true, ◌+◌, ◌*◌, ◌^◌, ◌<◌, ◌≤◌, length};
 ghost use Rattle.bits.specs.Numbers.{bit, number};
 ghost use Rattle.bits.specs.Lists.{list_of};
-ghost use Rattle.tables.specs.Table.{mostInputs, tableLength, tableBit};
-ghost use Rattle.splits.specs.Columns.{mostFirst, fewColumns};
+ghost use Rattle.tables.specs.Table.{most_inputs, table_length, table_bit};
+ghost use Rattle.splits.specs.Columns.{most_first, few_columns};
 ghost use Rattle.columns.specs.Reading.{Held, Chart};
 ghost use Rattle.best.specs.Best.{Candidate};
-ghost use Rattle.sheets.specs.Edition.{largestCell};
+ghost use Rattle.sheets.specs.Edition.{largest_cell};
 ghost use Rattle.chains.specs.Chain.{stuck, chain};
-ghost use Rattle.steps.specs.Stage.{signalsOf, Listed};
-ghost use Rattle.steps.specs.Area.{atHand};
-ghost use Rattle.tables.specs.Work.{workLength};
-ghost use Rattle.steps.specs.Pile.{mostPiled, Grown};
-ghost use Rattle.steps.specs.Chaining.{dCell, Stepped, Tells, ChainedUpTo};
+ghost use Rattle.steps.specs.Stage.{signals_of, Listed};
+ghost use Rattle.steps.specs.Area.{at_hand};
+ghost use Rattle.tables.specs.Work.{work_length};
+ghost use Rattle.steps.specs.Pile.{most_piled, Grown};
+ghost use Rattle.steps.specs.Chaining.{d_cell, Stepped, Tells, ChainedUpTo};
 
 use crate::area::next_table;
 use crate::pile::Pile;
@@ -27,7 +27,7 @@ use tables::counting::kept_of;
 use tables::{HALF, clear};
 
 // Whether the chain came to its end; how many cells it has, and a sheet of them, if it has room for them.
-#[derive(Drop)]
+#[derive(Clone, Copy)]
 pub struct ChainEnd {
     pub finished: bool,
     pub count: usize,
@@ -35,7 +35,7 @@ pub struct ChainEnd {
 }
 
 // The cells so far, and the signals of the table at hand.
-#[derive(Drop)]
+#[derive(Clone, Copy)]
 pub struct Stage {
     pub pile: Pile,
     pub signals: Signals,
@@ -50,12 +50,12 @@ fn pile_first<'a>(
     r: u32,
     seen: &'a [u16],
 ) -> Pile
-    requires held { Held s × Listed signals × (s.n ≡ signals.count) × (2 ^ s.n ≤ 8 * length t.now) × (1 ≤ r) × (r ≤ mostFirst)
-        × Candidate s.n largestCell r s.own s.shared }
-    requires chart { Chart s (tableBit t.now) (2 ^ r) seen.now }
-    requires count_le_count { (pile.sheet.count ≤ pile.count) × (pile.count + r ≤ mostPiled)
-        × (fewColumns s.n (tableBit t.now) (bit s.own) (bit s.shared) (2 ^ r) ≡ true) }
-    ensures { Grown pile (list_of r (dCell s (tableBit t.now) (signalsOf signals))) result }
+    requires held { Held s × Listed signals × (s.n ≡ signals.count) × (2 ^ s.n ≤ 8 * length t.now) × (1 ≤ r) × (r ≤ most_first)
+        × Candidate s.n largest_cell r s.own s.shared }
+    requires chart { Chart s (table_bit t.now) (2 ^ r) seen.now }
+    requires count_le_count { (pile.sheet.count ≤ pile.count) × (pile.count + r ≤ most_piled)
+        × (few_columns s.n (table_bit t.now) (bit s.own) (bit s.shared) (2 ^ r) ≡ true) }
+    ensures { Grown pile (list_of r (d_cell s (table_bit t.now) (signals_of signals))) result }
 {
     let tables = first_cells(t, s, r, seen);
     let read = signals.pick(s.own + s.shared);
@@ -65,10 +65,10 @@ fn pile_first<'a>(
 // One split: its first cells are the next cells, A's signals go, the cells' own signals come last, and H is the table
 // at hand.
 fn step(stage: Stage, next: u8, s: Split, r: u32, work: &mut [u8]) -> Stage
-    requires held { Held s × Listed stage.signals × (s.n ≡ stage.signals.count) × (workLength ≤ length work.old)
-        × (1 ≤ r) × (r ≤ mostFirst) × Candidate s.n largestCell r s.own s.shared }
-    requires count_le_count { (stage.pile.sheet.count ≤ stage.pile.count) × (stage.pile.count + r ≤ mostPiled) × (next + r ≤ 255)
-        × (fewColumns s.n (atHand work.old) (bit s.own) (bit s.shared) (2 ^ r) ≡ true) }
+    requires held { Held s × Listed stage.signals × (s.n ≡ stage.signals.count) × (work_length ≤ length work.old)
+        × (1 ≤ r) × (r ≤ most_first) × Candidate s.n largest_cell r s.own s.shared }
+    requires count_le_count { (stage.pile.sheet.count ≤ stage.pile.count) × (stage.pile.count + r ≤ most_piled) × (next + r ≤ 255)
+        × (few_columns s.n (at_hand work.old) (bit s.own) (bit s.shared) (2 ^ r) ≡ true) }
     ensures { Stepped stage next r s work.old result work.new }
 {
     let pile = stage.pile;
@@ -98,9 +98,9 @@ fn no_end() -> ChainEnd
 
 // The chain of the table in the work area over some of a gate's n signals, with up to `most` first cells at each step.
 fn follow(n: u32, start: Signals, most: u32, k: u32, work: &mut [u8]) -> ChainEnd
-    requires n_le_most_inputs { (n ≤ mostInputs) × (most ≤ mostFirst) × (2 ≤ k) × (k ≤ largestCell) × (workLength ≤ length work.old) }
+    requires n_le_most_inputs { (n ≤ most_inputs) × (most ≤ most_first) × (2 ≤ k) × (k ≤ largest_cell) × (work_length ≤ length work.old) }
     requires listed { Listed start × (1 ≤ start.count) × (start.count ≤ n) }
-    ensures { Tells result (chain most n k n (signalsOf start) (number (2 ^ start.count) (atHand work.old))) }
+    ensures { Tells result (chain most n k n (signals_of start) (number (2 ^ start.count) (at_hand work.old))) }
 {
     let few = k as usize;
     let mut pile = Pile::empty();
@@ -134,8 +134,8 @@ fn follow(n: u32, start: Signals, most: u32, k: u32, work: &mut [u8]) -> ChainEn
 // The cells of a gate's table, with up to `most` first cells at each step: the inputs that do not count are set aside,
 // once, since every later table counts all of its own.
 pub fn chain_upto(t: &[u8], n: u32, most: u32, k: u32, work: &mut [u8]) -> ChainEnd
-    requires { (1 ≤ n) × (n ≤ mostInputs) × (most ≤ mostFirst) × (2 ≤ k) × (k ≤ largestCell)
-        × (length t.now ≡ tableLength n) × (workLength ≤ length work.old) }
+    requires { (1 ≤ n) × (n ≤ most_inputs) × (most ≤ most_first) × (2 ≤ k) × (k ≤ largest_cell)
+        × (length t.now ≡ table_length n) × (work_length ≤ length work.old) }
     ensures { ChainedUpTo most n k t.now work.old result work.new }
 {
     let kept = kept_of(t, n);

@@ -1,20 +1,20 @@
 // The cells of a chain so far.
 ghost use Rattle.std.specs.Prelude.{[], ◌∷◌, ◌+◌, ◌≤◌};
 ghost use Rattle.bits.specs.Lists.{list_of};
-ghost use Rattle.splits.specs.Columns.{mostFirst};
-ghost use Rattle.charts.specs.Cells.{tableIn};
-ghost use Rattle.sheets.specs.Edition.{largestCell};
-ghost use Rattle.sheets.specs.Held.{networkCell};
-ghost use Rattle.chains.specs.Chain.{lastCell};
-ghost use Rattle.steps.specs.Stage.{signalsOf, Listed};
-ghost use Rattle.steps.specs.Pile.{mostPiled, Piled, Grown};
+ghost use Rattle.splits.specs.Columns.{most_first};
+ghost use Rattle.charts.specs.Cells.{table_in};
+ghost use Rattle.sheets.specs.Edition.{largest_cell};
+ghost use Rattle.sheets.specs.Held.{network_cell};
+ghost use Rattle.chains.specs.Chain.{last_cell};
+ghost use Rattle.steps.specs.Stage.{signals_of, Listed};
+ghost use Rattle.steps.specs.Pile.{most_piled, Piled, Grown};
 
 use crate::signals::Signals;
 use charts::pair::FirstCells;
 use sheets::kinds::{HeldCell, Sheet};
 
 // All cells are counted, and the sheet holds them as long as it has room for them.
-#[derive(Drop)]
+#[derive(Clone, Copy)]
 pub struct Pile {
     pub sheet: Sheet,
     pub count: usize,
@@ -32,8 +32,8 @@ impl Pile {
 
     // One cell more.
     pub fn with_cell(self, c: HeldCell) -> Pile
-        requires { (self.sheet.count ≤ self.count) × (self.count ≤ mostPiled) }
-        ensures { Grown self (networkCell c ∷ []) result }
+        requires { (self.sheet.count ≤ self.count) × (self.count ≤ most_piled) }
+        ensures { Grown self (network_cell c ∷ []) result }
     {
         let sheet = self.sheet;
         let count = self.count;
@@ -51,9 +51,9 @@ impl Pile {
 
     // One, two or three first cells more, which all read the same signals.
     pub fn with_first(self, read: Signals, r: u32, d: FirstCells) -> Pile
-        requires count_le_count { (self.sheet.count ≤ self.count) × (self.count + r ≤ mostPiled) × (1 ≤ r) × (r ≤ mostFirst) }
-        requires listed { Listed read × (read.count ≤ largestCell) }
-        ensures { Grown self (list_of r (λ t. lastCell (signalsOf read) (tableIn d t))) result }
+        requires count_le_count { (self.sheet.count ≤ self.count) × (self.count + r ≤ most_piled) × (1 ≤ r) × (r ≤ most_first) }
+        requires listed { Listed read × (read.count ≤ largest_cell) }
+        ensures { Grown self (list_of r (λ t. last_cell (signals_of read) (table_in d t))) result }
     {
         let first = d.first;
         let second = d.second;

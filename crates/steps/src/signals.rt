@@ -2,19 +2,19 @@
 ghost use Rattle.std.specs.Prelude.{◌≡◌, [], ◌∷◌, ◌++◌, ◌+◌, ◌<◌, ◌≤◌};
 ghost use Rattle.bits.specs.Numbers.{bit};
 ghost use Rattle.bits.specs.Lists.{list_of};
-ghost use Rattle.tables.specs.Table.{mostInputs};
-ghost use Rattle.splits.specs.Columns.{mostFirst};
-ghost use Rattle.tables.specs.Cells.{tableNumber};
-ghost use Rattle.sheets.specs.Edition.{largestCell};
-ghost use Rattle.sheets.specs.Held.{networkCell};
-ghost use Rattle.chains.specs.Chain.{pick, inputs, lastCell};
-ghost use Rattle.steps.specs.Stage.{signalsOf, Listed};
+ghost use Rattle.tables.specs.Table.{most_inputs};
+ghost use Rattle.splits.specs.Columns.{most_first};
+ghost use Rattle.tables.specs.Cells.{table_number};
+ghost use Rattle.sheets.specs.Edition.{largest_cell};
+ghost use Rattle.sheets.specs.Held.{network_cell};
+ghost use Rattle.chains.specs.Chain.{pick, inputs, last_cell};
+ghost use Rattle.steps.specs.Stage.{signals_of, Listed};
 
 use sheets::kinds::HeldCell;
 use tables::cell::CellTable;
 
 // The first `count` places, in increasing order.
-#[derive(Drop)]
+#[derive(Clone, Copy)]
 pub struct Signals {
     pub at: [u8; Signals::MOST],
     pub count: usize,
@@ -26,8 +26,8 @@ impl Signals {
 
     // Those of a gate's inputs.
     pub fn inputs(n: u32) -> Signals
-        requires { n ≤ mostInputs }
-        ensures { Listed result × (signalsOf result ≡ inputs n) × (result.count ≡ n) }
+        requires { n ≤ most_inputs }
+        ensures { Listed result × (signals_of result ≡ inputs n) × (result.count ≡ n) }
     {
         Signals {
             at: [0, 1, 2, 3, 4, 5, 6, 7, 8, 9, 10, 11, 12, 13, 14, 15],
@@ -38,7 +38,7 @@ impl Signals {
     // Those at the positions of a set.
     pub fn pick(self, set: u16) -> Signals
         requires { Listed self }
-        ensures { Listed result × (signalsOf result ≡ pick self.count (bit set) (signalsOf self)) }
+        ensures { Listed result × (signals_of result ≡ pick self.count (bit set) (signals_of self)) }
     {
         let from = self.at;
         let count = self.count;
@@ -57,8 +57,8 @@ impl Signals {
 
     // One more, appended.
     pub fn with(mut self, signal: u8) -> Signals
-        requires { Listed self × (self.count < mostInputs) }
-        ensures { Listed result × (signalsOf result ≡ signalsOf self ++ (signal ∷ [])) × (result.count ≡ self.count + 1) }
+        requires { Listed self × (self.count < most_inputs) }
+        ensures { Listed result × (signals_of result ≡ signals_of self ++ (signal ∷ [])) × (result.count ≡ self.count + 1) }
     {
         let i = self.count;
         self.at[i] = signal;
@@ -68,8 +68,8 @@ impl Signals {
 
     // One, two or three more, from a signal on, appended.
     pub fn with_next(self, from: u8, many: u32) -> Signals
-        requires { Listed self × (1 ≤ many) × (many ≤ mostFirst) × (self.count + many ≤ mostInputs) × (from + many ≤ 255) }
-        ensures { Listed result × (signalsOf result ≡ signalsOf self ++ list_of many (λ t. from + t)) × (result.count ≡ self.count + many) }
+        requires { Listed self × (1 ≤ many) × (many ≤ most_first) × (self.count + many ≤ most_inputs) × (from + many ≤ 255) }
+        ensures { Listed result × (signals_of result ≡ signals_of self ++ list_of many (λ t. from + t)) × (result.count ≡ self.count + many) }
     {
         let one = self.with(from);
         if many < 2 {
@@ -84,8 +84,8 @@ impl Signals {
 
     // A cell that reads them all.
     pub fn cell(self, table: CellTable) -> HeldCell
-        requires { Listed self × (self.count ≤ largestCell) }
-        ensures { (networkCell result ≡ lastCell (signalsOf self) (tableNumber table)) × (result.k ≡ self.count) }
+        requires { Listed self × (self.count ≤ largest_cell) }
+        ensures { (network_cell result ≡ last_cell (signals_of self) (table_number table)) × (result.k ≡ self.count) }
     {
         let from = self.at;
         let count = self.count;

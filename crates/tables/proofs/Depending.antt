@@ -11,18 +11,18 @@ use borrow.Author.Tests.{ne_eqb, eqb-true, eqb-false, lt-ltb, le-ltb, not-true, 
 use Rattle.bits.specs.Numbers.{bit, number}
 use Rattle.bits.specs.Below.{every}
 use Rattle.bits.proofs.Bools.{clash, beq_same, same-beq}
-use Rattle.bits.proofs.Below.{every-at, every-all, every-ext}
-use Rattle.bits.proofs.Numbers.{number_lt, number-ext, bit-number}
+use Rattle.bits.proofs.Below.{every_at, every_all, every_ext}
+use Rattle.bits.proofs.Numbers.{number_lt, number_ext, bit-number}
 use Rattle.bits.proofs.Members.{same_bits}
-use Rattle.bits.proofs.Single.{plus-bit, plus-lt}
+use Rattle.bits.proofs.Single.{plus_bit, plus_lt}
 use Rattle.tables.specs.Depends.{DependsOn}
 use Rattle.tables.specs.Counting.{Counting, AllCount, AlikeBut, Ignores, Sees, counts, support}
 use Rattle.tables.specs.Words.{Steady}
 
 -- a test that does not hold everywhere fails somewhere
-every-fails : (n : ℕ) (p : ℕ → Bool) → every n p ≡ false → (j : ℕ) × (j < n) × (p j ≡ false)
-every-fails zero p e = absurd (clash refl e)
-every-fails (suc n) p e = go (p n) refl e (every-fails n p)
+every_fails : (n : ℕ) (p : ℕ → Bool) → every n p ≡ false → (j : ℕ) × (j < n) × (p j ≡ false)
+every_fails zero p e = absurd (clash refl e)
+every_fails (suc n) p e = go (p n) refl e (every_fails n p)
   where
     go : (t : Bool) → p n ≡ t → cond t (every n p) false ≡ false
         → (every n p ≡ false → (j : ℕ) × (j < n) × (p j ≡ false))
@@ -36,20 +36,20 @@ module _ (n : ℕ) (F : ℕ → Bool) (j : ℕ) (l : j < n) where
   test x = bit x j || beq (F x) (F (x + 2 ^ j))
 
   -- where the bit changes as input j is set, the table depends on it
-  set-depends : (x : ℕ) → x < 2 ^ n → bit x j ≡ false → (F x ≡ F (x + 2 ^ j) → ⊥) → DependsOn n F j
-  set-depends x h off differ = record {
+  set_depends : (x : ℕ) → x < 2 ^ n → bit x j ≡ false → (F x ≡ F (x + 2 ^ j) → ⊥) → DependsOn n F j
+  set_depends x h off differ = record {
     x = x;
     y = x + 2 ^ j;
-    belowX = h;
-    belowY = plus-lt n x j h l off;
-    alike = λ i g ne. sym (plus-bit n x j h l off i g ∙ ap (λ (t : Bool). bit x i || t) (ne_eqb i j ne)
+    below_x = h;
+    below_y = plus_lt n x j h l off;
+    alike = λ i g ne. sym (plus_bit n x j h l off i g ∙ ap (λ (t : Bool). bit x i || t) (ne_eqb i j ne)
         ∙ or-false (bit x i));
     differ = differ;
   }
 
   -- where it never does, the table ignores the input
-  unset-ignores : ((x : ℕ) → Steady n F j x) → Ignores n F j
-  unset-ignores alike x y p q but = go (bit x j) (bit y j) refl refl
+  unset_ignores : ((x : ℕ) → Steady n F j x) → Ignores n F j
+  unset_ignores alike x y p q but = go (bit x j) (bit y j) refl refl
     where
       same : bit x j ≡ bit y j → F x ≡ F y
       same e = ap F (same_bits n x y p q (λ i g. at i g (eqb i j) refl))
@@ -61,8 +61,8 @@ module _ (n : ℕ) (F : ℕ → Bool) (j : ℕ) (l : j < n) where
       -- y is x with input j set
       up : (x y : ℕ) → x < 2 ^ n → y < 2 ^ n → AlikeBut n j x y → bit x j ≡ false → bit y j ≡ true → F x ≡ F y
       up x y p q but off on =
-          alike x p off ∙ ap F (same_bits n (x + 2 ^ j) y (plus-lt n x j p l off) q
-          (λ i g. plus-bit n x j p l off i g ∙ at i g (eqb i j) refl))
+          alike x p off ∙ ap F (same_bits n (x + 2 ^ j) y (plus_lt n x j p l off) q
+          (λ i g. plus_bit n x j p l off i g ∙ at i g (eqb i j) refl))
         where
           at : (i : ℕ) → i < n → (t : Bool) → eqb i j ≡ t → (bit x i || t) ≡ bit y i
           at i g true r = or-true (bit x i) ∙ sym (ap (bit y) (eqb-true i j r) ∙ on)
@@ -75,53 +75,53 @@ module _ (n : ℕ) (F : ℕ → Bool) (j : ℕ) (l : j < n) where
       go true false a b = sym (up y x q p (λ i g ne. sym (but i g ne)) b a)
 
   -- the test says which
-  pub counts-depends : counts n F j ≡ true → DependsOn n F j
+  pub counts_depends : counts n F j ≡ true → DependsOn n F j
   unfolding counts test
-  counts-depends e = go (every-fails (2 ^ n) test (not-true (every (2 ^ n) test) e))
+  counts_depends e = go (every_fails (2 ^ n) test (not-true (every (2 ^ n) test) e))
     where
       go : (x : ℕ) × (x < 2 ^ n) × (test x ≡ false) → DependsOn n F j
       go w = from (bit w.0 j) refl w.2
         where
           from : (t : Bool) → bit w.0 j ≡ t → (t || beq (F w.0) (F (w.0 + 2 ^ j))) ≡ false → DependsOn n F j
           from true q e = absurd (clash refl e)
-          from false q e = set-depends w.0 w.1 q (λ same. clash (same-beq (F w.0) (F (w.0 + 2 ^ j)) same) e)
+          from false q e = set_depends w.0 w.1 q (λ same. clash (same-beq (F w.0) (F (w.0 + 2 ^ j)) same) e)
 
-  pub idle-steady : counts n F j ≡ false → (x : ℕ) → Steady n F j x
+  pub idle_steady : counts n F j ≡ false → (x : ℕ) → Steady n F j x
   unfolding counts test
-  idle-steady e x h off =
+  idle_steady e x h off =
       beq_same (F x) (F (x + 2 ^ j)) (ap (λ (t : Bool). t || beq (F x) (F (x + 2 ^ j))) (sym off)
-      ∙ every-at (2 ^ n) test (not-false (every (2 ^ n) test) e) x h)
+      ∙ every_at (2 ^ n) test (not-false (every (2 ^ n) test) e) x h)
 
-  pub idle-ignores : counts n F j ≡ false → Ignores n F j
-  idle-ignores e = unset-ignores (idle-steady e)
+  pub idle_ignores : counts n F j ≡ false → Ignores n F j
+  idle_ignores e = unset_ignores (idle_steady e)
 
   -- so by whether a bit changes as the input is set
-  pub steady-idle : ((x : ℕ) → Steady n F j x) → counts n F j ≡ false
+  pub steady_idle : ((x : ℕ) → Steady n F j x) → counts n F j ≡ false
   unfolding counts test
-  steady-idle steady = ap not (every-all (2 ^ n) test (λ x h. go x h (bit x j) refl))
+  steady_idle steady = ap not (every_all (2 ^ n) test (λ x h. go x h (bit x j) refl))
     where
       go : (x : ℕ) → x < 2 ^ n → (t : Bool) → bit x j ≡ t → (t || beq (F x) (F (x + 2 ^ j))) ≡ true
       go x h true e = refl
       go x h false e = same-beq (F x) (F (x + 2 ^ j)) (steady x h e)
 
-  pub depends-or : DependsOn n F j ⊎ Ignores n F j
-  depends-or = go (counts n F j) refl
+  pub depends_or : DependsOn n F j ⊎ Ignores n F j
+  depends_or = go (counts n F j) refl
     where
       go : (t : Bool) → counts n F j ≡ t → DependsOn n F j ⊎ Ignores n F j
-      go true e = inl (counts-depends e)
-      go false e = inr (idle-ignores e)
+      go true e = inl (counts_depends e)
+      go false e = inr (idle_ignores e)
 
-  pub depends-counts : DependsOn n F j → counts n F j ≡ true
-  depends-counts d = go (counts n F j) refl
+  pub depends_counts : DependsOn n F j → counts n F j ≡ true
+  depends_counts d = go (counts n F j) refl
     where
       go : (t : Bool) → counts n F j ≡ t → t ≡ true
       go true e = refl
-      go false e = absurd (d.differ (idle-ignores e d.x d.y d.belowX d.belowY d.alike))
+      go false e = absurd (d.differ (idle_ignores e d.x d.y d.below_x d.below_y d.alike))
 
 -- ---- all inputs
 module _ (n : ℕ) (F : ℕ → Bool) where
-  pub sees-counts : Sees n F (counts n F)
-  sees-counts x y p q agree = upto n (omega arith)
+  pub sees_counts : Sees n F (counts n F)
+  sees_counts x y p q agree = upto n (omega arith)
       ∙ ap F (same_bits n (mixed n) y (number_lt n (mix n)) q (λ i l. at n i l ∙ low n i l))
     where
       -- y's bits below m, and x's from m up
@@ -150,7 +150,7 @@ module _ (n : ℕ) (F : ℕ → Bool) where
           ] ∙ sym (at (suc m) i l)
 
           go : (t : Bool) → counts n F m ≡ t → F (mixed m) ≡ F (mixed (suc m))
-          go false c = idle-ignores n F m h c (mixed m) (mixed (suc m)) (number_lt n (mix m))
+          go false c = idle_ignores n F m h c (mixed m) (mixed (suc m)) (number_lt n (mix m))
               (number_lt n (mix (suc m))) other
           go true c = ap F (same_bits n (mixed m) (mixed (suc m)) (number_lt n (mix m)) (number_lt n (mix (suc m)))
               (λ i l. both i l (eqb i m) refl))
@@ -172,32 +172,32 @@ module _ (n : ℕ) (F : ℕ → Bool) where
   support-bit j h = bit-number n (counts n F) j h
 
   -- the table sees the inputs that count, and no other
-  pub support-sees : Sees n F (bit (support n F))
-  support-sees x y p q agree = sees-counts x y p q (λ j l e. agree j l (support-bit j l ∙ e))
+  pub support_sees : Sees n F (bit (support n F))
+  support_sees x y p q agree = sees_counts x y p q (λ j l e. agree j l (support-bit j l ∙ e))
 
   -- they are those that it depends on
-  pub support-counting : Counting n F (bit (support n F))
-  support-counting j l e = counts-depends n F j l (sym (support-bit j l) ∙ e)
+  pub support_counting : Counting n F (bit (support n F))
+  support_counting j l e = counts_depends n F j l (sym (support-bit j l) ∙ e)
 
-  pub support-all : (j : ℕ) → j < n → DependsOn n F j → bit (support n F) j ≡ true
-  support-all j l d = support-bit j l ∙ depends-counts n F j l d
+  pub support_all : (j : ℕ) → j < n → DependsOn n F j → bit (support n F) j ≡ true
+  support_all j l d = support-bit j l ∙ depends_counts n F j l d
 
 -- ---- tables that agree at every assignment
 
-pub count-ext : (n : ℕ) (F G : ℕ → Bool) → ((x : ℕ) → x < 2 ^ n → F x ≡ G x) → AllCount n F → AllCount n G
-count-ext n F G same all j l = let p = all j l in record {
+pub count_ext : (n : ℕ) (F G : ℕ → Bool) → ((x : ℕ) → x < 2 ^ n → F x ≡ G x) → AllCount n F → AllCount n G
+count_ext n F G same all j l = let p = all j l in record {
   x = p.x;
   y = p.y;
-  belowX = p.belowX;
-  belowY = p.belowY;
+  below_x = p.below_x;
+  below_y = p.below_y;
   alike = p.alike;
-  differ = λ q. p.differ (same p.x p.belowX ∙ q ∙ sym (same p.y p.belowY));
+  differ = λ q. p.differ (same p.x p.below_x ∙ q ∙ sym (same p.y p.below_y));
 }
 
-pub support-ext : (n : ℕ) (F G : ℕ → Bool) → ((x : ℕ) → x < 2 ^ n → F x ≡ G x) → support n F ≡ support n G
+pub support_ext : (n : ℕ) (F G : ℕ → Bool) → ((x : ℕ) → x < 2 ^ n → F x ≡ G x) → support n F ≡ support n G
 unfolding support counts
-support-ext n F G same = number-ext n (counts n F) (counts n G)
-    (λ j l. ap not (every-ext (2 ^ n) (at F j) (at G j) (λ x h. go j l x h (bit x j) refl)))
+support_ext n F G same = number_ext n (counts n F) (counts n G)
+    (λ j l. ap not (every_ext (2 ^ n) (at F j) (at G j) (λ x h. go j l x h (bit x j) refl)))
   where
     at : (ℕ → Bool) → ℕ → ℕ → Bool
     at F j x = bit x j || beq (F x) (F (x + 2 ^ j))
@@ -205,4 +205,4 @@ support-ext n F G same = number-ext n (counts n F) (counts n G)
     go : (j : ℕ) → j < n → (x : ℕ) → x < 2 ^ n → (t : Bool) → bit x j ≡ t → (t || beq (F x) (F (x + 2 ^ j)))
         ≡ (t || beq (G x) (G (x + 2 ^ j)))
     go j l x h true e = refl
-    go j l x h false e = ap₂ beq (same x h) (same (x + 2 ^ j) (plus-lt n x j h l e))
+    go j l x h false e = ap₂ beq (same x h) (same (x + 2 ^ j) (plus_lt n x j h l e))

@@ -10,12 +10,12 @@ use borrow.Author.Tests.{eqb-true, eqb-false, ne_eqb}
 use Rattle.bits.specs.Numbers.{bit}
 use Rattle.bits.specs.Sets.{size}
 use Rattle.bits.proofs.Bools.{clash, false_of}
-use Rattle.bits.proofs.Numbers.{number_lt, number-ext, number_bit, bit-zero, bit_high, none-zero}
-use Rattle.bits.proofs.Sizes.{size-ext, size-lt}
+use Rattle.bits.proofs.Numbers.{number_lt, number_ext, number_bit, bit-zero, bit_high, none-zero}
+use Rattle.bits.proofs.Sizes.{size_ext, size-lt}
 use Rattle.bits.proofs.Counting.{size_none, size-one}
-use Rattle.bits.proofs.Members.{size-full}
+use Rattle.bits.proofs.Members.{size_full}
 use Rattle.tables.specs.Counting.{AllCount, Sees, counts, support, kept}
-use Rattle.tables.proofs.Depending.{support-sees, support-all, support-ext}
+use Rattle.tables.proofs.Depending.{support_sees, support_all, support_ext}
 
 -- the mask 1 has input 0 alone, the mask 0 none, and any other some
 one_bit : (j : ℕ) → bit 1 j ≡ eqb j 0
@@ -23,7 +23,7 @@ one_bit zero = refl
 one_bit (suc j) = bit_high 1 1 (suc j) (lit< tt) (omega arith) ∙ sym (ne_eqb (suc j) 0 (omega arith))
 
 no_bits : (n : ℕ) → size n (bit 0) ≡ 0
-no_bits n = size-ext n (bit 0) (λ j. false) (λ j _. bit-zero j) ∙ size_none n
+no_bits n = size_ext n (bit 0) (λ j. false) (λ j _. bit-zero j) ∙ size_none n
 
 some_bits : (n m : ℕ) → m < 2 ^ n → (m ≡ 0 → ⊥) → 1 ≤ size n (bit m)
 some_bits n m l ne = go (size n (bit m)) refl
@@ -31,7 +31,7 @@ some_bits n m l ne = go (size n (bit m)) refl
     go : (k : ℕ) → size n (bit m) ≡ k → 1 ≤ k
     go zero e =
         absurd (ne (sym (number_bit n m l)
-        ∙ number-ext n (bit m) (λ j. false) (λ j h. false_of (bit m j) (λ q. omega (arith, size-lt n (bit m) j h q)))
+        ∙ number_ext n (bit m) (λ j. false) (λ j h. false_of (bit m j) (λ q. omega (arith, size-lt n (bit m) j h q)))
         ∙ none-zero n))
     go (suc k) e = omega arith
 
@@ -52,44 +52,44 @@ module _ (n : ℕ) (F : ℕ → Bool) where
       go true e = subst P (sym (kept_by true e)) (none (eqb-true s 0 e))
       go false e = subst P (sym (kept_by false e)) (some (some_bits n s (number_lt n (counts n F)) (eqb-false s 0 e)))
 
-  pub kept-sees : Sees n F (bit (kept n F))
-  kept-sees = by (λ m. Sees n F (bit m)) (λ e x y p q _. support-sees n F x y p q
+  pub kept_sees : Sees n F (bit (kept n F))
+  kept_sees = by (λ m. Sees n F (bit m)) (λ e x y p q _. support_sees n F x y p q
       (λ j l on. absurd (clash on (ap (λ (m : ℕ). bit m j) e ∙ bit-zero j))))
-      (λ _. support-sees n F)
+      (λ _. support_sees n F)
 
   pub kept-lt : 1 ≤ n → kept n F < 2 ^ n
   unfolding support
   kept-lt h = by (λ m. m < 2 ^ n) (λ _. omega (arith, pow_mono {i = 1} {j = n} h)) (λ _. number_lt n (counts n F))
 
   -- one is kept at least
-  pub kept-some : 1 ≤ n → 1 ≤ size n (bit (kept n F))
-  kept-some h = by (λ m. 1 ≤ size n (bit m)) (λ _. omega (arith, size-lt n (bit 1) 0 h refl)) (λ g. g)
+  pub kept_some : 1 ≤ n → 1 ≤ size n (bit (kept n F))
+  kept_some h = by (λ m. 1 ≤ size n (bit m)) (λ _. omega (arith, size-lt n (bit 1) 0 h refl)) (λ g. g)
 
-  pub kept-most : size n (bit (kept n F)) ≤ max 1 (size n (bit s))
-  kept-most = by (λ m. size n (bit m) ≤ max 1 (size n (bit s))) (λ _. one) (λ _. omega arith)
+  pub kept_most : size n (bit (kept n F)) ≤ max 1 (size n (bit s))
+  kept_most = by (λ m. size n (bit m) ≤ max 1 (size n (bit s))) (λ _. one) (λ _. omega arith)
     where
       one : size n (bit 1) ≤ max 1 (size n (bit s))
-      one = omega (arith, size-ext n (bit 1) (λ j. eqb j 0) (λ j _. one_bit j), size-one n 0)
+      one = omega (arith, size_ext n (bit 1) (λ j. eqb j 0) (λ j _. one_bit j), size-one n 0)
 
   -- where some input counts, those that are kept are those that count
-  pub some-kept : 1 ≤ size n (bit s) → kept n F ≡ s
-  some-kept h = by (λ m. m ≡ s) (λ e. absurd (omega (arith, ap (λ (m : ℕ). size n (bit m)) e, no_bits n))) (λ _. refl)
+  pub some_kept : 1 ≤ size n (bit s) → kept n F ≡ s
+  some_kept h = by (λ m. m ≡ s) (λ e. absurd (omega (arith, ap (λ (m : ℕ). size n (bit m)) e, no_bits n))) (λ _. refl)
 
   pub two-kept : 2 ≤ size n (bit (kept n F)) → kept n F ≡ s
-  two-kept h = some-kept (omega (arith, kept-most))
+  two-kept h = some_kept (omega (arith, kept_most))
 
   -- where none does, input 0
   pub none_kept : size n (bit s) ≡ 0 → kept n F ≡ 1
   none_kept h = by (λ m. m ≡ 1) (λ _. refl) (λ g. absurd (omega arith))
 
   -- where all count, as many as there are
-  pub all-counting : AllCount n F → size n (bit s) ≡ n
-  all-counting all = size-full n (bit s) (λ j l. support-all n F j l (all j l))
+  pub all_counting : AllCount n F → size n (bit s) ≡ n
+  all_counting all = size_full n (bit s) (λ j l. support_all n F j l (all j l))
 
-  pub all-kept : AllCount n F → (j : ℕ) → j < n → bit (kept n F) j ≡ true
-  all-kept all j l = let m = support-all n F j l (all j l)
-      in ap (λ (k : ℕ). bit k j) (some-kept (omega (arith, size-lt n (bit s) j l m))) ∙ m
+  pub all_kept : AllCount n F → (j : ℕ) → j < n → bit (kept n F) j ≡ true
+  all_kept all j l = let m = support_all n F j l (all j l)
+      in ap (λ (k : ℕ). bit k j) (some_kept (omega (arith, size-lt n (bit s) j l m))) ∙ m
 
-pub kept-ext : (n : ℕ) (F G : ℕ → Bool) → ((x : ℕ) → x < 2 ^ n → F x ≡ G x) → kept n F ≡ kept n G
+pub kept_ext : (n : ℕ) (F G : ℕ → Bool) → ((x : ℕ) → x < 2 ^ n → F x ≡ G x) → kept n F ≡ kept n G
 unfolding kept
-kept-ext n F G same = ap (λ (s : ℕ). cond (eqb s 0) 1 s) (support-ext n F G same)
+kept_ext n F G same = ap (λ (s : ℕ). cond (eqb s 0) 1 s) (support_ext n F G same)

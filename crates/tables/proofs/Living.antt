@@ -8,12 +8,12 @@ use lib.Dec.{ltb, eqb}
 use borrow.Author.Tests.{lt-ltb, le-ltb, eqb-true, eqb-false}
 use Rattle.bits.specs.Numbers.{bit, number}
 use Rattle.bits.proofs.Bools.{or_left, or_right}
-use Rattle.bits.proofs.Numbers.{number_lt, number-ext, bit-number}
+use Rattle.bits.proofs.Numbers.{number_lt, number_ext, bit-number}
 use Rattle.bits.proofs.Sums.{all_ones}
-use Rattle.bits.proofs.Single.{plus-is}
+use Rattle.bits.proofs.Single.{plus_is}
 use Rattle.tables.specs.Counting.{counts, support}
 use Rattle.tables.specs.Words.{Live}
-use Rattle.tables.proofs.Depending.{sees-counts}
+use Rattle.tables.proofs.Depending.{sees_counts}
 
 module _ (n : ℕ) (F : ℕ → Bool) where
   -- those below j, and those that count
@@ -23,26 +23,26 @@ module _ (n : ℕ) (F : ℕ → Bool) where
   pub live_all : live n + 1 ≡ 2 ^ n
   unfolding live
   live_all =
-      ap (λ (m : ℕ). m + 1) (number-ext n (λ i. ltb i n || counts n F i) (λ i. true)
+      ap (λ (m : ℕ). m + 1) (number_ext n (λ i. ltb i n || counts n F i) (λ i. true)
       (λ i h. ap (λ (t : Bool). t || counts n F i) (lt-ltb i n h))) ∙ all_ones n
 
-  pub live-none : live 0 ≡ support n F
+  pub live_none : live 0 ≡ support n F
   unfolding live support
-  live-none = number-ext n (λ i. ltb i 0 || counts n F i) (counts n F)
+  live_none = number_ext n (λ i. ltb i 0 || counts n F i) (counts n F)
       (λ i h. ap (λ (t : Bool). t || counts n F i) (le-ltb i 0 (omega arith)))
 
   module _ (j : ℕ) (l : j < n) where
-    live-bit : (k i : ℕ) → i < n → bit (live k) i ≡ (ltb i k || counts n F i)
+    live_bit : (k i : ℕ) → i < n → bit (live k) i ≡ (ltb i k || counts n F i)
     unfolding live
-    live-bit k i h = bit-number n (λ i. ltb i k || counts n F i) i h
+    live_bit k i h = bit-number n (λ i. ltb i k || counts n F i) i h
 
     pub lives : Live n F (live (suc j)) j
     unfolding live
     lives = record {
       below = number_lt n (λ i. ltb i (suc j) || counts n F i);
-      sees = λ x y p q agree. sees-counts n F x y p q
-          (λ i h e. agree i h (live-bit (suc j) i h ∙ or_right (ltb i (suc j)) (counts n F i) e));
-      member = live-bit (suc j) j l ∙ or_left (ltb j (suc j)) (counts n F j) (lt-ltb j (suc j) (omega arith));
+      sees = λ x y p q agree. sees_counts n F x y p q
+          (λ i h e. agree i h (live_bit (suc j) i h ∙ or_right (ltb i (suc j)) (counts n F i) e));
+      member = live_bit (suc j) j l ∙ or_left (ltb j (suc j)) (counts n F j) (lt-ltb j (suc j) (omega arith));
     }
 
     -- the others are as before
@@ -53,9 +53,9 @@ module _ (n : ℕ) (F : ℕ → Bool) where
     ]
 
     -- it stays live if it counts, and is set aside if it doesn't
-    pub live-stays : counts n F j ≡ true → live (suc j) ≡ live j
+    pub live_stays : counts n F j ≡ true → live (suc j) ≡ live j
     unfolding live
-    live-stays c = number-ext n (λ i. ltb i (suc j) || counts n F i) (λ i. ltb i j || counts n F i)
+    live_stays c = number_ext n (λ i. ltb i (suc j) || counts n F i) (λ i. ltb i j || counts n F i)
         (λ i h. go i (eqb i j) refl)
       where
         go : (i : ℕ) (t : Bool) → eqb i j ≡ t → (ltb i (suc j) || counts n F i) ≡ (ltb i j || counts n F i)
@@ -64,18 +64,18 @@ module _ (n : ℕ) (F : ℕ → Bool) where
             or_right (ltb i (suc j)) (counts n F i) here ∙ sym (or_right (ltb i j) (counts n F i) here)
         go i false e = ap (λ (t : Bool). t || counts n F i) (other i (eqb-false i j e))
 
-    pub live-goes : counts n F j ≡ false → live (suc j) ≡ live j + 2 ^ j
+    pub live_goes : counts n F j ≡ false → live (suc j) ≡ live j + 2 ^ j
     unfolding live
-    live-goes c =
-        sym (plus-is n (live j) j (number_lt n (λ i. ltb i j || counts n F i)) l off
-        ∙ number-ext n (λ i. bit (live j) i || eqb i j) (λ i. ltb i (suc j) || counts n F i)
+    live_goes c =
+        sym (plus_is n (live j) j (number_lt n (λ i. ltb i j || counts n F i)) l off
+        ∙ number_ext n (λ i. bit (live j) i || eqb i j) (λ i. ltb i (suc j) || counts n F i)
         (λ i h. go i h (eqb i j) refl))
       where
         off : bit (live j) j ≡ false
-        off = live-bit j j l ∙ ap₂ ◌||◌ (le-ltb j j (omega arith)) c
+        off = live_bit j j l ∙ ap₂ ◌||◌ (le-ltb j j (omega arith)) c
 
         go : (i : ℕ) → i < n → (t : Bool) → eqb i j ≡ t → (bit (live j) i || t) ≡ (ltb i (suc j) || counts n F i)
         go i h true e = or-true (bit (live j) i) ∙ sym
             (or_left (ltb i (suc j)) (counts n F i) (lt-ltb i (suc j) (omega (arith, eqb-true i j e))))
-        go i h false e = or-false (bit (live j) i) ∙ live-bit j i h
+        go i h false e = or-false (bit (live j) i) ∙ live_bit j i h
             ∙ ap (λ (t : Bool). t || counts n F i) (sym (other i (eqb-false i j e)))

@@ -12,14 +12,14 @@ use lib.Dec.{ltb}
 use lib.Pow.{pow_mono}
 use borrow.Author.Tests.{lt-ltb, le-ltb}
 use Rattle.bits.specs.Numbers.{bit, val, number}
-use Rattle.bits.specs.Sets.{wordPositions, size, spread}
+use Rattle.bits.specs.Sets.{word_positions, size, spread}
 use Rattle.bits.proofs.Building.{bit-digit}
 use Rattle.bits.proofs.Machine.{bit-or}
-use Rattle.bits.proofs.Members.{spread-low}
-use Rattle.bits.proofs.Numbers.{bit_below, bit-top, bit_high, bit-shr, bit-zero, number_bit, number-ext, val-mul-le}
-use Rattle.bits.proofs.Sizes.{size-le, size-more}
-use Rattle.bits.proofs.Spreading.{spread-more}
-use Rattle.tables.proofs.Digits.{cut-number}
+use Rattle.bits.proofs.Members.{spread_low}
+use Rattle.bits.proofs.Numbers.{bit_below, bit_top, bit_high, bit-shr, bit-zero, number_bit, number_ext, val-mul-le}
+use Rattle.bits.proofs.Sizes.{size-le, size_more}
+use Rattle.bits.proofs.Spreading.{spread_more}
+use Rattle.tables.proofs.Digits.{cut_number}
 
 -- what is left of `word` in w, below position j
 abbrev pub Squeezed : ℕ → ℕ → ℕ → ℕ → Type 0
@@ -27,22 +27,22 @@ Squeezed word m w j =
     (q l : ℕ) → l < 2 ^ j → q * 2 ^ j + 2 ^ j ≤ 64
     → bit w (q * 2 ^ j + l) ≡ (ltb l (2 ^ size j (bit m)) && bit word (spread j (bit m) l + q * 2 ^ j))
 
-pub squeezed-none : (word m : ℕ) → Squeezed word m word 0
+pub squeezed_none : (word m : ℕ) → Squeezed word m word 0
 unfolding size spread number
-squeezed-none word m q l h g =
+squeezed_none word m q l h g =
     let e : q * 2 ^ 0 + l ≡ 0 + q * 2 ^ 0 = omega arith in
     ap (bit word) e ∙ sym (ap (λ (t : Bool). t && bit word (0 + q * 2 ^ 0)) (lt-ltb l 1 (omega arith)))
 
-pub squeezed-all : (word m w : ℕ) → w < 2 ^ 64 → Squeezed word m w wordPositions
-    → w ≡ number (2 ^ size wordPositions (bit m)) (λ u. bit word (spread wordPositions (bit m) u))
-squeezed-all word m w small inv =
-    let many = 2 ^ size wordPositions (bit m) in
-    let from : ℕ → Bool = λ u. bit word (spread wordPositions (bit m) u) in
-    sym (number_bit 64 w small) ∙ number-ext 64 (bit w) (λ u. ltb u many && from u) (λ u l.
+pub squeezed_all : (word m w : ℕ) → w < 2 ^ 64 → Squeezed word m w word_positions
+    → w ≡ number (2 ^ size word_positions (bit m)) (λ u. bit word (spread word_positions (bit m) u))
+squeezed_all word m w small inv =
+    let many = 2 ^ size word_positions (bit m) in
+    let from : ℕ → Bool = λ u. bit word (spread word_positions (bit m) u) in
+    sym (number_bit 64 w small) ∙ number_ext 64 (bit w) (λ u. ltb u many && from u) (λ u l.
     let e : u ≡ 0 * 64 + u = omega arith in
-    let z : spread wordPositions (bit m) u + 0 * 64 ≡ spread wordPositions (bit m) u = omega arith in
+    let z : spread word_positions (bit m) u + 0 * 64 ≡ spread word_positions (bit m) u = omega arith in
     ap (bit w) e ∙ inv 0 u l (omega arith) ∙ ap (λ (x : ℕ). ltb u many && bit word x) z)
-    ∙ cut-number many 64 from (pow_mono {i = size wordPositions (bit m)} {j = 6} (size-le wordPositions (bit m)))
+    ∙ cut_number many 64 from (pow_mono {i = size word_positions (bit m)} {j = 6} (size-le word_positions (bit m)))
 
 -- `h * ((m >> j) & 1)`
 pub kept-le : (h m j : ℕ) → h * bit_and (m / 2 ^ j) 1 ≤ h
@@ -51,10 +51,10 @@ kept-le h m j = omega (arith, ap (λ (d : ℕ). h * d) (bit-digit m j), mul_comm
 -- bit j of what stands in block b of q * 2 ^ (j + 1)
 block : (q : ℕ) (b : Bool) (j l x : ℕ) → l < 2 ^ j → x ≡ l + val b * 2 ^ j + q * 2 ^ (j + 1) → bit x j ≡ b
 block q b j l x h e = ap (λ (m : ℕ). bit m j) e ∙ bit_below (l + val b * 2 ^ j) q (j + 1) j (omega arith)
-    ∙ bit-top l b j h
+    ∙ bit_top l b j h
 
 -- one position more: the lower half stays, and the upper one is moved to where k members leave room
-module _ (word m w low high j : ℕ) (inv : Squeezed word m w j) (within : j < wordPositions) (whole : w < 2 ^ 64)
+module _ (word m w low high j : ℕ) (inv : Squeezed word m w j) (within : j < word_positions) (whole : w < 2 ^ 64)
     (small : high < 2 ^ 64)
     (lows : (x : ℕ) → x < 64 → bit low x ≡ (bit w x && not (bit x j)))
     (highs : (x : ℕ) → x < 64 → bit high x ≡ (bit w x && bit x j)) where
@@ -159,9 +159,9 @@ module _ (word m w low high j : ℕ) (inv : Squeezed word m w j) (within : j < w
                   let is : l ≡ l - 2 ^ k + val true * 2 ^ k = omega arith in
                   let small : l - 2 ^ k < 2 ^ k = omega (arith, twice k) in
                   let same : spread j (bit m) (l - 2 ^ k) ≡ spread j (bit m) l =
-                  spread-low j (bit m) (l - 2 ^ k) l (λ i b. sym
+                  spread_low j (bit m) (l - 2 ^ k) l (λ i b. sym
                   (ap (λ (y : ℕ). bit y i) is ∙ bit_below (l - 2 ^ k) (val true) k i b)) in
-                  let one : bit l k ≡ true = ap (λ (y : ℕ). bit y k) is ∙ bit-top (l - 2 ^ k) true k small in
+                  let one : bit l k ≡ true = ap (λ (y : ℕ). bit y k) is ∙ bit_top (l - 2 ^ k) true k small in
                   let z : spread j (bit m) (l - 2 ^ k) + (q + q + 1) * 2 ^ j ≡ spread j (bit m) l + 1 * 2 ^ j
                   + q * 2 ^ (j + 1) = omega (arith, odd q, same) in
                   ap₂ (λ (t : Bool) (y : ℕ). t && bit word y) (lt-ltb (l - 2 ^ k) (2 ^ k) small) z
@@ -188,8 +188,8 @@ module _ (word m w low high j : ℕ) (inv : Squeezed word m w j) (within : j < w
     ]
     both false = without
 
-  pub squeezed-more : Squeezed word m (bit_or low (moved (bit m j))) (j + 1)
-  squeezed-more q l h g =
+  pub squeezed_more : Squeezed word m (bit_or low (moved (bit m j))) (j + 1)
+  squeezed_more q l h g =
       bit-or low (moved (bit m j)) (q * 2 ^ (j + 1) + l) ∙ both q l h g (bit m j)
-      ∙ sym (ap₂ (λ (i y : ℕ). ltb l (2 ^ i) && bit word (y + q * 2 ^ (j + 1))) (size-more j (bit m))
-      (spread-more j (bit m) l))
+      ∙ sym (ap₂ (λ (i y : ℕ). ltb l (2 ^ i) && bit word (y + q * 2 ^ (j + 1))) (size_more j (bit m))
+      (spread_more j (bit m) l))

@@ -51,5 +51,5 @@ unfoldable pub kept : ℕ → (ℕ → Bool) → ℕ
 kept n F = let s = support n F in cond (eqb s 0) 1 s
 
 -- the table over the members of s, the other inputs fixed at 0
-unfoldable pub tableOver : ℕ → (ℕ → Bool) → (ℕ → Bool) → ℕ
-tableOver n s F = number (2 ^ size n s) (λ v. F (spread n s v))
+unfoldable pub table_over : ℕ → (ℕ → Bool) → (ℕ → Bool) → ℕ
+table_over n s F = number (2 ^ size n s) (λ v. F (spread n s v))

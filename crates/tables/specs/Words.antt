@@ -1,12 +1,12 @@
 -- Tables 64 assignments at a time.
 use Rattle.std.specs.Prelude.{◌≡◌, Bool, true, false, not, ◌&&◌, List, ℕ, ◌+◌, ◌-◌, ◌*◌, ◌/◌, ◌^◌, ◌<◌, ◌≤◌, ltb, length}
 use Rattle.bits.specs.Numbers.{bit, number}
-use Rattle.tables.specs.Table.{tableBit}
+use Rattle.tables.specs.Table.{table_bit}
 use Rattle.tables.specs.Counting.{Sees, counts}
 
 -- word w of a table: its bits at the 64 assignments from 64 w on, 0 past its end
-abbrev pub tableWord : List ℕ → ℕ → ℕ
-tableWord t w = number 64 (λ i. tableBit t (64 * w + i))
+abbrev pub table_word : List ℕ → ℕ → ℕ
+table_word t w = number 64 (λ i. table_bit t (64 * w + i))
 
 -- the word of the assignment p lies in the table: its eight bytes, or, of a shorter table, all there are
 pub record WordAt (t : List ℕ) (p : ℕ) : Type 0 where
@@ -14,8 +14,8 @@ pub record WordAt (t : List ℕ) (p : ℕ) : Type 0 where
   pub short : length t < 8 → p < 64
 
 -- word w of the table of n inputs, 0 from 2 ^ n on
-abbrev pub gateWord : ℕ → (ℕ → Bool) → ℕ → ℕ
-gateWord n F w = number 64 (λ i. ltb (64 * w + i) (2 ^ n) && F (64 * w + i))
+abbrev pub gate_word : ℕ → (ℕ → Bool) → ℕ → ℕ
+gate_word n F w = number 64 (λ i. ltb (64 * w + i) (2 ^ n) && F (64 * w + i))
 
 -- a word that has 1 where input j is 0, for an input that changes within a word
 abbrev pub LowerHalf : ℕ → ℕ → Type 0

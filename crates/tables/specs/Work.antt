@@ -1,11 +1,11 @@
 -- The work area that is lent to a search.
 use Rattle.std.specs.Prelude.{ℕ, ◌*◌}
-use Rattle.tables.specs.Table.{mostInputs, tableLength}
+use Rattle.tables.specs.Table.{most_inputs, table_length}
 
 -- a half holds the table of as many inputs as a gate can have
 abbrev pub half : ℕ
-half = tableLength mostInputs
+half = table_length most_inputs
 
 -- a work area has two halves
-abbrev pub workLength : ℕ
-workLength = 2 * half
+abbrev pub work_length : ℕ
+work_length = 2 * half

@@ -2,8 +2,8 @@
 ghost use Rattle.std.specs.Prelude.{◌≡◌, ◌++◌, ◌*◌, ◌^◌, ◌<◌, ◌≤◌, length, drop};
 ghost use Rattle.bits.specs.Numbers.{bit, number};
 ghost use Rattle.bits.specs.Sets.{size, spread};
-ghost use Rattle.tables.specs.Table.{mostInputs, tableLength, tableBit, bytes_of};
-ghost use Rattle.tables.specs.Counting.{tableOver};
+ghost use Rattle.tables.specs.Table.{most_inputs, table_length, table_bit, bytes_of};
+ghost use Rattle.tables.specs.Counting.{table_over};
 
 use crate::fixed::{byte_in, word_over};
 use crate::length_for;
@@ -23,10 +23,10 @@ fn copy(t: &[u8], room: &mut [u8])
 
 // The first len bytes of the table over the mask's inputs, into the front of a lent room.
 fn pack(t: &[u8], n: u32, mask: u16, len: usize, room: &mut [u8])
-    requires { (2 ^ n ≤ 8 * length t.now) × (n ≤ mostInputs) × (mask < 2 ^ n) × (len ≤ 2 ^ mostInputs)
+    requires { (2 ^ n ≤ 8 * length t.now) × (n ≤ most_inputs) × (mask < 2 ^ n) × (len ≤ 2 ^ most_inputs)
         × (len ≤ length room.old) }
     ensures { room.new
-        ≡ bytes_of len (λ v. tableBit t.now (spread n (bit mask) v)) ++ drop len room.old }
+        ≡ bytes_of len (λ v. table_bit t.now (spread n (bit mask) v)) ++ drop len room.old }
 {
     let mut w: u64 = 0;
     let mut i: usize = 0;
@@ -42,9 +42,9 @@ fn pack(t: &[u8], n: u32, mask: u16, len: usize, room: &mut [u8])
 // The table over the mask's inputs, into the front of a lent room; where the mask has them all, that is the table
 // itself.
 pub fn set_aside(t: &[u8], n: u32, mask: u16, room: &mut [u8])
-    requires { (length t.now ≡ tableLength n) × (n ≤ mostInputs) × (mask < 2 ^ n) × (length t.now ≤ length room.old) }
-    ensures { number (2 ^ size n (bit mask)) (tableBit room.new)
-        ≡ tableOver n (bit mask) (tableBit t.now) }
+    requires { (length t.now ≡ table_length n) × (n ≤ most_inputs) × (mask < 2 ^ n) × (length t.now ≤ length room.old) }
+    ensures { number (2 ^ size n (bit mask)) (table_bit room.new)
+        ≡ table_over n (bit mask) (table_bit t.now) }
 {
     let all: u32 = (1 << n) - 1;
     if mask as u32 == all {
@@ -56,7 +56,7 @@ pub fn set_aside(t: &[u8], n: u32, mask: u16, room: &mut [u8])
 
 // A mask over the inputs that were not set aside, in the positions of all.
 pub fn spread_mask(n: u32, mask: u16, part: u16) -> u16
-    requires { n ≤ mostInputs }
+    requires { n ≤ most_inputs }
     ensures { result ≡ spread n (bit mask) part }
 {
     spread_out(n, mask, part as u32) as u16

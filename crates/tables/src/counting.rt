@@ -1,8 +1,8 @@
 // The inputs that count, tested on whole words.
 ghost use Rattle.std.specs.Prelude.{◌≡◌, ◌-◌, ◌*◌, ◌^◌, ◌<◌, ◌≤◌, length};
-ghost use Rattle.tables.specs.Table.{mostInputs, tableLength, tableBit};
+ghost use Rattle.tables.specs.Table.{most_inputs, table_length, table_bit};
 ghost use Rattle.tables.specs.Counting.{counts, support, kept, CountingIn};
-ghost use Rattle.tables.specs.Words.{gateWord, LowerHalf, WordWithout, Compared, Live};
+ghost use Rattle.tables.specs.Words.{gate_word, LowerHalf, WordWithout, Compared, Live};
 
 use crate::words::{short_word, table_word};
 use bits::patterns::of_input;
@@ -11,7 +11,7 @@ use bits::sets::{members, next, parts};
 // Word w of the table of n inputs, spare bits zero; with fewer than 6 inputs there is one word, and it is not full.
 pub fn word_of(t: &[u8], n: u32, w: usize) -> u64
     requires { (2 ^ n ≤ 8 * length t.now) × (w < 2 ^ (n - 6)) }
-    ensures { result ≡ gateWord n (tableBit t.now) w }
+    ensures { result ≡ gate_word n (table_bit t.now) w }
 {
     if n < 6 {
         return short_word(t, n as usize);
@@ -31,8 +31,8 @@ fn lower_half(j: u32) -> u64
 
 // Whether the bit changes, in word w, as input j is set: by comparing the word's own halves, or the word with another.
 fn changes(t: &[u8], n: u32, j: u32, half: u64, w: usize) -> bool
-    requires { (length t.now ≡ tableLength n) × (n ≤ mostInputs) × (j < n) × LowerHalf j half × WordWithout n j w }
-    ensures { Compared n (tableBit t.now) j w result }
+    requires { (length t.now ≡ table_length n) × (n ≤ most_inputs) × (j < n) × LowerHalf j half × WordWithout n j w }
+    ensures { Compared n (table_bit t.now) j w result }
 {
     let here = word_of(t, n, w);
     if j < 6 {
@@ -55,8 +55,8 @@ pub fn above_words(n: u32) -> u32
 
 // Whether input j counts, where the table sees the inputs of `live` alone: the other inputs of a word's number stay 0.
 fn counts_in(t: &[u8], n: u32, live: u16, j: u32) -> bool
-    requires { (length t.now ≡ tableLength n) × (n ≤ mostInputs) × (j < n) × Live n (tableBit t.now) live j }
-    ensures { result ≡ counts n (tableBit t.now) j }
+    requires { (length t.now ≡ table_length n) × (n ≤ most_inputs) × (j < n) × Live n (table_bit t.now) live j }
+    ensures { result ≡ counts n (table_bit t.now) j }
 {
     let half = lower_half(j);
     let top = above_words(n);
@@ -77,8 +77,8 @@ fn counts_in(t: &[u8], n: u32, live: u16, j: u32) -> bool
 // The mask of the inputs that count: from the highest down, one that does not is set aside before the next is looked
 // at.
 pub fn support_of(t: &[u8], n: u32) -> u16
-    requires { (length t.now ≡ tableLength n) × (n ≤ mostInputs) }
-    ensures { result ≡ support n (tableBit t.now) }
+    requires { (length t.now ≡ table_length n) × (n ≤ most_inputs) }
+    ensures { result ≡ support n (table_bit t.now) }
 {
     let all: u32 = (1 << n) - 1;
     let mut live = all as u16;
@@ -93,7 +93,7 @@ pub fn support_of(t: &[u8], n: u32) -> u16
 }
 
 // The inputs that count: their mask, and how many they are.
-#[derive(Drop)]
+#[derive(Clone, Copy)]
 pub struct CountingInputs {
     pub mask: u16,
     pub many: u32,
@@ -101,8 +101,8 @@ pub struct CountingInputs {
 
 // The inputs of a table that count.
 pub fn counting_inputs(t: &[u8], n: u32) -> CountingInputs
-    requires { (length t.now ≡ tableLength n) × (n ≤ mostInputs) }
-    ensures { CountingIn n (tableBit t.now) result }
+    requires { (length t.now ≡ table_length n) × (n ≤ most_inputs) }
+    ensures { CountingIn n (table_bit t.now) result }
 {
     let mask = support_of(t, n);
     let many = members(mask);
@@ -114,8 +114,8 @@ pub fn counting_inputs(t: &[u8], n: u32) -> CountingInputs
 
 // The mask of the inputs that are kept: those that count, and of a constant the first, since a table has one.
 pub fn kept_of(t: &[u8], n: u32) -> u16
-    requires { (length t.now ≡ tableLength n) × (n ≤ mostInputs) }
-    ensures { result ≡ kept n (tableBit t.now) }
+    requires { (length t.now ≡ table_length n) × (n ≤ most_inputs) }
+    ensures { result ≡ kept n (table_bit t.now) }
 {
     let support = support_of(t, n);
     if support == 0 {

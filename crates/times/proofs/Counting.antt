@@ -10,7 +10,7 @@ use lib.Ieee.Exact.{HasValue, round_exact}
 use lib.Ieee.Scale.{round_same}
 use lib.Ieee.Back.{round_whole, unsigned_back}
 use lib.Ieee.Fits.{up_pos, down_pos, and_l, and_r}
-use Rattle.times.specs.InputTimes.{plainZero, in_range}
+use Rattle.times.specs.InputTimes.{plain_zero, in_range}
 
 never : true ≡ false → ⊥
 never e = subst T e tt
@@ -28,23 +28,23 @@ mul16 (fin false m e) i h =
 
 -- ---- a time in range, times 16: nothing is rounded
 
-small-exp : (k : ℕ) → 2 ^ suc k ≤ 2 ^ 1074 → suc k ≤ 1074
-small-exp k h = go (dec_le (suc k) 1074)
+small_exp : (k : ℕ) → 2 ^ suc k ≤ 2 ^ 1074 → suc k ≤ 1074
+small_exp k h = go (dec_le (suc k) 1074)
   where
     go : Dec (suc k ≤ 1074) → suc k ≤ 1074
     go (yes l) = l
     go (no n) = let l : 1074 < suc k = omega arith in absurd (lt_irrefl _ (lt_of_lt_of_le (pow-lt l) h))
 
-exact-at : (m : ℕ) (e : ℤ) → m < 2 ^ 53 → down e ≤ 2 ^ 1074 → m * up e ≤ 4096 * down e
+exact_at : (m : ℕ) (e : ℤ) → m < 2 ^ 53 → down e ≤ 2 ^ 1074 → m * up e ≤ 4096 * down e
     → HasValue (round binary64 false (m * up e * 16) (down e * 1)) false (m * up e * 16) (down e * 1)
-exact-at m (pos k) q d h =
+exact_at m (pos k) q d h =
     let e : m * 2 ^ (k + 1078) ≡ m * 2 ^ k * 2 ^ 1078 = ap (λ (n : ℕ). m * n) (pow-add 2 k 1078)
     ∙ sym (mul_assoc m (2 ^ k) (2 ^ 1078)) in
     round_exact binary64 false (m * 2 ^ k * 16) 1 m (k + 1078) (lit< tt) q
     (lt_of_le_of_lt (subst (λ (n : ℕ). n ≤ 4096 * 2 ^ 1078) (sym e) (mul-le-mul_right (2 ^ 1078) h)) (lit< tt))
     (mul_assoc (m * 2 ^ k) 16 (2 ^ 1074) ∙ sym e ∙ sym (mul-one (m * 2 ^ (k + 1078))))
-exact-at m (negsuc k) q d h =
-    let l : suc k ≤ 1074 = small-exp k d in
+exact_at m (negsuc k) q d h =
+    let l : suc k ≤ 1074 = small_exp k d in
     let w : 53 + (1078 - suc k) < 2098 = omega arith in
     let v : 1078 - suc k + suc k ≡ 1078 = omega arith in
     round_exact binary64 false (m * 1 * 16) (2 ^ suc k * 1) m (1078 - suc k) (mul-pos (pow_pos (suc k)) (lit< tt)) q
@@ -102,8 +102,8 @@ middle true true false s t = absurd t
 middle true false r s t = absurd t
 middle false q r s t = absurd t
 
-pub time : (x : Float) → T (fits binary64 x) → T (in_range x) → x ≡ plainZero x → Time x
-unfolding le lt eq plainZero fits
+pub time : (x : Float) → T (fits binary64 x) → T (in_range x) → x ≡ plain_zero x → Time x
+unfolding le lt eq plain_zero fits
 time nan f r z = absurd (parts nan r).0
 time (inf true) f r z = absurd (parts (inf true) r).0
 time (inf false) f r z = absurd (parts (inf false) r).1
@@ -130,10 +130,10 @@ unfolding mul
 product x t =
     subst (λ (v : Float). HasValue (mul binary64 v (fin false 1 (pos 4))) false (t.m * up t.e * 16)
     (down t.e * 1)) (sym t.is)
-    (exact-at t.m t.e t.few t.fine t.within)
+    (exact_at t.m t.e t.few t.fine t.within)
 
-few-of : (a d A C : ℕ) → 0 < C → A ≤ 1048576 * C → a * C ≡ A * d → a ≤ 1048576 * d
-few-of a d A C p l h =
+few_of : (a d A C : ℕ) → 0 < C → A ≤ 1048576 * C → a * C ≡ A * d → a ≤ 1048576 * d
+few_of a d A C p l h =
     le_of_mul-le-mul_right (subst (λ (n : ℕ). n ≤ 1048576 * d * C) (sym h)
     (subst (λ (n : ℕ). A * d ≤ n) (mul_right_comm 1048576 C d) (mul-le-mul_right d l))) p
 
@@ -145,7 +145,7 @@ small_cut (fin true m e) A C p l h = absurd (never h.0)
 small_cut (fin false m e) A C p l h =
     le_trans (min-le_left (m * up e / down e) (2 ^ 64 - 1))
     (div-le_of_le-mul (down e) (subst (λ (n : ℕ). m * up e ≤ n) (mul_comm 1048576 (down e))
-    (few-of (m * up e) (down e) A C p l h.1)))
+    (few_of (m * up e) (down e) A C p l h.1)))
 
 pub cut : (y : Float) (A C : ℕ) → 0 < C → A ≤ 1048576 * C → HasValue y false A C → T (lt (fin true 1 (pos 0)) y)
     × T (lt y (fin false 1 (pos 64)))
@@ -155,7 +155,7 @@ cut (inf s) A C p l h = absurd h
 cut (fin true m e) A C p l h = absurd (never h.0)
 cut (fin false m e) A C p l h = (
   lt→ltb 0 (1 * 1 * down e + m * up e * 1) (let d = down_pos e in omega arith),
-  lt→ltb (m * up e * 1) (2 ^ 64 * down e) (let v = few-of (m * up e) (down e) A C p l h.1 in let d = down_pos e
+  lt→ltb (m * up e * 1) (2 ^ 64 * down e) (let v = few_of (m * up e) (down e) A C p l h.1 in let d = down_pos e
       in omega arith),
 )
 
@@ -203,9 +203,9 @@ counted x t =
     small_cut (mul binary64 x (fin false 1 (pos 4))) (t.m * up t.e * 16) (down t.e * 1)
     (mul-pos (down_pos t.e) (lit< tt)) (let w = t.within in omega arith) (product x t)
 
-pub whole-value : (n : ℕ) → n ≤ 1048576 → HasValue (of_int binary64 (pos n)) false n 1
+pub whole_value : (n : ℕ) → n ≤ 1048576 → HasValue (of_int binary64 (pos n)) false n 1
 unfolding of_int
-whole-value n h = round_whole binary64 false n (le_trans h (lit≤ tt))
+whole_value n h = round_whole binary64 false n (le_trans h (lit≤ tt))
 
 pub read_back : (i : ℕ) → i ≤ 1048576 → to_unsigned 64 (of_int binary64 (pos i)) ≡ i
 unfolding in_float

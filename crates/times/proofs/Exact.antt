@@ -8,8 +8,8 @@ use lib.Ieee.Exact.{HasValue}
 use lib.Ieee.Fits.{down_pos}
 use lib.Ieee.Order.{transfer}
 use Rattle.sheets.specs.Network.{Cell}
-use Rattle.times.specs.Signals.{keptTime, cellTime, outputTime, keepBy, keeping, delayed}
-use Rattle.times.specs.Whole.{keepingWhole}
+use Rattle.times.specs.Signals.{kept_time, cell_time, output_time, keep_by, keeping, delayed}
+use Rattle.times.specs.Whole.{keeping_whole}
 use Rattle.times.proofs.Sums.{value, add_at}
 
 -- ---- two reckonings, step by step; R k relates what at most k cells gave
@@ -19,36 +19,36 @@ module _ {A B : Type 0} (R : ℕ → A → B → Type 0) (K : ℕ) (pick : A →
     (more : (k : ℕ) (x : A) (i : B) → R k x i → R (suc k) x i)
     (picks : (k : ℕ) (x y : A) (i j : B) → k ≤ K → R k x i → R k y j → R k (pick x y) (pick' i j))
     (afters : (k : ℕ) (x : A) (i : B) → k < K → R k x i → R (suc k) (after x) (after' i)) where
-  kept-related : (k j : ℕ) (v : ℕ → A) (w : ℕ → B) → k ≤ K → ((t : ℕ) → R k (v t) (w t))
-      → R k (keptTime pick v j) (keptTime pick' w j)
-  unfolding keptTime
-  kept-related k zero v w h r = r 0
-  kept-related k (suc j) v w h r = picks k (keptTime pick v j) (v (suc j)) (keptTime pick' w j) (w (suc j)) h
-      (kept-related k j v w h r) (r (suc j))
+  kept_related : (k j : ℕ) (v : ℕ → A) (w : ℕ → B) → k ≤ K → ((t : ℕ) → R k (v t) (w t))
+      → R k (kept_time pick v j) (kept_time pick' w j)
+  unfolding kept_time
+  kept_related k zero v w h r = r 0
+  kept_related k (suc j) v w h r = picks k (kept_time pick v j) (v (suc j)) (kept_time pick' w j) (w (suc j)) h
+      (kept_related k j v w h r) (r (suc j))
 
-  cell-related : (k : ℕ) (c : Cell) (v : ℕ → A) (w : ℕ → B) → k < K → ((t : ℕ) → R k (v t) (w t))
-      → R (suc k) (cellTime pick after c v) (cellTime pick' after' c w)
-  unfolding cellTime
-  cell-related k c v w h r = afters k _ _ h (kept-related k (length c.signals - 1) (λ j. v (get_or c.signals j 0))
+  cell_related : (k : ℕ) (c : Cell) (v : ℕ → A) (w : ℕ → B) → k < K → ((t : ℕ) → R k (v t) (w t))
+      → R (suc k) (cell_time pick after c v) (cell_time pick' after' c w)
+  unfolding cell_time
+  cell_related k c v w h r = afters k _ _ h (kept_related k (length c.signals - 1) (λ j. v (get_or c.signals j 0))
       (λ j. w (get_or c.signals j 0)) (omega arith) (λ t. r (get_or c.signals t 0)))
 
-  pub output-related : (cs : List Cell) (k i : ℕ) (o : A) (o' : B) (v : ℕ → A) (w : ℕ → B) → k + length cs ≤ K
+  pub output_related : (cs : List Cell) (k i : ℕ) (o : A) (o' : B) (v : ℕ → A) (w : ℕ → B) → k + length cs ≤ K
       → R k o o' → ((t : ℕ) → R k (v t) (w t))
-      → R (k + length cs) (outputTime pick after o i cs v) (outputTime pick' after' o' i cs w)
-  unfolding outputTime
-  output-related [] k i o o' v w h q r = let z : k ≡ k + 0 = omega arith in subst (λ (m : ℕ). R m o o') z q
-  output-related (c ∷ cs) k i o o' v w h q r =
-      let p = cell-related k c v w (omega arith) r in
+      → R (k + length cs) (output_time pick after o i cs v) (output_time pick' after' o' i cs w)
+  unfolding output_time
+  output_related [] k i o o' v w h q r = let z : k ≡ k + 0 = omega arith in subst (λ (m : ℕ). R m o o') z q
+  output_related (c ∷ cs) k i o o' v w h q r =
+      let p = cell_related k c v w (omega arith) r in
       let z : suc k + length cs ≡ k + suc (length cs) = omega arith in
-      subst (λ (m : ℕ). R m (outputTime pick after (cellTime pick after c v) (suc i) cs
-      (λ t. cond (eqb t i) (cellTime pick after c v) (v t)))
-      (outputTime pick' after' (cellTime pick' after' c w) (suc i) cs
-      (λ t. cond (eqb t i) (cellTime pick' after' c w) (w t)))) z
-      (output-related cs (suc k) (suc i) _ _ _ _ (omega arith) p
+      subst (λ (m : ℕ). R m (output_time pick after (cell_time pick after c v) (suc i) cs
+      (λ t. cond (eqb t i) (cell_time pick after c v) (v t)))
+      (output_time pick' after' (cell_time pick' after' c w) (suc i) cs
+      (λ t. cond (eqb t i) (cell_time pick' after' c w) (w t)))) z
+      (output_related cs (suc k) (suc i) _ _ _ _ (omega arith) p
       (λ t. one (eqb t i) (v t) (w t) p (more k (v t) (w t) (r t))))
     where
-      one : (b : Bool) (x : A) (y : B) → R (suc k) (cellTime pick after c v) (cellTime pick' after' c w) → R (suc k) x y
-          → R (suc k) (cond b (cellTime pick after c v) x) (cond b (cellTime pick' after' c w) y)
+      one : (b : Bool) (x : A) (y : B) → R (suc k) (cell_time pick after c v) (cell_time pick' after' c w) → R (suc k) x y
+          → R (suc k) (cond b (cell_time pick after c v) x) (cond b (cell_time pick' after' c w) y)
       one true x y p q = p
       one false x y p q = q
 
@@ -62,15 +62,15 @@ never : true ≡ false → ⊥
 never e = subst T e tt
 
 -- they are compared as the whole numbers are
-same-order : (x y : Float) (i j : ℕ) → HasValue x false i 16 → HasValue y false j 16 → lt x y ≡ ltb i j
+same_order : (x y : Float) (i j : ℕ) → HasValue x false i 16 → HasValue y false j 16 → lt x y ≡ ltb i j
 unfolding lt
-same-order nan y i j h k = absurd h
-same-order (inf s) y i j h k = absurd h
-same-order (fin s m e) nan i j h k = absurd k
-same-order (fin s m e) (inf t) i j h k = absurd k
-same-order (fin true m e) (fin t n d) i j h k = absurd (never h.0)
-same-order (fin false m e) (fin true n d) i j h k = absurd (never k.0)
-same-order (fin false m e) (fin false n d) i j h k = elim (dec_lt i j) [
+same_order nan y i j h k = absurd h
+same_order (inf s) y i j h k = absurd h
+same_order (fin s m e) nan i j h k = absurd k
+same_order (fin s m e) (inf t) i j h k = absurd k
+same_order (fin true m e) (fin t n d) i j h k = absurd (never h.0)
+same_order (fin false m e) (fin true n d) i j h k = absurd (never k.0)
+same_order (fin false m e) (fin false n d) i j h k = elim (dec_lt i j) [
   | yes l ↦ lt-ltb (m * up e * down d) (n * up d * down e)
       (strictly (m * up e) (n * up d) (down e) (down d) i j (down_pos e) (down_pos d) h.1 k.1 l)
       ∙ sym (lt-ltb i j l)
@@ -88,7 +88,7 @@ same-order (fin false m e) (fin false n d) i j h k = elim (dec_lt i j) [
         omega (arith, a, b, c)
 
 picks : (late : Bool) (k : ℕ) (x y : Float) (i j : ℕ) → k ≤ 15 → Exactly k x i → Exactly k y j
-    → Exactly k (keeping late x y) (keepingWhole late i j)
+    → Exactly k (keeping late x y) (keeping_whole late i j)
 unfolding keeping
 picks late k x y i j h p q = go late
   where
@@ -97,9 +97,9 @@ picks late k x y i j h p q = go late
     one b true e = subst (λ (b : Bool). Exactly k (cond b y x) j) (sym e) q
     one b false e = subst (λ (b : Bool). Exactly k (cond b y x) i) (sym e) p
 
-    go : (late : Bool) → Exactly k (keepBy lt late x y) (keepBy ltb late i j)
-    go true = one (lt x y) (ltb i j) (same-order x y i j p.0 q.0)
-    go false = one (lt y x) (ltb j i) (same-order y x j i q.0 p.0)
+    go : (late : Bool) → Exactly k (keep_by lt late x y) (keep_by ltb late i j)
+    go true = one (lt x y) (ltb i j) (same_order x y i j p.0 q.0)
+    go false = one (lt y x) (ltb j i) (same_order y x j i q.0 p.0)
 
 afters : (delay : Float) (d : ℕ) → Exactly 0 delay d → (k : ℕ) (x : Float) (i : ℕ) → k < 15 → Exactly k x i
     → Exactly (suc k) (delayed delay x) (i + d)
@@ -116,11 +116,11 @@ afters delay d e k x i h p = (
 pub exact : (late : Bool) (cs : List Cell) (n : ℕ) (delay : Float) (d : ℕ) (o : Float) (o' : ℕ) (v : ℕ → Float)
     (w : ℕ → ℕ) → length cs ≤ 15
     → Exactly 0 delay d → Exactly 0 o o' → ((t : ℕ) → Exactly 0 (v t) (w t))
-    → Exactly (length cs) (outputTime (keeping late) (delayed delay) o n cs v)
-    (outputTime (keepingWhole late) (λ i. i + d) o' n cs w)
+    → Exactly (length cs) (output_time (keeping late) (delayed delay) o n cs v)
+    (output_time (keeping_whole late) (λ i. i + d) o' n cs w)
 exact late cs n delay d o o' v w l e q r =
     let z : 0 + length cs ≡ length cs = omega arith in
-    subst (λ (m : ℕ). Exactly m (outputTime (keeping late) (delayed delay) o n cs v)
-    (outputTime (keepingWhole late) (λ i. i + d) o' n cs w)) z
-    (output-related Exactly 15 (keeping late) (keepingWhole late) (delayed delay) (λ i. i + d)
+    subst (λ (m : ℕ). Exactly m (output_time (keeping late) (delayed delay) o n cs v)
+    (output_time (keeping_whole late) (λ i. i + d) o' n cs w)) z
+    (output_related Exactly 15 (keeping late) (keeping_whole late) (delayed delay) (λ i. i + d)
     (λ k x i p. (p.0, omega (arith, p.1))) (picks late) (afters delay d e) cs 0 n o o' v w (omega arith) q r)

@@ -8,18 +8,18 @@ use Rattle.bits.specs.Lists.{list_of}
 use Rattle.bits.proofs.Lists.{length-list, list_at}
 use Rattle.sheets.specs.declared.kinds.Edition.{Edition}
 use Rattle.sheets.specs.Record.{cell_of}
-use Rattle.sheets.specs.Sheet.{recordAt, cellsFrom, sheetCells}
+use Rattle.sheets.specs.Sheet.{record_at, cells_from, sheet_cells}
 use Rattle.times.specs.declared.input_time.InputTime.{InputTime}
-use Rattle.times.specs.InputTimes.{zeroTime, timeOf, timeAt, inputTimes}
-use Rattle.times.specs.Signals.{keptTime, cellTime, outputTime}
+use Rattle.times.specs.InputTimes.{zero_time, time_of, time_at, input_times}
+use Rattle.times.specs.Signals.{kept_time, cell_time, output_time}
 
 -- ---- a list of times
 
 module _ {A : Type 0} where
-  pub zeros-at : (k h : ℕ) (z : A) → get_or (replicate k z) h z ≡ z
-  zeros-at zero h z = refl
-  zeros-at (suc k) zero z = refl
-  zeros-at (suc k) (suc h) z = zeros-at k h z
+  pub zeros_at : (k h : ℕ) (z : A) → get_or (replicate k z) h z ≡ z
+  zeros_at zero h z = refl
+  zeros_at (suc k) zero z = refl
+  zeros_at (suc k) (suc h) z = zeros_at k h z
 
   -- one place written
   pub written_at : (l : List A) (t : ℕ) (o z : A) (h : ℕ) → t < length l → get_or (set l t o) h z
@@ -32,23 +32,23 @@ module _ {A : Type 0} where
 
 -- ---- the inputs
 
-pub no-inputs : (late : Bool) (ts : List InputTime) (l : List Float) (k h : ℕ) → l ≡ replicate k zeroTime
-    → get_or l h zeroTime ≡ inputTimes late 0 ts h
-no-inputs late ts l k h q = ap (λ (m : List Float). get_or m h zeroTime) q ∙ zeros-at k h zeroTime
-    ∙ sym (ap (λ (t : Bool). cond t (timeOf late (timeAt ts h)) zeroTime) (le-ltb h 0 (omega arith)))
+pub no_inputs : (late : Bool) (ts : List InputTime) (l : List Float) (k h : ℕ) → l ≡ replicate k zero_time
+    → get_or l h zero_time ≡ input_times late 0 ts h
+no_inputs late ts l k h q = ap (λ (m : List Float). get_or m h zero_time) q ∙ zeros_at k h zero_time
+    ∙ sym (ap (λ (t : Bool). cond t (time_of late (time_at ts h)) zero_time) (le-ltb h 0 (omega arith)))
 
 pub one_input : (late : Bool) (ts : List InputTime) (l : List Float) (j : ℕ) (o : Float) → j < length l → o
-    ≡ timeOf late (timeAt ts j)
-    → ((h : ℕ) → get_or l h zeroTime ≡ inputTimes late j ts h) → (h : ℕ) → get_or (set l j o) h zeroTime
-    ≡ inputTimes late (j + 1) ts h
-one_input late ts l j o k q f h = written_at l j o zeroTime h k ∙ go (eqb h j) refl
+    ≡ time_of late (time_at ts j)
+    → ((h : ℕ) → get_or l h zero_time ≡ input_times late j ts h) → (h : ℕ) → get_or (set l j o) h zero_time
+    ≡ input_times late (j + 1) ts h
+one_input late ts l j o k q f h = written_at l j o zero_time h k ∙ go (eqb h j) refl
   where
-    go : (r : Bool) → eqb h j ≡ r → cond r o (get_or l h zeroTime) ≡ inputTimes late (j + 1) ts h
+    go : (r : Bool) → eqb h j ≡ r → cond r o (get_or l h zero_time) ≡ input_times late (j + 1) ts h
     go true e =
         let p = eqb-true h j e in
-        q ∙ ap (λ (i : ℕ). timeOf late (timeAt ts i)) (sym p)
-        ∙ sym (ap (λ (t : Bool). cond t (timeOf late (timeAt ts h)) zeroTime) (lt-ltb h (j + 1) (omega (arith, p))))
-    go false e = f h ∙ ap (λ (t : Bool). cond t (timeOf late (timeAt ts h)) zeroTime)
+        q ∙ ap (λ (i : ℕ). time_of late (time_at ts i)) (sym p)
+        ∙ sym (ap (λ (t : Bool). cond t (time_of late (time_at ts h)) zero_time) (lt-ltb h (j + 1) (omega (arith, p))))
+    go false e = f h ∙ ap (λ (t : Bool). cond t (time_of late (time_at ts h)) zero_time)
         (same (dec_lt h j) (eqb-false h j e))
       where
         same : Dec (h < j) → (h ≡ j → ⊥) → ltb h j ≡ ltb h (j + 1)
@@ -58,56 +58,56 @@ one_input late ts l j o k q f h = written_at l j o zeroTime h k ∙ go (eqb h j)
 -- ---- a cell
 
 module _ {A : Type 0} (pick : A → A → A) where
-  pub kept-ext : (k : ℕ) (v w : ℕ → A) → ((j : ℕ) → j ≤ k → v j ≡ w j) → keptTime pick v k ≡ keptTime pick w k
-  unfolding keptTime
-  kept-ext zero v w h = h 0 (omega arith)
-  kept-ext (suc k) v w h = ap₂ pick (kept-ext k v w (λ j l. h j (omega arith))) (h (suc k) (omega arith))
+  pub kept_ext : (k : ℕ) (v w : ℕ → A) → ((j : ℕ) → j ≤ k → v j ≡ w j) → kept_time pick v k ≡ kept_time pick w k
+  unfolding kept_time
+  kept_ext zero v w h = h 0 (omega arith)
+  kept_ext (suc k) v w h = ap₂ pick (kept_ext k v w (λ j l. h j (omega arith))) (h (suc k) (omega arith))
 
-  pub kept_more : (k : ℕ) (v : ℕ → A) → 1 ≤ k → pick (keptTime pick v (k - 1)) (v k) ≡ keptTime pick v (k + 1 - 1)
-  unfolding keptTime
+  pub kept_more : (k : ℕ) (v : ℕ → A) → 1 ≤ k → pick (kept_time pick v (k - 1)) (v k) ≡ kept_time pick v (k + 1 - 1)
+  unfolding kept_time
   kept_more zero v h = absurd (omega arith)
   kept_more (suc k) v h =
       let p : suc k - 1 ≡ k = omega arith in
       let q : suc k + 1 - 1 ≡ suc k = omega arith in
-      ap (λ (i : ℕ). pick (keptTime pick v i) (v (suc k))) p ∙ sym (ap (keptTime pick v) q)
+      ap (λ (i : ℕ). pick (kept_time pick v i) (v (suc k))) p ∙ sym (ap (kept_time pick v) q)
 
   -- a record's cell, by its bytes
-  pub cell-at : (after : A → A) (e : Edition) (b : ℕ → ℕ) (v : ℕ → A) → 1 ≤ b 0 → cellTime pick after (cell_of e b) v
-      ≡ after (keptTime pick (λ j. v (b (j + 1))) (b 0 - 1))
-  unfolding cellTime cell_of
-  cell-at after e b v h =
+  pub cell_at_lem : (after : A → A) (e : Edition) (b : ℕ → ℕ) (v : ℕ → A) → 1 ≤ b 0 → cell_time pick after (cell_of e b) v
+      ≡ after (kept_time pick (λ j. v (b (j + 1))) (b 0 - 1))
+  unfolding cell_time cell_of
+  cell_at_lem after e b v h =
       let l = list_of (b 0) (λ j. b (j + 1)) in
-      ap after (ap (λ (k : ℕ). keptTime pick (λ j. v (get_or l j 0)) (k - 1)) (length-list (b 0) (λ j. b (j + 1)))
-      ∙ kept-ext (b 0 - 1) (λ j. v (get_or l j 0)) (λ j. v (b (j + 1)))
+      ap after (ap (λ (k : ℕ). kept_time pick (λ j. v (get_or l j 0)) (k - 1)) (length-list (b 0) (λ j. b (j + 1)))
+      ∙ kept_ext (b 0 - 1) (λ j. v (get_or l j 0)) (λ j. v (b (j + 1)))
       (λ j g. ap v (list_at (b 0) (λ j. b (j + 1)) j 0 (omega arith))))
 
 -- ---- the cells: i of m records are passed, the last of them at o; signal h settles at v h, and what is left gives X
 
 module _ {A : Type 0} (pick : A → A → A) (after : A → A) (e : Edition) (s : List ℕ) (m : ℕ) where
   abbrev pub Passed : A → (n i : ℕ) → A → (ℕ → A) → Type 0
-  Passed X n i o v = X ≡ outputTime pick after o (n + i) (cellsFrom e s i (m - i)) v
+  Passed X n i o v = X ≡ output_time pick after o (n + i) (cells_from e s i (m - i)) v
 
-  pub passed_none : (n : ℕ) (o : A) (v : ℕ → A) → Passed (outputTime pick after o n (sheetCells e s m) v) n 0 o v
+  pub passed_none : (n : ℕ) (o : A) (v : ℕ → A) → Passed (output_time pick after o n (sheet_cells e s m) v) n 0 o v
   passed_none n o v =
       let p : m ≡ m - 0 = omega arith in
       let q : n ≡ n + 0 = omega arith in
-      ap₂ (λ (r i : ℕ). outputTime pick after o i (cellsFrom e s 0 r) v) p q
+      ap₂ (λ (r i : ℕ). output_time pick after o i (cells_from e s 0 r) v) p q
 
-  pub passed-more : (X : A) (n i : ℕ) (o o' : A) (v v' : ℕ → A) → i < m → o'
-      ≡ cellTime pick after (cell_of e (recordAt e s i)) v
+  pub passed_more : (X : A) (n i : ℕ) (o o' : A) (v v' : ℕ → A) → i < m → o'
+      ≡ cell_time pick after (cell_of e (record_at e s i)) v
       → ((h : ℕ) → v' h ≡ cond (eqb h (n + i)) o' (v h)) → Passed X n i o v → Passed X n (i + 1) o' v'
-  unfolding outputTime cellsFrom
-  passed-more X n i o o' v v' l q f g =
+  unfolding output_time cells_from
+  passed_more X n i o o' v v' l q f g =
       let r = m - (i + 1) in
       let p : m - i ≡ suc r = omega arith in
       let t : suc (n + i) ≡ n + (i + 1) = omega arith in
-      g ∙ ap (λ (k : ℕ). outputTime pick after o (n + i) (cellsFrom e s i k) v) p
-      ∙ ap (λ (b : A). outputTime pick after b (suc (n + i)) (cellsFrom e s (suc i) r)
+      g ∙ ap (λ (k : ℕ). output_time pick after o (n + i) (cells_from e s i k) v) p
+      ∙ ap (λ (b : A). output_time pick after b (suc (n + i)) (cells_from e s (suc i) r)
       (λ h. cond (eqb h (n + i)) b (v h))) (sym q)
-      ∙ ap (outputTime pick after o' (suc (n + i)) (cellsFrom e s (suc i) r)) (sym (fun_ext f))
-      ∙ ap₂ (λ (u j : ℕ). outputTime pick after o' u (cellsFrom e s j r) v') t (sym (add-one i))
+      ∙ ap (output_time pick after o' (suc (n + i)) (cells_from e s (suc i) r)) (sym (fun_ext f))
+      ∙ ap₂ (λ (u j : ℕ). output_time pick after o' u (cells_from e s j r) v') t (sym (add-one i))
 
-  pub passed-all : (X : A) (n i : ℕ) (o : A) (v : ℕ → A) → m ≤ i → Passed X n i o v → X ≡ o
-  unfolding outputTime cellsFrom
-  passed-all X n i o v h g = let q : m - i ≡ 0 = omega arith in g
-      ∙ ap (λ (r : ℕ). outputTime pick after o (n + i) (cellsFrom e s i r) v) q
+  pub passed_all : (X : A) (n i : ℕ) (o : A) (v : ℕ → A) → m ≤ i → Passed X n i o v → X ≡ o
+  unfolding output_time cells_from
+  passed_all X n i o v h g = let q : m - i ≡ 0 = omega arith in g
+      ∙ ap (λ (r : ℕ). output_time pick after o (n + i) (cells_from e s i r) v) q

@@ -3,7 +3,7 @@ use Rattle.std.proofs.Common.{◌≡◌, ℕ, zero, suc, ◌*◌, ◌<◌, Bool,
 use mathlib.Core.Bool.{beq}
 use lib.Ieee.{Float, nan, inf, fin, binary64, up, down, eq, of_bits}
 use lib.Ieee.Fits.{up_pos}
-use Rattle.times.specs.InputTimes.{plainZero}
+use Rattle.times.specs.InputTimes.{plain_zero}
 
 apart : (a b : ℕ) (s : Bool) → 0 < a → b ≡ 0 → (eqb a b && (beq s false || eqb a 0)) ≡ true → ⊥
 apart a b s h k e =
@@ -27,15 +27,15 @@ left : (e : ℤ) → 0 * up e * 1 ≡ 0
 left e = ap (λ (n : ℕ). n * 1) (zero-mul (up e))
 
 -- a float that equals 0.0 is plain zero's
-pub zero_test : (x : Float) → eq x (of_bits binary64 0) ≡ true → of_bits binary64 0 ≡ plainZero x
-unfolding eq plainZero of_bits
+pub zero_test : (x : Float) → eq x (of_bits binary64 0) ≡ true → of_bits binary64 0 ≡ plain_zero x
+unfolding eq plain_zero of_bits
 zero_test nan h = absurd (subst T (sym h) tt)
 zero_test (inf s) h = absurd (subst T (sym h) tt)
 zero_test (fin s zero e) h = refl
 zero_test (fin s (suc m) e) h = absurd (apart (suc m * up e * 1) (0 * 1 * down e) s (lift m e) (zero-mul (down e)) h)
 
-pub other_test : (x : Float) → eq x (of_bits binary64 0) ≡ false → x ≡ plainZero x
-unfolding eq plainZero of_bits
+pub other_test : (x : Float) → eq x (of_bits binary64 0) ≡ false → x ≡ plain_zero x
+unfolding eq plain_zero of_bits
 other_test nan h = refl
 other_test (inf s) h = refl
 other_test (fin s zero e) h = absurd (same (0 * up e * 1) (0 * 1 * down e) s (left e) (zero-mul (down e)) h)

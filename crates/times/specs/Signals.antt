@@ -4,33 +4,33 @@ use Rattle.std.specs.Float.Ieee.{add, lt}
 use Rattle.std.specs.Float.{binary64}
 use Rattle.sheets.specs.declared.kinds.Edition.{Edition}
 use Rattle.sheets.specs.Network.{Cell}
-use Rattle.sheets.specs.Sheet.{records, sheetCells}
+use Rattle.sheets.specs.Sheet.{records, sheet_cells}
 use Rattle.times.specs.declared.input_time.InputTime.{InputTime}
-use Rattle.times.specs.InputTimes.{zeroTime, plainZero, inputTimes}
+use Rattle.times.specs.InputTimes.{zero_time, plain_zero, input_times}
 
 -- the one that `pick` keeps of the first k + 1 times
-unfoldable pub keptTime : {A : Type 0} → (A → A → A) → (ℕ → A) → ℕ → A
-keptTime pick v zero = v 0
-keptTime pick v (suc k) = pick (keptTime pick v k) (v (suc k))
+unfoldable pub kept_time : {A : Type 0} → (A → A → A) → (ℕ → A) → ℕ → A
+kept_time pick v zero = v 0
+kept_time pick v (suc k) = pick (kept_time pick v k) (v (suc k))
 
 -- a cell settles the delay after the time that is kept of those of its inputs, where signal s settles at v s
-unfoldable pub cellTime : {A : Type 0} → (A → A → A) → (A → A) → Cell → (ℕ → A) → A
-cellTime pick after c v = after (keptTime pick (λ j. v (slice_index c.signals j)) (length c.signals - 1))
+unfoldable pub cell_time : {A : Type 0} → (A → A → A) → (A → A) → Cell → (ℕ → A) → A
+cell_time pick after c v = after (kept_time pick (λ j. v (slice_index c.signals j)) (length c.signals - 1))
 
 -- the cells in turn, the first of them giving signal i; the last cell's time is the output's
-unfoldable pub outputTime : {A : Type 0} → (A → A → A) → (A → A) → A → ℕ → List Cell → (ℕ → A) → A
-outputTime pick after o i [] v = o
-outputTime pick after o i (c ∷ cs) v =
-    outputTime pick after (cellTime pick after c v) (suc i) cs (λ s. cond (s == i) (cellTime pick after c v) (v s))
+unfoldable pub output_time : {A : Type 0} → (A → A → A) → (A → A) → A → ℕ → List Cell → (ℕ → A) → A
+output_time pick after o i [] v = o
+output_time pick after o i (c ∷ cs) v =
+    output_time pick after (cell_time pick after c v) (suc i) cs (λ s. cond (s == i) (cell_time pick after c v) (v s))
 
 -- of two the greater (late), or the lesser
-abbrev pub keepBy : {A : Type 0} → (A → A → Bool) → Bool → A → A → A
-keepBy less true x y = cond (less x y) y x
-keepBy less false x y = cond (less y x) y x
+abbrev pub keep_by : {A : Type 0} → (A → A → Bool) → Bool → A → A → A
+keep_by less true x y = cond (less x y) y x
+keep_by less false x y = cond (less y x) y x
 
 -- the greatest of the latest times (late) is kept, the least of the earliest
 unfoldable pub keeping : Bool → Float → Float → Float
-keeping = keepBy lt
+keeping = keep_by lt
 
 -- the delay added, rounded once
 abbrev pub delayed : Float → Float → Float
@@ -39,5 +39,5 @@ delayed delay x = add binary64 x delay
 -- the output's latest time (late), or its earliest
 unfoldable pub settled : Bool → Edition → ℕ → List ℕ → Float → List InputTime → Float
 settled late e n s delay ts =
-    outputTime (keeping late) (delayed (plainZero delay)) zeroTime n (sheetCells e s (records e s))
-    (inputTimes late n ts)
+    output_time (keeping late) (delayed (plain_zero delay)) zero_time n (sheet_cells e s (records e s))
+    (input_times late n ts)

@@ -1,9 +1,9 @@
 // An input's time, in nanoseconds.
 ghost use Rattle.std.specs.Prelude.{◌≡◌};
-ghost use Rattle.times.specs.InputTimes.{in_range, plainZero, soundTime, given, timeOf};
+ghost use Rattle.times.specs.InputTimes.{in_range, plain_zero, sound_time, given, time_of};
 
 // Not read; one arrival; an earliest and a latest.
-#[derive(Drop)]
+#[derive(Clone, Copy)]
 pub enum InputTime {
     NotRead,
     Arrival(f64),
@@ -12,7 +12,7 @@ pub enum InputTime {
 
 // A negative zero is taken as zero.
 pub fn plain_zero(x: f64) -> f64
-    ensures { result ≡ plainZero x }
+    ensures { result ≡ plain_zero x }
 {
     if x == 0.0 {
         return 0.0;
@@ -32,7 +32,7 @@ pub fn in_range(x: f64) -> bool
 
 // In range, and not crossed.
 pub fn sound_time(t: InputTime) -> bool
-    ensures { result ≡ soundTime t }
+    ensures { result ≡ sound_time t }
 {
     match t {
         InputTime::NotRead => true,
@@ -61,7 +61,7 @@ pub fn is_given(t: InputTime) -> bool
 
 // The latest time (late), or the earliest; zero where there is none.
 pub fn time_of(late: bool, t: InputTime) -> f64
-    ensures { result ≡ timeOf late t }
+    ensures { result ≡ time_of late t }
 {
     match t {
         InputTime::NotRead => 0.0,

@@ -1,18 +1,18 @@
 // The times of the signals of a sheet, cell by cell.
 ghost use Rattle.std.specs.Prelude.{◌≡◌, ℕ, ◌≤◌, length, get_or, replicate, slice_index_or};
-ghost use Rattle.tables.specs.Table.{mostInputs};
+ghost use Rattle.tables.specs.Table.{most_inputs};
 ghost use Rattle.sheets.specs.Record.{byte_at, cell_of};
-ghost use Rattle.sheets.specs.Sheet.{sheetCells};
-ghost use Rattle.times.specs.InputTimes.{zeroTime, inputTimes};
-ghost use Rattle.times.specs.Reading.{Timeable, Timed, mostSignals};
-ghost use Rattle.times.specs.Signals.{keeping, delayed, cellTime, outputTime};
+ghost use Rattle.sheets.specs.Sheet.{sheet_cells};
+ghost use Rattle.times.specs.InputTimes.{zero_time, input_times};
+ghost use Rattle.times.specs.Reading.{Timeable, Timed, most_signals};
+ghost use Rattle.times.specs.Signals.{keeping, delayed, cell_time, output_time};
 
 use crate::input_time::{InputTime, time_of};
 use records::rules::record_of;
 use sheets::kinds::Edition;
 
 // Signal j settles at the time at place j.
-#[derive(Drop)]
+#[derive(Clone, Copy)]
 pub struct SignalTimes {
     pub times: [f64; SignalTimes::MOST],
 }
@@ -22,7 +22,7 @@ impl SignalTimes {
     pub const MOST: usize = 31;
 
     pub fn zeros() -> SignalTimes
-        ensures { result.times ≡ replicate mostSignals zeroTime }
+        ensures { result.times ≡ replicate most_signals zero_time }
     {
         SignalTimes {
             times: [0.0; SignalTimes::MOST],
@@ -48,8 +48,8 @@ fn keep(late: bool, x: f64, y: f64) -> f64
 
 // The times of n inputs; zero for every other signal.
 pub fn times_of_inputs(late: bool, n: u32, said: [InputTime; 16]) -> SignalTimes
-    requires { n ≤ mostInputs }
-    ensures { (length result.times ≡ mostSignals) × ((j : ℕ) → slice_index_or result.times j zeroTime ≡ inputTimes late n said j) }
+    requires { n ≤ most_inputs }
+    ensures { (length result.times ≡ most_signals) × ((j : ℕ) → slice_index_or result.times j zero_time ≡ input_times late n said j) }
 {
     let inputs = n as usize;
     let mut signals = SignalTimes::zeros();
@@ -63,9 +63,9 @@ pub fn times_of_inputs(late: bool, n: u32, said: [InputTime; 16]) -> SignalTimes
 
 // When the cell of a record settles.
 fn cell_time(e: Edition, b: &[u8], late: bool, delay: f64, signals: SignalTimes) -> f64
-    requires { Timeable e b.now × (length signals.times ≡ mostSignals) }
-    ensures { result ≡ cellTime (keeping late) (delayed delay) (cell_of e (byte_at b.now))
-        (λ t. get_or signals.times t zeroTime) }
+    requires { Timeable e b.now × (length signals.times ≡ most_signals) }
+    ensures { result ≡ cell_time (keeping late) (delayed delay) (cell_of e (byte_at b.now))
+        (λ t. get_or signals.times t zero_time) }
 {
     let k = b[0] as usize;
     let first = b[1] as usize;
@@ -90,9 +90,9 @@ pub fn output_time(
     delay: f64,
     inputs: SignalTimes,
 ) -> f64
-    requires { Timed e s.now m × (n ≤ mostInputs) × (length inputs.times ≡ mostSignals) }
-    ensures { result ≡ outputTime (keeping late) (delayed delay) zeroTime n (sheetCells e s.now m)
-        (λ t. get_or inputs.times t zeroTime) }
+    requires { Timed e s.now m × (n ≤ most_inputs) × (length inputs.times ≡ most_signals) }
+    ensures { result ≡ output_time (keeping late) (delayed delay) zero_time n (sheet_cells e s.now m)
+        (λ t. get_or inputs.times t zero_time) }
 {
     let mut signals = inputs;
     let mut time = 0.0;

@@ -2,16 +2,16 @@
 ghost use Rattle.std.specs.Prelude.{◌≡◌, ◌≤◌, true, false};
 ghost use Rattle.std.specs.Float.Ieee.Exact.{HasValue};
 ghost use Rattle.bits.specs.Below.{every};
-ghost use Rattle.tables.specs.Table.{mostInputs};
-ghost use Rattle.times.specs.InputTimes.{in_range, soundTime, timeAt};
-ghost use Rattle.times.specs.Sixteenths.{sixteenthsOf, inSixteenths, timeInSixteenths, deadlineOk};
+ghost use Rattle.tables.specs.Table.{most_inputs};
+ghost use Rattle.times.specs.InputTimes.{in_range, sound_time, time_at};
+ghost use Rattle.times.specs.Sixteenths.{sixteenths_of, in_sixteenths, time_in_sixteenths, deadline_ok};
 
 use crate::input_time::{InputTime, plain_zero};
 
 // How many sixteenths a time in sixteenths has.
 pub fn count_of(x: f64) -> u64
-    requires { HasValue x false (sixteenthsOf x) 16 × (sixteenthsOf x ≤ 1048576) }
-    ensures { result ≡ sixteenthsOf x }
+    requires { HasValue x false (sixteenths_of x) 16 × (sixteenths_of x ≤ 1048576) }
+    ensures { result ≡ sixteenths_of x }
 {
     std::num::truncating_f64_to_u64(x * 16.0)
 }
@@ -19,7 +19,7 @@ pub fn count_of(x: f64) -> u64
 // Whether a time is a whole number of sixteenths: nothing is lost on the way to a whole number and back.
 pub fn in_sixteenths(x: f64) -> bool
     requires { in_range x ≡ true }
-    ensures { result ≡ inSixteenths x }
+    ensures { result ≡ in_sixteenths x }
 {
     let y = plain_zero(x) * 16.0;
     std::num::nearest_u64_to_f64(std::num::truncating_f64_to_u64(y)) == y
@@ -27,8 +27,8 @@ pub fn in_sixteenths(x: f64) -> bool
 
 // Whether those that are said of an input are.
 fn time_in_sixteenths(t: InputTime) -> bool
-    requires { soundTime t ≡ true }
-    ensures { result ≡ timeInSixteenths t }
+    requires { sound_time t ≡ true }
+    ensures { result ≡ time_in_sixteenths t }
 {
     match t {
         InputTime::NotRead => true,
@@ -44,8 +44,8 @@ fn time_in_sixteenths(t: InputTime) -> bool
 
 // Whether that holds of each of the n inputs.
 pub fn inputs_in_sixteenths(n: u32, times: [InputTime; 16]) -> bool
-    requires { (n ≤ mostInputs) × (every n (λ j. soundTime (timeAt times j)) ≡ true) }
-    ensures { result ≡ every n (λ j. timeInSixteenths (timeAt times j)) }
+    requires { (n ≤ most_inputs) × (every n (λ j. sound_time (time_at times j)) ≡ true) }
+    ensures { result ≡ every n (λ j. time_in_sixteenths (time_at times j)) }
 {
     let inputs = n as usize;
     let mut j = 0;
@@ -60,7 +60,7 @@ pub fn inputs_in_sixteenths(n: u32, times: [InputTime; 16]) -> bool
 
 // Whether a deadline is from -1,048,576 to 1,048,576.
 pub fn deadline_ok(deadline: i64) -> bool
-    ensures { result ≡ deadlineOk deadline }
+    ensures { result ≡ deadline_ok deadline }
 {
     if -1048576 <= deadline {
         return deadline <= 1048576;

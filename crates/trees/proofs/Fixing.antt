@@ -14,12 +14,12 @@ use Rattle.bits.proofs.Numbers.{number_lt, bit-number}
 use Rattle.bits.proofs.Sizes.{size-lt}
 use Rattle.bits.proofs.Members.{Place, place, same_bits}
 use Rattle.tables.specs.Depends.{DependsOn}
-use Rattle.splits.specs.Split.{readsH, Possible}
-use Rattle.splits.specs.Pair.{tableH}
+use Rattle.splits.specs.Split.{reads_h, Possible}
+use Rattle.splits.specs.Pair.{table_h}
 use Rattle.best.specs.Best.{Candidate}
 use Rattle.trees.specs.Tree.{Tree, constant, input, flipped, value, uses}
-use Rattle.trees.proofs.Graft.{graft, Computes, computes-graft}
-use Rattle.trees.proofs.Members.{val-le, nth, nth-rank}
+use Rattle.trees.proofs.Graft.{graft, Computes, computes_graft}
+use Rattle.trees.proofs.Members.{val-le, nth, nth_rank}
 use Rattle.trees.proofs.Pairs as pairs
 use Rattle.trees.proofs.Pairs.{Pair, pair_of}
 
@@ -48,14 +48,14 @@ undone h u v ne = go (h true) (h false) refl refl
     go false false p q = absurd (ne (same u v (p ∙ sym q)))
 
 module _ (n : ℕ) (F : ℕ → Bool) (A B : ℕ) (c : Candidate n 2 1 A B) (Q : Possible n F (bit A) (bit B) 1) where
-  abbrev sH : ℕ → Bool
-  sH = readsH (bit A) (bit B)
+  abbrev s_h : ℕ → Bool
+  s_h = reads_h (bit A) (bit B)
 
   abbrev k : ℕ
-  k = size n (readsH (bit A) (bit B))
+  k = size n (reads_h (bit A) (bit B))
 
   abbrev H : ℕ → Bool
-  H = bit (tableH n F (bit A) (bit B) 1)
+  H = bit (table_h n F (bit A) (bit B) 1)
 
   abbrev a : ℕ
   a = (pair_of n A B c).a
@@ -86,113 +86,113 @@ module _ (n : ℕ) (F : ℕ → Bool) (A B : ℕ) (c : Candidate n 2 1 A B) (Q :
       let w = undone (λ y. D y (bit e.x b)) (bit e.x a) (bit e.y a) differ in
       record { v = bit e.x b; f = w.0; undo = w.1 }
     where
-      b-same : bit e.x b ≡ bit e.y b
-      b-same = e.alike b P.belowB (λ r. P.differ (sym r))
+      b_same : bit e.x b ≡ bit e.y b
+      b_same = e.alike b P.below_b (λ r. P.differ (sym r))
 
       differ : D (bit e.x a) (bit e.x b) ≡ D (bit e.y a) (bit e.x b) → ⊥
       differ q =
           let o : gives e.x ≡ gives e.y =
-          sym (pairs.first_cell n F A B c Q e.x) ∙ q ∙ ap (D (bit e.y a)) b-same
+          sym (pairs.first_cell n F A B c Q e.x) ∙ q ∙ ap (D (bit e.y a)) b_same
           ∙ pairs.first_cell n F A B c Q e.y in
           e.differ (
-          pairs.asked-gives n F A B c Q e.x e.belowX
-          ∙ ap H (pairs.ask-sees n F A B c Q (gives e.x) e.x e.y
+          pairs.asked_gives n F A B c Q e.x e.below_x
+          ∙ ap H (pairs.ask_sees n F A B c Q (gives e.x) e.x e.y
           (λ j l m. e.alike j l (pairs.not_a n F A B c Q j m))
           ∙ ap (ask e.y) o)
-          ∙ sym (pairs.asked-gives n F A B c Q e.y e.belowY))
+          ∙ sym (pairs.asked_gives n F A B c Q e.y e.below_y))
 
   module _ (w : Fixed) where
     -- in place of a H's last input, of b the constant, of another input its number in H
     by : Bool → Bool → ℕ → Tree
-    by is-a is_b p = cond is-a (input w.f k) (cond is_b (constant w.v) (input false (size p sH)))
+    by is-a is_b p = cond is-a (input w.f k) (cond is_b (constant w.v) (input false (size p s_h)))
 
     fixed : ℕ → Tree
     fixed p = by (eqb p a) (eqb p b) p
 
     -- the assignment that H's input y stands for
-    bitBy : Bool → Bool → ℕ → ℕ → Bool
-    bitBy is-a is_b y p = cond is-a (flipped w.f (bit y k)) (cond is_b w.v (bit y (size p sH)))
+    bit_by : Bool → Bool → ℕ → ℕ → Bool
+    bit_by is-a is_b y p = cond is-a (flipped w.f (bit y k)) (cond is_b w.v (bit y (size p s_h)))
 
     point : ℕ → ℕ
-    point y = number n (λ p. bitBy (eqb p a) (eqb p b) y p)
+    point y = number n (λ p. bit_by (eqb p a) (eqb p b) y p)
 
-    point-bit : (y p : ℕ) → p < n → bit (point y) p ≡ bitBy (eqb p a) (eqb p b) y p
+    point_bit : (y p : ℕ) → p < n → bit (point y) p ≡ bit_by (eqb p a) (eqb p b) y p
     unfolding point
-    point-bit y p l = bit-number n (λ p. bitBy (eqb p a) (eqb p b) y p) p l
+    point_bit y p l = bit-number n (λ p. bit_by (eqb p a) (eqb p b) y p) p l
 
     at_a : (y : ℕ) → bit (point y) a ≡ flipped w.f (bit y k)
-    unfolding bitBy
-    at_a y = point-bit y a P.belowA ∙ ap (λ (t : Bool). bitBy t (eqb a b) y a) (eq-eqb a a refl)
+    unfolding bit_by
+    at_a y = point_bit y a P.below_a ∙ ap (λ (t : Bool). bit_by t (eqb a b) y a) (eq-eqb a a refl)
 
     at_b : (y : ℕ) → bit (point y) b ≡ w.v
-    unfolding bitBy
-    at_b y = point-bit y b P.belowB ∙ ap₂ (λ (s t : Bool). bitBy s t y b) (ne_eqb b a (λ z. P.differ (sym z)))
+    unfolding bit_by
+    at_b y = point_bit y b P.below_b ∙ ap₂ (λ (s t : Bool). bit_by s t y b) (ne_eqb b a (λ z. P.differ (sym z)))
         (eq-eqb b b refl)
 
-    at_other : (y p : ℕ) → p < n → sH p ≡ true → bit (point y) p ≡ bit y (size p sH)
-    unfolding bitBy
+    at_other : (y p : ℕ) → p < n → s_h p ≡ true → bit (point y) p ≡ bit y (size p s_h)
+    unfolding bit_by
     at_other y p l e =
-        point-bit y p l
-        ∙ ap₂ (λ (s t : Bool). bitBy s t y p) (ne_eqb p a (pairs.not_a n F A B c Q p e))
-        (ne_eqb p b (pairs.not-b n F A B c Q p e))
+        point_bit y p l
+        ∙ ap₂ (λ (s t : Bool). bit_by s t y p) (ne_eqb p a (pairs.not_a n F A B c Q p e))
+        (ne_eqb p b (pairs.not_b n F A B c Q p e))
 
     -- H is asked there at y
-    point-asked : (y : ℕ) → y < 2 ^ (k + 1) → ask (point y) (gives (point y)) ≡ y
-    point-asked y h =
-        same_bits (k + 1) (ask (point y) (gives (point y))) y (pairs.ask-lt n F A B c Q (point y) (gives (point y))) h
-        (λ q l. ⊎_elim (λ g. old q g (place n sH q g)) (new q) (below_suc {j = q} {n = k} (omega arith)))
+    point_asked : (y : ℕ) → y < 2 ^ (k + 1) → ask (point y) (gives (point y)) ≡ y
+    point_asked y h =
+        same_bits (k + 1) (ask (point y) (gives (point y))) y (pairs.ask_lt n F A B c Q (point y) (gives (point y))) h
+        (λ q l. ⊎_elim (λ g. old q g (place n s_h q g)) (new q) (below_suc {j = q} {n = k} (omega arith)))
       where
-        old : (q : ℕ) → q < k → Place n sH q → bit (ask (point y) (gives (point y))) q ≡ bit y q
+        old : (q : ℕ) → q < k → Place n s_h q → bit (ask (point y) (gives (point y))) q ≡ bit y q
         old q g u =
-            pairs.ask-low n F A B c Q (point y) (gives (point y)) q g u ∙ at_other y u.at u.below u.member
+            pairs.ask_low n F A B c Q (point y) (gives (point y)) q g u ∙ at_other y u.at u.below u.member
             ∙ ap (bit y) u.rank
 
         new : (q : ℕ) → q ≡ k → bit (ask (point y) (gives (point y))) q ≡ bit y q
         new q r =
-            ap (bit (ask (point y) (gives (point y)))) r ∙ pairs.ask-top n F A B c Q (point y) (gives (point y))
+            ap (bit (ask (point y) (gives (point y)))) r ∙ pairs.ask_top n F A B c Q (point y) (gives (point y))
             ∙ sym (pairs.first_cell n F A B c Q (point y)) ∙ ap₂ D (at_a y) (at_b y) ∙ w.undo (bit y k)
             ∙ ap (bit y) (sym r)
 
-    value-at : (y p : ℕ) (s t : Bool) → value (by s t p) (bit y) ≡ bitBy s t y p
-    unfolding by bitBy
-    value-at y p true t = refl
-    value-at y p false true = refl
-    value-at y p false false = refl
+    value_at : (y p : ℕ) (s t : Bool) → value (by s t p) (bit y) ≡ bit_by s t y p
+    unfolding by bit_by
+    value_at y p true t = refl
+    value_at y p false true = refl
+    value_at y p false false = refl
 
-    in-H : (p : ℕ) → p < n → eqb p a ≡ false → eqb p b ≡ false → sH p ≡ true
-    in-H p l e g = pairs.others n F A B c Q p l (eqb-false p a e) (eqb-false p b g)
+    in_H : (p : ℕ) → p < n → eqb p a ≡ false → eqb p b ≡ false → s_h p ≡ true
+    in_H p l e g = pairs.others n F A B c Q p l (eqb-false p a e) (eqb-false p b g)
 
     -- H's input q is read in place of the input that it stands for, the last in place of a
     once : (q p : ℕ) → p < n → (s t : Bool) → eqb p a ≡ s → eqb p b ≡ t → (u : Bool) → eqb q k ≡ u
-        → uses q (by s t p) ≤ val (eqb p (cond u a (nth n sH q)))
+        → uses q (by s t p) ≤ val (eqb p (cond u a (nth n s_h q)))
     unfolding by
     once q p l true t e g true r = val-le (eqb k q) (eqb p a) (λ _. e)
-    once q p l true t e g false r = val-le (eqb k q) (eqb p (nth n sH q))
+    once q p l true t e g false r = val-le (eqb k q) (eqb p (nth n s_h q))
         (λ z. absurd (eqb-false q k r (sym (eqb-true k q z))))
     once q p l false true e g u r = omega arith
     once q p l false false e g true r =
-        val-le (eqb (size p sH) q) (eqb p a) (λ z.
-        absurd (omega (arith, eqb-true (size p sH) q z, eqb-true q k r, size-lt n sH p l (in-H p l e g))))
+        val-le (eqb (size p s_h) q) (eqb p a) (λ z.
+        absurd (omega (arith, eqb-true (size p s_h) q z, eqb-true q k r, size-lt n s_h p l (in_H p l e g))))
     once q p l false false e g false r =
-        val-le (eqb (size p sH) q) (eqb p (nth n sH q)) (λ z.
-        eq-eqb p (nth n sH q) (sym (nth-rank n sH p l (in-H p l e g)) ∙ ap (nth n sH) (eqb-true (size p sH) q z)))
+        val-le (eqb (size p s_h) q) (eqb p (nth n s_h q)) (λ z.
+        eq-eqb p (nth n s_h q) (sym (nth_rank n s_h p l (in_H p l e g)) ∙ ap (nth n s_h) (eqb-true (size p s_h) q z)))
 
     none : (q p : ℕ) → k + 1 ≤ q → p < n → (s t : Bool) → eqb p a ≡ s → eqb p b ≡ t → uses q (by s t p) ≡ 0
     unfolding by
     none q p h l true t e g = ap val (ne_eqb k q (λ z. omega arith))
     none q p h l false true e g = refl
-    none q p h l false false e g = ap val (ne_eqb (size p sH) q (λ z. omega (arith, size-lt n sH p l (in-H p l e g))))
+    none q p h l false false e g = ap val (ne_eqb (size p s_h) q (λ z. omega (arith, size-lt n s_h p l (in_H p l e g))))
 
-    tree-fixed : (t : Tree) → Computes n F t → Computes (k + 1) H (graft fixed t)
+    tree_fixed : (t : Tree) → Computes n F t → Computes (k + 1) H (graft fixed t)
     unfolding fixed point
-    tree-fixed t W =
-        computes-graft n F t W (k + 1) H fixed point (λ q. cond (eqb q k) a (nth n sH q))
-        (λ y p l. value-at y p (eqb p a) (eqb p b) ∙ sym (point-bit y p l))
-        (λ y. number_lt n (λ p. bitBy (eqb p a) (eqb p b) y p))
-        (λ y h. pairs.asked-gives n F A B c Q (point y) (number_lt n (λ p. bitBy (eqb p a) (eqb p b) y p))
-        ∙ ap H (point-asked y h))
+    tree_fixed t W =
+        computes_graft n F t W (k + 1) H fixed point (λ q. cond (eqb q k) a (nth n s_h q))
+        (λ y p l. value_at y p (eqb p a) (eqb p b) ∙ sym (point_bit y p l))
+        (λ y. number_lt n (λ p. bit_by (eqb p a) (eqb p b) y p))
+        (λ y h. pairs.asked_gives n F A B c Q (point y) (number_lt n (λ p. bit_by (eqb p a) (eqb p b) y p))
+        ∙ ap H (point_asked y h))
         (λ q p h l. once q p l (eqb p a) (eqb p b) refl refl (eqb q k) refl)
         (λ q p h l. none q p h l (eqb p a) (eqb p b) refl refl)
 
-  pub tree-fore : (t : Tree) → Computes n F t → DependsOn n F (pair_of n A B c).a → (u : Tree) × Computes (k + 1) H u
-  tree-fore t W e = let w = fixing e in (graft (fixed w) t, tree-fixed w t W)
+  pub tree_fore : (t : Tree) → Computes n F t → DependsOn n F (pair_of n A B c).a → (u : Tree) × Computes (k + 1) H u
+  tree_fore t W e = let w = fixing e in (graft (fixed w) t, tree_fixed w t W)

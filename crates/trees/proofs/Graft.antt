@@ -1,5 +1,5 @@
 -- Trees put in place of a tree's inputs: what the new tree gives, and how often it reads. Every law by which a tree of
--- one table makes a tree of another is an instance of `computes-graft`. Assumes nothing.
+-- one table makes a tree of another is an instance of `computes_graft`. Assumes nothing.
 use mathlib.Core.Path.{◌≡◌, refl, sym, ap, ap₂, ◌∙◌}
 use mathlib.Core.Bool.{Bool, true, false}
 use Prim.Native.Nat.{ℕ, ◌+◌, ◌^◌, ◌<◌, ◌≤◌}
@@ -46,23 +46,23 @@ here : (j : ℕ) → 1 ≤ val (eqb j j)
 here j = omega (arith, ap val (eq-eqb j j refl))
 
 module _ (σ : ℕ → Tree) where
-  pub value-graft : (t : Tree) (v w : ℕ → Bool) → ((j : ℕ) → 1 ≤ uses j t → value (σ j) v ≡ w j) → value (graft σ t) v
+  pub value_graft : (t : Tree) (v w : ℕ → Bool) → ((j : ℕ) → 1 ≤ uses j t → value (σ j) v ≡ w j) → value (graft σ t) v
       ≡ value t w
   unfolding graft
-  value-graft (constant b) v w h = refl
-  value-graft (input f j) v w h = value-flip f (σ j) v ∙ ap (flipped f) (h j (here j))
-  value-graft (node g s t) v w h = ap₂ g (value-graft s v w (λ j l. h j (omega arith)))
-      (value-graft t v w (λ j l. h j (omega arith)))
+  value_graft (constant b) v w h = refl
+  value_graft (input f j) v w h = value-flip f (σ j) v ∙ ap (flipped f) (h j (here j))
+  value_graft (node g s t) v w h = ap₂ g (value_graft s v w (λ j l. h j (omega arith)))
+      (value_graft t v w (λ j l. h j (omega arith)))
 
-  pub uses-graft : (t : Tree) (q k : ℕ) → ((j : ℕ) → 1 ≤ uses j t → uses q (σ j) ≤ val (eqb j k)) → uses q (graft σ t)
+  pub uses_graft : (t : Tree) (q k : ℕ) → ((j : ℕ) → 1 ≤ uses j t → uses q (σ j) ≤ val (eqb j k)) → uses q (graft σ t)
       ≤ uses k t
   unfolding graft
-  uses-graft (constant b) q k h = omega arith
-  uses-graft (input f j) q k h = omega (arith, uses-flip f (σ j) q, h j (here j))
-  uses-graft (node g s t) q k h = omega (
+  uses_graft (constant b) q k h = omega arith
+  uses_graft (input f j) q k h = omega (arith, uses-flip f (σ j) q, h j (here j))
+  uses_graft (node g s t) q k h = omega (
     arith,
-    uses-graft s q k (λ j l. h j (omega arith)),
-    uses-graft t q k
+    uses_graft s q k (λ j l. h j (omega arith)),
+    uses_graft t q k
         (λ j l. h j (omega arith)),
   )
 
@@ -90,17 +90,17 @@ pub read_below : {n : ℕ} {F : ℕ → Bool} {t : Tree} → Computes n F t → 
 read_below {n} W j h = elim (dec_lt j n) [ yes l ↦ l | no l ↦ absurd (omega (arith, W.within j (omega arith))) ]
 
 -- an input that counts is read
-pub counted-read : {n : ℕ} {F : ℕ → Bool} {t : Tree} → Computes n F t → (j : ℕ) → DependsOn n F j → uses j t ≡ 1
-counted-read {n} {F} {t} W j c = elim (dec_lt 0 (uses j t)) [
+pub counted_read : {n : ℕ} {F : ℕ → Bool} {t : Tree} → Computes n F t → (j : ℕ) → DependsOn n F j → uses j t ≡ 1
+counted_read {n} {F} {t} W j c = elim (dec_lt 0 (uses j t)) [
   | yes l ↦ omega (arith, W.most j)
   | no l ↦ absurd (c.differ (
-      sym (W.computes c.x c.belowX)
-      ∙ value-reads t (bit c.x) (bit c.y) (λ i r. c.alike i (read_below W i r) (λ e. l (subst-uses e r)))
-      ∙ W.computes c.y c.belowY))
+      sym (W.computes c.x c.below_x)
+      ∙ value-reads t (bit c.x) (bit c.y) (λ i r. c.alike i (read_below W i r) (λ e. l (subst_uses e r)))
+      ∙ W.computes c.y c.below_y))
 ]
   where
-    subst-uses : {i : ℕ} → i ≡ j → 1 ≤ uses i t → 0 < uses j t
-    subst-uses e r = omega (arith, ap (λ (k : ℕ). uses k t) e)
+    subst_uses : {i : ℕ} → i ≡ j → 1 ≤ uses i t → 0 < uses j t
+    subst_uses e r = omega (arith, ap (λ (k : ℕ). uses k t) e)
 
 -- σ makes a tree of G over m inputs into one of F over n: it stands for the assignment `point x`, and reads input q in
 -- place of input `from q` alone
@@ -111,14 +111,14 @@ module _ (m : ℕ) (G : ℕ → Bool) (t : Tree) (W : Computes m G t) (n : ℕ) 
     (same : (x : ℕ) → x < 2 ^ n → G (point x) ≡ F x)
     (once : (q j : ℕ) → q < n → j < m → uses q (σ j) ≤ val (eqb j (from q)))
     (none : (q j : ℕ) → n ≤ q → j < m → uses q (σ j) ≡ 0) where
-  pub computes-graft : Computes n F (graft σ t)
-  computes-graft = record {
+  pub computes_graft : Computes n F (graft σ t)
+  computes_graft = record {
     most = λ q. elim (dec_lt q n) [
-      | yes l ↦ omega (arith, W.most (from q), uses-graft σ t q (from q) (λ j r. once q j l (read_below W j r)))
+      | yes l ↦ omega (arith, W.most (from q), uses_graft σ t q (from q) (λ j r. once q j l (read_below W j r)))
       | no l ↦ omega (arith, unread q (omega arith))
     ];
     within = unread;
-    computes = λ x l. value-graft σ t (bit x) (bit (point x)) (λ j r. stands x j (read_below W j r))
+    computes = λ x l. value_graft σ t (bit x) (bit (point x)) (λ j r. stands x j (read_below W j r))
         ∙ W.computes (point x) (below x) ∙ same x l;
   }
     where

@@ -10,12 +10,12 @@ use borrow.Author.Tests.{eq-eqb, ne_eqb}
 use Rattle.bits.specs.Numbers.{bit, val, number}
 use Rattle.bits.specs.Sets.{Agree, size, gather}
 use Rattle.bits.proofs.Bools.{clash}
-use Rattle.bits.proofs.Numbers.{val-lt, bit-number, bit-top, number_bit}
+use Rattle.bits.proofs.Numbers.{val-lt, bit-number, bit_top, number_bit}
 use Rattle.bits.proofs.Sizes.{size-lt}
 use Rattle.bits.proofs.Spreading.{gather-lt, gather_ext}
 use Rattle.bits.proofs.Members.{Place, place}
-use Rattle.splits.specs.Split.{readsD, readsH, inputH, Possible}
-use Rattle.splits.specs.Pair.{bitH, tableH}
+use Rattle.splits.specs.Split.{reads_d, reads_h, input_h, Possible}
+use Rattle.splits.specs.Pair.{bit_h, table_h}
 use Rattle.splits.proofs.Asked as asked
 use Rattle.best.specs.Best.{Candidate}
 use Rattle.trees.proofs.Members.{rank_same}
@@ -24,12 +24,12 @@ use Rattle.trees.proofs.Members.{rank_same}
 pub record Pair (n A B : ℕ) : Type 0 where
   pub a : ℕ
   pub b : ℕ
-  pub belowA : a < n
-  pub belowB : b < n
-  pub ownA : bit A a ≡ true
-  pub ownB : bit A b ≡ true
+  pub below_a : a < n
+  pub below_b : b < n
+  pub own_a : bit A a ≡ true
+  pub own_b : bit A b ≡ true
   pub differ : a ≡ b → ⊥
-  pub only : (j : ℕ) → j < n → readsD (bit A) (bit B) j ≡ true → (j ≡ a) ⊎ (j ≡ b)
+  pub only : (j : ℕ) → j < n → reads_d (bit A) (bit B) j ≡ true → (j ≡ a) ⊎ (j ≡ b)
 
 pub pair_of : (n A B : ℕ) → Candidate n 2 1 A B → Pair n A B
 pair_of n A B k = go (place n (bit A) 0 (omega (arith, k.more))) (place n (bit A) 1 (omega (arith, k.more)))
@@ -47,10 +47,10 @@ pair_of n A B k = go (place n (bit A) 0 (omega (arith, k.more))) (place n (bit A
     go p q = record {
       a = p.at;
       b = q.at;
-      belowA = p.below;
-      belowB = q.below;
-      ownA = p.member;
-      ownB = q.member;
+      below_a = p.below;
+      below_b = q.below;
+      own_a = p.member;
+      own_b = q.member;
       differ = λ e. omega (arith, ap (λ (i : ℕ). size i (bit A)) e, p.rank, q.rank);
       only = λ j l e. each j l (own (bit A j) (bit B j) (shared j l) e);
     }
@@ -67,14 +67,14 @@ pair_of n A B k = go (place n (bit A) 0 (omega (arith, k.more))) (place n (bit A
             (zero_one (size j (bit A)) (omega (arith, k.more, k.most, size-lt n (bit A) j l t)))
 
 module _ (n : ℕ) (F : ℕ → Bool) (A B : ℕ) (c : Candidate n 2 1 A B) (Q : Possible n F (bit A) (bit B) 1) where
-  abbrev sH : ℕ → Bool
-  sH = readsH (bit A) (bit B)
+  abbrev s_h : ℕ → Bool
+  s_h = reads_h (bit A) (bit B)
 
   abbrev k : ℕ
-  k = size n (readsH (bit A) (bit B))
+  k = size n (reads_h (bit A) (bit B))
 
   abbrev H : ℕ → Bool
-  H = bit (tableH n F (bit A) (bit B) 1)
+  H = bit (table_h n F (bit A) (bit B) 1)
 
   abbrev P : Pair n A B
   P = pair_of n A B c
@@ -85,37 +85,37 @@ module _ (n : ℕ) (F : ℕ → Bool) (A B : ℕ) (c : Candidate n 2 1 A B) (Q :
   gives x = bit (asked.code n F (bit A) (bit B) c.apart 1 Q x) 0
 
   abbrev pub ask : ℕ → Bool → ℕ
-  ask x d = inputH n (bit A) (bit B) x (val d)
+  ask x d = input_h n (bit A) (bit B) x (val d)
 
-  pub gives-sees : (x y : ℕ) → Agree n (readsD (bit A) (bit B)) x y → gives x ≡ gives y
+  pub gives_sees : (x y : ℕ) → Agree n (reads_d (bit A) (bit B)) x y → gives x ≡ gives y
   unfolding gives
-  gives-sees x y h = ap (λ (m : ℕ). bit m 0) (asked.code-sees n F (bit A) (bit B) c.apart 1 Q x y h)
+  gives_sees x y h = ap (λ (m : ℕ). bit m 0) (asked.code_sees n F (bit A) (bit B) c.apart 1 Q x y h)
 
-  pub ask-sees : (d : Bool) (x y : ℕ) → Agree n sH x y → ask x d ≡ ask y d
-  ask-sees d x y h = ap (λ (g : ℕ). g + val d * 2 ^ k) (gather_ext n sH x y h)
+  pub ask_sees : (d : Bool) (x y : ℕ) → Agree n s_h x y → ask x d ≡ ask y d
+  ask_sees d x y h = ap (λ (g : ℕ). g + val d * 2 ^ k) (gather_ext n s_h x y h)
 
-  pub ask-lt : (x : ℕ) (d : Bool) → ask x d < 2 ^ (k + 1)
-  ask-lt x d = asked.input-lt n F (bit A) (bit B) c.apart 1 Q x (val d) (val-lt d)
+  pub ask_lt : (x : ℕ) (d : Bool) → ask x d < 2 ^ (k + 1)
+  ask_lt x d = asked.input_lt n F (bit A) (bit B) c.apart 1 Q x (val d) (val-lt d)
 
-  pub ask-low : (x : ℕ) (d : Bool) (q : ℕ) → q < k → (w : Place n sH q) → bit (ask x d) q ≡ bit x w.at
-  ask-low x d = asked.input-low n F (bit A) (bit B) c.apart 1 Q x (val d)
+  pub ask_low : (x : ℕ) (d : Bool) (q : ℕ) → q < k → (w : Place n s_h q) → bit (ask x d) q ≡ bit x w.at
+  ask_low x d = asked.input_low n F (bit A) (bit B) c.apart 1 Q x (val d)
 
-  pub ask-top : (x : ℕ) (d : Bool) → bit (ask x d) k ≡ d
-  ask-top x d = bit-top (gather n sH x) d k (gather-lt n sH x)
+  pub ask_top : (x : ℕ) (d : Bool) → bit (ask x d) k ≡ d
+  ask_top x d = bit_top (gather n s_h x) d k (gather-lt n s_h x)
 
-  pub asked-gives : (x : ℕ) → x < 2 ^ n → F x ≡ H (ask x (gives x))
-  unfolding gives number tableH
-  asked-gives x h =
+  pub asked_gives : (x : ℕ) → x < 2 ^ n → F x ≡ H (ask x (gives x))
+  unfolding gives number table_h
+  asked_gives x h =
       let m = asked.code n F (bit A) (bit B) c.apart 1 Q x in
-      let e : m ≡ val (bit m 0) = omega (arith, number_bit 1 m (asked.code-small n F (bit A) (bit B) c.apart 1 Q x))
+      let e : m ≡ val (bit m 0) = omega (arith, number_bit 1 m (asked.code_small n F (bit A) (bit B) c.apart 1 Q x))
       in
       asked.gives n F (bit A) (bit B) c.apart 1 Q x h
-      ∙ ap (λ (d : ℕ). bitH n F (bit A) (bit B) (inputH n (bit A) (bit B) x d)) e
-      ∙ sym (bit-number (2 ^ (k + 1)) (bitH n F (bit A) (bit B)) (ask x (gives x)) (ask-lt x (gives x)))
+      ∙ ap (λ (d : ℕ). bit_h n F (bit A) (bit B) (input_h n (bit A) (bit B) x d)) e
+      ∙ sym (bit-number (2 ^ (k + 1)) (bit_h n F (bit A) (bit B)) (ask x (gives x)) (ask_lt x (gives x)))
 
   -- ---- H reads every input but the two
 
-  own_out : (p : ℕ) → p < n → bit A p ≡ true → sH p ≡ false
+  own_out : (p : ℕ) → p < n → bit A p ≡ true → s_h p ≡ false
   own_out p l e = go (bit A p) (bit B p) (c.apart p l) e
     where
       go : (s t : Bool) → (t ≡ true → s ≡ false) → s ≡ true → (t || not (s || t)) ≡ false
@@ -123,13 +123,13 @@ module _ (n : ℕ) (F : ℕ → Bool) (A B : ℕ) (c : Candidate n 2 1 A B) (Q :
       go true false f e = refl
       go false false f e = sym e
 
-  pub not_a : (p : ℕ) → sH p ≡ true → p ≡ P.a → ⊥
-  not_a p e r = clash e (ap sH r ∙ own_out P.a P.belowA P.ownA)
+  pub not_a : (p : ℕ) → s_h p ≡ true → p ≡ P.a → ⊥
+  not_a p e r = clash e (ap s_h r ∙ own_out P.a P.below_a P.own_a)
 
-  pub not-b : (p : ℕ) → sH p ≡ true → p ≡ P.b → ⊥
-  not-b p e r = clash e (ap sH r ∙ own_out P.b P.belowB P.ownB)
+  pub not_b : (p : ℕ) → s_h p ≡ true → p ≡ P.b → ⊥
+  not_b p e r = clash e (ap s_h r ∙ own_out P.b P.below_b P.own_b)
 
-  pub others : (p : ℕ) → p < n → (p ≡ P.a → ⊥) → (p ≡ P.b → ⊥) → sH p ≡ true
+  pub others : (p : ℕ) → p < n → (p ≡ P.a → ⊥) → (p ≡ P.b → ⊥) → s_h p ≡ true
   others p l f g = go (bit A p) (bit B p) (λ e. ⊎_elim f g (P.only p l e))
     where
       go : (s t : Bool) → ((s || t) ≡ true → ⊥) → (t || not (s || t)) ≡ true
@@ -145,10 +145,10 @@ module _ (n : ℕ) (F : ℕ → Bool) (A B : ℕ) (c : Candidate n 2 1 A B) (Q :
   pub D : Bool → Bool → Bool
   D p q = gives (number n (two p q))
 
-  pub first_cell : (x : ℕ) → D (bit x P.a) (bit x P.b) ≡ gives x
+  pub first_cell_lem : (x : ℕ) → D (bit x P.a) (bit x P.b) ≡ gives x
   unfolding D two
-  first_cell x =
-      gives-sees (number n (two p q)) x (λ j l e. bit-number n (two p q) j l ∙ ⊎_elim (at_a j) (at_b j) (P.only j l e))
+  first_cell_lem x =
+      gives_sees (number n (two p q)) x (λ j l e. bit-number n (two p q) j l ∙ ⊎_elim (at_a j) (at_b j) (P.only j l e))
     where
       p : Bool
       p = bit x P.a

@@ -15,7 +15,7 @@ pub record Joined (t : Tree) : Type 0 where
   pub b : ℕ
   pub differ : a ≡ b → ⊥
   pub read_a : 1 ≤ uses a t
-  pub readB : 1 ≤ uses b t
+  pub read_b : 1 ≤ uses b t
   pub D : Bool → Bool → Bool
   pub H : Bool → (ℕ → Bool) → Bool
   pub others : (e : Bool) (v w : ℕ → Bool) → ((j : ℕ) → (j ≡ a → ⊥) → (j ≡ b → ⊥) → v j ≡ w j) → H e v ≡ H e w
@@ -37,7 +37,7 @@ module _ (s u : Tree) (J : Joined s) (K : Bool → (ℕ → Bool) → Bool) wher
     b = J.b;
     differ = J.differ;
     read_a = omega (arith, J.read_a, reads J.a);
-    readB = omega (arith, J.readB, reads J.b);
+    read_b = omega (arith, J.read_b, reads J.b);
     D = J.D;
     H = λ e v. K (J.H e v) v;
     others = λ e v w h. ap (λ (z : Bool). K z v) (J.others e v w h) ∙ blind (J.H e w) v w h;
@@ -53,12 +53,12 @@ module _ (g : Bool → Bool → Bool) (s t : Tree) (most : (j : ℕ) → uses j 
   left : Joined s → Joined (node g s t)
   left J = inside s (node g s t) J (λ z v. g z (value t v)) (λ j. omega arith)
       (λ z v w h. ap (g z) (value-reads t v w (λ j r. h j (out s t most J.a J.read_a j r)
-      (out s t most J.b J.readB j r)))) (λ v. refl)
+      (out s t most J.b J.read_b j r)))) (λ v. refl)
 
   right : Joined t → Joined (node g s t)
   right J = inside t (node g s t) J (λ z v. g (value s v) z) (λ j. omega arith)
       (λ z v w h. ap (λ (y : Bool). g y z) (value-reads s v w (λ j r. h j (off J.a J.read_a j r)
-      (off J.b J.readB j r)))) (λ v. refl)
+      (off J.b J.read_b j r)))) (λ v. refl)
     where
       off : (a : ℕ) → 1 ≤ uses a t → (j : ℕ) → 1 ≤ uses j s → j ≡ a → ⊥
       off = out t s (λ j. omega (arith, most j))
@@ -71,7 +71,7 @@ module _ (g : Bool → Bool → Bool) (s t : Tree) (most : (j : ℕ) → uses j 
     b = j;
     differ = λ e. apart e;
     read_a = omega arith;
-    readB = omega arith;
+    read_b = omega arith;
     D = λ x y. g (value s (λ k. x)) (value t (λ k. y));
     H = λ e v. e;
     others = λ e v w k. refl;

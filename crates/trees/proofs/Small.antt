@@ -15,9 +15,9 @@ use Rattle.trees.specs.Tree.{Tree, constant, input, node, flipped, TreeOf}
 use Rattle.trees.proofs.Graft.{Computes}
 use Rattle.trees.proofs.Members.{val-le}
 
-pub constant-tree : (n : ℕ) (F : ℕ → Bool) (b : Bool) → ((x : ℕ) → x < 2 ^ n → F x ≡ b) → TreeOf n F (constant b)
-constant-tree n F b is = record {
-  once = λ j l c. absurd (c.differ (is c.x c.belowX ∙ sym (is c.y c.belowY)));
+pub constant_tree : (n : ℕ) (F : ℕ → Bool) (b : Bool) → ((x : ℕ) → x < 2 ^ n → F x ≡ b) → TreeOf n F (constant b)
+constant_tree n F b is = record {
+  once = λ j l c. absurd (c.differ (is c.x c.below_x ∙ sym (is c.y c.below_y)));
   only = λ j f. refl;
   computes = λ x h. sym (is x h);
 }
@@ -25,12 +25,12 @@ constant-tree n F b is = record {
 module _ (n : ℕ) (F : ℕ → Bool) (j : ℕ) (l : j < n) (f : Bool) (is : (x : ℕ) → x < 2 ^ n → F x ≡ flipped f (bit x j))
   where
     -- input j counts: 0 and the assignment that has input j alone differ
-    input-counts : DependsOn n F j
-    input-counts = record {
+    input_counts : DependsOn n F j
+    input_counts = record {
       x = 0;
       y = alone;
-      belowX = pow_pos n;
-      belowY = number_lt n (λ i. eqb i j);
+      below_x = pow_pos n;
+      below_y = number_lt n (λ i. eqb i j);
       alike = λ i h ne. bit-zero i ∙ sym (bit-number n (λ i. eqb i j) i h ∙ ne_eqb i j ne);
       differ = λ e. differ f (
           sym (ap (flipped f) (bit-zero j)) ∙ sym (is 0 (pow_pos n)) ∙ e ∙ is alone (number_lt n (λ i. eqb i j))
@@ -44,23 +44,23 @@ module _ (n : ℕ) (F : ℕ → Bool) (j : ℕ) (l : j < n) (f : Bool) (is : (x 
         differ true e = clash refl e
         differ false e = clash e refl
 
-    pub input-tree : TreeOf n F (input f j)
-    input-tree = record {
+    pub input_tree : TreeOf n F (input f j)
+    input_tree = record {
       once = λ i h c. once i c (eqb j i) refl;
-      only = λ i out. ap val (ne_eqb j i (λ e. out (omega arith) (subst (DependsOn n F) e input-counts)));
+      only = λ i out. ap val (ne_eqb j i (λ e. out (omega arith) (subst (DependsOn n F) e input_counts)));
       computes = λ x h. sym (is x h);
     }
       where
         once : (i : ℕ) → DependsOn n F i → (t : Bool) → eqb j i ≡ t → val t ≡ 1
         once i c true e = refl
         once i c false e =
-            absurd (c.differ (is c.x c.belowX ∙ ap (flipped f) (c.alike j l (eqb-false j i e))
-            ∙ sym (is c.y c.belowY)))
+            absurd (c.differ (is c.x c.below_x ∙ ap (flipped f) (c.alike j l (eqb-false j i e))
+            ∙ sym (is c.y c.below_y)))
 
 -- at most two inputs: a constant or one node
-pub small-tree : (n : ℕ) (F : ℕ → Bool) → n ≤ 2 → (t : Tree) × Computes n F t
+pub small_tree : (n : ℕ) (F : ℕ → Bool) → n ≤ 2 → (t : Tree) × Computes n F t
 unfolding number
-small-tree zero F h = (
+small_tree zero F h = (
   constant (F 0),
   record {
     most = λ j. omega arith;
@@ -69,7 +69,7 @@ small-tree zero F h = (
         in ap F (sym e);
   },
 )
-small-tree (suc zero) F h = (
+small_tree (suc zero) F h = (
   node (λ p q. F (0 + val p * 2 ^ 0)) (input false 0) (constant false),
   record {
     most = λ j. omega (arith, val-le (eqb 0 j) true (λ _. refl));
@@ -77,7 +77,7 @@ small-tree (suc zero) F h = (
     computes = λ x l. ap F (number_bit 1 x l);
   },
 )
-small-tree (suc (suc zero)) F h = (
+small_tree (suc (suc zero)) F h = (
   node (λ p q. F (0 + val p * 2 ^ 0 + val q * 2 ^ 1)) (input false 0) (input false 1),
   record {
     most = most;
@@ -96,4 +96,4 @@ small-tree (suc (suc zero)) F h = (
           ap val
               (ne_eqb 1 (suc (suc j)) (λ e. omega arith)),
         )
-small-tree (suc (suc (suc n))) F h = absurd (omega arith)
+small_tree (suc (suc (suc n))) F h = absurd (omega arith)

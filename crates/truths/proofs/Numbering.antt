@@ -16,9 +16,9 @@ use Rattle.clauses.specs.declared.variables.Variable.{Variable}
 use Rattle.clauses.specs.declared.variables.Variable.TheVariants.{Reads, Many, Differ, Apart, Same}
 use Rattle.clauses.specs.declared.variables.Literal.{Literal}
 use Rattle.clauses.specs.declared.variables.Literal.TheVariants.{Said, Denied}
-use Rattle.clauses.specs.Variables.{signals, readsMany, manyMany, differMany, apartMany}
-use Rattle.clauses.specs.Variables.{differFrom, apartFrom, sameFrom, number_of, Named, literalOf, variableOf}
-use Rattle.truths.specs.Meaning.{isTrue, says, someTrue}
+use Rattle.clauses.specs.Variables.{signals, reads_many, many_many, differ_many, apart_many}
+use Rattle.clauses.specs.Variables.{differ_from, apart_from, same_from, number_of, Named, literal_of, variable_of}
+use Rattle.truths.specs.Meaning.{is_true, says, some_true}
 use Rattle.truths.proofs.OneTrue.{OneTrue, here, next}
 
 -- ---- digits
@@ -36,99 +36,99 @@ fits {a} {n} {b} {k} h l = omega (arith, mul-le-mul_right k h, suc-mul a k)
 digits : (ℕ → ℕ → ℕ → Variable) → ℕ → ℕ → ℕ → Variable
 digits x k l u = x (u / l / k) (u / l % k) (u % l)
 
-digits-back : (x : ℕ → ℕ → ℕ → Variable) (k l a b c : ℕ) → b < k → c < l → digits x k l ((a * k + b) * l + c) ≡ x a b c
+digits_back : (x : ℕ → ℕ → ℕ → Variable) (k l a b c : ℕ) → b < k → c < l → digits x k l ((a * k + b) * l + c) ≡ x a b c
 unfolding digits
-digits-back x k l a b c h g =
+digits_back x k l a b c h g =
     ap₂ (λ (v w : ℕ). x (v / k) (v % k) w) (high (a * k + b) c l g) (low (a * k + b) c l g)
     ∙ ap₂ (λ (v w : ℕ). x v w c) (high a b k h) (low a b k h)
 
 -- ---- the variable with a number
 module _ (z : Size) where
-  abbrev manyAt : ℕ → Variable
-  manyAt = digits Many (signals z + 1) (z.cell + 2)
+  abbrev many_at : ℕ → Variable
+  many_at = digits Many (signals z + 1) (z.cell + 2)
 
-  abbrev differAt : ℕ → Variable
-  differAt = digits Differ z.rows z.rows
+  abbrev differ_at : ℕ → Variable
+  differ_at = digits Differ z.rows z.rows
 
-  abbrev apartAt : ℕ → Variable
-  apartAt = digits (λ w. Apart (w / z.cells) (w % z.cells)) z.rows z.rows
+  abbrev apart_at : ℕ → Variable
+  apart_at = digits (λ w. Apart (w / z.cells) (w % z.cells)) z.rows z.rows
 
-  abbrev sameAt : ℕ → Variable
-  sameAt = digits Same z.inputs (z.cells + 1)
+  abbrev same_at : ℕ → Variable
+  same_at = digits Same z.inputs (z.cells + 1)
 
-  pub variableAt : ℕ → Variable
-  variableAt v =
-      cond (ltb v (readsMany z)) (Reads (v / signals z) (v % signals z))
-      (cond (ltb v (differFrom z)) (manyAt (v - readsMany z))
-      (cond (ltb v (apartFrom z)) (differAt (v - differFrom z))
-      (cond (ltb v (sameFrom z)) (apartAt (v - apartFrom z)) (sameAt (v - sameFrom z)))))
+  pub variable_at : ℕ → Variable
+  variable_at v =
+      cond (ltb v (reads_many z)) (Reads (v / signals z) (v % signals z))
+      (cond (ltb v (differ_from z)) (many_at (v - reads_many z))
+      (cond (ltb v (apart_from z)) (differ_at (v - differ_from z))
+      (cond (ltb v (same_from z)) (apart_at (v - apart_from z)) (same_at (v - same_from z)))))
 
   -- behind the numbers below f
   behind : (f u : ℕ) → f + u - f ≡ u
   behind f u = omega arith
 
-  pub variable-back : (x : Variable) → Named z x → variableAt (number_of z x) ≡ x
-  unfolding variableAt number_of readsMany manyMany differMany apartMany
-  variable-back (Reads i p) e =
-      rw (lt-ltb (i * signals z + p) (readsMany z) (fits e.0 e.1))
+  pub variable_back : (x : Variable) → Named z x → variable_at (number_of z x) ≡ x
+  unfolding variable_at number_of reads_many many_many differ_many apart_many
+  variable_back (Reads i p) e =
+      rw (lt-ltb (i * signals z + p) (reads_many z) (fits e.0 e.1))
       (ap₂ Reads (high i p (signals z) e.1) (low i p (signals z) e.1))
-  variable-back (Many i p t) e =
+  variable_back (Many i p t) e =
       let u = (i * (signals z + 1) + p) * (z.cell + 2) + t in
-      let g : u < manyMany z = fits (fits e.0 e.1) e.2 in
-      rw (le-ltb (readsMany z + u) (readsMany z) (omega arith), lt-ltb (readsMany z + u) (differFrom z) (omega arith))
-      (ap manyAt (behind (readsMany z) u) ∙ digits-back Many (signals z + 1) (z.cell + 2) i p t e.1 e.2)
-  variable-back (Differ i a b) e =
+      let g : u < many_many z = fits (fits e.0 e.1) e.2 in
+      rw (le-ltb (reads_many z + u) (reads_many z) (omega arith), lt-ltb (reads_many z + u) (differ_from z) (omega arith))
+      (ap many_at (behind (reads_many z) u) ∙ digits_back Many (signals z + 1) (z.cell + 2) i p t e.1 e.2)
+  variable_back (Differ i a b) e =
       let u = (i * z.rows + a) * z.rows + b in
-      let v = differFrom z + u in
-      let g : u < differMany z = fits (fits e.0 e.1) e.2 in
+      let v = differ_from z + u in
+      let g : u < differ_many z = fits (fits e.0 e.1) e.2 in
       rw (
-        le-ltb v (readsMany z) (omega arith),
-        le-ltb v (differFrom z) (omega arith),
-        lt-ltb v (apartFrom z) (omega arith),
-      ) (ap differAt (behind (differFrom z) u) ∙ digits-back Differ z.rows z.rows i a b e.1 e.2)
-  variable-back (Apart i j a b) e =
+        le-ltb v (reads_many z) (omega arith),
+        le-ltb v (differ_from z) (omega arith),
+        lt-ltb v (apart_from z) (omega arith),
+      ) (ap differ_at (behind (differ_from z) u) ∙ digits_back Differ z.rows z.rows i a b e.1 e.2)
+  variable_back (Apart i j a b) e =
       let w = i * z.cells + j in
       let u = (w * z.rows + a) * z.rows + b in
-      let v = apartFrom z + u in
-      let g : u < apartMany z = fits (fits (fits e.0 e.1) e.2) e.3 in
+      let v = apart_from z + u in
+      let g : u < apart_many z = fits (fits (fits e.0 e.1) e.2) e.3 in
       rw (
-        le-ltb v (readsMany z) (omega arith),
-        le-ltb v (differFrom z) (omega arith),
-        le-ltb v (apartFrom z) (omega arith),
-        lt-ltb v (sameFrom z) (omega arith),
+        le-ltb v (reads_many z) (omega arith),
+        le-ltb v (differ_from z) (omega arith),
+        le-ltb v (apart_from z) (omega arith),
+        lt-ltb v (same_from z) (omega arith),
       )
-      (ap apartAt (behind (apartFrom z) u)
-      ∙ digits-back (λ w. Apart (w / z.cells) (w % z.cells)) z.rows z.rows w a b e.2 e.3
+      (ap apart_at (behind (apart_from z) u)
+      ∙ digits_back (λ w. Apart (w / z.cells) (w % z.cells)) z.rows z.rows w a b e.2 e.3
       ∙ ap₂ (λ (i j : ℕ). Apart i j a b) (high i j z.cells e.1) (low i j z.cells e.1))
-  variable-back (Same p q i) e =
+  variable_back (Same p q i) e =
       let u = (p * z.inputs + q) * (z.cells + 1) + i in
-      let v = sameFrom z + u in
+      let v = same_from z + u in
       rw (
-        le-ltb v (readsMany z) (omega arith),
-        le-ltb v (differFrom z) (omega arith),
-        le-ltb v (apartFrom z) (omega arith),
-        le-ltb v (sameFrom z) (omega arith),
-      ) (ap sameAt (behind (sameFrom z) u) ∙ digits-back Same z.inputs (z.cells + 1) p q i e.1 e.2)
+        le-ltb v (reads_many z) (omega arith),
+        le-ltb v (differ_from z) (omega arith),
+        le-ltb v (apart_from z) (omega arith),
+        le-ltb v (same_from z) (omega arith),
+      ) (ap same_at (behind (same_from z) u) ∙ digits_back Same z.inputs (z.cells + 1) p q i e.1 e.2)
 
   -- ---- values of variables as values of their numbers
   module _ (h : Variable → Bool) where
     abbrev pub numbered : ℕ → Bool
-    numbered v = h (variableAt v)
+    numbered v = h (variable_at v)
 
-    says_is : (l : Literal) → Named z (variableOf l) → says numbered (literalOf z l) ≡ isTrue h l
+    says_is : (l : Literal) → Named z (variable_of l) → says numbered (literal_of z l) ≡ is_true h l
     says_is (Said x) e =
         let k = number_of z x in
         let a : 2 * k % 2 ≡ 0 = omega arith in
         let b : 2 * k / 2 ≡ k = omega arith in
-        ap₂ (λ (r d : ℕ). flipped (eqb r 1) (numbered d)) a b ∙ ap h (variable-back x e)
+        ap₂ (λ (r d : ℕ). flipped (eqb r 1) (numbered d)) a b ∙ ap h (variable_back x e)
     says_is (Denied x) e =
         let k = number_of z x in
         let a : (2 * k + 1) % 2 ≡ 1 = omega arith in
         let b : (2 * k + 1) / 2 ≡ k = omega arith in
-        ap₂ (λ (r d : ℕ). flipped (eqb r 1) (numbered d)) a b ∙ ap (λ (x : Variable). not (h x)) (variable-back x e)
+        ap₂ (λ (r d : ℕ). flipped (eqb r 1) (numbered d)) a b ∙ ap (λ (x : Variable). not (h x)) (variable_back x e)
 
-    pub one-says : (ls : List Literal) → OneTrue z h ls → someTrue numbered (map (literalOf z) ls) ≡ true
+    pub one-says : (ls : List Literal) → OneTrue z h ls → some_true numbered (map (literal_of z) ls) ≡ true
     one-says (l ∷ ls) (here e t) =
-        or_left (says numbered (literalOf z l)) (someTrue numbered (map (literalOf z) ls)) (says_is l e ∙ t)
+        or_left (says numbered (literal_of z l)) (some_true numbered (map (literal_of z) ls)) (says_is l e ∙ t)
     one-says (l ∷ ls) (next t) =
-        or_right (says numbered (literalOf z l)) (someTrue numbered (map (literalOf z) ls)) (one-says ls t)
+        or_right (says numbered (literal_of z l)) (some_true numbered (map (literal_of z) ls)) (one-says ls t)

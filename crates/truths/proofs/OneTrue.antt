@@ -12,51 +12,51 @@ use Rattle.clauses.specs.declared.variables.Size.{Size}
 use Rattle.clauses.specs.declared.variables.Variable.{Variable}
 use Rattle.clauses.specs.declared.variables.Literal.{Literal}
 use Rattle.clauses.specs.declared.variables.Literal.TheVariants.{Said, Denied}
-use Rattle.clauses.specs.Variables.{Named, variableOf}
+use Rattle.clauses.specs.Variables.{Named, variable_of}
 use Rattle.clauses.specs.Clause.{those}
-use Rattle.truths.specs.Meaning.{isTrue}
+use Rattle.truths.specs.Meaning.{is_true}
 
 module _ (z : Size) (h : Variable → Bool) where
   -- one literal at least is true, and what it names exists
   pub data OneTrue : List Literal → Type 0 where
-    here : {l : Literal} {ls : List Literal} → Named z (variableOf l) → isTrue h l ≡ true → OneTrue (l ∷ ls)
+    here : {l : Literal} {ls : List Literal} → Named z (variable_of l) → is_true h l ≡ true → OneTrue (l ∷ ls)
     next : {l : Literal} {ls : List Literal} → OneTrue ls → OneTrue (l ∷ ls)
 
-  pub true-left : (ls ks : List Literal) → OneTrue ls → OneTrue (ls ++ ks)
-  true-left (l ∷ ls) ks (here a b) = here a b
-  true-left (l ∷ ls) ks (next t) = next (true-left ls ks t)
+  pub true_left : (ls ks : List Literal) → OneTrue ls → OneTrue (ls ++ ks)
+  true_left (l ∷ ls) ks (here a b) = here a b
+  true_left (l ∷ ls) ks (next t) = next (true_left ls ks t)
 
-  pub true-right : (ls ks : List Literal) → OneTrue ks → OneTrue (ls ++ ks)
-  true-right [] ks t = t
-  true-right (l ∷ ls) ks t = next (true-right ls ks t)
+  pub true_right : (ls ks : List Literal) → OneTrue ks → OneTrue (ls ++ ks)
+  true_right [] ks t = t
+  true_right (l ∷ ls) ks t = next (true_right ls ks t)
 
   -- one of the values of f below n
-  pub true-list : (n : ℕ) (f : ℕ → Literal) (j : ℕ) → j < n → Named z (variableOf (f j)) → isTrue h (f j) ≡ true
+  pub true_list : (n : ℕ) (f : ℕ → Literal) (j : ℕ) → j < n → Named z (variable_of (f j)) → is_true h (f j) ≡ true
       → OneTrue (list_of n f)
   unfolding list_of
-  true-list zero f j l a b = absurd (not-suc-le-zero l)
-  true-list (suc n) f j l a b = elim (dec_lt j n) [
-    | yes g ↦ true-left (list_of n f) (f n ∷ []) (true-list n f j g a b)
+  true_list zero f j l a b = absurd (not-suc-le-zero l)
+  true_list (suc n) f j l a b = elim (dec_lt j n) [
+    | yes g ↦ true_left (list_of n f) (f n ∷ []) (true_list n f j g a b)
     | no g ↦ let e : j ≡ n = omega arith in
-        subst (λ (k : ℕ). OneTrue (list_of n f ++ (f k ∷ []))) e (true-right (list_of n f) (f j ∷ []) (here a b))
+        subst (λ (k : ℕ). OneTrue (list_of n f ++ (f k ∷ []))) e (true_right (list_of n f) (f j ∷ []) (here a b))
   ]
 
-  pub true-those : (n : ℕ) (s : ℕ → Bool) (f : ℕ → Literal) (j : ℕ) → j < n → s j ≡ true → Named z (variableOf (f j))
-      → isTrue h (f j) ≡ true → OneTrue (those n s f)
+  pub true_those : (n : ℕ) (s : ℕ → Bool) (f : ℕ → Literal) (j : ℕ) → j < n → s j ≡ true → Named z (variable_of (f j))
+      → is_true h (f j) ≡ true → OneTrue (those n s f)
   unfolding those
-  true-those zero s f j l m a b = absurd (not-suc-le-zero l)
-  true-those (suc n) s f j l m a b = elim (dec_lt j n) [
-    | yes g ↦ old (s n) (true-those n s f j g m a b)
+  true_those zero s f j l m a b = absurd (not-suc-le-zero l)
+  true_those (suc n) s f j l m a b = elim (dec_lt j n) [
+    | yes g ↦ old (s n) (true_those n s f j g m a b)
     | no g ↦ let e : j ≡ n = omega arith in new (s n) (ap s (sym e) ∙ m) e
   ]
     where
       old : (t : Bool) → OneTrue (those n s f) → OneTrue (cond t (those n s f ++ (f n ∷ [])) (those n s f))
-      old true t = true-left (those n s f) (f n ∷ []) t
+      old true t = true_left (those n s f) (f n ∷ []) t
       old false t = t
 
       new : (t : Bool) → t ≡ true → j ≡ n → OneTrue (cond t (those n s f ++ (f n ∷ [])) (those n s f))
       new true m e =
-          subst (λ (k : ℕ). OneTrue (those n s f ++ (f k ∷ []))) e (true-right (those n s f) (f j ∷ []) (here a b))
+          subst (λ (k : ℕ). OneTrue (those n s f ++ (f k ∷ []))) e (true_right (those n s f) (f j ∷ []) (here a b))
       new false m e = absurd (clash m refl)
 
   -- a variable is said or denied

@@ -4,7 +4,7 @@ use Rattle.std.specs.Bool.{beq}
 use Rattle.bits.specs.Numbers.{bit}
 use Rattle.bits.specs.Below.{every, least}
 use Rattle.turning.specs.declared.ways.Way.{Way}
-use Rattle.turning.specs.Ways.{flipped, moved, wayCount}
+use Rattle.turning.specs.Ways.{flipped, moved, way_count}
 
 -- the orders of the inputs as numbers p0 p1 p2, from the least on
 abbrev pub orders : List ℕ
@@ -15,8 +15,8 @@ abbrev pub ordered : Bool → ℕ → ℕ → Way
 ordered flip mask o = record { flip = flip; mask = mask; p0 = o / 100; p1 = o / 10 % 10; p2 = o % 10 }
 
 -- way i
-unfoldable pub wayAt : ℕ → Way
-wayAt i = ordered (eqb (i / 48) 1) (i / 6 % 8) (get_or orders (i % 6) 0)
+unfoldable pub way_at_lem : ℕ → Way
+way_at_lem i = ordered (eqb (i / 48) 1) (i / 6 % 8) (get_or orders (i % 6) 0)
 
 -- whether g at x is f at y, flipped if so said
 abbrev pub agrees : Way → ℕ → ℕ → ℕ → Bool
@@ -27,5 +27,5 @@ unfoldable pub turns : Way → ℕ → ℕ → Bool
 turns w f g = every 8 (agrees w f g)
 
 -- the least i whose way does, and how many ways there are if none does
-unfoldable pub firstWay : ℕ → ℕ → ℕ
-firstWay f g = least wayCount (λ i. turns (wayAt i) f g)
+unfoldable pub first_way_lem : ℕ → ℕ → ℕ
+first_way_lem f g = least way_count (λ i. turns (way_at_lem i) f g)

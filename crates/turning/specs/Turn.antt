@@ -2,28 +2,28 @@
 use Rattle.std.specs.Prelude.{false, not, List, [], ◌∷◌, ℕ}
 use Rattle.refusals.specs.declared.verdicts.Refusal.{Refusal}
 use Rattle.refusals.specs.declared.verdicts.Verdict.TheVariants.{Fine, Refused}
-use Rattle.refusals.specs.Numbers.{ofTurn}
+use Rattle.refusals.specs.Numbers.{of_turn}
 use Rattle.refusals.specs.Lines.{Line, line, verdict, reply}
 use Rattle.turning.specs.declared.turn.TurnAnswer.{TurnAnswer}
-use Rattle.turning.specs.Listing.{wayAt, firstWay}
+use Rattle.turning.specs.Listing.{way_at_lem, first_way_lem}
 use Rattle.turning.specs.Reach.{reaches}
 
 -- 21: no swap and flips turn the first table into the second
-abbrev pub noWay : ℕ → ℕ → Line
-noWay f g = line ofTurn (not (reaches f g))
+abbrev pub no_way : ℕ → ℕ → Line
+no_way f g = line of_turn (not (reaches f g))
 
 -- the call's one line
 abbrev pub turn_lines : ℕ → ℕ → List Line
-turn_lines f g = noWay f g ∷ []
+turn_lines f g = no_way f g ∷ []
 
 -- done: the first way
-abbrev pub turnDone : ℕ → ℕ → TurnAnswer
-turnDone f g = record { verdict = Fine; way = wayAt (firstWay f g) }
+abbrev pub turn_done : ℕ → ℕ → TurnAnswer
+turn_done f g = record { verdict = Fine; way = way_at_lem (first_way_lem f g) }
 
 -- refused: zeros
-abbrev pub turnNot : Refusal → TurnAnswer
-turnNot r = record { verdict = Refused r; way = record { flip = false; mask = 0; p0 = 0; p1 = 0; p2 = 0 } }
+abbrev pub turn_not : Refusal → TurnAnswer
+turn_not r = record { verdict = Refused r; way = record { flip = false; mask = 0; p0 = 0; p1 = 0; p2 = 0 } }
 
 -- what turn is to return, whatever is handed over
-unfoldable pub turnOutcome : ℕ → ℕ → TurnAnswer
-turnOutcome f g = reply (verdict (turn_lines f g)) (turnDone f g) turnNot
+unfoldable pub turn_outcome : ℕ → ℕ → TurnAnswer
+turn_outcome f g = reply (verdict (turn_lines f g)) (turn_done f g) turn_not

@@ -50,5 +50,5 @@ pub record FirstWay (f g : ℕ) (w : Way) : Type 0 where
   pub first : (v : Way) → IsWay v → Turns v f g → (v ≡ w) ⊎ (before w v ≡ true)
 
 -- there are 2 output flips, 8 masks and 6 orders of the inputs
-abbrev pub wayCount : ℕ
-wayCount = 96
+abbrev pub way_count : ℕ
+way_count = 96

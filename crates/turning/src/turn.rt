@@ -1,12 +1,12 @@
 // Turn one three-input table into another.
 ghost use Rattle.std.specs.Prelude.{◌≡◌};
-ghost use Rattle.turning.specs.Turn.{turnOutcome};
+ghost use Rattle.turning.specs.Turn.{turn_outcome};
 
 use crate::ways::{Way, first_way, way_at};
 use refusals::verdicts::{Refusal, Verdict, refuse};
 
 // The first way, if there is one.
-#[derive(Drop)]
+#[derive(Clone, Copy)]
 pub struct TurnAnswer {
     pub verdict: Verdict,
     pub way: Way,
@@ -14,7 +14,7 @@ pub struct TurnAnswer {
 
 // The first way that turns the one table into the other.
 pub fn turn(first: u8, second: u8) -> TurnAnswer
-    ensures { result ≡ turnOutcome first second }
+    ensures { result ≡ turn_outcome first second }
 {
     let i = first_way(first, second);
     if i < 96 {

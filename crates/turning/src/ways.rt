@@ -2,12 +2,12 @@
 ghost use Rattle.std.specs.Prelude.{◌≡◌, ◌<◌};
 ghost use Rattle.std.specs.Bool.{beq};
 ghost use Rattle.bits.specs.Numbers.{bit, val};
-ghost use Rattle.turning.specs.Ways.{flipped, moved, IsWay, wayCount};
-ghost use Rattle.turning.specs.Listing.{wayAt, turns, firstWay};
+ghost use Rattle.turning.specs.Ways.{flipped, moved, IsWay, way_count};
+ghost use Rattle.turning.specs.Listing.{way_at, turns, first_way};
 
 // The second table at x is the first at y, flipped if so said. Bit j of y is bit pj of x, flipped if bit j of the mask
 // is set.
-#[derive(Drop)]
+#[derive(Clone, Copy)]
 pub struct Way {
     pub flip: bool,
     pub mask: u8,
@@ -21,8 +21,8 @@ const ORDERS: [u8; 6] = [12, 21, 102, 120, 201, 210];
 
 // Way i: by the output flip, then the mask, then the order of the inputs.
 pub fn way_at(i: u8) -> Way
-    requires { i < wayCount }
-    ensures { result ≡ wayAt i }
+    requires { i < way_count }
+    ensures { result ≡ way_at i }
 {
     let order = ORDERS[(i % 6) as usize];
     Way {
@@ -96,7 +96,7 @@ fn does_turn(w: Way, f: u8, g: u8) -> bool
 
 // The place of the first way that does, or how many ways there are if none does.
 pub fn first_way(f: u8, g: u8) -> u8
-    ensures { result ≡ firstWay f g }
+    ensures { result ≡ first_way f g }
 {
     let mut i = 0;
     while i < 96 {

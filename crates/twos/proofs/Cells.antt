@@ -18,79 +18,79 @@ use Rattle.bits.proofs.Spreading.{gather-lt, gather_ext}
 use Rattle.bits.proofs.Members.{Place, place, gather-place}
 use Rattle.tables.specs.Depends.{DependsOn}
 use Rattle.tables.specs.Counting.{AllCount}
-use Rattle.splits.specs.Split.{readsD, readsH, Possible}
-use Rattle.splits.specs.Pair.{code_at, tableD, bitH}
-use Rattle.splits.proofs.Few.{column-there, codeAt-gather, pair-gives}
-use Rattle.splits.proofs.Possible.{possible-few}
+use Rattle.splits.specs.Split.{reads_d, reads_h, Possible}
+use Rattle.splits.specs.Pair.{code_at, table_d, bit_h}
+use Rattle.splits.proofs.Few.{column_there, code_at_gather, pair_gives}
+use Rattle.splits.proofs.Possible.{possible_few}
 use Rattle.best.specs.Best.{Candidate}
 use Rattle.best.proofs.Next.{next-counts}
 use Rattle.sheets.specs.Network.{Cell}
 use Rattle.sheets.specs.Reading.{times, reads}
-use Rattle.chains.specs.Chain.{pick, firstCell, nextSignals, nextTable}
+use Rattle.chains.specs.Chain.{pick, first_cell_lem, next_signals, next_table}
 use Rattle.chains.specs.Words.{Makes, ends, goes}
 use Rattle.chains.proofs.Lists.{AllBelow, pick-length}
 use Rattle.chains.proofs.Right.{first_count}
-use Rattle.chains.proofs.One.{next-inputs, next-below}
-use Rattle.trees.proofs.Pairs.{pair_of, not_a, not-b}
+use Rattle.chains.proofs.One.{next-inputs, next_below}
+use Rattle.trees.proofs.Pairs.{pair_of, not_a, not_b}
 use Rattle.printing.proofs.Lengths.{times_none}
 
 -- ---- the first cell depends on both of its inputs
 
 module _ (n : ℕ) (F : ℕ → Bool) (A B : ℕ) (c : Candidate n 2 1 A B) (Q : Possible n F (bit A) (bit B) 1) where
-  abbrev sD : ℕ → Bool
-  sD = readsD (bit A) (bit B)
+  abbrev s_d : ℕ → Bool
+  s_d = reads_d (bit A) (bit B)
 
   abbrev D : ℕ
-  D = tableD n F (bit A) (bit B) 0
+  D = table_d n F (bit A) (bit B) 0
 
   abbrev code : ℕ → ℕ
-  code x = code_at n F (bit A) (bit B) (gather n (readsD (bit A) (bit B)) x)
+  code x = code_at n F (bit A) (bit B) (gather n (reads_d (bit A) (bit B)) x)
 
   -- one bit, which is D's
-  code_is : (x : ℕ) → code x ≡ val (bit D (gather n sD x))
-  unfolding tableD
+  code_is : (x : ℕ) → code x ≡ val (bit D (gather n s_d x))
+  unfolding table_d
   code_is x =
       let small : code x < 2 = omega (
         arith,
-        codeAt-gather n F (bit A) (bit B) x,
-        column-there n F (bit A) (bit B) (gather n (bit B) x) (gather n (bit A) x) (gather-lt n (bit A) x),
-        possible-few n F (bit A) (bit B) c.apart 1 Q (gather n (bit B) x),
+        code_at_gather n F (bit A) (bit B) x,
+        column_there n F (bit A) (bit B) (gather n (bit B) x) (gather n (bit A) x) (gather-lt n (bit A) x),
+        possible_few n F (bit A) (bit B) c.apart 1 Q (gather n (bit B) x),
       ) in
       let whole : code x ≡ code x / 2 ^ 0 % 2 = omega (arith, small) in
       whole ∙ sym (val-bit (code x) 0)
-      ∙ ap val (sym (bit-number (2 ^ size n sD) (λ v. bit (code_at n F (bit A) (bit B) v) 0) (gather n sD x)
-      (gather-lt n sD x)))
+      ∙ ap val (sym (bit-number (2 ^ size n s_d) (λ v. bit (code_at n F (bit A) (bit B) v) 0) (gather n s_d x)
+      (gather-lt n s_d x)))
 
-  own-counts : AllCount n F → (j : ℕ) → j < size n sD → DependsOn (size n sD) (bit D) j
-  own-counts all j h = go (place n sD j h)
+  own_counts : AllCount n F → (j : ℕ) → j < size n s_d → DependsOn (size n s_d) (bit D) j
+  own_counts all j h = go (place n s_d j h)
     where
-      go : Place n sD j → DependsOn (size n sD) (bit D) j
+      go : Place n s_d j → DependsOn (size n s_d) (bit D) j
       go w = from (all w.at w.below)
         where
-          from : DependsOn n F w.at → DependsOn (size n sD) (bit D) j
+          from : DependsOn n F w.at → DependsOn (size n s_d) (bit D) j
           from d = record {
-            x = gather n sD d.x;
-            y = gather n sD d.y;
-            belowX = gather-lt n sD d.x;
-            belowY = gather-lt n sD d.y;
-            alike = λ i l ne. let v = place n sD i l in
-                gather-place n sD d.x i v
-                ∙ d.alike v.at v.below (λ e. ne (sym v.rank ∙ ap (λ (q : ℕ). size q sD) e ∙ w.rank))
-                ∙ sym (gather-place n sD d.y i v);
+            x = gather n s_d d.x;
+            y = gather n s_d d.y;
+            below_x = gather-lt n s_d d.x;
+            below_y = gather-lt n s_d d.y;
+            alike = λ i l ne. let v = place n s_d i l in
+                gather-place n s_d d.x i v
+                ∙ d.alike v.at v.below (λ e. ne (sym v.rank ∙ ap (λ (q : ℕ). size q s_d) e ∙ w.rank))
+                ∙ sym (gather-place n s_d d.y i v);
             differ = λ e. d.differ (same (code_is d.x ∙ ap val e ∙ sym (code_is d.y)));
           }
             where
-              agree : Agree n (readsH (bit A) (bit B)) d.x d.y
+              agree : Agree n (reads_h (bit A) (bit B)) d.x d.y
               agree p l e = d.alike p l (λ q. ⊎_elim (λ r. not_a n F A B c Q p e (q ∙ r))
-                  (λ r. not-b n F A B c Q p e (q ∙ r)) ((pair_of n A B c).only w.at w.below w.member))
+                  (λ r. not_b n F A B c Q p e (q ∙ r)) ((pair_of n A B c).only w.at w.below w.member))
 
               same : code d.x ≡ code d.y → F d.x ≡ F d.y
               same e =
-                  let k = size n (readsH (bit A) (bit B)) in
-                  pair-gives n F (bit A) (bit B) d.x d.belowX
-                  ∙ ap₂ (λ (g i : ℕ). bitH n F (bit A) (bit B) (g + i * 2 ^ k))
-                  (gather_ext n (readsH (bit A) (bit B)) d.x d.y agree) e
-                  ∙ sym (pair-gives n F (bit A) (bit B) d.y d.belowY)
+                  let k = size n (reads_h (bit A) (bit B)) in
+                  pair_gives n F (bit A) (bit B) d.x d.below_x
+                  ∙ ap₂ (λ (g i : ℕ). bit_h n F (bit A) (bit B) (g + i * 2 ^ k))
+                  (gather_ext n (reads_h (bit A) (bit B)) d.x d.y agree) e
+                  ∙ sym (pair_gives n F (bit A) (bit B) d.y d.below_y)
 
 -- ---- each cell of two signals does
 
@@ -107,17 +107,17 @@ makes_both (ends {l = l} {T = T} h) all =
     (λ q j g. subst (λ (m : ℕ). DependsOn m (bit T) j) q (all (omega arith) j (omega arith)), tt)
 makes_both (goes {i = i} {l = l} {T = T} {A = A} {B = B} h b m) all =
     let every = all (omega arith) in
-    let two : size (length l) (readsD (bit A) (bit B)) ≡ 2 =
+    let two : size (length l) (reads_d (bit A) (bit B)) ≡ 2 =
     omega (
       arith,
       first_count l b.candidate,
-      pick-length (length l) (readsD (bit A) (bit B)) l,
+      pick-length (length l) (reads_d (bit A) (bit B)) l,
       b.candidate.more,
       b.candidate.most,
     ) in (
-      λ q j g. subst (λ (k : ℕ). DependsOn k (bit (tableD (length l) (bit T) (bit A) (bit B) 0)) j) two
-          (own-counts (length l) (bit T) A B b.candidate b.possible every j (omega arith)),
-      makes_both m (λ _. subst (λ (k : ℕ). AllCount k (bit (nextTable l T A B))) (sym (next-inputs l A B i))
+      λ q j g. subst (λ (k : ℕ). DependsOn k (bit (table_d (length l) (bit T) (bit A) (bit B) 0)) j) two
+          (own_counts (length l) (bit T) A B b.candidate b.possible every j (omega arith)),
+      makes_both m (λ _. subst (λ (k : ℕ). AllCount k (bit (next_table l T A B))) (sym (next-inputs l A B i))
           (next-counts (length l) 2 (bit T) A B b every)),
     )
 
@@ -156,31 +156,31 @@ pub record ReadOnce (i : ℕ) (l : List ℕ) (cs : List Cell) (x : ℕ) : Type 0
   pub listed : x < i → reads x cs ≤ times x l
   pub given : i ≤ x → reads x cs ≤ 1
 
-pub makes-once : {i : ℕ} {l : List ℕ} {T : ℕ} {cs : List Cell} → Makes 2 i l T cs → AllBelow i l → (x : ℕ)
+pub makes_once : {i : ℕ} {l : List ℕ} {T : ℕ} {cs : List Cell} → Makes 2 i l T cs → AllBelow i l → (x : ℕ)
     → ReadOnce i l cs x
-makes-once (ends {i = i} {l = l} {T = T} h) low x = record
+makes_once (ends {i = i} {l = l} {T = T} h) low x = record
     { listed = λ g. omega arith; given = λ g. omega (arith, times_none l i x low g) }
-makes-once (goes {i = i} {l = l} {T = T} {A = A} {B = B} {cs = cs} h b m) low x =
-    step (makes-once m (next-below A B i l low) x)
+makes_once (goes {i = i} {l = l} {T = T} {A = A} {B = B} {cs = cs} h b m) low x =
+    step (makes_once m (next_below A B i l low) x)
   where
-    apart : (j : ℕ) → j < length l → readsD (bit A) (bit B) j ≡ true → readsH (bit A) (bit B) j ≡ true → ⊥
+    apart : (j : ℕ) → j < length l → reads_d (bit A) (bit B) j ≡ true → reads_h (bit A) (bit B) j ≡ true → ⊥
     apart j g d e =
         ⊎_elim (λ r. not_a (length l) (bit T) A B b.candidate b.possible j e r)
-        (λ r. not-b (length l) (bit T) A B b.candidate b.possible j e r)
+        (λ r. not_b (length l) (bit T) A B b.candidate b.possible j e r)
         ((pair_of (length l) A B b.candidate).only j g d)
 
-    among : times x (pick (length l) (readsD (bit A) (bit B)) l) + times x (pick (length l) (readsH (bit A) (bit B)) l)
+    among : times x (pick (length l) (reads_d (bit A) (bit B)) l) + times x (pick (length l) (reads_h (bit A) (bit B)) l)
         ≤ times x l
     among = omega (
       arith,
-      picked (readsD (bit A) (bit B)) (readsH (bit A) (bit B)) l x (length l) (omega arith) apart,
+      picked (reads_d (bit A) (bit B)) (reads_h (bit A) (bit B)) l x (length l) (omega arith) apart,
       ap (times x) (take-length l),
     )
 
-    next : times x (nextSignals l A B i) ≡ times x (pick (length l) (readsH (bit A) (bit B)) l) + val (eqb x i)
-    next = times_snoc x (pick (length l) (readsH (bit A) (bit B)) l) i
+    next : times x (next_signals l A B i) ≡ times x (pick (length l) (reads_h (bit A) (bit B)) l) + val (eqb x i)
+    next = times_snoc x (pick (length l) (reads_h (bit A) (bit B)) l) i
 
-    step : ReadOnce (suc i) (nextSignals l A B i) cs x → ReadOnce i l (firstCell l T A B ∷ cs) x
+    step : ReadOnce (suc i) (next_signals l A B i) cs x → ReadOnce i l (first_cell_lem l T A B ∷ cs) x
     step r = record {
       listed = λ g. omega (arith, r.listed (omega arith), next, among, ap val (ne_eqb x i (λ q. omega arith)));
       given = λ g. elim (dec_lt i x) [

@@ -15,32 +15,32 @@ use Rattle.bits.proofs.Bools.{clash}
 use Rattle.bits.proofs.Numbers.{val-lt}
 use Rattle.tables.specs.Depends.{DependsOn}
 use Rattle.tables.specs.Counting.{support, kept}
-use Rattle.tables.proofs.Depending.{support-counting}
-use Rattle.tables.proofs.Keeping.{some-kept}
+use Rattle.tables.proofs.Depending.{support_counting}
+use Rattle.tables.proofs.Keeping.{some_kept}
 use Rattle.sheets.specs.declared.kinds.Edition.{Edition}
-use Rattle.sheets.specs.Edition.{firstEdition}
+use Rattle.sheets.specs.Edition.{first_edition}
 use Rattle.sheets.specs.Network.{Cell, Wired, Gives}
 use Rattle.sheets.specs.Writing.{FitsFrom}
 use Rattle.sheets.specs.Reading.{times, reads}
-use Rattle.chains.specs.Chain.{pick, inputs, lastCell, made}
-use Rattle.chains.specs.Aside.{sheetAside}
-use Rattle.chains.proofs.Lists.{inputs-at}
-use Rattle.chains.proofs.Aside.{table-gives, table_fits}
-use Rattle.chains.proofs.FirstReads.{sheet-constant}
+use Rattle.chains.specs.Chain.{pick, inputs, last_cell, made}
+use Rattle.chains.specs.Aside.{sheet_aside}
+use Rattle.chains.proofs.Lists.{inputs_at}
+use Rattle.chains.proofs.Aside.{table_gives, table_fits}
+use Rattle.chains.proofs.FirstReads.{sheet_constant}
 use Rattle.values.specs.Formula.{Formula, letter, constant, negated, joined, counted, join}
 use Rattle.values.specs.Formula as formula
-use Rattle.printing.specs.Forms.{flipsLow, flipsHigh}
-use Rattle.printing.specs.Print.{in_turn, bySides, negated_if, oneFormula, twoFormula, cellFormula, formulaOf}
-use Rattle.printing.proofs.Lengths.{weighed, weighedIn, measured}
+use Rattle.printing.specs.Forms.{flips_low, flips_high}
+use Rattle.printing.specs.Print.{in_turn, by_sides, negated_if, one_formula, two_formula, cell_formula, formula_of}
+use Rattle.printing.proofs.Lengths.{weighed, weighed_in, measured}
 use Rattle.printing.specs.Printable.{AllPlain, Printable}
-use Rattle.printing.proofs.Spelling.{Formed, formula-runs}
-use Rattle.printing.proofs.Turns.{Each, each-signal}
+use Rattle.printing.proofs.Spelling.{Formed, formula_runs}
+use Rattle.printing.proofs.Turns.{Each, each_signal}
 use Rattle.trees.specs.Tree as tree
 use Rattle.trees.specs.Tree.{Tree, uses, TreeOf}
-use Rattle.trees.proofs.Graft.{Computes, counted-read}
+use Rattle.trees.proofs.Graft.{Computes, counted_read}
 use Rattle.twos.specs.TreeOf.{flip, tree_of}
 use Rattle.twos.proofs.Cells.{times_snoc}
-use Rattle.twos.proofs.Printed.{read-once, made-printable}
+use Rattle.twos.proofs.Printed.{read_once, made_printable}
 
 -- ---- a formula's tree
 
@@ -54,13 +54,13 @@ value-flip (tree.input true j) v = twice (v j)
 value-flip (tree.input false j) v = refl
 value-flip (tree.node g s t) v = refl
 
-value-tree : (F : Formula) (x : ℕ) → tree.value (tree_of F) (bit x) ≡ formula.value F x
+value_tree : (F : Formula) (x : ℕ) → tree.value (tree_of F) (bit x) ≡ formula.value F x
 unfolding formula.value
-value-tree (letter j) x = refl
-value-tree (constant b) x = refl
-value-tree (negated F) x = value-flip (tree_of F) (bit x) ∙ ap not (value-tree F x)
-value-tree (joined k F G) x = ap₂ (join k) (value-tree F x) (value-tree G x)
-value-tree (counted a t F) x = absurd a
+value_tree (letter j) x = refl
+value_tree (constant b) x = refl
+value_tree (negated F) x = value-flip (tree_of F) (bit x) ∙ ap not (value_tree F x)
+value_tree (joined k F G) x = ap₂ (join k) (value_tree F x) (value_tree G x)
+value_tree (counted a t F) x = absurd a
 
 -- ---- how often it reads input j
 
@@ -84,11 +84,11 @@ module _ (j : ℕ) where
   one-reads false true f F = omega arith
   one-reads false false f F = omega (arith, flipped-reads f F)
 
-  cell-reads : (l : List ℕ) (t : ℕ) (v : ℕ → Formula) → letters (bySides (constant false) oneFormula twoFormula l t v)
+  cell-reads : (l : List ℕ) (t : ℕ) (v : ℕ → Formula) → letters (by_sides (constant false) one_formula two_formula l t v)
       ≤ 0 + weighed (λ s. letters (v s)) l
   cell-reads [] t v = omega arith
   cell-reads (a ∷ []) t v = omega (arith, one-reads (eqb t 0) (eqb t 3) (eqb t 1) (v a))
-  cell-reads (a ∷ b ∷ l) t v = omega (arith, flipped-reads (flipsLow t) (v a), flipped-reads (flipsHigh t) (v b))
+  cell-reads (a ∷ b ∷ l) t v = omega (arith, flipped-reads (flips_low t) (v a), flipped-reads (flips_high t) (v b))
 
   -- inputs weigh as often as they are read
   list-reads : (l : List ℕ) → weighed (λ s. val (eqb s j)) l ≡ times j l
@@ -99,13 +99,13 @@ module _ (j : ℕ) where
       other true q = sym (eq-eqb j s (sym (eqb-true s j q)))
       other false q = sym (ne_eqb j s (λ e. clash (eq-eqb s j (sym e)) q))
 
-  all-reads : (cs : List Cell) → weighedIn (λ s. val (eqb s j)) cs ≡ reads j cs
-  all-reads [] = refl
-  all-reads (c ∷ cs) = ap₂ (λ (a b : ℕ). a + b) (list-reads c.signals) (all-reads cs)
+  all_reads : (cs : List Cell) → weighed_in (λ s. val (eqb s j)) cs ≡ reads j cs
+  all_reads [] = refl
+  all_reads (c ∷ cs) = ap₂ (λ (a b : ℕ). a + b) (list-reads c.signals) (all_reads cs)
 
-weighs-none : (m : ℕ → ℕ) (l : List ℕ) → ((i : ℕ) → i < length l → m (get_or l i 0) ≡ 0) → weighed m l ≡ 0
-weighs-none m [] h = refl
-weighs-none m (s ∷ l) h = omega (arith, h 0 (omega arith), weighs-none m l (λ i g. h (suc i) (omega arith)))
+weighs_none : (m : ℕ → ℕ) (l : List ℕ) → ((i : ℕ) → i < length l → m (get_or l i 0) ≡ 0) → weighed m l ≡ 0
+weighs_none m [] h = refl
+weighs_none m (s ∷ l) h = omega (arith, h 0 (omega arith), weighs_none m l (λ i g. h (suc i) (omega arith)))
 
 -- the list of kept inputs has each at most once, and no other
 module _ (n : ℕ) (s : ℕ → Bool) (j : ℕ) where
@@ -125,7 +125,7 @@ module _ (n : ℕ) (s : ℕ → Bool) (j : ℕ) where
           all : times j (pick k s (inputs n) ++ (get_or (inputs n) k 0 ∷ [])) ≡ times j (pick k s (inputs n))
               + val (eqb j k)
           all = times_snoc j (pick k s (inputs n)) (get_or (inputs n) k 0)
-              ∙ ap (λ (a : ℕ). times j (pick k s (inputs n)) + val (eqb j a)) (inputs-at n k (omega arith))
+              ∙ ap (λ (a : ℕ). times j (pick k s (inputs n)) + val (eqb j a)) (inputs_at n k (omega arith))
 
           at : (b : Bool) → eqb j k ≡ b → (times j (pick k s (inputs n) ++ (get_or (inputs n) k 0 ∷ [])) ≤ val (s j))
               × (suc k ≤ j → times j (pick k s (inputs n) ++ (get_or (inputs n) k 0 ∷ [])) ≡ 0)
@@ -150,73 +150,73 @@ formed e i [] f p = tt
 formed e i (c ∷ cs) f p = (record { plain = p.0; table = f.0.table }, formed e (suc i) cs f.1 p.1)
 
 -- no letter beyond n
-letters-below : (j n K : ℕ) → n ≤ j → (cs : List Cell) → Wired K n cs → (s : ℕ) → s < n + length cs
-    → uses j (tree_of (formulaOf n cs s)) ≡ 0
-unfolding formulaOf
-letters-below j n K h cs w =
-    each-signal cellFormula (λ c u. false) (λ s F b. uses j (tree_of F) ≡ 0) Any n step K cs n letter (λ s. false)
+letters_below : (j n K : ℕ) → n ≤ j → (cs : List Cell) → Wired K n cs → (s : ℕ) → s < n + length cs
+    → uses j (tree_of (formula_of n cs s)) ≡ 0
+unfolding formula_of
+letters_below j n K h cs w =
+    each_signal cell_formula (λ c u. false) (λ s F b. uses j (tree_of F) ≡ 0) Any n step K cs n letter (λ s. false)
     (omega arith) (any cs) w
     (λ s g. ap val (ne_eqb s j (λ q. omega arith)))
   where
     step : (c : Cell) (i : ℕ) (v : ℕ → Formula) (u : ℕ → Bool) → n ≤ i → Any c
         → ((k : ℕ) → k < length c.signals → get_or c.signals k 0 < i)
-        → ((s : ℕ) → s < i → uses j (tree_of (v s)) ≡ 0) → uses j (tree_of (cellFormula c v)) ≡ 0
+        → ((s : ℕ) → s < i → uses j (tree_of (v s)) ≡ 0) → uses j (tree_of (cell_formula c v)) ≡ 0
     step c i v u low a known free =
         omega (
           arith,
           cell-reads j c.signals c.table v,
-          weighs-none (λ s. uses j (tree_of (v s))) c.signals
+          weighs_none (λ s. uses j (tree_of (v s))) c.signals
               (λ k g. free (get_or c.signals k 0) (known k g)),
         )
 
 -- as many letters j as input j is read
-letters-read : (j n : ℕ) → j < n → (cs : List Cell) → 1 ≤ length cs → Wired 2 n cs → Printable n cs
-    → uses j (tree_of (formulaOf n cs (n + (length cs - 1)))) ≤ reads j cs
-unfolding formulaOf
-letters-read j n h [] some w p = absurd (omega arith)
-letters-read j n h (c ∷ cs) some w p =
+letters_read : (j n : ℕ) → j < n → (cs : List Cell) → 1 ≤ length cs → Wired 2 n cs → Printable n cs
+    → uses j (tree_of (formula_of n cs (n + (length cs - 1)))) ≤ reads j cs
+unfolding formula_of
+letters_read j n h [] some w p = absurd (omega arith)
+letters_read j n h (c ∷ cs) some w p =
     let q : n + length cs ≡ n + (suc (length cs) - 1) = omega arith in
     omega (
       arith,
-      measured 2 cellFormula (λ F. uses j (tree_of F)) 0 (λ c v. cell-reads j c.signals c.table v) cs c n letter w
+      measured 2 cell_formula (λ F. uses j (tree_of F)) 0 (λ c v. cell-reads j c.signals c.table v) cs c n letter w
           p.once
           (λ s g. ap val (ne_eqb s j (λ q. omega arith))),
-      all-reads j (c ∷ cs),
-      ap (λ (x : ℕ). uses j (tree_of (in_turn cellFormula n (c ∷ cs) letter x))) q,
+      all_reads j (c ∷ cs),
+      ap (λ (x : ℕ). uses j (tree_of (in_turn cell_formula n (c ∷ cs) letter x))) q,
     )
 
 -- a constant reads nothing
-constant-reads : (j n : ℕ) (b : Bool) → uses j
-    (tree_of (formulaOf n (lastCell (0 ∷ []) (cond b 3 0) ∷ []) (n + (1 - 1)))) ≡ 0
-unfolding formulaOf in_turn
-constant-reads j n b =
+constant_reads : (j n : ℕ) (b : Bool) → uses j
+    (tree_of (formula_of n (last_cell (0 ∷ []) (cond b 3 0) ∷ []) (n + (1 - 1)))) ≡ 0
+unfolding formula_of in_turn
+constant_reads j n b =
     let q : n + (1 - 1) ≡ n = omega arith in
-    ap (λ (t : Bool). uses j (tree_of (cond t (oneFormula (cond b 3 0) (letter 0)) (letter (n + (1 - 1))))))
+    ap (λ (t : Bool). uses j (tree_of (cond t (one_formula (cond b 3 0) (letter 0)) (letter (n + (1 - 1))))))
     (eq-eqb (n + (1 - 1)) n q) ∙ go b
   where
-    go : (b : Bool) → uses j (tree_of (oneFormula (cond b 3 0) (letter 0))) ≡ 0
+    go : (b : Bool) → uses j (tree_of (one_formula (cond b 3 0) (letter 0))) ≡ 0
     go true = refl
     go false = refl
 
-module _ (n : ℕ) (F : ℕ → Bool) (p : 1 ≤ n) (cs : List Cell) (is : sheetAside n 2 (number (2 ^ n) F) ≡ made cs) where
+module _ (n : ℕ) (F : ℕ → Bool) (p : 1 ≤ n) (cs : List Cell) (is : sheet_aside n 2 (number (2 ^ n) F) ≡ made cs) where
   abbrev t : Tree
-  t = tree_of (formulaOf n cs (n + (length cs - 1)))
+  t = tree_of (formula_of n cs (n + (length cs - 1)))
 
   network : Gives n 2 F cs
-  network = table-gives n 2 F p (omega arith) cs is
+  network = table_gives n 2 F p (omega arith) cs is
 
   some_read : (j : ℕ) → j < n → uses j t ≤ val (bit (kept n F) j)
   some_read j h =
       omega (
         arith,
-        letters-read j n h cs network.some network.wired (made-printable n F p cs is),
-        (read-once n F p
+        letters_read j n h cs network.some network.wired (made_printable n F p cs is),
+        (read_once n F p
             cs is j).listed h,
         (kept-times n (bit (kept n F)) j n (omega arith)).0,
       )
 
   none_read : (j : ℕ) → n ≤ j → uses j t ≡ 0
-  none_read j h = letters-below j n 2 h cs network.wired (n + (length cs - 1)) (omega (arith, network.some))
+  none_read j h = letters_below j n 2 h cs network.wired (n + (length cs - 1)) (omega (arith, network.some))
 
   computes : Computes n F t
   computes = record {
@@ -227,32 +227,32 @@ module _ (n : ℕ) (F : ℕ → Bool) (p : 1 ≤ n) (cs : List Cell) (is : sheet
     ];
     within = none_read;
     computes = λ x h.
-        value-tree (formulaOf n cs (n + (length cs - 1))) x
-        ∙ formula-runs n 2 cs network.wired
-        (formed firstEdition n cs (table_fits n 2 F p (omega arith) cs is firstEdition (omega arith))
-        (made-printable n F p cs is).plain) network.some x
+        value_tree (formula_of n cs (n + (length cs - 1))) x
+        ∙ formula_runs n 2 cs network.wired
+        (formed first_edition n cs (table_fits n 2 F p (omega arith) cs is first_edition (omega arith))
+        (made_printable n F p cs is).plain) network.some x
         ∙ network.gives x h;
   }
 
   -- what doesn't count isn't read
-  not-read : (j : ℕ) → (j < n → DependsOn n F j → ⊥) → uses j t ≡ 0
-  not-read j never = elim (dec_lt j n) [
+  not_read : (j : ℕ) → (j < n → DependsOn n F j → ⊥) → uses j t ≡ 0
+  not_read j never = elim (dec_lt j n) [
     | no h ↦ none_read j (omega arith)
     | yes h ↦ elim (dec_lt 0 (size n (bit (support n F)))) [
-      | yes g ↦ by-kept h (bit (kept n F) j) refl g
-      | no g ↦ flatly (sheet-constant n 2 F p (omega arith) (omega arith))
+      | yes g ↦ by_kept h (bit (kept n F) j) refl g
+      | no g ↦ flatly (sheet_constant n 2 F p (omega arith) (omega arith))
     ]
   ]
     where
-      by-kept : j < n → (b : Bool) → bit (kept n F) j ≡ b → 0 < size n (bit (support n F)) → uses j t ≡ 0
-      by-kept h true q g = absurd (never h (support-counting n F j h
-          (ap (λ (m : ℕ). bit m j) (sym (some-kept n F g)) ∙ q)))
-      by-kept h false q g = omega (arith, some_read j h, ap val q)
+      by_kept : j < n → (b : Bool) → bit (kept n F) j ≡ b → 0 < size n (bit (support n F)) → uses j t ≡ 0
+      by_kept h true q g = absurd (never h (support_counting n F j h
+          (ap (λ (m : ℕ). bit m j) (sym (some_kept n F g)) ∙ q)))
+      by_kept h false q g = omega (arith, some_read j h, ap val q)
 
-      flatly : sheetAside n 2 (number (2 ^ n) F) ≡ made (lastCell (0 ∷ []) (cond (F 0) 3 0) ∷ []) → uses j t ≡ 0
+      flatly : sheet_aside n 2 (number (2 ^ n) F) ≡ made (last_cell (0 ∷ []) (cond (F 0) 3 0) ∷ []) → uses j t ≡ 0
       flatly r =
-          let e : cs ≡ lastCell (0 ∷ []) (cond (F 0) 3 0) ∷ [] = cc (is, r) in
-          ap (λ (ds : List Cell). uses j (tree_of (formulaOf n ds (n + (length ds - 1))))) e ∙ constant-reads j n (F 0)
+          let e : cs ≡ last_cell (0 ∷ []) (cond (F 0) 3 0) ∷ [] = cc (is, r) in
+          ap (λ (ds : List Cell). uses j (tree_of (formula_of n ds (n + (length ds - 1))))) e ∙ constant_reads j n (F 0)
 
-  pub formula-tree : TreeOf n F (tree_of (formulaOf n cs (n + (length cs - 1))))
-  formula-tree = record { once = λ j l c. counted-read computes j c; only = not-read; computes = computes.computes }
+  pub formula_tree : TreeOf n F (tree_of (formula_of n cs (n + (length cs - 1))))
+  formula_tree = record { once = λ j l c. counted_read computes j c; only = not_read; computes = computes.computes }

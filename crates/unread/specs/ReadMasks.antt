@@ -5,5 +5,5 @@ use Rattle.sheets.specs.Network.{Cell}
 use Rattle.sheets.specs.Reading.{reads}
 
 -- bit x says that the cells read signal x
-abbrev pub readMask : List Cell → ℕ
-readMask cs = number 32 (λ x. ltb 0 (reads x cs))
+abbrev pub read_mask : List Cell → ℕ
+read_mask cs = number 32 (λ x. ltb 0 (reads x cs))

@@ -7,13 +7,13 @@ use native.Mathlib.Omega.{arith}
 use lib.Bits.{bit_and, bit_or, bit_xor, and_block, or_block, xor_block}
 use lib.Dec.{ltb}
 use Rattle.bits.specs.Numbers.{bit, val, number}
-use Rattle.bits.proofs.Numbers.{bit_below, bit-number, bit-shr, number-ext, number_lt}
-use Rattle.tables.specs.Words.{gateWord}
-use Rattle.runs.specs.Words.{inputWord}
+use Rattle.bits.proofs.Numbers.{bit_below, bit-number, bit-shr, number_ext, number_lt}
+use Rattle.tables.specs.Words.{gate_word}
+use Rattle.runs.specs.Words.{input_word}
 use Rattle.runs.proofs.Choosing.{first_of}
 use Rattle.values.specs.declared.stretches.Stretch.{Stretch}
 use Rattle.values.specs.Formula.{one_of}
-use Rattle.values.specs.Stretches.{word_of, four, stretchOf, alike, inEach, inBoth, word_in}
+use Rattle.values.specs.Stretches.{word_of, four, stretch_of, alike, in_each, in_both, word_in}
 
 and-val : (s t : Bool) → bit_and (val s) (val t) ≡ val (s && t)
 and-val true true = refl
@@ -85,35 +85,35 @@ words_of : {f g : ℕ → ℕ} → ((i : ℕ) → f i ≡ g i) → (w : ℕ) →
 words_of {f} {g} h w = four-of g w (h (4 * w + 0)) (h (4 * w + 1)) (h (4 * w + 2)) (h (4 * w + 3))
 
 -- a law on words of bits is one on stretches
-pub both-stretch : (op : ℕ → ℕ → ℕ) (b : Bool → Bool → Bool)
+pub both_stretch : (op : ℕ → ℕ → ℕ) (b : Bool → Bool → Bool)
     → ((f g : ℕ → Bool) → op (number 64 f) (number 64 g) ≡ number 64 (λ i. b (f i) (g i)))
-    → (F G : ℕ → Bool) (w : ℕ) → inBoth op (stretchOf F w) (stretchOf G w) ≡ stretchOf (λ x. b (F x) (G x)) w
-unfolding stretchOf
-both-stretch op b h F G w = words_of (λ i. h (λ x. F (64 * i + x)) (λ x. G (64 * i + x))) w
+    → (F G : ℕ → Bool) (w : ℕ) → in_both op (stretch_of F w) (stretch_of G w) ≡ stretch_of (λ x. b (F x) (G x)) w
+unfolding stretch_of
+both_stretch op b h F G w = words_of (λ i. h (λ x. F (64 * i + x)) (λ x. G (64 * i + x))) w
 
-pub not-stretch : (F : ℕ → Bool) (w : ℕ) → inEach (λ x. 2 ^ 64 - 1 - x) (stretchOf F w) ≡ stretchOf (λ x. not (F x)) w
-unfolding stretchOf
-not-stretch F w = words_of (λ i. number-not 64 (λ x. F (64 * i + x))) w
+pub not_stretch : (F : ℕ → Bool) (w : ℕ) → in_each (λ x. 2 ^ 64 - 1 - x) (stretch_of F w) ≡ stretch_of (λ x. not (F x)) w
+unfolding stretch_of
+not_stretch F w = words_of (λ i. number-not 64 (λ x. F (64 * i + x))) w
 
-pub same-stretch : (t : Bool) (x : ℕ) → x ≡ number 64 (λ i. t) → (w : ℕ) → alike x ≡ stretchOf (λ y. t) w
-unfolding stretchOf
-same-stretch t x e w = words_of {f = λ i. x} (λ i. e) w
+pub same_stretch : (t : Bool) (x : ℕ) → x ≡ number 64 (λ i. t) → (w : ℕ) → alike x ≡ stretch_of (λ y. t) w
+unfolding stretch_of
+same_stretch t x e w = words_of {f = λ i. x} (λ i. e) w
 
-pub letter-stretch : (j w : ℕ) → four (inputWord j) w ≡ stretchOf (λ x. bit x j) w
-unfolding stretchOf
-letter-stretch j w = refl
+pub letter_stretch : (j w : ℕ) → four (input_word j) w ≡ stretch_of (λ x. bit x j) w
+unfolding stretch_of
+letter_stretch j w = refl
 
 -- inputs below 8 are alike in all stretches, and the others number the stretches
-pub input-within : (j w i : ℕ) → j < 8 → inputWord j i ≡ inputWord j (4 * w + i)
-input-within j w i h =
-    number-ext 64 (λ x. bit (64 * i + x) j) (λ x. bit (64 * (4 * w + i) + x) j)
+pub input_within : (j w i : ℕ) → j < 8 → input_word j i ≡ input_word j (4 * w + i)
+input_within j w i h =
+    number_ext 64 (λ x. bit (64 * i + x) j) (λ x. bit (64 * (4 * w + i) + x) j)
     (λ x l.
     let q : 64 * i + x + w * 2 ^ 8 ≡ 64 * (4 * w + i) + x = omega arith in
     sym (bit_below (64 * i + x) w 8 j h) ∙ ap (λ (y : ℕ). bit y j) q)
 
-pub input-across : (j w i : ℕ) → 8 ≤ j → i < 4 → inputWord (j - 2) w ≡ inputWord j (4 * w + i)
-input-across j w i h k =
-    number-ext 64 (λ x. bit (64 * w + x) (j - 2)) (λ x. bit (64 * (4 * w + i) + x) j)
+pub input_across : (j w i : ℕ) → 8 ≤ j → i < 4 → input_word (j - 2) w ≡ input_word j (4 * w + i)
+input_across j w i h k =
+    number_ext 64 (λ x. bit (64 * w + x) (j - 2)) (λ x. bit (64 * (4 * w + i) + x) j)
     (λ x l.
     let a : j - 2 ≡ 6 + (j - 8) = omega arith in
     let b : 8 + (j - 8) ≡ j = omega arith in
@@ -121,10 +121,10 @@ input-across j w i h k =
     ap (bit (64 * w + x)) a ∙ sym (bit-shr (64 * w + x) 6 (j - 8)) ∙ ap (λ (y : ℕ). bit y (j - 8)) c
     ∙ bit-shr (64 * (4 * w + i) + x) 8 (j - 8) ∙ ap (bit (64 * (4 * w + i) + x)) b)
 
-pub across : (j w : ℕ) {x : ℕ} → 8 ≤ j → x ≡ inputWord (j - 2) w → alike x ≡ four (inputWord j) w
-across j w h e = four-of (inputWord j) w (e ∙ input-across j w 0 h (omega arith))
-    (e ∙ input-across j w 1 h (omega arith)) (e ∙ input-across j w 2 h (omega arith))
-    (e ∙ input-across j w 3 h (omega arith))
+pub across : (j w : ℕ) {x : ℕ} → 8 ≤ j → x ≡ input_word (j - 2) w → alike x ≡ four (input_word j) w
+across j w h e = four-of (input_word j) w (e ∙ input_across j w 0 h (omega arith))
+    (e ∙ input_across j w 1 h (omega arith)) (e ∙ input_across j w 2 h (omega arith))
+    (e ∙ input_across j w 3 h (omega arith))
 
 -- ---- the words of a stretch
 
@@ -135,17 +135,17 @@ word-of f w (suc (suc zero)) h = refl
 word-of f w (suc (suc (suc zero))) h = refl
 word-of f w (suc (suc (suc (suc k)))) h = absurd (omega arith)
 
-pub word-last : (v : Stretch) (k : ℕ) → (k ≡ 0 → ⊥) → (k ≡ 1 → ⊥) → (k ≡ 2 → ⊥) → v.d ≡ word_in v k
-word-last v zero a b c = absurd (a refl)
-word-last v (suc zero) a b c = absurd (b refl)
-word-last v (suc (suc zero)) a b c = absurd (c refl)
-word-last v (suc (suc (suc k))) a b c = refl
+pub word_last : (v : Stretch) (k : ℕ) → (k ≡ 0 → ⊥) → (k ≡ 1 → ⊥) → (k ≡ 2 → ⊥) → v.d ≡ word_in v k
+word_last v zero a b c = absurd (a refl)
+word_last v (suc zero) a b c = absurd (b refl)
+word_last v (suc (suc zero)) a b c = absurd (c refl)
+word_last v (suc (suc (suc k))) a b c = refl
 
 -- the word of byte i of a table, from the stretch of that byte
-pub table-word : (n i : ℕ) (F : ℕ → Bool) {v : Stretch} {y o : ℕ} → 64 * (i / 8) < 2 ^ n → v ≡ stretchOf F (i / 32) → y
+pub table-word : (n i : ℕ) (F : ℕ → Bool) {v : Stretch} {y o : ℕ} → 64 * (i / 8) < 2 ^ n → v ≡ stretch_of F (i / 32) → y
     ≡ word_in v (i / 8 % 4)
-    → o ≡ number 64 (λ x. ltb x (2 ^ n) && bit y x) → o ≡ gateWord n F (i / 8)
-unfolding stretchOf
+    → o ≡ number 64 (λ x. ltb x (2 ^ n) && bit y x) → o ≡ gate_word n F (i / 8)
+unfolding stretch_of
 table-word n i F {v} {y} {o} l e d f =
     let p : 4 * (i / 32) + i / 8 % 4 ≡ i / 8 = omega arith in
     let a : y ≡ word_of F (i / 8) =

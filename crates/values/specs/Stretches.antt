@@ -12,20 +12,20 @@ abbrev pub four : (ℕ → ℕ) → ℕ → Stretch
 four f w = record { a = f (4 * w + 0); b = f (4 * w + 1); c = f (4 * w + 2); d = f (4 * w + 3) }
 
 -- stretch w of the values F has: those at the 256 assignments from 256 w on
-unfoldable pub stretchOf : (ℕ → Bool) → ℕ → Stretch
-stretchOf F w = four (word_of F) w
+unfoldable pub stretch_of : (ℕ → Bool) → ℕ → Stretch
+stretch_of F w = four (word_of F) w
 
 -- a stretch of four words alike
 abbrev pub alike : ℕ → Stretch
 alike x = record { a = x; b = x; c = x; d = x }
 
 -- f of each word of a stretch
-abbrev pub inEach : (ℕ → ℕ) → Stretch → Stretch
-inEach f v = record { a = f v.a; b = f v.b; c = f v.c; d = f v.d }
+abbrev pub in_each : (ℕ → ℕ) → Stretch → Stretch
+in_each f v = record { a = f v.a; b = f v.b; c = f v.c; d = f v.d }
 
 -- f of each word of a stretch and the one at its place in another
-abbrev pub inBoth : (ℕ → ℕ → ℕ) → Stretch → Stretch → Stretch
-inBoth f v x = record { a = f v.a x.a; b = f v.b x.b; c = f v.c x.c; d = f v.d x.d }
+abbrev pub in_both : (ℕ → ℕ → ℕ) → Stretch → Stretch → Stretch
+in_both f v x = record { a = f v.a x.a; b = f v.b x.b; c = f v.c x.c; d = f v.d x.d }
 
 -- word k of a stretch
 abbrev pub word_in : Stretch → ℕ → ℕ

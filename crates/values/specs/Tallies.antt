@@ -3,7 +3,7 @@ use Rattle.std.specs.Prelude.{◌≡◌, Bool, ℕ, leb}
 use Rattle.std.specs.Int.Bits.{bit_and, bit_or, bit_xor}
 use Rattle.bits.specs.Numbers.{bit, number}
 use Rattle.values.specs.declared.tallies.Tally.{Tally}
-use Rattle.values.specs.Stretches.{stretchOf, alike, inBoth}
+use Rattle.values.specs.Stretches.{stretch_of, alike, in_both}
 use Rattle.values.specs.declared.stretches.Stretch.{Stretch}
 
 -- a stretch of one value
@@ -12,11 +12,11 @@ always b = alike (number 64 (λ i. b))
 
 -- stretch w of the numbers N: their four low bits, and whether they are 16 or more
 pub record Tallies (N : ℕ → ℕ) (w : ℕ) (t : Tally) : Type 0 where
-  pub ones : t.ones ≡ stretchOf (λ x. bit (N x) 0) w
-  pub twos : t.twos ≡ stretchOf (λ x. bit (N x) 1) w
-  pub fours : t.fours ≡ stretchOf (λ x. bit (N x) 2) w
-  pub eights : t.eights ≡ stretchOf (λ x. bit (N x) 3) w
-  pub over : t.over ≡ stretchOf (λ x. leb 16 (N x)) w
+  pub ones : t.ones ≡ stretch_of (λ x. bit (N x) 0) w
+  pub twos : t.twos ≡ stretch_of (λ x. bit (N x) 1) w
+  pub fours : t.fours ≡ stretch_of (λ x. bit (N x) 2) w
+  pub eights : t.eights ≡ stretch_of (λ x. bit (N x) 3) w
+  pub over : t.over ≡ stretch_of (λ x. leb 16 (N x)) w
 
 -- the same number everywhere, below 16
 abbrev pub fixed : ℕ → Tally
@@ -31,14 +31,14 @@ fixed m = record {
 -- one more where v is 1: a carry goes from each bit to the next, and what leaves the highest stays
 abbrev pub raised : Tally → Stretch → Tally
 raised t v =
-    let a = inBoth bit_and t.ones v in
-    let b = inBoth bit_and t.twos a in
-    let c = inBoth bit_and t.fours b in
-    let d = inBoth bit_and t.eights c in
+    let a = in_both bit_and t.ones v in
+    let b = in_both bit_and t.twos a in
+    let c = in_both bit_and t.fours b in
+    let d = in_both bit_and t.eights c in
     record {
-      ones = inBoth bit_xor t.ones v;
-      twos = inBoth bit_xor t.twos a;
-      fours = inBoth bit_xor t.fours b;
-      eights = inBoth bit_xor t.eights c;
-      over = inBoth bit_or t.over d;
+      ones = in_both bit_xor t.ones v;
+      twos = in_both bit_xor t.twos a;
+      fours = in_both bit_xor t.fours b;
+      eights = in_both bit_xor t.eights c;
+      over = in_both bit_or t.over d;
     }

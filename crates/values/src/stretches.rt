@@ -1,13 +1,13 @@
 // Stretches of 256 assignments: four words in a row, whose bits are the values of one formula.
 ghost use Rattle.std.specs.Prelude.{◌≡◌, ◌-◌, ◌^◌, ◌<◌};
 ghost use Rattle.std.specs.Int.Bits.{bit_and, bit_or, bit_xor};
-ghost use Rattle.tables.specs.Table.{mostInputs};
-ghost use Rattle.runs.specs.Words.{inputWord};
-ghost use Rattle.values.specs.Stretches.{alike, four, inEach, inBoth, word_in};
+ghost use Rattle.tables.specs.Table.{most_inputs};
+ghost use Rattle.runs.specs.Words.{input_word};
+ghost use Rattle.values.specs.Stretches.{alike, four, in_each, in_both, word_in};
 
 use runs::words::input_word;
 
-#[derive(Drop)]
+#[derive(Clone, Copy)]
 pub struct Stretch {
     pub a: u64,
     pub b: u64,
@@ -29,8 +29,8 @@ pub fn same(x: u64) -> Stretch
 
 // Stretch w of input j: inputs below 8 change within a stretch, alike in all; the others number stretches.
 pub fn of_input(j: u32, w: u32) -> Stretch
-    requires { j < mostInputs }
-    ensures { result ≡ four (inputWord j) w }
+    requires { j < most_inputs }
+    ensures { result ≡ four (input_word j) w }
 {
     if j < 8 {
         return Stretch {
@@ -45,7 +45,7 @@ pub fn of_input(j: u32, w: u32) -> Stretch
 
 // `!`
 pub fn turned(v: Stretch) -> Stretch
-    ensures { result ≡ inEach (λ x. 2 ^ 64 - 1 - x) v }
+    ensures { result ≡ in_each (λ x. 2 ^ 64 - 1 - x) v }
 {
     Stretch {
         a: !v.a,
@@ -57,7 +57,7 @@ pub fn turned(v: Stretch) -> Stretch
 
 // `&`
 pub fn both(v: Stretch, x: Stretch) -> Stretch
-    ensures { result ≡ inBoth bit_and v x }
+    ensures { result ≡ in_both bit_and v x }
 {
     Stretch {
         a: v.a & x.a,
@@ -69,7 +69,7 @@ pub fn both(v: Stretch, x: Stretch) -> Stretch
 
 // `^`
 pub fn one_of(v: Stretch, x: Stretch) -> Stretch
-    ensures { result ≡ inBoth bit_xor v x }
+    ensures { result ≡ in_both bit_xor v x }
 {
     Stretch {
         a: v.a ^ x.a,
@@ -81,7 +81,7 @@ pub fn one_of(v: Stretch, x: Stretch) -> Stretch
 
 // `|`
 pub fn either(v: Stretch, x: Stretch) -> Stretch
-    ensures { result ≡ inBoth bit_or v x }
+    ensures { result ≡ in_both bit_or v x }
 {
     Stretch {
         a: v.a | x.a,

@@ -6,7 +6,7 @@ ghost use Rattle.values.specs.Tallies.{always, fixed, raised};
 use crate::stretches::{Stretch, both, either, one_of, same};
 
 // The four low bits of the numbers, and where they are 16 or more.
-#[derive(Drop)]
+#[derive(Clone, Copy)]
 pub struct Tally {
     pub ones: Stretch,
     pub twos: Stretch,

@@ -6,27 +6,27 @@ use Prim.Native.Nat.{ℕ, ◌^◌}
 use lib.Bits.{bit_or}
 use Rattle.bits.specs.Numbers.{bit}
 use Rattle.bits.specs.Sets.{Apart}
-use Rattle.tables.specs.Table.{tableBit}
-use Rattle.splits.specs.Columns.{fewColumns}
+use Rattle.tables.specs.Table.{table_bit}
+use Rattle.splits.specs.Columns.{few_columns}
 use Rattle.witness.specs.Witness.{RulesOut}
 use Rattle.known.specs.Notes.{Learned, StaysLearned, Meets}
-use Rattle.known.proofs.Keeping.{meets-fails}
+use Rattle.known.proofs.Keeping.{meets_fails}
 use Rattle.walks.specs.Known.{Known}
 
 module _ {n r : ℕ} {t notes left : List ℕ} (w : Known n r t notes) where
   -- only the notes have changed, and they say what is true
-  known-left : Learned n (tableBit t) (2 ^ r) left → Known n r t left
-  known-left l = record { most = w.most; first = w.first; long = w.long; learned = l }
+  known_left : Learned n (table_bit t) (2 ^ r) left → Known n r t left
+  known_left l = record { most = w.most; first = w.first; long = w.long; learned = l }
 
-  pub still-known : StaysLearned notes left → Known n r t left
-  still-known keeps = known-left (keeps n (2 ^ r) (tableBit t) w.learned)
+  pub still_known : StaysLearned notes left → Known n r t left
+  still_known keeps = known_left (keeps n (2 ^ r) (table_bit t) w.learned)
 
   -- what rules out p own and q free was kept; where it meets the pair of masks, the pair is none
-  pub learned-one : (m p q own shared : ℕ) (met : Bool) → m ≡ 2 ^ r → RulesOut n (tableBit t) m (bit p) (bit q)
+  pub learned_one : (m p q own shared : ℕ) (met : Bool) → m ≡ 2 ^ r → RulesOut n (table_bit t) m (bit p) (bit q)
       → ((n m : ℕ) (F : ℕ → Bool) → Learned n F m notes → RulesOut n F m (bit p) (bit q) → Learned n F m left)
       → Apart n (bit own) (bit shared) → (met ≡ true → Meets p q own (bit_or own shared))
-      → (met ≡ true → fewColumns n (tableBit t) (bit own) (bit shared) (2 ^ r) ≡ false) × Known n r t left
-  learned-one m p q own shared met e shown kept apart meets =
-      let F = tableBit t in
+      → (met ≡ true → few_columns n (table_bit t) (bit own) (bit shared) (2 ^ r) ≡ false) × Known n r t left
+  learned_one m p q own shared met e shown kept apart meets =
+      let F = table_bit t in
       let rules = subst (λ (k : ℕ). RulesOut n F k (bit p) (bit q)) e shown in
-      (λ f. meets-fails p q own shared rules (meets f) apart, known-left (kept n (2 ^ r) F w.learned rules))
+      (λ f. meets_fails p q own shared rules (meets f) apart, known_left (kept n (2 ^ r) F w.learned rules))

@@ -18,15 +18,15 @@ use Rattle.bits.proofs.Numbers.{bit-shr}
 use Rattle.bits.proofs.Sizes.{size-sum}
 use Rattle.bits.proofs.Sums.{bit_not}
 use Rattle.bits.proofs.Machine.{ones-size, bit-and}
-use Rattle.splits.specs.Columns.{fewColumns}
-use Rattle.splits.proofs.Possible.{possible-iff}
-use Rattle.best.specs.Search.{Answer, none, split, overMasks, tryA, tryB}
+use Rattle.splits.specs.Columns.{few_columns}
+use Rattle.splits.proofs.Possible.{possible_iff}
+use Rattle.best.specs.Search.{Answer, none, split, over_masks, try_a, try_b}
 use Rattle.best.specs.Walk.{Range, SharedRange}
 use Rattle.best.proofs.First.{first-nothing}
-use Rattle.best.proofs.Tries.{tryB-split, tryA-size, tryA-is}
-use Rattle.best.proofs.Ranges.{even, range-lt, upper-has}
+use Rattle.best.proofs.Tries.{try_b_split, try_a_size, try_a_is}
+use Rattle.best.proofs.Ranges.{even, range_lt, upper_has}
 use Rattle.best.proofs.Walks.{Turn, mask_of}
-use Rattle.witness.proofs.Members.{bit-within, rules-more}
+use Rattle.witness.proofs.Members.{bit_within, rules_more}
 use Rattle.witness.specs.Witness.{Inside, single, RulesOut}
 use Rattle.known.specs.Notes.{Needs, BadPairs, Adds, Outside}
 
@@ -68,8 +68,8 @@ crowded n acc left S off inside h = pick (missing n (union acc left) S
         go false q e = e
 
 -- a mask has as many members among 16 positions as among its own
-pub wide-size : (n m : ℕ) → n ≤ 16 → m < 2 ^ n → size 16 (bit m) ≡ size n (bit m)
-wide-size n m h l = sym (ones-size 16 m (lt_of_lt_of_le l (pow_mono {i = n} {j = 16} h))) ∙ ones-size n m l
+pub wide_size : (n m : ℕ) → n ≤ 16 → m < 2 ^ n → size 16 (bit m) ≡ size n (bit m)
+wide_size n m h l = sym (ones-size 16 m (lt_of_lt_of_le l (pow_mono {i = n} {j = 16} h))) ∙ ones-size n m l
 
 -- `need & !acc`
 module _ (need acc : ℕ) (small : acc < 65536) where
@@ -91,32 +91,32 @@ mask_fits {n} r = lt_of_lt_of_le r.below (pow_mono {i = n} {j = 16} r.most)
 
 -- ---- the masks of a range have what is made already
 module _ {n p acc : ℕ} (r : Range n p acc) (i : ℕ) (l : i < 2 ^ p) where
-  pub range-stays : (j : ℕ) → p ≤ j → bit (acc + i) j ≡ bit acc j
-  range-stays j h =
+  pub range_stays : (j : ℕ) → p ≤ j → bit (acc + i) j ≡ bit acc j
+  range_stays j h =
       let e : j ≡ p + (j - p) = omega arith in
       let a : (acc + i) / 2 ^ p ≡ acc / 2 ^ p = ap (λ (m : ℕ). (m + i) / 2 ^ p) (even r) ∙ high (acc / 2 ^ p) p l in
       ap (bit (acc + i)) e ∙ sym (bit-shr (acc + i) p (j - p)) ∙ ap (λ (m : ℕ). bit m (j - p)) a ∙ bit-shr acc p (j - p)
       ∙ ap (bit acc) (sym e)
 
-  pub range-has : Inside (bit acc) (bit (acc + i))
-  range-has j e = elim (dec_lt j p) [ yes g ↦ absurd (clash e (r.low j g)) | no g ↦ range-stays j (omega arith) ∙ e ]
+  pub range_has : Inside (bit acc) (bit (acc + i))
+  range_has j e = elim (dec_lt j p) [ yes g ↦ absurd (clash e (r.low j g)) | no g ↦ range_stays j (omega arith) ∙ e ]
 
 -- ---- what is never answered
 module _ (n r : ℕ) (F : ℕ → Bool) where
-  pub tryB-never : (q A B : ℕ) → (size n (bit B) ≡ q → Apart n (bit A) (bit B) → fewColumns n F (bit A) (bit B) (2 ^ r)
-      ≡ false) → tryB n r F q A B ≡ none
-  tryB-never q A B h = go (tryB n r F q A B) refl
+  pub try_b_never : (q A B : ℕ) → (size n (bit B) ≡ q → Apart n (bit A) (bit B) → few_columns n F (bit A) (bit B) (2 ^ r)
+      ≡ false) → try_b n r F q A B ≡ none
+  try_b_never q A B h = go (try_b n r F q A B) refl
     where
-      go : (a : Answer) → tryB n r F q A B ≡ a → a ≡ none
+      go : (a : Answer) → try_b n r F q A B ≡ a → a ≡ none
       go none e = refl
       go (split A' B') e =
-          let w = tryB-split n r F q A B A' B' e in
-          absurd (clash ((possible-iff n F (bit A) (bit B) w.apart r).1 w.possible) (h w.sizeB w.apart))
+          let w = try_b_split n r F q A B A' B' e in
+          absurd (clash ((possible_iff n F (bit A) (bit B) w.apart r).1 w.possible) (h w.size_b w.apart))
 
   -- an input that cannot be free, and is
   pub lacks : (P : ℕ → Bool) (A B : ℕ) (c : ℕ) → RulesOut n F (2 ^ r) P (single c) → Inside P (bit A)
       → union (bit A) (bit B) c ≡ false → Apart n (bit A) (bit B)
-      → fewColumns n F (bit A) (bit B) (2 ^ r) ≡ false
+      → few_columns n F (bit A) (bit B) (2 ^ r) ≡ false
   lacks P A B c w inside out apart = w.fails (bit A) (bit B) apart inside
       (λ j e. ap (λ (i : ℕ). rest (bit A) (bit B) i) (eqb-true j c e) ∙ ap not out)
 
@@ -124,7 +124,7 @@ module _ (n r : ℕ) (F : ℕ → Bool) where
   no_room : (P S : ℕ → Bool) (A B need acc : ℕ) → Needs n F (2 ^ r) P need → acc < 65536 → Inside P (bit A)
       → Inside (bit acc) S → ((c : ℕ) → bit need c ≡ true → S c ≡ false → union (bit A) (bit B) c ≡ false)
       → size 16 S < size 16 (bit acc) + size 16 (bit (bit_and need (65535 - acc)))
-      → Apart n (bit A) (bit B) → fewColumns n F (bit A) (bit B) (2 ^ r) ≡ false
+      → Apart n (bit A) (bit B) → few_columns n F (bit A) (bit B) (2 ^ r) ≡ false
   no_room P S A B need acc w small has inside out h apart =
       let x = crowded 16 (bit acc) (bit (bit_and need (65535 - acc))) S (λ j l e. (left-off need acc small j l e).1)
       inside h in
@@ -135,63 +135,63 @@ module _ (n r : ℕ) (F : ℕ → Bool) where
   module _ (own need : ℕ) (w : Needs n F (2 ^ r) (bit own) need) (off : (c : ℕ) → bit need c ≡ true → bit own c ≡ false)
       {p acc : ℕ} (g : SharedRange n own p acc)
       (k : ℕ) where
-    without : (q c m : ℕ) → bit need c ≡ true → bit m c ≡ false → tryB n r F q own m ≡ none
-    without q c m e f = tryB-never q own m (λ s apart. lacks (bit own) own m c (w c e) (λ j h. h) (ap₂ ◌||◌ (off c e) f)
+    without : (q c m : ℕ) → bit need c ≡ true → bit m c ≡ false → try_b n r F q own m ≡ none
+    without q c m e f = try_b_never q own m (λ s apart. lacks (bit own) own m c (w c e) (λ j h. h) (ap₂ ◌||◌ (off c e) f)
         apart)
 
-    pub shared-crowded : k < size 16 (bit (bit_and need (65535 - acc)))
-        → overMasks p acc (tryB n r F (size n (bit acc) + k) own) ≡ none
-    shared-crowded h = first-nothing (2 ^ p) _ (λ i l. tryB-never (size n (bit acc) + k) own (acc + i)
+    pub shared_crowded : k < size 16 (bit (bit_and need (65535 - acc)))
+        → over_masks p acc (try_b n r F (size n (bit acc) + k) own) ≡ none
+    shared_crowded h = first-nothing (2 ^ p) _ (λ i l. try_b_never (size n (bit acc) + k) own (acc + i)
         (λ s apart. at i l s apart))
       where
         at : (i : ℕ) → i < 2 ^ p → size n (bit (acc + i)) ≡ size n (bit acc) + k → Apart n (bit own) (bit (acc + i))
-            → fewColumns n F (bit own) (bit (acc + i)) (2 ^ r) ≡ false
+            → few_columns n F (bit own) (bit (acc + i)) (2 ^ r) ≡ false
         at i l s apart =
             no_room (bit own) (bit (acc + i)) own (acc + i) need acc w (mask_fits g.range) (λ j h. h)
-            (range-has g.range i l) (λ c e f. ap₂ ◌||◌ (off c e) f)
+            (range_has g.range i l) (λ c e f. ap₂ ◌||◌ (off c e) f)
             (omega (
               arith,
-              wide-size n acc g.range.most g.range.below,
-              wide-size n (acc + i) g.range.most
-                  (range-lt g.range i l),
+              wide_size n acc g.range.most g.range.below,
+              wide_size n (acc + i) g.range.most
+                  (range_lt g.range i l),
             )) apart
 
-    pub shared-passed : need < 65536 → bit (bit_and need (65535 - acc)) p ≡ true
-        → overMasks p acc (tryB n r F (size n (bit acc) + k) own) ≡ none
-    shared-passed small h =
-        let p-lt : p < 16 = bit-within (bit_and need (65535 - acc)) 16 p
+    pub shared_passed : need < 65536 → bit (bit_and need (65535 - acc)) p ≡ true
+        → over_masks p acc (try_b n r F (size n (bit acc) + k) own) ≡ none
+    shared_passed small h =
+        let p-lt : p < 16 = bit_within (bit_and need (65535 - acc)) 16 p
         (lt_of_le_of_lt (and_le_l need (65535 - acc)) small) h in
         let e = left-off need acc (mask_fits g.range) p p-lt h in
         first-nothing (2 ^ p) _ (λ i l. without (size n (bit acc) + k) p (acc + i) e.0
-        (range-stays g.range i l p (omega arith) ∙ e.1))
+        (range_stays g.range i l p (omega arith) ∙ e.1))
 
   -- ---- own masks
   module _ (need : ℕ) {p acc : ℕ} (w : Needs n F (2 ^ r) (bit acc) need) (g : Range n p acc) (q k : ℕ) where
-    pub own-crowded : q + k < size 16 (bit (bit_and need (65535 - acc)))
-        → overMasks p acc (tryA n r F (size n (bit acc) + k) q) ≡ none
-    own-crowded h = first-nothing (2 ^ p) _ (λ i l. tried i l
+    pub own_crowded : q + k < size 16 (bit (bit_and need (65535 - acc)))
+        → over_masks p acc (try_a n r F (size n (bit acc) + k) q) ≡ none
+    own_crowded h = first-nothing (2 ^ p) _ (λ i l. tried i l
         (ℕ_discrete (size n (bit (acc + i))) (size n (bit acc) + k)))
       where
         pairs : (i : ℕ) → i < 2 ^ p → size n (bit (acc + i)) ≡ size n (bit acc) + k → (B : ℕ) → B < 2 ^ n
             → size n (bit B) ≡ q → Apart n (bit (acc + i)) (bit B)
-            → fewColumns n F (bit (acc + i)) (bit B) (2 ^ r) ≡ false
+            → few_columns n F (bit (acc + i)) (bit B) (2 ^ r) ≡ false
         pairs i l s B b t apart =
-            no_room (bit acc) (union (bit (acc + i)) (bit B)) (acc + i) B need acc w (mask_fits g) (range-has g i l)
-            (λ j e. ap (λ (u : Bool). u || bit B j) (range-has g i l j e)) (λ c e f. f)
+            no_room (bit acc) (union (bit (acc + i)) (bit B)) (acc + i) B need acc w (mask_fits g) (range_has g i l)
+            (λ j e. ap (λ (u : Bool). u || bit B j) (range_has g i l j e)) (λ c e f. f)
             (omega (
               arith,
-              wide-size n acc g.most g.below,
-              wide-size n (acc + i) g.most (range-lt g i l),
-              wide-size n B g.most b,
+              wide_size n acc g.most g.below,
+              wide_size n (acc + i) g.most (range_lt g i l),
+              wide_size n B g.most b,
               size-or 16 (bit (acc + i)) (bit B),
             )) apart
 
         tried : (i : ℕ) → i < 2 ^ p → Dec (size n (bit (acc + i)) ≡ size n (bit acc) + k)
-            → tryA n r F (size n (bit acc) + k) q (acc + i) ≡ none
+            → try_a n r F (size n (bit acc) + k) q (acc + i) ≡ none
         tried i l (yes s) =
-            tryA-is n r F (size n (bit acc) + k) q (acc + i) s
-            ∙ first-nothing (2 ^ n) _ (λ B b. tryB-never q (acc + i) B (λ t apart. pairs i l s B b t apart))
-        tried i l (no s) = tryA-size n r F (size n (bit acc) + k) q (acc + i) s
+            try_a_is n r F (size n (bit acc) + k) q (acc + i) s
+            ∙ first-nothing (2 ^ n) _ (λ B b. try_b_never q (acc + i) B (λ t apart. pairs i l s B b t apart))
+        tried i l (no s) = try_a_size n r F (size n (bit acc) + k) q (acc + i) s
 
 pub left_lt : (need acc : ℕ) → need < 65536 → bit_and need (65535 - acc) < 65536
 left_lt need acc h = lt_of_le_of_lt (and_le_l need (65535 - acc)) h
@@ -199,20 +199,20 @@ left_lt need acc h = lt_of_le_of_lt (and_le_l need (65535 - acc)) h
 -- a needed input that the own mask lacks is not own
 pub left-outside : (need acc : ℕ) → need < 65536 → acc < 65536 → Outside (bit_and need (65535 - acc)) acc
 left-outside need acc h g c e = (left-off need acc g c
-    (bit-within (bit_and need (65535 - acc)) 16 c (left_lt need acc h) e) e).1
+    (bit_within (bit_and need (65535 - acc)) 16 c (left_lt need acc h) e) e).1
 
 -- the needed inputs of a mask with one position more
-pub own-more : {n : ℕ} {F : ℕ → Bool} {m p acc k : ℕ} (r : Range n p acc) (d : Turn n p acc k) (l : List ℕ)
+pub own_more : {n : ℕ} {F : ℕ → Bool} {m p acc k : ℕ} (r : Range n p acc) (d : Turn n p acc k) (l : List ℕ)
     (need more : ℕ) → BadPairs n F m l
     → Needs n F m (bit acc) need → Adds l acc (p - 1) need more → Needs n F m (bit (acc + mask_of p)) more
-own-more {n} {F} {m} {p} {acc} r d l need more w x a = a.needs n m F (bit (acc + mask_of p)) w inside has
-    (λ c e. rules-more (x c e) inside (λ y h. h))
+own_more {n} {F} {m} {p} {acc} r d l need more w x a = a.needs n m F (bit (acc + mask_of p)) w inside has
+    (λ c e. rules_more (x c e) inside (λ y h. h))
   where
     inside : Inside (bit acc) (bit (acc + mask_of p))
-    inside = range-has r (mask_of p) (subst (λ (m : ℕ). m < 2 ^ p) (sym d.mask) (pow-lt (omega (arith, d.down))))
+    inside = range_has r (mask_of p) (subst (λ (m : ℕ). m < 2 ^ p) (sym d.mask) (pow-lt (omega (arith, d.down))))
 
     has : bit (acc + mask_of p) (p - 1) ≡ true
     has =
         ap (λ (m : ℕ). bit (acc + m) (p - 1)) d.mask
         ∙ ap (λ (m : ℕ). bit m (p - 1)) (sym (add-zero (acc + 2 ^ (p - 1))))
-        ∙ upper-has (subst (λ (p : ℕ). Range n p acc) d.down r) 0 (pow_pos (p - 1))
+        ∙ upper_has (subst (λ (p : ℕ). Range n p acc) d.down r) 0 (pow_pos (p - 1))

@@ -3,9 +3,9 @@
 ghost use Rattle.std.specs.Prelude.{◌≡◌, true, false, ◌+◌, ◌^◌, ◌<◌, ◌≤◌};
 ghost use Rattle.bits.specs.Numbers.{bit};
 ghost use Rattle.bits.specs.Sets.{Apart, size};
-ghost use Rattle.tables.specs.Table.{mostInputs, tableBit};
-ghost use Rattle.splits.specs.Columns.{fewColumns};
-ghost use Rattle.best.specs.Search.{tryA, tryB, overMasks};
+ghost use Rattle.tables.specs.Table.{most_inputs, table_bit};
+ghost use Rattle.splits.specs.Columns.{few_columns};
+ghost use Rattle.best.specs.Search.{try_a, try_b, over_masks};
 ghost use Rattle.best.specs.Answers.{answer_of};
 ghost use Rattle.best.specs.Walk.{Range, SharedRange};
 ghost use Rattle.walks.specs.Known.{Known};
@@ -28,7 +28,7 @@ use witness::six::shows;
 fn learn_many(t: &[u8], n: u32, r: u32, own: u16, shared: u16, notes: &mut [u32]) -> bool
     requires known { Known n r t.now notes.old }
     requires own_bound { (own < 2 ^ n) × (shared < 2 ^ n) × Apart n (bit own) (bit shared) }
-    ensures { (result ≡ true → fewColumns n (tableBit t.now) (bit own) (bit shared) (2 ^ r) ≡ false)
+    ensures { (result ≡ true → few_columns n (table_bit t.now) (bit own) (bit shared) (2 ^ r) ≡ false)
         × Known n r t.now notes.new }
 {
     if shared == 0 {
@@ -64,7 +64,7 @@ fn two_alone(own: u16, shared: u16) -> bool
 fn learn(t: &[u8], n: u32, r: u32, own: u16, shared: u16, notes: &mut [u32]) -> bool
     requires known { Known n r t.now notes.old }
     requires own_bound { (own < 2 ^ n) × (shared < 2 ^ n) × Apart n (bit own) (bit shared) }
-    ensures { (result ≡ true → fewColumns n (tableBit t.now) (bit own) (bit shared) (2 ^ r) ≡ false)
+    ensures { (result ≡ true → few_columns n (table_bit t.now) (bit own) (bit shared) (2 ^ r) ≡ false)
         × Known n r t.now notes.new }
 {
     if r != 1 {
@@ -90,7 +90,7 @@ fn learn(t: &[u8], n: u32, r: u32, own: u16, shared: u16, notes: &mut [u32]) -> 
 fn try_pair(t: &[u8], n: u32, r: u32, own: u16, shared: u16, notes: &mut [u32]) -> Found
     requires known { Known n r t.now notes.old }
     requires own_bound { (own < 2 ^ n) × (shared < 2 ^ n) × Apart n (bit own) (bit shared) }
-    ensures { (answer_of result ≡ tryB n r (tableBit t.now) (size n (bit shared)) own shared)
+    ensures { (answer_of result ≡ try_b n r (table_bit t.now) (size n (bit shared)) own shared)
         × Known n r t.now notes.new }
 {
     if ruled(notes, own as u32, (own as u32) | (shared as u32)) {
@@ -126,8 +126,8 @@ fn walk_shared(
     notes: &mut [u32],
 ) -> Found
     requires known { Known n r t.now notes.old }
-    requires shared_range { SharedRange n own p acc × Needs n (tableBit t.now) (2 ^ r) (bit own) need × Outside need own }
-    ensures { (answer_of result ≡ overMasks p acc (tryB n r (tableBit t.now) (size n (bit acc) + k) own))
+    requires shared_range { SharedRange n own p acc × Needs n (table_bit t.now) (2 ^ r) (bit own) need × Outside need own }
+    ensures { (answer_of result ≡ over_masks p acc (try_b n r (table_bit t.now) (size n (bit acc) + k) own))
         × Known n r t.now notes.new }
 {
     if k > p {
@@ -169,9 +169,9 @@ pub fn walk_own<'a>(
     k: u32,
     notes: &mut [u32],
 ) -> Found
-    requires known { Known n r t.now notes.old × BadPairs n (tableBit t.now) (2 ^ r) pairs.now }
-    requires range { Range n p acc × Needs n (tableBit t.now) (2 ^ r) (bit acc) need × (q ≤ mostInputs) }
-    ensures { (answer_of result ≡ overMasks p acc (tryA n r (tableBit t.now) (size n (bit acc) + k) q))
+    requires known { Known n r t.now notes.old × BadPairs n (table_bit t.now) (2 ^ r) pairs.now }
+    requires range { Range n p acc × Needs n (table_bit t.now) (2 ^ r) (bit acc) need × (q ≤ most_inputs) }
+    ensures { (answer_of result ≡ over_masks p acc (try_a n r (table_bit t.now) (size n (bit acc) + k) q))
         × Known n r t.now notes.new }
 {
     if k > p {

@@ -10,14 +10,14 @@ use Rattle.bits.specs.Sets.{union, Apart, spread}
 use Rattle.bits.proofs.Bools.{clash, false_of, or-none, and_left, and_right}
 use Rattle.bits.specs.Patterns.{pattern}
 use Rattle.bits.proofs.Inputs.{pattern-off}
-use Rattle.bits.proofs.Members.{spread-inside}
+use Rattle.bits.proofs.Members.{spread_inside}
 use Rattle.bits.proofs.Numbers.{number_lt, number-mod, number_bit, bit-number, bit-zero, bit_high, bit_below}
-use Rattle.bits.proofs.Sums.{number-join, sum-mask, bit_not}
+use Rattle.bits.proofs.Sums.{number-join, sum_mask, bit_not}
 use Rattle.bits.proofs.Machine.{bit-and, bit-or}
 use Rattle.witness.specs.Witness.{RulesOut, Told, Spots}
 use Rattle.witness.specs.Points.{differ, Turned, Off, Still, Steps}
-use Rattle.witness.proofs.Members.{bit-xor, bit-within, power-bit}
-use Rattle.witness.proofs.Points.{told-by, not-told, said-no, three-rule}
+use Rattle.witness.proofs.Members.{bit-xor, bit_within, power_bit}
+use Rattle.witness.proofs.Points.{told_by, not-told, said_no, three_rule}
 
 -- ---- four points and two offsets: some point changes at the first, some at the second, and some at one alone
 module _ (F : ℕ → Bool) (at : ℕ → ℕ → ℕ) where
@@ -37,9 +37,9 @@ module _ (F : ℕ → Bool) (at : ℕ → ℕ → ℕ) where
   from o o' v u p q r = record {
     v = v;
     u = u;
-    first = (o, λ e. told-by (F (at v o)) (F (at 0 o)) p (sym e));
-    second = (o', λ e. told-by (F (at u o')) (F (at 0 o')) r (sym e));
-    other = (o', λ e. told-by (F (at u o')) (F (at 0 o')) r (sym e ∙ not-told (F (at v o')) (F (at 0 o')) q));
+    first = (o, λ e. told_by (F (at v o)) (F (at 0 o)) p (sym e));
+    second = (o', λ e. told_by (F (at u o')) (F (at 0 o')) r (sym e));
+    other = (o', λ e. told_by (F (at u o')) (F (at 0 o')) r (sym e ∙ not-told (F (at v o')) (F (at 0 o')) q));
   }
 
   one_of : (f : ℕ → Bool) → ((f 1 || f 2) || f 3) ≡ true → (a : ℕ) × (f a ≡ true)
@@ -61,8 +61,8 @@ module _ (F : ℕ → Bool) (at : ℕ → ℕ → ℕ) where
         go : (v : ℕ) (s t : Bool) → changes 0 v ≡ s → changes 1 v ≡ t → differ s t ≡ true → Two
         go v true false p q e = let u = one_of (changes 1) second in from 0 1 v u.0 p q u.1
         go v false true p q e = let u = one_of (changes 0) first in from 1 0 v u.0 q p u.1
-        go v true true p q e = said-no e
-        go v false false p q e = said-no e
+        go v true true p q e = said_no e
+        go v false false p q e = said_no e
 
 -- ---- bit k of what the code joins
 or-bits : (k u v w : ℕ) (r s t : Bool) → bit u k ≡ r → bit v k ≡ s → bit w k ≡ t → bit (bit_or (bit_or u v) w) k ≡ true
@@ -76,8 +76,8 @@ pub and-bits : (k u v : ℕ) → bit (bit_and u v) k ≡ true → (bit u k ≡ t
 and-bits k u v e = let f = sym (bit-and u v k) ∙ e in (and_left (bit u k) (bit v k) f, and_right (bit u k) (bit v k) f)
 
 -- ---- the bits at place k from x on, with d or not, with p, q, both or neither
-module _ {n : ℕ} (x d p q k : ℕ) (least : 6 ≤ n) (belowX : x < 2 ^ n) (belowD : d < 2 ^ n) (belowP : p < 2 ^ n)
-    (belowQ : q < 2 ^ n)
+module _ {n : ℕ} (x d p q k : ℕ) (least : 6 ≤ n) (below_x : x < 2 ^ n) (below_d : d < 2 ^ n) (below_p : p < 2 ^ n)
+    (below_q : q < 2 ^ n)
     (still : Still n x d p q k) where
   base : ℕ → ℕ
   base zero = x
@@ -94,26 +94,26 @@ module _ {n : ℕ} (x d p q k : ℕ) (least : 6 ≤ n) (belowX : x < 2 ^ n) (bel
 
   base-lt : (o : ℕ) → base o < 2 ^ n
   unfolding base
-  base-lt zero = belowX
-  base-lt (suc o) = or_lt n x d belowX belowD
+  base-lt zero = below_x
+  base-lt (suc o) = or_lt n x d below_x below_d
 
-  corner-lt : (a : ℕ) → corner a < 2 ^ n
+  corner_lt : (a : ℕ) → corner a < 2 ^ n
   unfolding corner
-  corner-lt zero = pow_pos n
-  corner-lt (suc zero) = belowP
-  corner-lt (suc (suc zero)) = belowQ
-  corner-lt (suc (suc (suc a))) = or_lt n p q belowP belowQ
+  corner_lt zero = pow_pos n
+  corner_lt (suc zero) = below_p
+  corner_lt (suc (suc zero)) = below_q
+  corner_lt (suc (suc (suc a))) = or_lt n p q below_p below_q
 
   word_lt : (a o : ℕ) → bit_or (base o) (corner a) < 2 ^ n
-  word_lt a o = or_lt n (base o) (corner a) (base-lt o) (corner-lt a)
+  word_lt a o = or_lt n (base o) (corner a) (base-lt o) (corner_lt a)
 
   -- what no corner has, and what no base has
-  corner-off : (a j : ℕ) → bit (bit_or p q) j ≡ false → bit (corner a) j ≡ false
+  corner_off : (a j : ℕ) → bit (bit_or p q) j ≡ false → bit (corner a) j ≡ false
   unfolding corner
-  corner-off zero j e = bit-zero j
-  corner-off (suc zero) j e = (or-none (bit p j) (bit q j) (sym (bit-or p q j) ∙ e)).0
-  corner-off (suc (suc zero)) j e = (or-none (bit p j) (bit q j) (sym (bit-or p q j) ∙ e)).1
-  corner-off (suc (suc (suc a))) j e = e
+  corner_off zero j e = bit-zero j
+  corner_off (suc zero) j e = (or-none (bit p j) (bit q j) (sym (bit-or p q j) ∙ e)).0
+  corner_off (suc (suc zero)) j e = (or-none (bit p j) (bit q j) (sym (bit-or p q j) ∙ e)).1
+  corner_off (suc (suc (suc a))) j e = e
 
   base-off : (o j : ℕ) → bit d j ≡ false → bit (base o) j ≡ bit x j
   unfolding base
@@ -123,7 +123,7 @@ module _ {n : ℕ} (x d p q k : ℕ) (least : 6 ≤ n) (belowX : x < 2 ^ n) (bel
   -- the place moves no corner
   apart : (a o : ℕ) → Apart n (bit (bit_or (base o) (corner a))) (bit k)
   unfolding base
-  apart a o j l e = bit-or (base o) (corner a) j ∙ ap₂ ◌||◌ (at_base o) (corner-off a j w.1)
+  apart a o j l e = bit-or (base o) (corner a) j ∙ ap₂ ◌||◌ (at_base o) (corner_off a j w.1)
     where
       w : (bit (bit_or x d) j ≡ false) × (bit (bit_or p q) j ≡ false)
       w = or-none (bit (bit_or x d) j) (bit (bit_or p q) j) (sym (bit-or (bit_or x d) (bit_or p q) j) ∙ still.apart j l e)
@@ -137,10 +137,10 @@ module _ {n : ℕ} (x d p q k : ℕ) (least : 6 ≤ n) (belowX : x < 2 ^ n) (bel
 
   sum : (a o : ℕ) → spot a o ≡ number n (union (bit (bit_or (base o) (corner a))) (bit k))
   unfolding spot
-  sum a o = sum-mask n (bit_or (base o) (corner a)) k (word_lt a o) k_lt (apart a o)
+  sum a o = sum_mask n (bit_or (base o) (corner a)) k (word_lt a o) k_lt (apart a o)
 
-  spot-bit : (a o j : ℕ) → j < n → bit (spot a o) j ≡ ((bit (base o) j || bit (corner a) j) || bit k j)
-  spot-bit a o j l =
+  spot_bit : (a o j : ℕ) → j < n → bit (spot a o) j ≡ ((bit (base o) j || bit (corner a) j) || bit k j)
+  spot_bit a o j l =
       ap (λ (m : ℕ). bit m j) (sum a o) ∙ bit-number n (union (bit (bit_or (base o) (corner a))) (bit k)) j l
       ∙ ap (λ (t : Bool). t || bit k j) (bit-or (base o) (corner a) j)
 
@@ -148,10 +148,10 @@ module _ {n : ℕ} (x d p q k : ℕ) (least : 6 ≤ n) (belowX : x < 2 ^ n) (bel
   spots = record {
     below = λ a o. subst (λ (m : ℕ). m < 2 ^ n) (sym (sum a o))
         (number_lt n (union (bit (bit_or (base o) (corner a))) (bit k)));
-    points = λ a a' o j l e. spot-bit a o j l ∙ ap (λ (t : Bool). (bit (base o) j || t) || bit k j)
-        (corner-off a j e ∙ sym (corner-off a' j e)) ∙ sym (spot-bit a' o j l);
-    offsets = λ a o o' j l e. spot-bit a o j l ∙ ap (λ (t : Bool). (t || bit (corner a) j) || bit k j)
-        (base-off o j e ∙ sym (base-off o' j e)) ∙ sym (spot-bit a o' j l);
+    points = λ a a' o j l e. spot_bit a o j l ∙ ap (λ (t : Bool). (bit (base o) j || t) || bit k j)
+        (corner_off a j e ∙ sym (corner_off a' j e)) ∙ sym (spot_bit a' o j l);
+    offsets = λ a o o' j l e. spot_bit a o j l ∙ ap (λ (t : Bool). (t || bit (corner a) j) || bit k j)
+        (base-off o j e ∙ sym (base-off o' j e)) ∙ sym (spot_bit a o' j l);
   }
 
   -- the place is within the word that is read
@@ -182,8 +182,8 @@ module _ {n : ℕ} (x d p q k : ℕ) (least : 6 ≤ n) (belowX : x < 2 ^ n) (bel
         ∙ ap (λ (m : ℕ). differ (F (spot a o)) (F (m + k))) (sym (plain o))
 
     -- ---- three points of the four
-    two-rule : Two F spot → RulesOut n F 2 (bit (bit_or p q)) (bit d)
-    two-rule w = three-rule (λ i. spot (pick i)) (record {
+    two_rule : Two F spot → RulesOut n F 2 (bit (bit_or p q)) (bit d)
+    two_rule w = three_rule (λ i. spot (pick i)) (record {
       below = λ i. spots.below (pick i);
       points = λ i i'. spots.points (pick i) (pick i');
       offsets = λ i. spots.offsets (pick i);
@@ -197,11 +197,11 @@ module _ {n : ℕ} (x d p q k : ℕ) (least : 6 ≤ n) (belowX : x < 2 ^ n) (bel
     module _ (ap' aq ar bp bq br : ℕ) (tap : Turned F x p ap') (taq : Turned F x q aq) (tar : Turned F x (bit_or p q) ar)
         (tbp : Turned F (bit_or x d) p bp)
         (tbq : Turned F (bit_or x d) q bq) (tbr : Turned F (bit_or x d) (bit_or p q) br) where
-      pub corners-rule : bit (bit_and (bit_and (bit_or (bit_or ap' aq) ar) (bit_or (bit_or bp bq) br))
+      pub corners_rule : bit (bit_and (bit_and (bit_or (bit_or ap' aq) ar) (bit_or (bit_or bp bq) br))
           (bit_or (bit_or (bit_xor ap' bp) (bit_xor aq bq)) (bit_xor ar br))) k ≡ true
           → RulesOut n F 2 (bit (bit_or p q)) (bit d)
       unfolding base corner
-      corners-rule e =
+      corners_rule e =
           let l = and-bits k (bit_and (bit_or (bit_or ap' aq) ar) (bit_or (bit_or bp bq) br))
           (bit_or (bit_or (bit_xor ap' bp) (bit_xor aq bq)) (bit_xor ar br)) e in
           let f = and-bits k (bit_or (bit_or ap' aq) ar) (bit_or (bit_or bp bq) br) l.0 in
@@ -211,7 +211,7 @@ module _ {n : ℕ} (x d p q k : ℕ) (least : 6 ≤ n) (belowX : x < 2 ^ n) (bel
           let cbp = change-bit 1 1 bp tbp in
           let cbq = change-bit 2 1 bq tbq in
           let cbr = change-bit 3 1 br tbr in
-          two-rule (two F spot (or-bits k ap' aq ar _ _ _ cap caq car f.0)
+          two_rule (two F spot (or-bits k ap' aq ar _ _ _ cap caq car f.0)
           (or-bits k bp bq br _ _ _ cbp cbq cbr f.1)
           (or-bits k (bit_xor ap' bp) (bit_xor aq bq) (bit_xor ar br) _ _ _ (both_bits k ap' bp _ _ cap cbp)
           (both_bits k aq bq _ _ caq cbq) (both_bits k ar br _ _ car cbr)
@@ -220,9 +220,9 @@ module _ {n : ℕ} (x d p q k : ℕ) (least : 6 ≤ n) (belowX : x < 2 ^ n) (bel
 -- ---- as the code says it
 
 -- the positions from 6 on, without those of `own`
-pub steps-are : (n own all : ℕ) → 6 ≤ n → n ≤ 16 → own < 4294967296 → all ≡ 2 ^ n
+pub steps_are : (n own all : ℕ) → 6 ≤ n → n ≤ 16 → own < 4294967296 → all ≡ 2 ^ n
     → Steps n own (bit_and (all - 64) (4294967295 - own))
-steps-are n own all least most fits e = record {
+steps_are n own all least most fits e = record {
   below = lt_of_le_of_lt (and_le_l (all - 64) (4294967295 - own)) (omega (arith, pow_pos n));
   high = λ j l. bit-and (all - 64) (4294967295 - own) j ∙ ap (λ (t : Bool). t && bit (4294967295 - own) j) (low j l);
   other = other;
@@ -247,38 +247,38 @@ steps-are n own all least most fits e = record {
         ])
 
 -- a place at which input i is 0, of the word that x steps to
-pub still-place : (n x d p q k i j c : ℕ) → p ≡ 2 ^ i → q ≡ 2 ^ j → d ≡ 2 ^ c → ((l : ℕ) → l < 6 → bit x l ≡ false) → k
+pub still_place : (n x d p q k i j c : ℕ) → p ≡ 2 ^ i → q ≡ 2 ^ j → d ≡ 2 ^ c → ((l : ℕ) → l < 6 → bit x l ≡ false) → k
     < 64 → bit k i ≡ false
     → bit k j ≡ false → bit k c ≡ false → Still n x d p q k
-still-place n x d p q k i j c ep eq ed low small atI atJ atC = record { below = small; apart = apart }
+still_place n x d p q k i j c ep eq ed low small at_i at_j at_c = record { below = small; apart = apart }
   where
-    at-power : (e m l : ℕ) → m ≡ 2 ^ e → bit k e ≡ false → bit k l ≡ true → bit m l ≡ false
-    at-power e m l f g h = ap (λ (u : ℕ). bit u l) f ∙ power-bit e l
+    at_power : (e m l : ℕ) → m ≡ 2 ^ e → bit k e ≡ false → bit k l ≡ true → bit m l ≡ false
+    at_power e m l f g h = ap (λ (u : ℕ). bit u l) f ∙ power_bit e l
         ∙ false_of (eqb l e) (λ r. clash h (ap (bit k) (eqb-true l e r) ∙ g))
 
     apart : Apart n (bit (bit_or (bit_or x d) (bit_or p q))) (bit k)
     apart l b h =
-        bit-or (bit_or x d) (bit_or p q) l ∙ ap₂ ◌||◌ (bit-or x d l ∙ ap₂ ◌||◌ at_x (at-power c d l ed atC h))
-        (bit-or p q l ∙ ap₂ ◌||◌ (at-power i p l ep atI h) (at-power j q l eq atJ h))
+        bit-or (bit_or x d) (bit_or p q) l ∙ ap₂ ◌||◌ (bit-or x d l ∙ ap₂ ◌||◌ at_x (at_power c d l ed at_c h))
+        (bit-or p q l ∙ ap₂ ◌||◌ (at_power i p l ep at_i h) (at_power j q l eq at_j h))
       where
         at_x : bit x l ≡ false
         at_x = elim (dec_lt l 6) [ yes g ↦ low l g | no g ↦ absurd (clash h (bit_high k 6 l small (omega arith))) ]
 
 -- what a walk over a mask gives has no position that the mask lacks
-pub spread-low : (n mask x v j : ℕ) → x ≡ spread n (bit mask) v → j < n → bit mask j ≡ false → bit x j ≡ false
-spread-low n mask x v j e l f = ap (λ (m : ℕ). bit m j) e
-    ∙ false_of (bit (spread n (bit mask) v) j) (λ h. clash (spread-inside n (bit mask) v j l h) f)
+pub spread_low : (n mask x v j : ℕ) → x ≡ spread n (bit mask) v → j < n → bit mask j ≡ false → bit x j ≡ false
+spread_low n mask x v j e l f = ap (λ (m : ℕ). bit m j) e
+    ∙ false_of (bit (spread n (bit mask) v) j) (λ h. clash (spread_inside n (bit mask) v j l h) f)
 
 -- every place is without an input that is not below 6
-pub all-off : (j : ℕ) → 6 ≤ j → Off j 18446744073709551615
-all-off j h k e = let l = bit-within 18446744073709551615 64 k (lit< tt) e in (l, bit_high k 6 j l h)
+pub all_off : (j : ℕ) → 6 ≤ j → Off j 18446744073709551615
+all_off j h k e = let l = bit_within 18446744073709551615 64 k (lit< tt) e in (l, bit_high k 6 j l h)
 
 -- and half of them without one that is
 pub half-off : (j p : ℕ) → p ≡ pattern j → Off j (18446744073709551615 - p)
 half-off j p f k e =
-    let l = bit-within (18446744073709551615 - p) 64 k (lt_of_le_of_lt (sub-le 18446744073709551615 p) (lit< tt)) e in
+    let l = bit_within (18446744073709551615 - p) 64 k (lt_of_le_of_lt (sub-le 18446744073709551615 p) (lit< tt)) e in
     (l, not-true (bit k j) (sym (pattern-off j p k l f) ∙ e))
 
 -- places without i, and without j
-pub places-off : (i j u v : ℕ) → Off i u → Off j v → Off i (bit_and u v) × Off j (bit_and u v)
-places-off i j u v f g = (λ k e. f k (and-bits k u v e).0, λ k e. g k (and-bits k u v e).1)
+pub places_off : (i j u v : ℕ) → Off i u → Off j v → Off i (bit_and u v) × Off j (bit_and u v)
+places_off i j u v f g = (λ k e. f k (and-bits k u v e).0, λ k e. g k (and-bits k u v e).1)

@@ -10,14 +10,14 @@ use Rattle.bits.proofs.Numbers.{bit-zero, bit-number}
 use Rattle.bits.proofs.Building.{bit-digit}
 use Rattle.bits.proofs.Machine.{bit-or}
 use Rattle.bits.proofs.Members.{Place, place}
-use Rattle.tables.specs.Table.{tableBit}
-use Rattle.tables.specs.Words.{tableWord}
+use Rattle.tables.specs.Table.{table_bit}
+use Rattle.tables.specs.Words.{table_word}
 use Rattle.witness.specs.Witness.{RulesOut}
-use Rattle.witness.specs.Crowd.{columnOver, HasColumn, Seen}
-use Rattle.witness.proofs.Members.{power-bit}
-use Rattle.witness.proofs.Points.{xor-still, xor-alike}
-use Rattle.witness.proofs.Corners.{spread-low}
-use Rattle.witness.proofs.Law.{witness-rules}
+use Rattle.witness.specs.Crowd.{column_over, HasColumn, Seen}
+use Rattle.witness.proofs.Members.{power_bit}
+use Rattle.witness.proofs.Points.{xor_still, xor-alike}
+use Rattle.witness.proofs.Corners.{spread_low}
+use Rattle.witness.proofs.Law.{witness_rules}
 
 -- ---- where two columns differ
 module _ (F : ℕ → Bool) (e f : ℕ) where
@@ -27,9 +27,9 @@ module _ (F : ℕ → Bool) (e f : ℕ) where
   four (suc (suc zero)) x = bit_xor x f
   four (suc (suc (suc o))) x = bit_xor (bit_xor x e) f
 
-  where-told : (x y : ℕ) → (columnOver F e f x ≡ columnOver F e f y → ⊥) → (o : ℕ) × (F (four o x) ≡ F (four o y) → ⊥)
+  where_told : (x y : ℕ) → (column_over F e f x ≡ column_over F e f y → ⊥) → (o : ℕ) × (F (four o x) ≡ F (four o y) → ⊥)
   unfolding four
-  where-told x y h = go (same 0) (same 1) (same 2) (same 3)
+  where_told x y h = go (same 0) (same 1) (same 2) (same 3)
     where
       same : (o : ℕ) → Dec (F (four o x) ≡ F (four o y))
       same o = Bool-discrete (F (four o x)) (F (four o y))
@@ -41,22 +41,22 @@ module _ (F : ℕ → Bool) (e f : ℕ) where
       go (yes p) (yes q) (no g) s = (2, g)
       go (yes p) (yes q) (yes r) (no g) = (3, g)
       go (yes p) (yes q) (yes r) (yes s) =
-          let all : columnOver F e f x ≡ columnOver F e f y = omega (arith, ap val p, ap val q, ap val r, ap val s) in
+          let all : column_over F e f x ≡ column_over F e f y = omega (arith, ap val p, ap val q, ap val r, ap val s) in
           absurd (h all)
 
   -- ---- the offsets move no position that neither has
-  four-still : (o x j : ℕ) → bit (bit_or e f) j ≡ false → bit (four o x) j ≡ bit x j
+  four_still : (o x j : ℕ) → bit (bit_or e f) j ≡ false → bit (four o x) j ≡ bit x j
   unfolding four
-  four-still o x j h = go o
+  four_still o x j h = go o
     where
       w : (bit e j ≡ false) × (bit f j ≡ false)
       w = or-none (bit e j) (bit f j) (sym (bit-or e f j) ∙ h)
 
       go : (o : ℕ) → bit (four o x) j ≡ bit x j
       go zero = refl
-      go (suc zero) = xor-still x e j w.0
-      go (suc (suc zero)) = xor-still x f j w.1
-      go (suc (suc (suc o))) = xor-still (bit_xor x e) f j w.1 ∙ xor-still x e j w.0
+      go (suc zero) = xor_still x e j w.0
+      go (suc (suc zero)) = xor_still x f j w.1
+      go (suc (suc (suc o))) = xor_still (bit_xor x e) f j w.1 ∙ xor_still x e j w.0
 
   four-alike : (o x y j : ℕ) → bit x j ≡ bit y j → bit (four o x) j ≡ bit (four o y) j
   unfolding four
@@ -65,16 +65,16 @@ module _ (F : ℕ → Bool) (e f : ℕ) where
   four-alike (suc (suc zero)) x y j h = xor-alike x y f j h
   four-alike (suc (suc (suc o))) x y j h = xor-alike (bit_xor x e) (bit_xor y e) f j (xor-alike x y e j h)
 
-  module _ (n : ℕ) (belowE : e < 2 ^ n) (belowF : f < 2 ^ n) where
+  module _ (n : ℕ) (below_e : e < 2 ^ n) (below_f : f < 2 ^ n) where
     four-lt : (o x : ℕ) → x < 2 ^ n → four o x < 2 ^ n
     unfolding four
     four-lt zero x l = l
-    four-lt (suc zero) x l = xor_lt n x e l belowE
-    four-lt (suc (suc zero)) x l = xor_lt n x f l belowF
-    four-lt (suc (suc (suc o))) x l = xor_lt n (bit_xor x e) f (xor_lt n x e l belowE) belowF
+    four-lt (suc zero) x l = xor_lt n x e l below_e
+    four-lt (suc (suc zero)) x l = xor_lt n x f l below_f
+    four-lt (suc (suc (suc o))) x l = xor_lt n (bit_xor x e) f (xor_lt n x e l below_e) below_f
 
     -- ---- a point for each column: point p has the column that p others come before
-    module _ (m own base seen : ℕ) (belowBase : base < 2 ^ n) (points : Seen n F own base e f seen)
+    module _ (m own base seen : ℕ) (below_base : base < 2 ^ n) (points : Seen n F own base e f seen)
         (many : m < size 16 (bit seen)) where
       column : {p : ℕ} → p < size 16 (bit seen) → Place 16 (bit seen) p
       column {p} = place 16 (bit seen) p
@@ -86,44 +86,44 @@ module _ (F : ℕ → Bool) (e f : ℕ) where
       point : ℕ → ℕ
       point p = pick (dec_lt p (size 16 (bit seen)))
 
-      point-lt : (p : ℕ) → point p < 2 ^ n
+      point_lt : (p : ℕ) → point p < 2 ^ n
       unfolding point pick
-      point-lt p = at (dec_lt p (size 16 (bit seen)))
+      point_lt p = at (dec_lt p (size 16 (bit seen)))
         where
           at : (d : Dec (p < size 16 (bit seen))) → pick d < 2 ^ n
           at (yes l) = (points (column l).at (column l).member).below
-          at (no l) = belowBase
+          at (no l) = below_base
 
-      point-like : (p j : ℕ) → j < n → bit own j ≡ false → bit (point p) j ≡ bit base j
+      point_like : (p j : ℕ) → j < n → bit own j ≡ false → bit (point p) j ≡ bit base j
       unfolding point pick
-      point-like p j b h = at (dec_lt p (size 16 (bit seen)))
+      point_like p j b h = at (dec_lt p (size 16 (bit seen)))
         where
           at : (d : Dec (p < size 16 (bit seen))) → bit (pick d) j ≡ bit base j
           at (yes l) = (points (column l).at (column l).member).like j b h
           at (no l) = refl
 
-      point-rank : (p : ℕ) → p < size 16 (bit seen) → size (columnOver F e f (point p)) (bit seen) ≡ p
+      point_rank : (p : ℕ) → p < size 16 (bit seen) → size (column_over F e f (point p)) (bit seen) ≡ p
       unfolding point pick
-      point-rank p b = at (dec_lt p (size 16 (bit seen)))
+      point_rank p b = at (dec_lt p (size 16 (bit seen)))
         where
-          at : (d : Dec (p < size 16 (bit seen))) → size (columnOver F e f (pick d)) (bit seen) ≡ p
+          at : (d : Dec (p < size 16 (bit seen))) → size (column_over F e f (pick d)) (bit seen) ≡ p
           at (yes l) = ap (λ (c : ℕ). size c (bit seen)) (points (column l).at (column l).member).is
               ∙ (column l).rank
           at (no l) = absurd (l b)
 
-      pub crowd-rule : RulesOut n F m (bit own) (bit (bit_or e f))
-      crowd-rule = witness-rules (record {
+      pub crowd_rule : RulesOut n F m (bit own) (bit (bit_or e f))
+      crowd_rule = witness_rules (record {
         at = λ p o. four o (point p);
         spots = record {
-          below = λ p o. four-lt o (point p) (point-lt p);
-          points = λ p p' o j l h. four-alike o (point p) (point p') j (point-like p j l h ∙ sym (point-like p' j l h));
-          offsets = λ p o o' j l h. four-still o (point p) j h ∙ sym (four-still o' (point p) j h);
+          below = λ p o. four-lt o (point p) (point_lt p);
+          points = λ p p' o j l h. four-alike o (point p) (point p') j (point_like p j l h ∙ sym (point_like p' j l h));
+          offsets = λ p o o' j l h. four_still o (point p) j h ∙ sym (four_still o' (point p) j h);
         };
-        told = λ p p' l h. where-told (point p) (point p') (λ q. omega (
+        told = λ p p' l h. where_told (point p) (point p') (λ q. omega (
           arith,
           l,
-          point-rank p (omega (arith, many)),
-          point-rank p' (omega (arith, many)),
+          point_rank p (omega (arith, many)),
+          point_rank p' (omega (arith, many)),
           ap (λ (c : ℕ). size c (bit seen)) q,
         ));
       })
@@ -137,7 +137,7 @@ seen_none c h = absurd (clash h (bit-zero c))
 -- then that of one more point
 pub seen_more : {n : ℕ} {F : ℕ → Bool} {own base e f : ℕ} (seen new x v : ℕ) → Seen n F own base e f seen → base < 2 ^ n
     → x < 2 ^ n → x ≡ spread n (bit own) v
-    → new ≡ 2 ^ columnOver F e f (bit_xor base x) → Seen n F own base e f (bit_or seen new)
+    → new ≡ 2 ^ column_over F e f (bit_xor base x) → Seen n F own base e f (bit_or seen new)
 seen_more {n} {F} {own} {base} {e} {f} seen new x v w b l at is c h = go (bit seen c) refl (sym (bit-or seen new c) ∙ h)
   where
     go : (t : Bool) → bit seen c ≡ t → (t || bit new c) ≡ true → HasColumn n F own base e f c
@@ -145,13 +145,13 @@ seen_more {n} {F} {own} {base} {e} {f} seen new x v w b l at is c h = go (bit se
     go false q r = record {
       point = bit_xor base x;
       below = xor_lt n base x b l;
-      like = λ j k g. xor-still base x j (spread-low n own x v j at k g);
-      is = sym (eqb-true c (columnOver F e f (bit_xor base x))
-          (sym (power-bit (columnOver F e f (bit_xor base x)) c) ∙ ap (λ (m : ℕ). bit m c) (sym is) ∙ r));
+      like = λ j k g. xor_still base x j (spread_low n own x v j at k g);
+      is = sym (eqb-true c (column_over F e f (bit_xor base x))
+          (sym (power_bit (column_over F e f (bit_xor base x)) c) ∙ ap (λ (m : ℕ). bit m c) (sym is) ∙ r));
     }
 
-pub column-lt : (F : ℕ → Bool) (e f x : ℕ) → columnOver F e f x < 16
-column-lt F e f x = omega (
+pub column_lt : (F : ℕ → Bool) (e f x : ℕ) → column_over F e f x < 16
+column_lt F e f x = omega (
   arith,
   small (F x),
   small (F (bit_xor x e)),
@@ -173,31 +173,31 @@ near-xor a r d h l =
     let z : d ≡ 0 * 2 ^ 6 + d = omega arith in
     ap₂ bit_xor e z ∙ xor_block 6 a 0 r d h l ∙ q
 
-module _ (t : List ℕ) (w x e f : ℕ) (belowE : e < 64) (belowF : f < 64) (is : w ≡ tableWord t (x / 64)) where
+module _ (t : List ℕ) (w x e f : ℕ) (below_e : e < 64) (below_f : f < 64) (is : w ≡ table_word t (x / 64)) where
   low : x % 64 < 64
   low = mod-lt x (lit< tt)
 
-  split-x : x ≡ 64 * (x / 64) + x % 64
-  split-x = omega arith
+  split_x : x ≡ 64 * (x / 64) + x % 64
+  split_x = omega arith
 
-  by-e : bit_xor x e ≡ 64 * (x / 64) + bit_xor (x % 64) e
-  by-e = ap (λ (m : ℕ). bit_xor m e) split-x ∙ near-xor (x / 64) (x % 64) e low belowE
+  by_e : bit_xor x e ≡ 64 * (x / 64) + bit_xor (x % 64) e
+  by_e = ap (λ (m : ℕ). bit_xor m e) split_x ∙ near-xor (x / 64) (x % 64) e low below_e
 
-  digit : (j y : ℕ) → j < 64 → y ≡ 64 * (x / 64) + j → bit_and (w / 2 ^ j) 1 ≡ val (tableBit t y)
+  digit : (j y : ℕ) → j < 64 → y ≡ 64 * (x / 64) + j → bit_and (w / 2 ^ j) 1 ≡ val (table_bit t y)
   digit j y l q = bit-digit w j ∙ ap val (ap (λ (m : ℕ). bit m j) is
-      ∙ bit-number 64 (λ i. tableBit t (64 * (x / 64) + i)) j l ∙ ap (tableBit t) (sym q))
+      ∙ bit-number 64 (λ i. table_bit t (64 * (x / 64) + i)) j l ∙ ap (table_bit t) (sym q))
 
-  pub near-column : bit_and (w / 2 ^ (x % 64)) 1 + 2 * bit_and (w / 2 ^ bit_xor (x % 64) e) 1
+  pub near_column : bit_and (w / 2 ^ (x % 64)) 1 + 2 * bit_and (w / 2 ^ bit_xor (x % 64) e) 1
       + 4 * bit_and (w / 2 ^ bit_xor (x % 64) f) 1
-      + 8 * bit_and (w / 2 ^ bit_xor (bit_xor (x % 64) e) f) 1 ≡ columnOver (tableBit t) e f x
-  near-column =
-      let le : bit_xor (x % 64) e < 64 = xor_lt 6 (x % 64) e low belowE in
+      + 8 * bit_and (w / 2 ^ bit_xor (bit_xor (x % 64) e) f) 1 ≡ column_over (table_bit t) e f x
+  near_column =
+      let le : bit_xor (x % 64) e < 64 = xor_lt 6 (x % 64) e low below_e in
       omega (
         arith,
-        digit (x % 64) x low split-x,
-        digit (bit_xor (x % 64) e) (bit_xor x e) le by-e,
-        digit (bit_xor (x % 64) f) (bit_xor x f) (xor_lt 6 (x % 64) f low belowF)
-            (ap (λ (m : ℕ). bit_xor m f) split-x ∙ near-xor (x / 64) (x % 64) f low belowF),
-        digit (bit_xor (bit_xor (x % 64) e) f) (bit_xor (bit_xor x e) f) (xor_lt 6 (bit_xor (x % 64) e) f le belowF)
-            (ap (λ (m : ℕ). bit_xor m f) by-e ∙ near-xor (x / 64) (bit_xor (x % 64) e) f le belowF),
+        digit (x % 64) x low split_x,
+        digit (bit_xor (x % 64) e) (bit_xor x e) le by_e,
+        digit (bit_xor (x % 64) f) (bit_xor x f) (xor_lt 6 (x % 64) f low below_f)
+            (ap (λ (m : ℕ). bit_xor m f) split_x ∙ near-xor (x / 64) (x % 64) f low below_f),
+        digit (bit_xor (bit_xor (x % 64) e) f) (bit_xor (bit_xor x e) f) (xor_lt 6 (bit_xor (x % 64) e) f le below_f)
+            (ap (λ (m : ℕ). bit_xor m f) by_e ∙ near-xor (x / 64) (bit_xor (x % 64) e) f le below_f),
       )

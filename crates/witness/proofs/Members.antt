@@ -24,8 +24,8 @@ bit-xor = by_digits bit_xor differ xor_shr xor_mod one
     one false false = refl
 
 -- the mask of one position
-pub power-bit : (i x : ℕ) → bit (2 ^ i) x ≡ eqb x i
-power-bit i x =
+pub power_bit : (i x : ℕ) → bit (2 ^ i) x ≡ eqb x i
+power_bit i x =
     let n = suc (i + x) in
     ap (λ (m : ℕ). bit m x) (sym (Single.single n i (omega arith))) ∙ bit-number n (λ j. eqb j i) x (omega arith)
 
@@ -34,8 +34,8 @@ below_power zero = pow_pos 0
 below_power (suc a) = omega (arith, below_power a, pow-suc 2 a)
 
 -- a number that is not 0 has a bit
-pub some-bit : (a : ℕ) → (a ≡ 0 → ⊥) → (k : ℕ) × (bit a k ≡ true)
-some-bit a g = go (leading_top a a (omega arith) (below_power a))
+pub some_bit : (a : ℕ) → (a ≡ 0 → ⊥) → (k : ℕ) × (bit a k ≡ true)
+some_bit a g = go (leading_top a a (omega arith) (below_power a))
   where
     go : (j : ℕ) × (count_leading_zeros a a + suc j ≡ a) × (2 ^ j ≤ a) × (a < 2 ^ suc j) → (k : ℕ) × (bit a k ≡ true)
     go u =
@@ -44,23 +44,23 @@ some-bit a g = go (leading_top a a (omega arith) (below_power a))
         (u.0, ap (λ (m : ℕ). eqb (m % 2) 1) (ap (λ (m : ℕ). m / 2 ^ u.0) e ∙ high 1 u.0 l))
 
 -- a bit of a number of w bits is below w
-pub bit-within : (m w j : ℕ) → m < 2 ^ w → bit m j ≡ true → j < w
-bit-within m w j h e = elim (dec_lt j w) [ yes l ↦ l | no l ↦ absurd (clash e (bit_high m w j h (omega arith))) ]
+pub bit_within : (m w j : ℕ) → m < 2 ^ w → bit m j ≡ true → j < w
+bit_within m w j h e = elim (dec_lt j w) [ yes l ↦ l | no l ↦ absurd (clash e (bit_high m w j h (omega arith))) ]
 
 -- what a smaller pair of sets rules out, a larger one rules out too
-pub rules-more : {n : ℕ} {F : ℕ → Bool} {m : ℕ} {P Q P' Q' : ℕ → Bool} → RulesOut n F m P Q → Inside P P' → Inside Q Q'
+pub rules_more : {n : ℕ} {F : ℕ → Bool} {m : ℕ} {P Q P' Q' : ℕ → Bool} → RulesOut n F m P Q → Inside P P' → Inside Q Q'
     → RulesOut n F m P' Q'
-rules-more w p q = record {
+rules_more w p q = record {
   fails = λ A B apart own free. w.fails A B apart (λ j e. own j (p j e))
       (λ j e. free j (q j e));
 }
 
 -- the triple
-pub triple-rule : {n : ℕ} {F : ℕ → Bool} {m : ℕ} (i j c p q d : ℕ) → p ≡ 2 ^ i → q ≡ 2 ^ j → d ≡ 2 ^ c
+pub triple_rule : {n : ℕ} {F : ℕ → Bool} {m : ℕ} (i j c p q d : ℕ) → p ≡ 2 ^ i → q ≡ 2 ^ j → d ≡ 2 ^ c
     → RulesOut n F m (bit (bit_or p q)) (bit d)
     → RulesOut n F m (both i j) (single c)
-triple-rule i j c p q d ep eq ed w =
-    rules-more w
-    (λ x e. sym (bit-or p q x ∙ ap₂ ◌||◌ (ap (λ (m : ℕ). bit m x) ep ∙ power-bit i x)
-    (ap (λ (m : ℕ). bit m x) eq ∙ power-bit j x)) ∙ e)
-    (λ x e. sym (ap (λ (m : ℕ). bit m x) ed ∙ power-bit c x) ∙ e)
+triple_rule i j c p q d ep eq ed w =
+    rules_more w
+    (λ x e. sym (bit-or p q x ∙ ap₂ ◌||◌ (ap (λ (m : ℕ). bit m x) ep ∙ power_bit i x)
+    (ap (λ (m : ℕ). bit m x) eq ∙ power_bit j x)) ∙ e)
+    (λ x e. sym (ap (λ (m : ℕ). bit m x) ed ∙ power_bit c x) ∙ e)

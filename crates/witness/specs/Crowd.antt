@@ -3,8 +3,8 @@ use Rattle.std.specs.Prelude.{◌≡◌, ℕ, ◌+◌, ◌*◌, ◌^◌, ◌<◌
 use Rattle.bits.specs.Numbers.{bit, val}
 
 -- its four bits as a number below 16
-abbrev pub columnOver : (ℕ → Bool) → ℕ → ℕ → ℕ → ℕ
-columnOver F e f x = val (F x) + 2 * val (F (bit_xor x e)) + 4 * val (F (bit_xor x f))
+abbrev pub column_over : (ℕ → Bool) → ℕ → ℕ → ℕ → ℕ
+column_over F e f x = val (F x) + 2 * val (F (bit_xor x e)) + 4 * val (F (bit_xor x f))
     + 8 * val (F (bit_xor (bit_xor x e) f))
 
 -- a point that differs from `base` at positions of the mask `own` alone, and has the column c
@@ -12,7 +12,7 @@ pub record HasColumn (n : ℕ) (F : ℕ → Bool) (own base e f c : ℕ) : Type 
   pub point : ℕ
   pub below : point < 2 ^ n
   pub like : (j : ℕ) → j < n → bit own j ≡ false → bit point j ≡ bit base j
-  pub is : columnOver F e f point ≡ c
+  pub is : column_over F e f point ≡ c
 
 -- every member of the mask is the column of such a point
 abbrev pub Seen : ℕ → (ℕ → Bool) → ℕ → ℕ → ℕ → ℕ → ℕ → Type 0

@@ -1,10 +1,10 @@
 // Many points and two offsets: a table's bits that show more columns than several first cells allow.
 ghost use Rattle.std.specs.Prelude.{◌≡◌, ◌*◌, ◌^◌, ◌<◌, ◌≤◌, true, length, bit_or};
 ghost use Rattle.bits.specs.Numbers.{bit};
-ghost use Rattle.tables.specs.Table.{mostInputs, tableBit};
+ghost use Rattle.tables.specs.Table.{most_inputs, table_bit};
 ghost use Rattle.tables.specs.Words.{WordAt};
 ghost use Rattle.witness.specs.Witness.{RulesOut};
-ghost use Rattle.witness.specs.Crowd.{columnOver, Seen};
+ghost use Rattle.witness.specs.Crowd.{column_over, Seen};
 
 use bits::sets::{members, next, parts};
 use std::num::wrapping_sub_u32;
@@ -12,7 +12,7 @@ use tables::bit_at;
 use tables::words::table_word;
 
 // All the points that differ from `base` at positions of `own` alone, and two offsets.
-#[derive(Drop)]
+#[derive(Clone, Copy)]
 pub struct Crowd {
     pub base: u32,
     pub own: u16,
@@ -22,8 +22,8 @@ pub struct Crowd {
 
 // The column of the point x over the offsets e and f, as a mask of that column alone. No branch hangs on what is read.
 fn far(t: &[u8], n: u32, x: u32, e: u32, f: u32) -> u16
-    requires { (n ≤ mostInputs) × (2 ^ n ≤ 8 * length t.now) × (x < 2 ^ n) × (e < 2 ^ n) × (f < 2 ^ n) }
-    ensures { result ≡ 2 ^ columnOver (tableBit t.now) e f x }
+    requires { (n ≤ most_inputs) × (2 ^ n ≤ 8 * length t.now) × (x < 2 ^ n) × (e < 2 ^ n) × (f < 2 ^ n) }
+    ensures { result ≡ 2 ^ column_over (table_bit t.now) e f x }
 {
     let y = x ^ e;
     let here = bit_at(t, x) as u32;
@@ -36,7 +36,7 @@ fn far(t: &[u8], n: u32, x: u32, e: u32, f: u32) -> u16
 // The same where the offsets stay in the point's word, which is read once.
 fn near(t: &[u8], x: u32, e: u32, f: u32) -> u16
     requires { WordAt t.now x × (8 ≤ length t.now) × (e < 64) × (f < 64) }
-    ensures { result ≡ 2 ^ columnOver (tableBit t.now) e f x }
+    ensures { result ≡ 2 ^ column_over (table_bit t.now) e f x }
 {
     let w = table_word(t, (x / 64) as usize);
     let at = x % 64;
@@ -49,8 +49,8 @@ fn near(t: &[u8], x: u32, e: u32, f: u32) -> u16
 
 // The same of any offsets.
 fn mark(t: &[u8], n: u32, x: u32, e: u32, f: u32) -> u16
-    requires { (n ≤ mostInputs) × (2 ^ n ≤ 8 * length t.now) × (x < 2 ^ n) × (e < 2 ^ n) × (f < 2 ^ n) }
-    ensures { result ≡ 2 ^ columnOver (tableBit t.now) e f x }
+    requires { (n ≤ most_inputs) × (2 ^ n ≤ 8 * length t.now) × (x < 2 ^ n) × (e < 2 ^ n) × (f < 2 ^ n) }
+    ensures { result ≡ 2 ^ column_over (table_bit t.now) e f x }
 {
     if n >= 6 {
         if e < 64 {
@@ -64,9 +64,9 @@ fn mark(t: &[u8], n: u32, x: u32, e: u32, f: u32) -> u16
 
 // The columns of all the points, as a mask.
 fn seen(t: &[u8], n: u32, w: Crowd) -> u16
-    requires { (n ≤ mostInputs) × (2 ^ n ≤ 8 * length t.now) × (w.base < 2 ^ n) × (w.own < 2 ^ n) × (w.e < 2 ^ n)
+    requires { (n ≤ most_inputs) × (2 ^ n ≤ 8 * length t.now) × (w.base < 2 ^ n) × (w.own < 2 ^ n) × (w.e < 2 ^ n)
         × (w.f < 2 ^ n) }
-    ensures { Seen n (tableBit t.now) w.own w.base w.e w.f result }
+    ensures { Seen n (table_bit t.now) w.own w.base w.e w.f result }
 {
     let many = parts(n, w.own);
     let mut r: u16 = 0;
@@ -82,7 +82,7 @@ fn seen(t: &[u8], n: u32, w: Crowd) -> u16
 
 // Whether the points and the offsets are a table's.
 fn placed(n: u32, w: Crowd) -> bool
-    requires { n ≤ mostInputs }
+    requires { n ≤ most_inputs }
     ensures { result ≡ true → (w.base < 2 ^ n) × (w.own < 2 ^ n) × (w.e < 2 ^ n) × (w.f < 2 ^ n) }
 {
     let all: u32 = 1 << n;
@@ -100,8 +100,8 @@ fn placed(n: u32, w: Crowd) -> bool
 
 // Whether the points show more than m columns over the offsets.
 pub fn shows_many(t: &[u8], n: u32, m: u32, w: Crowd) -> bool
-    requires { (n ≤ mostInputs) × (2 ^ n ≤ 8 * length t.now) }
-    ensures { result ≡ true → RulesOut n (tableBit t.now) m (bit w.own) (bit (bit_or w.e w.f)) }
+    requires { (n ≤ most_inputs) × (2 ^ n ≤ 8 * length t.now) }
+    ensures { result ≡ true → RulesOut n (table_bit t.now) m (bit w.own) (bit (bit_or w.e w.f)) }
 {
     if !placed(n, w) {
         return false;
@@ -114,8 +114,8 @@ pub fn shows_many(t: &[u8], n: u32, m: u32, w: Crowd) -> bool
 
 // Whether the points from one of a few places on show more than m columns over the offsets.
 pub fn many_somewhere(t: &[u8], n: u32, m: u32, own: u16, e: u32, f: u32) -> bool
-    requires { (n ≤ mostInputs) × (2 ^ n ≤ 8 * length t.now) }
-    ensures { result ≡ true → RulesOut n (tableBit t.now) m (bit own) (bit (bit_or e f)) }
+    requires { (n ≤ most_inputs) × (2 ^ n ≤ 8 * length t.now) }
+    ensures { result ≡ true → RulesOut n (table_bit t.now) m (bit own) (bit (bit_or e f)) }
 {
     let all: u32 = 1 << n;
     let mut base: u32 = 0;

@@ -1,6 +1,6 @@
 // Which own and free positions to ask of many points. Nothing is promised here but that it is safe and ends.
 ghost use Rattle.std.specs.Prelude.{◌≤◌};
-ghost use Rattle.tables.specs.Table.{mostInputs};
+ghost use Rattle.tables.specs.Table.{most_inputs};
 
 use bits::sets::members;
 
@@ -24,7 +24,7 @@ pub fn highest(mask: u16, many: u32) -> u16 {
 // Two positions outside `both`, as a mask; 0 where there are none. The positions outside `own` are taken two by two
 // from the top, so that different answers have no position in common, and few of them meet every small shared set.
 pub fn two(n: u32, own: u32, both: u32) -> u32
-    requires { n ≤ mostInputs }
+    requires { n ≤ most_inputs }
 {
     let mut first: u32 = 0;
     let mut j: u32 = n;

@@ -1,7 +1,7 @@
 // Two own positions and one free one: the smallest witnesses, looked for by whole words.
 ghost use Rattle.std.specs.Prelude.{◌≡◌, ℕ, ◌^◌, ◌<◌, ◌≤◌, true, bit_or};
 ghost use Rattle.bits.specs.Numbers.{bit};
-ghost use Rattle.tables.specs.Table.{mostInputs, tableBit};
+ghost use Rattle.tables.specs.Table.{most_inputs, table_bit};
 ghost use Rattle.best.specs.Moves.{both};
 ghost use Rattle.witness.specs.Witness.{RulesOut, single};
 ghost use Rattle.witness.specs.Points.{Wide, Turned, Off, Still, Steps};
@@ -22,7 +22,7 @@ pub fn off(j: u32) -> u64
 
 // The positions that step from word to word, without those of `own`.
 fn steps(n: u32, own: u32) -> u16
-    requires { (6 ≤ n) × (n ≤ mostInputs) }
+    requires { (6 ≤ n) × (n ≤ most_inputs) }
     ensures { Steps n own result }
 {
     let all: u32 = 1 << n;
@@ -32,7 +32,7 @@ fn steps(n: u32, own: u32) -> u16
 // Where the bits from x on change as the positions of s are set.
 fn change(t: &[u8], n: u32, x: u32, s: u32) -> u64
     requires { Wide n t.now × (x < 2 ^ n) × (s < 2 ^ n) }
-    ensures { Turned (tableBit t.now) x s result }
+    ensures { Turned (table_bit t.now) x s result }
 {
     bits_from(t, x | s) ^ bits_from(t, x)
 }
@@ -42,7 +42,7 @@ fn change(t: &[u8], n: u32, x: u32, s: u32) -> u64
 fn clash(t: &[u8], n: u32, x: u32, d: u32, p: u32, q: u32) -> u64
     requires { Wide n t.now × (x < 2 ^ n) × (d < 2 ^ n) × (p < 2 ^ n) × (q < 2 ^ n) }
     ensures { (k : ℕ) → Still n x d p q k → bit result k ≡ true
-        → RulesOut n (tableBit t.now) 2 (bit (bit_or p q)) (bit d) }
+        → RulesOut n (table_bit t.now) 2 (bit (bit_or p q)) (bit d) }
 {
     let r = p | q;
     let y = x | d;
@@ -59,7 +59,7 @@ fn clash(t: &[u8], n: u32, x: u32, d: u32, p: u32, q: u32) -> u64
 // j. No more than `reach` places to step to are looked at.
 pub fn bad(t: &[u8], n: u32, places: u64, i: u32, j: u32, c: u32, reach: u32) -> bool
     requires { Wide n t.now × (i < n) × (j < n) × (c < n) × Off i places × Off j places }
-    ensures { result ≡ true → RulesOut n (tableBit t.now) 2 (both i j) (single c) }
+    ensures { result ≡ true → RulesOut n (table_bit t.now) 2 (both i j) (single c) }
 {
     let p: u32 = 1 << i;
     let q: u32 = 1 << j;

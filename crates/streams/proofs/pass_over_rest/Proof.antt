@@ -3,13 +3,13 @@ use native.Mathlib.Omega.{arith}
 use Rattle.streams.proofs.pass_over_rest.Statement.{statement}
 use Rattle.streams.proofs.pass_over_rest.Tie as tie
 
-abbrev invariant-loop : tie.invariant-loop
-invariant-loop turns₀ turns = Unit {0}
+abbrev invariant_loop : tie.invariant_loop
+invariant_loop turns₀ turns = Unit {0}
 
-abbrev decreases-loop : tie.decreases-loop
-decreases-loop turns₀ turns = turns
+abbrev decreases_loop : tie.decreases_loop
+decreases_loop turns₀ turns = turns
 
-pub pass-over-rest-spec : {M : Type 1} → statement M
-pass-over-rest-spec =
-    tie.close (tie.spec invariant-loop decreases-loop (λ c. tt) (λ c κs. tt) (λ c. omega arith) (λ c. omega arith) (λ c. tt)
+pub pass_over_rest_spec : {M : Type 1} → statement M
+pass_over_rest_spec =
+    tie.close (tie.spec invariant_loop decreases_loop (λ c. tt) (λ c κs. tt) (λ c. omega arith) (λ c. omega arith) (λ c. tt)
     (λ c. tt) (λ c. tt))

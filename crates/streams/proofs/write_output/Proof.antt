@@ -5,6 +5,6 @@ use borrow.Author.Rules.{rules}
 use Rattle.streams.proofs.write_output.Statement.{statement}
 use Rattle.streams.proofs.write_output.Tie as tie
 
-pub write-output-spec : {M : Type 1} → statement M
-write-output-spec =
+pub write-output_spec : {M : Type 1} → statement M
+write-output_spec =
     tie.close (tie.spec (λ c. sym (length-take-le _ _ (search rules))) (λ c κs. search rules) (λ c. search rules))

@@ -1,13 +1,13 @@
 -- Where s has 1 the second part is left, where it has 0 the first. Assumes nothing.
 use native.Mathlib.Omega.{arith}
-use Rattle.bits.proofs.Inputs.{choose-is}
+use Rattle.bits.proofs.Inputs.{choose_is}
 use Rattle.bits.proofs.patterns.choose.Statement.{statement}
 use Rattle.bits.proofs.patterns.choose.Tie as tie
 
 returns : tie.Need-returns
 returns c =
     let a = c.args in
-    choose-is a.s a.zero a.one (omega arith) (omega arith) (omega arith)
+    choose_is a.s a.zero a.one (omega arith) (omega arith) (omega arith)
 
 pub choose_spec : {M : Type 1} → statement M
 choose_spec = tie.close (tie.spec returns)

@@ -16,8 +16,8 @@ returns c =
     go true = refl
     go false = refl
 
-returns-2 : tie.Need-returns-2
-returns-2 c =
+returns_2 : tie.Need-returns-2
+returns_2 c =
     let a = c.before.before.args in
     λ x h. c.lower.ensures x h ∙ ap (λ (t : Bool). bit a.table x && t)
     (go (bit x a.j) ∙ ap (beq (bit x a.j)) (sym c.before.if1.false))
@@ -27,4 +27,4 @@ returns-2 c =
     go false = refl
 
 pub half_spec : {M : Type 1} → statement M
-half_spec = tie.close (tie.spec (λ c κs. search rules) returns (λ c κs. search rules) returns-2)
+half_spec = tie.close (tie.spec (λ c κs. search rules) returns (λ c κs. search rules) returns_2)

@@ -4,30 +4,30 @@ use Prim.Native.Nat.{ℕ, ◌-◌, ◌^◌, ◌≤◌}
 use native.Mathlib.Omega.{arith}
 use borrow.Author.Rules.{rules}
 use Rattle.bits.specs.Numbers.{bit, number}
-use Rattle.bits.specs.Sets.{wordPositions, isSubset}
-use Rattle.bits.proofs.Subsets.{subsets-once, subsets-shift, subsets-turn, subsets-fits}
+use Rattle.bits.specs.Sets.{word_positions, is_subset}
+use Rattle.bits.proofs.Subsets.{subsets-once, subsets_shift, subsets-turn, subsets_fits}
 use Rattle.bits.proofs.sets.subsets.Statement.{statement}
 use Rattle.bits.proofs.sets.subsets.Tie as tie
 
-abbrev invariant-loop : tie.invariant-loop
-invariant-loop mask m r₀ j₀ r j = (j ≤ wordPositions) × (r ≡ number (2 ^ j) (isSubset j (bit mask)))
+abbrev invariant_loop : tie.invariant_loop
+invariant_loop mask m r₀ j₀ r j = (j ≤ word_positions) × (r ≡ number (2 ^ j) (is_subset j (bit mask)))
 
-abbrev decreases-loop : tie.decreases-loop
-decreases-loop mask m r₀ j₀ r j = wordPositions - j
+abbrev decreases_loop : tie.decreases_loop
+decreases_loop mask m r₀ j₀ r j = word_positions - j
 
-loop-holds : tie.Need-loop-init invariant-loop decreases-loop
-unfolding number isSubset
-loop-holds c = (omega arith, refl)
+loop_holds : tie.Need-loop-init invariant_loop decreases_loop
+unfolding number is_subset
+loop_holds c = (omega arith, refl)
 
-returns : tie.Need-returns invariant-loop decreases-loop
+returns : tie.Need-returns invariant_loop decreases_loop
 returns c =
     let q = c.before.loop in
-    let e : q.j ≡ wordPositions = omega arith in
-    q.invariant.1 ∙ ap (λ (p : ℕ). number (2 ^ p) (isSubset p (bit c.before.before.args.mask))) e
+    let e : q.j ≡ word_positions = omega arith in
+    q.invariant.1 ∙ ap (λ (p : ℕ). number (2 ^ p) (is_subset p (bit c.before.before.args.mask))) e
 
-pub subsets-spec : {M : Type 1} → statement M
-subsets-spec =
-    tie.close (tie.spec invariant-loop decreases-loop loop-holds (λ c. search rules) (λ c. search rules) (λ c. search rules)
+pub subsets_spec : {M : Type 1} → statement M
+subsets_spec =
+    tie.close (tie.spec invariant_loop decreases_loop loop_holds (λ c. search rules) (λ c. search rules) (λ c. search rules)
     (λ c. search rules)
     (λ c. let q = c.before.loop in omega (
       arith,
@@ -36,12 +36,12 @@ subsets-spec =
     ))
     (λ c. let q = c.before.loop in omega (
       arith,
-      subsets-shift c.before.before.args.mask c.loop-test.true
+      subsets_shift c.before.before.args.mask c.loop-test.true
           q.invariant.1,
     ))
     (λ c. let q = c.before.loop in omega (
       arith,
-      subsets-fits c.before.before.args.mask c.loop-test.true
+      subsets_fits c.before.before.args.mask c.loop-test.true
           q.invariant.1,
     ))
     (λ c. search rules) (λ c. search rules)

@@ -8,5 +8,5 @@ returns : tie.Need-returns
 unfolding book
 returns c = printed c.args.table (search rules)
 
-pub look-up-spec : {M : Type 1} → statement M
-look-up-spec = tie.close (tie.spec (λ c. search rules) returns)
+pub look_up_spec : {M : Type 1} → statement M
+look_up_spec = tie.close (tie.spec (λ c. search rules) returns)

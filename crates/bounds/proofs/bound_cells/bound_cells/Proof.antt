@@ -4,46 +4,46 @@ use mathlib.Core.List.{List}
 use Prim.Native.Nat.{ℕ}
 use borrow.Author.Rules.{rules}
 use Rattle.sheets.specs.declared.kinds.Edition.{Edition}
-use Rattle.sheets.specs.Edition.{IsEdition, editionOf}
-use Rattle.sheets.proofs.Keeping.{is-edition}
+use Rattle.sheets.specs.Edition.{IsEdition, edition_of}
+use Rattle.sheets.proofs.Keeping.{is_edition}
 use Rattle.refusals.specs.declared.verdicts.Verdict.{Verdict}
-use Rattle.refusals.specs.Refusals.{toldForm}
-use Rattle.refusals.proofs.Lines.{left-to}
-use Rattle.refusals.proofs.Refusing.{form-refuses}
-use Rattle.finding.specs.FindBest.{findForm}
-use Rattle.bounds.specs.BoundCells.{boundDone, boundNot, boundIn, boundOutcome}
+use Rattle.refusals.specs.Refusals.{told_form}
+use Rattle.refusals.proofs.Lines.{left_to}
+use Rattle.refusals.proofs.Refusing.{form_refuses}
+use Rattle.finding.specs.FindBest.{find_form}
+use Rattle.bounds.specs.BoundCells.{bound_done, bound_not, bound_in, bound_outcome}
 use Rattle.bounds.proofs.bound_cells.bound_cells.Statement.{statement}
 use Rattle.bounds.proofs.bound_cells.bound_cells.Tie as tie
 
 returns : tie.Need-returns
-unfolding boundOutcome
+unfolding bound_outcome
 returns c =
     let f = c.before.before in
     let a = f.before.before.before.args in
-    form-refuses (toldForm a.w a.n) (findForm (editionOf a.w) a.n a.k a.t.now a.work.now)
-    (boundDone a.n a.k a.t.now a.work.now) (λ (v : Verdict) (l : List ℕ). record {
+    form_refuses (told_form a.w a.n) (find_form (edition_of a.w) a.n a.k a.t.now a.work.now)
+    (bound_done a.n a.k a.t.now a.work.now) (λ (v : Verdict) (l : List ℕ). record {
       answer = record { verdict = v; least = 0 };
       work = l;
     }) a.work.now refl f.told.result c.enum-told2.given.0.0 f.told.ensures c.enum-told2.given.1
 
-bound-in-requires : tie.Need-bound-in-requires
-bound-in-requires c κs = subst IsEdition (sym c.before.numbered.ensures) (is-edition _)
+bound_in_requires : tie.Need-bound-in-requires
+bound_in_requires c κs = subst IsEdition (sym c.before.numbered.ensures) (is_edition _)
 
-returns-2 : tie.Need-returns-2
-unfolding boundOutcome
-returns-2 c =
+returns_2 : tie.Need-returns-2
+unfolding bound_outcome
+returns_2 c =
     let r = c.before.before in
     let e = r.before.before in
     let i = e.before in
     let f = i.before.before in
     let a = f.before.before.before.args in
-    r.bound-in.ensures ∙ ap (λ (e : Edition). boundIn e a.n a.k a.t.now a.work.now)
+    r.bound-in.ensures ∙ ap (λ (e : Edition). bound_in e a.n a.k a.t.now a.work.now)
     e.numbered.ensures
-    ∙ left-to (toldForm a.w a.n) (findForm (editionOf a.w) a.n a.k a.t.now a.work.now)
-    (boundDone a.n a.k a.t.now a.work.now)
-    (boundNot a.work.now) f.told.result f.told.ensures i.enum_told.given.1
+    ∙ left_to (told_form a.w a.n) (find_form (edition_of a.w) a.n a.k a.t.now a.work.now)
+    (bound_done a.n a.k a.t.now a.work.now)
+    (bound_not a.work.now) f.told.result f.told.ensures i.enum_told.given.1
 
-pub bound-cells-spec : {M : Type 1} → statement M
-bound-cells-spec =
+pub bound_cells_spec : {M : Type 1} → statement M
+bound_cells_spec =
     tie.close (tie.spec (λ c κs. search rules) (λ c. search rules) (λ c. search rules) returns (λ c κs. search rules)
-    bound-in-requires (λ c. search rules) returns-2)
+    bound_in_requires (λ c. search rules) returns_2)

@@ -5,11 +5,11 @@ use Prim.Native.Nat.{ℕ, ◌^◌}
 use native.Mathlib.Omega.{arith}
 use borrow.Author.Rules.{rules}
 use Rattle.bits.specs.Numbers.{number}
-use Rattle.tables.specs.Table.{tableBit}
-use Rattle.best.specs.Counting.{bestCounting}
-use Rattle.chains.specs.Aside.{sheetAside}
-use Rattle.bounds.specs.Least.{bySplit, byChain}
-use Rattle.bounds.proofs.Bound.{least-few, least-chain, least-split}
+use Rattle.tables.specs.Table.{table_bit}
+use Rattle.best.specs.Counting.{best_counting}
+use Rattle.chains.specs.Aside.{sheet_aside}
+use Rattle.bounds.specs.Least.{by_split, by_chain}
+use Rattle.bounds.proofs.Bound.{least_few, least-chain, least_split}
 use Rattle.bounds.proofs.least.cell_bound.Statement.{statement}
 use Rattle.bounds.proofs.least.cell_bound.Tie as tie
 
@@ -19,44 +19,44 @@ returns c =
     let m = i.before.before in
     let a = m.before.before.before.args in
     let w = m.counting-inputs.ensures in (
-      sym (least-few a.n a.k (tableBit a.t.now) (omega (arith, w.count, i.if1.true))),
+      sym (least_few a.n a.k (table_bit a.t.now) (omega (arith, w.count, i.if1.true))),
       c.before.before.clear.ensures,
     )
 
-by-tree-requires : tie.Need-by-tree-requires
-by-tree-requires c κs =
+by_tree_requires : tie.Need-by-tree-requires
+by_tree_requires c κs =
     let j = c.before.before.before.before in
     let m = j.before.before.before in
     let p = m.before.before.before.requires in
     (p.0, p.1, p.4, omega (arith, j.before.if1.false, j.if2.true), m.counting-inputs.ensures)
 
-returns-2 : tie.Need-returns-2
-returns-2 c =
+returns_2 : tie.Need-returns-2
+returns_2 c =
     let r = c.before.before.before in
     let j = r.before.before in
     let m = j.before.before.before in
     let a = m.before.before.before.args in
-    let F = tableBit a.t.now in
+    let F = table_bit a.t.now in
     let is = m.counting-inputs.ensures.count in (
-      c.by-tree.ensures ∙ ap (λ (c : ℕ). byChain c (sheetAside a.n 2 (number (2 ^ a.n) F))) is
+      c.by-tree.ensures ∙ ap (λ (c : ℕ). by_chain c (sheet_aside a.n 2 (number (2 ^ a.n) F))) is
           ∙ sym (least-chain a.n a.k F (omega (arith, is, j.before.if1.false)) j.if2.true),
       r.clear2.ensures,
     )
 
-returns-3 : tie.Need-returns-3
-returns-3 c =
+returns_3 : tie.Need-returns-3
+returns_3 c =
     let r = c.before.before in
     let j = r.before.before in
     let m = j.before.before.before in
     let a = m.before.before.before.args in
-    let F = tableBit a.t.now in
+    let F = table_bit a.t.now in
     let is = m.counting-inputs.ensures.count in (
-      r.by-split.ensures.0 ∙ ap (λ (c : ℕ). bySplit a.n a.k c (bestCounting a.n 1 F a.k)) is
-          ∙ sym (least-split a.n a.k F (omega (arith, is, j.before.if1.false)) j.if2.false),
-      r.by-split.ensures.1,
+      r.by_split_lem.ensures.0 ∙ ap (λ (c : ℕ). by_split a.n a.k c (best_counting a.n 1 F a.k)) is
+          ∙ sym (least_split a.n a.k F (omega (arith, is, j.before.if1.false)) j.if2.false),
+      r.by_split_lem.ensures.1,
     )
 
-pub cell-bound-spec : {M : Type 1} → statement M
-cell-bound-spec =
+pub cell_bound_spec : {M : Type 1} → statement M
+cell_bound_spec =
     tie.close (tie.spec (λ c κs. search rules) (λ c κs. search rules) (λ c. search rules) returns (λ c κs. search rules)
-    by-tree-requires (λ c. search rules) returns-2 (λ c κs. search rules) (λ c. search rules) returns-3)
+    by_tree_requires (λ c. search rules) returns_2 (λ c κs. search rules) (λ c. search rules) returns_3)

@@ -8,5 +8,5 @@ use Rattle.cards.proofs.stores.place_byte.Tie as tie
 returns : tie.Need-returns
 returns c = let a = c.before.args in sym (get_or-eq_default a.s.now 0 {n = a.j} c.if1.true)
 
-pub place-byte-spec : {M : Type 1} → statement M
-place-byte-spec = tie.close (tie.spec returns (λ c. search rules) (λ c. search rules))
+pub place-byte_spec : {M : Type 1} → statement M
+place-byte_spec = tie.close (tie.spec returns (λ c. search rules) (λ c. search rules))

@@ -2,7 +2,7 @@
 use mathlib.Core.Path.{◌≡◌, refl}
 use Prim.Native.Nat.{ℕ, zero, suc}
 use lib.ListN.{get_or, replicate}
-use Rattle.columns.specs.Reading.{chartRoom}
+use Rattle.columns.specs.Reading.{chart_room}
 use Rattle.charts.proofs.pair.blank.Statement.{statement}
 use Rattle.charts.proofs.pair.blank.Tie as tie
 
@@ -11,5 +11,5 @@ zeros zero i = refl
 zeros (suc n) zero = refl
 zeros (suc n) (suc i) = zeros n i
 
-pub blank-spec : {M : Type 1} → statement M
-blank-spec = tie.close (tie.spec (λ c. (refl, zeros chartRoom)))
+pub blank_spec : {M : Type 1} → statement M
+blank_spec = tie.close (tie.spec (λ c. (refl, zeros chart_room)))

@@ -12,5 +12,5 @@ returns c =
     let a = c.before.before.before.args in
     test_bit c.code_at.result a.which ∙ ap (λ (m : ℕ). bit m a.which) c.code_at.ensures
 
-pub d-bit-spec : {M : Type 1} → statement M
-d-bit-spec = tie.close (tie.spec (λ c κs. search rules) (λ c. search rules) returns)
+pub d_bit_spec : {M : Type 1} → statement M
+d_bit_spec = tie.close (tie.spec (λ c κs. search rules) (λ c. search rules) returns)

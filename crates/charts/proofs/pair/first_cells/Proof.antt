@@ -16,6 +16,6 @@ returns c =
     ap₂ (λ (x y : CellTable). cells x y c.table-or-zero3.result) p.table-or-zero.ensures
     q.table-or-zero2.ensures ∙ ap (cells _ _) c.table-or-zero3.ensures
 
-pub first-cells-spec : {M : Type 1} → statement M
-first-cells-spec =
+pub first_cells_spec : {M : Type 1} → statement M
+first_cells_spec =
     tie.close (tie.spec (λ c κs. search rules) (λ c κs. search rules) (λ c κs. search rules) returns)

@@ -5,19 +5,19 @@ use native.Mathlib.Omega.{arith}
 use lib.ListN.{length, replicate}
 use borrow.Author.Rules.{rules}
 use Rattle.bits.specs.Numbers.{bit}
-use Rattle.tables.specs.Table.{tableBit}
+use Rattle.tables.specs.Table.{table_bit}
 use Rattle.tables.proofs.Bytes.{length_more}
-use Rattle.splits.specs.Columns.{mostFirst}
-use Rattle.choices.specs.Search.{spreadChoice}
-use Rattle.choices.proofs.Spread.{over-found}
+use Rattle.splits.specs.Columns.{most_first}
+use Rattle.choices.specs.Search.{spread_choice}
+use Rattle.choices.proofs.Spread.{over_found}
 use Rattle.choices.proofs.counted.find_over.Statement.{statement}
 use Rattle.choices.proofs.counted.find_over.Tie as tie
 
-set-aside-requires : tie.Need-set-aside-requires
-set-aside-requires c κs = let p = c.before.before.before.requires in (p.0, p.1, p.2.below, p.4)
+set_aside_requires : tie.Need-set-aside-requires
+set_aside_requires c κs = let p = c.before.before.before.requires in (p.0, p.1, p.2.below, p.4)
 
-find-upto-requires : tie.Need-find-upto-requires
-find-upto-requires c κs =
+find_upto_requires : tie.Need-find-upto-requires
+find_upto_requires c κs =
     let s = c.before.before.before in
     let g = s.before.before.before.before in
     let w = g.requires.2 in (
@@ -41,13 +41,13 @@ returns c =
     let g = s.before.before.before.before in
     let a = g.args in
     let x = a.counting in (
-      c.spread-back.ensures ∙ ap (spreadChoice a.n (bit x.mask)) f.find-upto.ensures.0
-          ∙ over-found a.n mostFirst a.k (tableBit a.t.now) x s.set-aside.new.1.1.1.0 g.requires.2
+      c.spread-back.ensures ∙ ap (spread_choice a.n (bit x.mask)) f.find-upto.ensures.0
+          ∙ over_found a.n most_first a.k (table_bit a.t.now) x s.set-aside.new.1.1.1.0 g.requires.2
           s.set-aside.ensures,
       k.clear.ensures ∙ ap (λ (z : ℕ). replicate z 0) s.set-aside.auto.1.1.1.0,
     )
 
-pub find-over-spec : {M : Type 1} → statement M
-find-over-spec =
-    tie.close (tie.spec set-aside-requires (λ c. search rules) find-upto-requires (λ c κs. search rules)
+pub find_over_spec : {M : Type 1} → statement M
+find_over_spec =
+    tie.close (tie.spec set_aside_requires (λ c. search rules) find_upto_requires (λ c κs. search rules)
     (λ c κs. search rules) same_length returns)

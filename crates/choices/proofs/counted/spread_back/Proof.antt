@@ -15,5 +15,5 @@ returns c =
     c.before.spread-mask.ensures c.spread-mask2.ensures
     ∙ spread-chosen a.n (bit a.mask) a.found
 
-pub spread-back-spec : {M : Type 1} → statement M
-spread-back-spec = tie.close (tie.spec (λ c κs. search rules) (λ c κs. search rules) returns)
+pub spread_back_spec : {M : Type 1} → statement M
+spread_back_spec = tie.close (tie.spec (λ c κs. search rules) (λ c κs. search rules) returns)

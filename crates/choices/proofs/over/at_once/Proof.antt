@@ -3,30 +3,30 @@ use mathlib.Core.Path.{sym, ap, subst}
 use Prim.Native.Nat.{◌+◌, ◌-◌, ◌≤◌}
 use native.Mathlib.Omega.{arith}
 use borrow.Author.Rules.{rules}
-use Rattle.tables.specs.Table.{tableBit}
+use Rattle.tables.specs.Table.{table_bit}
 use Rattle.best.specs.Answers.{answer_of}
 use Rattle.choices.specs.Chosen.{AtOnce}
-use Rattle.choices.proofs.Choosing.{is-choice}
+use Rattle.choices.proofs.Choosing.{is_choice}
 use Rattle.choices.proofs.over.at_once.Statement.{statement}
 use Rattle.choices.proofs.over.at_once.Tie as tie
 
-abbrev invariant-loop : tie.invariant-loop
-invariant-loop t n upto k r₀ r = (1 ≤ r) × (r ≤ upto + 1)
+abbrev invariant_loop : tie.invariant_loop
+invariant_loop t n upto k r₀ r = (1 ≤ r) × (r ≤ upto + 1)
 
-abbrev decreases-loop : tie.decreases-loop
-decreases-loop t n upto k r₀ r = upto + 1 - r
+abbrev decreases_loop : tie.decreases_loop
+decreases_loop t n upto k r₀ r = upto + 1 - r
 
-first-try-requires : tie.Need-first-try-requires invariant-loop decreases-loop
-first-try-requires c κs = let p = c.before.before.before.requires
+first_try_requires : tie.Need-first-try-requires invariant_loop decreases_loop
+first_try_requires c κs = let p = c.before.before.before.requires
     in (p.0, omega (arith, p.1, c.loop-test.true), p.2)
 
-returns : tie.Need-returns invariant-loop decreases-loop
+returns : tie.Need-returns invariant_loop decreases_loop
 returns c =
     let m = c.before.before.before in
     let l = m.before.before.loop in
     let a = m.before.before.before.before.args in
     let e = m.first-try.ensures _ _ (ap answer_of c.before.early.given.1) in
-    subst (AtOnce a.n a.k a.upto (tableBit a.t.now)) (sym (is-choice _ (λ z. omega (arith, l.invariant.0, z))))
+    subst (AtOnce a.n a.k a.upto (table_bit a.t.now)) (sym (is_choice _ (λ z. omega (arith, l.invariant.0, z))))
     (record {
       some = l.invariant.0;
       most = omega (arith, m.before.loop-test.true);
@@ -34,14 +34,14 @@ returns c =
       whole = e.1;
     })
 
-pub at-once-spec : {M : Type 1} → statement M
-at-once-spec =
+pub at_once_spec : {M : Type 1} → statement M
+at_once_spec =
     tie.close
     (tie.spec
-    invariant-loop
-    decreases-loop
+    invariant_loop
+    decreases_loop
     (λ c. (omega arith, omega arith))
-    first-try-requires
+    first_try_requires
     (λ c. search rules)
     returns
     (λ c. search rules)

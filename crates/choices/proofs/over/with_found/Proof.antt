@@ -16,8 +16,8 @@ returns c =
       g.requires.0.3,
     )
 
-larger-requires : tie.Need-larger-requires
-larger-requires c κs =
+larger_requires : tie.Need-larger-requires
+larger_requires c κs =
     let g = c.before.before.before in
     let p = g.requires.0 in (
       p.0,
@@ -29,13 +29,13 @@ larger-requires c κs =
           c.before.found.given.1 g.requires.1.1,
     )
 
-returns-2 : tie.Need-returns-2
-returns-2 c =
+returns_2 : tie.Need-returns-2
+returns_2 c =
     let a = c.before.before.before.before.args in (
       c.larger.ensures.0 ∙ ap (λ (f : Found). better a.n a.r (choice_of a.kept) (answer_of f))
           (sym c.before.before.found.given.1),
       c.larger.ensures.1,
     )
 
-pub with-found-spec : {M : Type 1} → statement M
-with-found-spec = tie.close (tie.spec (λ c. search rules) (λ c. search rules) returns larger-requires returns-2)
+pub with_found_spec : {M : Type 1} → statement M
+with_found_spec = tie.close (tie.spec (λ c. search rules) (λ c. search rules) returns larger_requires returns_2)

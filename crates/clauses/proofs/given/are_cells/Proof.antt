@@ -6,6 +6,6 @@ use Rattle.clauses.proofs.given.are_cells.Tie as tie
 returns : tie.Need-returns
 returns c = cc
 
-pub are-cells-spec : {M : Type 1} → statement M
-are-cells-spec = tie.close (tie.spec (λ c κs. search rules) (λ c κs. search rules) (λ c κs. search rules) (λ c κs. search rules)
+pub are_cells_spec : {M : Type 1} → statement M
+are_cells_spec = tie.close (tie.spec (λ c κs. search rules) (λ c κs. search rules) (λ c κs. search rules) (λ c κs. search rules)
     returns)

@@ -6,5 +6,5 @@ use Rattle.clauses.proofs.given.are_sorted.Tie as tie
 returns : tie.Need-returns
 returns c = cc
 
-pub are-sorted-spec : {M : Type 1} → statement M
-are-sorted-spec = tie.close (tie.spec (λ c κs. search rules) (λ c κs. search rules) (λ c κs. search rules) returns)
+pub are_sorted_spec : {M : Type 1} → statement M
+are_sorted_spec = tie.close (tie.spec (λ c κs. search rules) (λ c κs. search rules) (λ c κs. search rules) returns)

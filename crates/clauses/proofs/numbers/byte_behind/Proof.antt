@@ -8,9 +8,9 @@ use Rattle.clauses.proofs.numbers.byte_behind.Tie as tie
 returns : tie.Need-returns
 returns c = past_end c.before.args.c.now _ (omega arith)
 
-returns-2 : tie.Need-returns-2
-returns-2 c = past_end c.before.before.args.c.now _ (omega arith)
+returns_2 : tie.Need-returns-2
+returns_2 c = past_end c.before.before.args.c.now _ (omega arith)
 
-pub byte-behind-spec : {M : Type 1} → statement M
-byte-behind-spec = tie.close (tie.spec returns (λ c. search rules) returns-2 (λ c. search rules)
+pub byte-behind_spec : {M : Type 1} → statement M
+byte-behind_spec = tie.close (tie.spec returns (λ c. search rules) returns_2 (λ c. search rules)
     (λ c. search rules) (λ c. search rules))

@@ -9,6 +9,6 @@ returns : tie.Need-returns
 unfolding two
 returns c = (omega arith, omega arith)
 
-pub two-at-spec : {M : Type 1} → statement M
-two-at-spec = tie.close (tie.spec (λ c. search rules) (λ c κs. search rules) (λ c. search rules) (λ c. search rules)
+pub two_at_spec : {M : Type 1} → statement M
+two_at_spec = tie.close (tie.spec (λ c. search rules) (λ c κs. search rules) (λ c. search rules) (λ c. search rules)
     (λ c κs. search rules) (λ c. search rules) (λ c. search rules) returns)

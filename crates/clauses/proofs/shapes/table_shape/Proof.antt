@@ -6,8 +6,8 @@ use Rattle.clauses.proofs.shapes.table_shape.Tie as tie
 returns : tie.Need-returns
 returns c = λ z row. simp c.if1.true
 
-returns-2 : tie.Need-returns-2
-returns-2 c = λ z row. simp c.if1.false
+returns_2 : tie.Need-returns-2
+returns_2 c = λ z row. simp c.if1.false
 
-pub table-shape-spec : {M : Type 1} → statement M
-table-shape-spec = tie.close (tie.spec returns returns-2)
+pub table_shape_spec : {M : Type 1} → statement M
+table_shape_spec = tie.close (tie.spec returns returns_2)

@@ -8,54 +8,54 @@ use lib.Dec.{ltb}
 use lib.ListN.{length}
 use borrow.Author.Rules.{rules}
 use Rattle.bits.specs.Below.{least}
-use Rattle.bits.proofs.Least.{least_more, least-stop}
-use Rattle.bits.proofs.Walking.{Walked, walked_none, walked_more, walked-lt, walked-turn, walked_end, walked-within}
-use Rattle.tables.specs.Table.{tableBit}
+use Rattle.bits.proofs.Least.{least_more, least_stop}
+use Rattle.bits.proofs.Walking.{Walked, walked_none, walked_more, walked_lt, walked_turn, walked_end, walked_within}
+use Rattle.tables.specs.Table.{table_bit}
 use Rattle.columns.specs.declared.split.Split.{Split}
-use Rattle.splits.specs.Columns.{mostColumns, firstBroken}
-use Rattle.columns.specs.Reading.{columnsOf}
-use Rattle.columns.proofs.Looking.{seen_few, seen-many}
+use Rattle.splits.specs.Columns.{most_columns, first_broken}
+use Rattle.columns.specs.Reading.{columns_of}
+use Rattle.columns.proofs.Looking.{seen_few, seen_many}
 use Rattle.columns.proofs.columns.first_broken.Statement.{statement}
 use Rattle.columns.proofs.columns.first_broken.Tie as tie
 
 -- the test at one shared assignment
 abbrev many : List ℕ → Split → ℕ → ℕ → Bool
-many t s limit b = ltb limit (length (columnsOf s (tableBit t) b))
+many t s limit b = ltb limit (length (columns_of s (table_bit t) b))
 
-abbrev invariant-loop : tie.invariant-loop
-invariant-loop t s all limit seen₀ base₀ b₀ seen base b =
-    (least b (many t s limit) ≡ b) × Walked s.n s.shared all base b × (length seen ≡ mostColumns)
+abbrev invariant_loop : tie.invariant_loop
+invariant_loop t s all limit seen₀ base₀ b₀ seen base b =
+    (least b (many t s limit) ≡ b) × Walked s.n s.shared all base b × (length seen ≡ most_columns)
 
-abbrev decreases-loop : tie.decreases-loop
-decreases-loop t s all limit seen₀ base₀ b₀ seen base b = all - b
+abbrev decreases_loop : tie.decreases_loop
+decreases_loop t s all limit seen₀ base₀ b₀ seen base b = all - b
 
 -- what is known where the columns of b were looked through
-module _ (c : tie.After-look-through invariant-loop decreases-loop) where
-  abbrev inside : tie.In-loop invariant-loop decreases-loop
+module _ (c : tie.After-look-through invariant_loop decreases_loop) where
+  abbrev inside : tie.In-loop invariant_loop decreases_loop
   inside = c.before.before
 
-  abbrev start : tie.Start invariant-loop decreases-loop
+  abbrev start : tie.Start invariant_loop decreases_loop
   start = inside.before.before.before
 
-look-through-requires : tie.Need-look-through-requires invariant-loop decreases-loop
-look-through-requires c κs =
+look_through_requires : tie.Need-look-through-requires invariant_loop decreases_loop
+look_through_requires c κs =
     let p = c.before.before.before.before.requires.0 in (
-      (p.0, walked-within c.before.before.loop.invariant.1 c.before.loop-test.true, omega arith, omega arith),
+      (p.0, walked_within c.before.before.loop.invariant.1 c.before.loop-test.true, omega arith, omega arith),
       p.2,
     )
 
-returns : tie.Need-returns invariant-loop decreases-loop
-unfolding firstBroken
+returns : tie.Need-returns invariant_loop decreases_loop
+unfolding first_broken
 returns c =
     let w = c.before.before in
     let a = (start w).args in
     let i = (inside w).before.loop.invariant in
     let l = (inside w).loop-test.true in
-    sym (least-stop _ _ (many a.t.now a.s a.limit) i.0
-    (seen-many i.1 l w.look-through.ensures c.if1.true) (walked-turn i.1 l))
+    sym (least_stop _ _ (many a.t.now a.s a.limit) i.0
+    (seen_many i.1 l w.look-through.ensures c.if1.true) (walked_turn i.1 l))
 
-loop-again : tie.Need-loop-preserved invariant-loop decreases-loop
-loop-again c =
+loop_again : tie.Need-loop-preserved invariant_loop decreases_loop
+loop_again c =
     let w = c.before.before.before in
     let a = (start w).args in
     let i = (inside w).before.loop.invariant in
@@ -66,20 +66,20 @@ loop-again c =
       w.look-through.auto.1.1.1.1.0 ∙ i.2,
     )
 
-returns-2 : tie.Need-returns-2 invariant-loop decreases-loop
-unfolding firstBroken
-returns-2 c =
+returns_2 : tie.Need-returns-2 invariant_loop decreases_loop
+unfolding first_broken
+returns_2 c =
     let i = c.before.loop.invariant in
     let a = c.before.before.before.args in
     let e = walked_end i.1 (omega arith) in
     e ∙ sym (subst (λ (m : ℕ). least m (many a.t.now a.s a.limit) ≡ m) e i.0)
 
-pub first-broken-spec : {M : Type 1} → statement M
+pub first_broken_spec : {M : Type 1} → statement M
 unfolding least
-first-broken-spec =
-    tie.close (tie.spec invariant-loop decreases-loop
+first_broken_spec =
+    tie.close (tie.spec invariant_loop decreases_loop
     (λ c. (refl, walked_none c.before.requires.0.0.most c.before.requires.1, refl)) (λ c. search rules)
-    look-through-requires returns
+    look_through_requires returns
     (λ c κs. let w = c.before.before in let p = (start w).requires.0.0
-    in (p.most, p.belowB, walked-lt (inside w).before.loop.invariant.1))
-    (λ c. search rules) (λ c. search rules) loop-again returns-2)
+    in (p.most, p.below_b, walked_lt (inside w).before.loop.invariant.1))
+    (λ c. search rules) (λ c. search rules) loop_again returns_2)

@@ -9,14 +9,14 @@ use Rattle.comparing.proofs.shorter.keep.Tie as tie
 returns : tie.Need-returns
 returns c = rw (c.before.before.enum-told2.given.1, c.enum-told4.given.1) refl
 
-returns-2 : tie.Need-returns-2
-returns-2 c = rw (c.before.before.enum-told2.given.1, c.enum-told3.given.1) refl
+returns_2 : tie.Need-returns-2
+returns_2 c = rw (c.before.before.enum-told2.given.1, c.enum-told3.given.1) refl
 
-returns-3 : tie.Need-returns-3
-returns-3 c = rw (c.before.before.enum_told.given.1, c.enum-told6.given.1) refl
+returns_3 : tie.Need-returns-3
+returns_3 c = rw (c.before.before.enum_told.given.1, c.enum-told6.given.1) refl
 
-returns-4 : tie.Need-returns-4
-returns-4 c =
+returns_4 : tie.Need-returns-4
+returns_4 c =
     let a = c.before.before.before.before.before.args in
     rw (
       c.before.before.before.enum_told.given.1,
@@ -26,12 +26,12 @@ returns-4 c =
     )
     refl
 
-returns-5 : tie.Need-returns-5
-returns-5 c =
+returns_5 : tie.Need-returns-5
+returns_5 c =
     rw (c.before.before.before.enum_told.given.1, c.before.enum-told5.given.1, lt-leb _ _ c.if1.false)
     refl
 
 pub keep_spec : {M : Type 1} → statement M
 keep_spec =
     tie.close (tie.spec (λ c. search rules) (λ c. search rules) (λ c. search rules) (λ c. search rules) returns
-    returns-2 (λ c. search rules) (λ c. search rules) returns-3 returns-4 returns-5)
+    returns_2 (λ c. search rules) (λ c. search rules) returns_3 returns_4 returns_5)

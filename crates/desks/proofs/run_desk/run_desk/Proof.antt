@@ -7,11 +7,11 @@ use lib.ListN.{length, take, drop}
 use borrow.Author.Rules.{rules}
 use Rattle.refusals.specs.declared.verdicts.Verdict.{Verdict}
 use Rattle.refusals.proofs.Tests.{inside}
-use Rattle.cards.specs.Card.{desks, deskBytes, base, ownBytes}
-use Rattle.cards.specs.Refusals.{noDesk}
-use Rattle.cards.specs.RunDesk.{deskOutcome}
-use Rattle.cards.proofs.Making.{own-length}
-use Rattle.cards.proofs.Desks.{run-own, run_short, no-such-desk}
+use Rattle.cards.specs.Card.{desks, desk_bytes, base, own_bytes}
+use Rattle.cards.specs.Refusals.{no_desk}
+use Rattle.cards.specs.RunDesk.{desk_outcome}
+use Rattle.cards.proofs.Making.{own_length}
+use Rattle.cards.proofs.Desks.{run_own_lem, run_short, no_such_desk}
 use Rattle.desks.proofs.run_desk.run_desk.Statement.{statement}
 use Rattle.desks.proofs.run_desk.run_desk.Tie as tie
 
@@ -21,20 +21,20 @@ returns c =
     ap (λ (v : Verdict). record { verdict = v; bit = false }) c.refuse.ensures
     ∙ sym (run_short a.card.now a.d a.x c.before.if1.true)
 
-returns-2 : tie.Need-returns-2
-returns-2 c =
+returns_2 : tie.Need-returns-2
+returns_2 c =
     let p = c.before.before in
     let a = p.before.before.before.args in
     ap (λ (v : Verdict). record { verdict = v; bit = false }) c.refuse2.ensures
-    ∙ sym (run-own a.card.now a.d a.x p.before.if1.false
-    ∙ no-such-desk (ownBytes a.card.now a.d) a.d a.x (sym p.outside.ensures ∙ c.before.if2.true))
+    ∙ sym (run_own_lem a.card.now a.d a.x p.before.if1.false
+    ∙ no_such_desk (own_bytes a.card.now a.d) a.d a.x (sym p.outside.ensures ∙ c.before.if2.true))
 
 -- past them
 module _ (c : tie.Else2) where
   abbrev d : ℕ
   d = c.before.before.before.before.args.d
 
-  known : noDesk d ≡ false
+  known : no_desk d ≡ false
   known = sym c.before.outside.ensures ∙ c.if2.false
 
   pub least : 1 ≤ d
@@ -43,28 +43,28 @@ module _ (c : tie.Else2) where
   pub most : d ≤ desks
   most = (inside 1 d desks known).1
 
-  pub cut : base d + deskBytes - base d ≡ deskBytes
+  pub cut : base d + desk_bytes - base d ≡ desk_bytes
   cut = omega arith
 
-run-bytes-requires : tie.Need-run-bytes-requires
-run-bytes-requires c κs =
+run_bytes_requires : tie.Need-run-bytes-requires
+run_bytes_requires c κs =
     let p = c.before in
     let l = p.before.before.before.before.args.card.now in (
       ap (λ (k : ℕ). length (take k (drop (base (d p)) l))) (cut p)
-          ∙ own-length l (d p) p.before.before.if1.false (most p),
+          ∙ own_length l (d p) p.before.before.if1.false (most p),
       known p,
     )
 
-returns-3 : tie.Need-returns-3
-returns-3 c =
+returns_3 : tie.Need-returns-3
+returns_3 c =
     let p = c.before.before in
     let a = p.before.before.before.before.args in
     c.run-bytes.ensures
-    ∙ ap (λ (k : ℕ). deskOutcome (take k (drop (base a.d) a.card.now)) a.d a.x) (cut p)
-    ∙ sym (run-own a.card.now a.d a.x p.before.before.if1.false)
+    ∙ ap (λ (k : ℕ). desk_outcome (take k (drop (base a.d) a.card.now)) a.d a.x) (cut p)
+    ∙ sym (run_own_lem a.card.now a.d a.x p.before.before.if1.false)
 
-pub run-desk-spec : {M : Type 1} → statement M
-run-desk-spec =
-    tie.close (tie.spec (λ c κs. search rules) returns (λ c κs. search rules) (λ c κs. search rules) returns-2 least
+pub run_desk_spec : {M : Type 1} → statement M
+run_desk_spec =
+    tie.close (tie.spec (λ c κs. search rules) returns (λ c κs. search rules) (λ c κs. search rules) returns_2 least
     (λ c. omega (arith, most c)) (λ c. omega (arith, most c)) (λ c. search rules) (λ c. search rules)
-    (λ c. omega (arith, least c, most c)) (λ c. omega (arith, most c.before)) run-bytes-requires returns-3)
+    (λ c. omega (arith, least c, most c)) (λ c. omega (arith, most c.before)) run_bytes_requires returns_3)

@@ -4,13 +4,13 @@ use mathlib.Core.List.{List}
 use Prim.Native.Nat.{ℕ}
 use borrow.Author.Rules.{rules}
 use Rattle.sheets.specs.declared.kinds.Edition.{Edition}
-use Rattle.sheets.specs.Edition.{IsEdition, editionOf}
-use Rattle.sheets.proofs.Keeping.{is-edition}
+use Rattle.sheets.specs.Edition.{IsEdition, edition_of}
+use Rattle.sheets.proofs.Keeping.{is_edition}
 use Rattle.refusals.specs.declared.verdicts.Verdict.{Verdict}
-use Rattle.refusals.specs.Refusals.{toldForm}
-use Rattle.refusals.proofs.Lines.{left-to}
-use Rattle.refusals.proofs.Refusing.{form-refuses}
-use Rattle.finding.specs.FindBest.{bestFor, findLines, findDone, findNot, findOutcome}
+use Rattle.refusals.specs.Refusals.{told_form}
+use Rattle.refusals.proofs.Lines.{left_to}
+use Rattle.refusals.proofs.Refusing.{form_refuses}
+use Rattle.finding.specs.FindBest.{best_for, find_lines, find_done, find_not, find_outcome}
 use Rattle.finding.proofs.find_told.find_told.Statement.{statement}
 use Rattle.finding.proofs.find_told.find_told.Tie as tie
 
@@ -18,30 +18,30 @@ returns : tie.Need-returns
 returns c =
     let f = c.before.before in
     let a = f.before.before.before.args in
-    form-refuses (toldForm a.w a.n) (findLines (editionOf a.w) a.n a.k a.t.now a.work.now)
-    (findDone (bestFor a.n a.k a.t.now) a.work.now) (λ (v : Verdict) (l : List ℕ). record {
+    form_refuses (told_form a.w a.n) (find_lines (edition_of a.w) a.n a.k a.t.now a.work.now)
+    (find_done (best_for a.n a.k a.t.now) a.work.now) (λ (v : Verdict) (l : List ℕ). record {
       answer = record { verdict = v; own = 0; shared = 0 };
       work = l;
     }) a.work.now refl f.told.result c.enum-told2.given.0.0 f.told.ensures c.enum-told2.given.1
 
-find-in-requires : tie.Need-find-in-requires
-find-in-requires c κs = subst IsEdition (sym c.before.numbered.ensures) (is-edition _)
+find_in_requires : tie.Need-find-in-requires
+find_in_requires c κs = subst IsEdition (sym c.before.numbered.ensures) (is_edition _)
 
-returns-2 : tie.Need-returns-2
-unfolding findOutcome
-returns-2 c =
+returns_2 : tie.Need-returns-2
+unfolding find_outcome
+returns_2 c =
     let r = c.before.before in
     let e = r.before.before in
     let i = e.before in
     let f = i.before.before in
     let a = f.before.before.before.args in
-    r.find-in.ensures ∙ ap (λ (e : Edition). findOutcome e a.n a.k a.t.now a.work.now)
+    r.find-in.ensures ∙ ap (λ (e : Edition). find_outcome e a.n a.k a.t.now a.work.now)
     e.numbered.ensures
-    ∙ left-to (toldForm a.w a.n) (findLines (editionOf a.w) a.n a.k a.t.now a.work.now)
-    (findDone (bestFor a.n a.k a.t.now) a.work.now)
-    (findNot a.work.now) f.told.result f.told.ensures i.enum_told.given.1
+    ∙ left_to (told_form a.w a.n) (find_lines (edition_of a.w) a.n a.k a.t.now a.work.now)
+    (find_done (best_for a.n a.k a.t.now) a.work.now)
+    (find_not a.work.now) f.told.result f.told.ensures i.enum_told.given.1
 
-pub find-told-spec : {M : Type 1} → statement M
-find-told-spec =
+pub find_told_spec : {M : Type 1} → statement M
+find_told_spec =
     tie.close (tie.spec (λ c κs. search rules) (λ c. search rules) (λ c. search rules) returns (λ c κs. search rules)
-    find-in-requires (λ c. search rules) returns-2)
+    find_in_requires (λ c. search rules) returns_2)

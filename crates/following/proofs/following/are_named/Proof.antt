@@ -5,50 +5,50 @@ use native.Mathlib.Omega.{arith}
 use Prim.Native.Nat.{ℕ, ◌+◌, ◌-◌, ◌*◌, ◌/◌, ◌<◌, ◌≤◌}
 use mathlib.Core.Bool.{Bool, true}
 use Rattle.bits.specs.Below.{every}
-use Rattle.bits.proofs.Below.{every_more, every-stop}
+use Rattle.bits.proofs.Below.{every_more, every_stop}
 use lib.Dec.{ltb}
 use borrow.Author.Tests.{le-ltb, lt-ltb}
-use Rattle.clauses.specs.Step.{literalsAt, literalAt}
+use Rattle.clauses.specs.Step.{literals_at, literal_at}
 use Rattle.following.proofs.following.are_named.Statement.{statement}
 use Rattle.following.proofs.following.are_named.Tie as tie
 
-abbrev invariant-loop : tie.invariant-loop
-invariant-loop c at many all k₀ k = (k ≤ many) × (every k (λ j. ltb (literalAt c at j / 2) all) ≡ true)
+abbrev invariant_loop : tie.invariant_loop
+invariant_loop c at many all k₀ k = (k ≤ many) × (every k (λ j. ltb (literal_at c at j / 2) all) ≡ true)
 
-abbrev decreases-loop : tie.decreases-loop
-decreases-loop c at many all k₀ k = many - k
+abbrev decreases_loop : tie.decreases_loop
+decreases_loop c at many all k₀ k = many - k
 
-loop-holds : tie.Need-loop-init invariant-loop decreases-loop
-loop-holds c = (omega arith, refl)
+loop_holds : tie.Need-loop-init invariant_loop decreases_loop
+loop_holds c = (omega arith, refl)
 
-add-four-at : tie.Need-overflow-add-four-at invariant-loop decreases-loop
-add-four-at c = omega (arith, c.before.before.before.requires)
+add-four_at : tie.Need-overflow-add-four-at invariant_loop decreases_loop
+add-four_at c = omega (arith, c.before.before.before.requires)
 
-mul-four-at : tie.Need-overflow-mul-four-at invariant-loop decreases-loop
-mul-four-at c = omega (arith, c.before.before.before.requires)
+mul-four_at : tie.Need-overflow-mul-four-at invariant_loop decreases_loop
+mul-four_at c = omega (arith, c.before.before.before.requires)
 
-add-four-at-2 : tie.Need-overflow-add-four-at-2 invariant-loop decreases-loop
-add-four-at-2 c = omega (arith, c.before.before.before.requires)
+add-four_at_2 : tie.Need-overflow-add-four-at-2 invariant_loop decreases_loop
+add-four_at_2 c = omega (arith, c.before.before.before.requires)
 
-four-at-requires : tie.Need-four-at-requires invariant-loop decreases-loop
-four-at-requires c κs = omega (arith, c.before.before.before.requires)
+four_at_requires : tie.Need-four-at-requires invariant_loop decreases_loop
+four_at_requires c κs = omega (arith, c.before.before.before.requires)
 
-returns : tie.Need-returns invariant-loop decreases-loop
-returns c = sym (every-stop c.before.before.before.before.before.args.many (λ k. ltb (literalAt c.before.before.before.before.before.args.c.now c.before.before.before.before.before.args.at k / 2) c.before.before.before.before.before.args.all) c.before.before.before.loop.k (omega arith) (le-ltb (literalAt c.before.before.before.before.before.args.c.now c.before.before.before.before.before.args.at c.before.before.before.loop.k / 2) c.before.before.before.before.before.args.all (omega (arith, c.before.four-at.ensures.0))))
+returns : tie.Need-returns invariant_loop decreases_loop
+returns c = sym (every_stop c.before.before.before.before.before.args.many (λ k. ltb (literal_at c.before.before.before.before.before.args.c.now c.before.before.before.before.before.args.at k / 2) c.before.before.before.before.before.args.all) c.before.before.before.loop.k (omega arith) (le-ltb (literal_at c.before.before.before.before.before.args.c.now c.before.before.before.before.before.args.at c.before.before.before.loop.k / 2) c.before.before.before.before.before.args.all (omega (arith, c.before.four-at.ensures.0))))
 
-add-k : tie.Need-overflow-add-k invariant-loop decreases-loop
-add-k c = omega arith
+add_k : tie.Need-overflow-add-k invariant_loop decreases_loop
+add_k c = omega arith
 
-loop-less : tie.Need-loop-smaller invariant-loop decreases-loop
-loop-less c = omega arith
+loop_less : tie.Need-loop-smaller invariant_loop decreases_loop
+loop_less c = omega arith
 
-loop-again : tie.Need-loop-preserved invariant-loop decreases-loop
-loop-again c = (omega arith, every_more c.before.before.before.loop.k (λ k. ltb (literalAt c.before.before.before.before.before.args.c.now c.before.before.before.before.before.args.at k / 2) c.before.before.before.before.before.args.all) c.before.before.before.loop.invariant.1 (lt-ltb (literalAt c.before.before.before.before.before.args.c.now c.before.before.before.before.before.args.at c.before.before.before.loop.k / 2) c.before.before.before.before.before.args.all (omega (arith, c.before.four-at.ensures.0))))
+loop_again : tie.Need-loop-preserved invariant_loop decreases_loop
+loop_again c = (omega arith, every_more c.before.before.before.loop.k (λ k. ltb (literal_at c.before.before.before.before.before.args.c.now c.before.before.before.before.before.args.at k / 2) c.before.before.before.before.before.args.all) c.before.before.before.loop.invariant.1 (lt-ltb (literal_at c.before.before.before.before.before.args.c.now c.before.before.before.before.before.args.at c.before.before.before.loop.k / 2) c.before.before.before.before.before.args.all (omega (arith, c.before.four-at.ensures.0))))
 
-returns-2 : tie.Need-returns-2 invariant-loop decreases-loop
-returns-2 c = let z : c.before.loop.k ≡ c.before.before.before.args.many = omega arith in sym (sym (ap (λ (n : ℕ). every n (λ k. ltb (literalAt c.before.before.before.args.c.now c.before.before.before.args.at k / 2) c.before.before.before.args.all)) z) ∙ c.before.loop.invariant.1)
+returns_2 : tie.Need-returns-2 invariant_loop decreases_loop
+returns_2 c = let z : c.before.loop.k ≡ c.before.before.before.args.many = omega arith in sym (sym (ap (λ (n : ℕ). every n (λ k. ltb (literal_at c.before.before.before.args.c.now c.before.before.before.args.at k / 2) c.before.before.before.args.all)) z) ∙ c.before.loop.invariant.1)
 
-pub are-named-spec : {M : Type 1} → statement M
-are-named-spec = tie.close (tie.spec invariant-loop decreases-loop loop-holds add-four-at mul-four-at add-four-at-2
-    four-at-requires returns add-k loop-less
-    loop-again returns-2)
+pub are_named_spec : {M : Type 1} → statement M
+are_named_spec = tie.close (tie.spec invariant_loop decreases_loop loop_holds add-four_at mul-four_at add-four_at_2
+    four_at_requires returns add_k loop_less
+    loop_again returns_2)

@@ -4,51 +4,51 @@ use Prim.Native.Nat.{ℕ, ◌+◌, ◌-◌, ◌*◌, ◌/◌, ◌<◌, ◌≤◌
 use borrow.Author.Rules.{rules}
 use native.Mathlib.Omega.{arith}
 use Rattle.bits.specs.Lists.{byte_at, list_of}
-use Rattle.clauses.specs.Step.{literalsAt, literalAt}
-use Rattle.following.specs.Values.{seen, openAfter}
+use Rattle.clauses.specs.Step.{literals_at, literal_at}
+use Rattle.following.specs.Values.{seen, open_after}
 use Rattle.following.specs.declared.open.Open.TheVariants.{Nothing}
 use Rattle.following.proofs.Opening.{open_next}
 use Rattle.following.proofs.open.open_derived.Statement.{statement}
 use Rattle.following.proofs.open.open_derived.Tie as tie
 
-abbrev invariant-loop : tie.invariant-loop
-invariant-loop c at work many o₀ k₀ o k = (k ≤ many) × (o ≡ openAfter (byte_at work) Nothing (list_of k (literalAt c at)))
+abbrev invariant_loop : tie.invariant_loop
+invariant_loop c at work many o₀ k₀ o k = (k ≤ many) × (o ≡ open_after (byte_at work) Nothing (list_of k (literal_at c at)))
 
-abbrev decreases-loop : tie.decreases-loop
-decreases-loop c at work many o₀ k₀ o k = many - k
+abbrev decreases_loop : tie.decreases_loop
+decreases_loop c at work many o₀ k₀ o k = many - k
 
-add-two-at : tie.Need-overflow-add-two-at invariant-loop decreases-loop
-add-two-at c = omega (arith, c.before.before.requires.room)
+add-two_at : tie.Need-overflow-add-two-at invariant_loop decreases_loop
+add-two_at c = omega (arith, c.before.before.requires.room)
 
-two-at-requires : tie.Need-two-at-requires invariant-loop decreases-loop
-two-at-requires c κs = omega (arith, c.before.before.requires.room)
+two_at_requires : tie.Need-two-at-requires invariant_loop decreases_loop
+two_at_requires c κs = omega (arith, c.before.before.requires.room)
 
-loop-holds : tie.Need-loop-init invariant-loop decreases-loop
-unfolding list_of openAfter
-loop-holds c = (omega arith, refl)
+loop_holds : tie.Need-loop-init invariant_loop decreases_loop
+unfolding list_of open_after
+loop_holds c = (omega arith, refl)
 
-add-four-at : tie.Need-overflow-add-four-at invariant-loop decreases-loop
-add-four-at c = omega (arith, c.before.before.before.before.before.requires.room)
+add-four_at : tie.Need-overflow-add-four-at invariant_loop decreases_loop
+add-four_at c = omega (arith, c.before.before.before.before.before.requires.room)
 
-mul-four-at : tie.Need-overflow-mul-four-at invariant-loop decreases-loop
-mul-four-at c = omega (arith, c.before.before.before.before.before.requires.room, c.before.before.two_at.ensures)
+mul-four_at : tie.Need-overflow-mul-four-at invariant_loop decreases_loop
+mul-four_at c = omega (arith, c.before.before.before.before.before.requires.room, c.before.before.two_at.ensures)
 
-add-four-at-2 : tie.Need-overflow-add-four-at-2 invariant-loop decreases-loop
-add-four-at-2 c = omega (arith, c.before.before.before.before.before.requires.room, c.before.before.two_at.ensures)
+add-four_at_2 : tie.Need-overflow-add-four-at-2 invariant_loop decreases_loop
+add-four_at_2 c = omega (arith, c.before.before.before.before.before.requires.room, c.before.before.two_at.ensures)
 
-four-at-requires : tie.Need-four-at-requires invariant-loop decreases-loop
-four-at-requires c κs = omega (arith, c.before.before.before.before.before.requires.room, c.before.before.two_at.ensures)
+four_at_requires : tie.Need-four-at-requires invariant_loop decreases_loop
+four_at_requires c κs = omega (arith, c.before.before.before.before.before.requires.room, c.before.before.two_at.ensures)
 
-see-requires : tie.Need-see-requires invariant-loop decreases-loop
-see-requires c κs = omega (arith, c.four-at.ensures.0, c.before.before.before.before.before.before.requires.below c.before.before.loop.k (omega (arith, c.before.before.before.two_at.ensures)))
+see_requires : tie.Need-see-requires invariant_loop decreases_loop
+see_requires c κs = omega (arith, c.four-at.ensures.0, c.before.before.before.before.before.before.requires.below c.before.before.loop.k (omega (arith, c.before.before.before.two_at.ensures)))
 
-loop-again : tie.Need-loop-preserved invariant-loop decreases-loop
-loop-again c = (omega arith, open_next (byte_at c.before.before.before.before.before.before.before.args.work.now) (literalAt c.before.before.before.before.before.before.before.args.c.now c.before.before.before.before.before.before.before.args.at) Nothing c.before.before.before.loop.k (c.see.ensures ∙ ap (λ (l : ℕ). seen (byte_at c.before.before.before.before.before.before.before.args.work.now) l c.before.before.before.loop.o) c.before.four-at.ensures.0) c.before.before.before.loop.invariant.1)
+loop_again : tie.Need-loop-preserved invariant_loop decreases_loop
+loop_again c = (omega arith, open_next (byte_at c.before.before.before.before.before.before.before.args.work.now) (literal_at c.before.before.before.before.before.before.before.args.c.now c.before.before.before.before.before.before.before.args.at) Nothing c.before.before.before.loop.k (c.see.ensures ∙ ap (λ (l : ℕ). seen (byte_at c.before.before.before.before.before.before.before.args.work.now) l c.before.before.before.loop.o) c.before.four-at.ensures.0) c.before.before.before.loop.invariant.1)
 
-returns : tie.Need-returns invariant-loop decreases-loop
-returns c = let e : c.before.loop.k ≡ literalsAt c.before.before.before.before.before.args.c.now c.before.before.before.before.before.args.at = omega (arith, c.before.before.two_at.ensures.0) in c.before.loop.invariant.1 ∙ ap (λ (n : ℕ). openAfter (byte_at c.before.before.before.before.before.args.work.now) Nothing (list_of n (literalAt c.before.before.before.before.before.args.c.now c.before.before.before.before.before.args.at))) e
+returns : tie.Need-returns invariant_loop decreases_loop
+returns c = let e : c.before.loop.k ≡ literals_at c.before.before.before.before.before.args.c.now c.before.before.before.before.before.args.at = omega (arith, c.before.before.two_at.ensures.0) in c.before.loop.invariant.1 ∙ ap (λ (n : ℕ). open_after (byte_at c.before.before.before.before.before.args.work.now) Nothing (list_of n (literal_at c.before.before.before.before.before.args.c.now c.before.before.before.before.before.args.at))) e
 
-pub open-derived-spec : {M : Type 1} → statement M
-open-derived-spec = tie.close (tie.spec invariant-loop decreases-loop add-two-at two-at-requires loop-holds add-four-at
-    mul-four-at add-four-at-2 four-at-requires see-requires
-    (λ c. search rules) (λ c. search rules) loop-again returns)
+pub open_derived_spec : {M : Type 1} → statement M
+open_derived_spec = tie.close (tie.spec invariant_loop decreases_loop add-two_at two_at_requires loop_holds add-four_at
+    mul-four_at add-four_at_2 four_at_requires see_requires
+    (λ c. search rules) (λ c. search rules) loop_again returns)

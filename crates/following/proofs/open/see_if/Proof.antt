@@ -6,8 +6,8 @@ use Rattle.following.proofs.open.see_if.Tie as tie
 returns : tie.Need-returns
 returns c = rw c.before.if1.true c.see-named.ensures
 
-returns-2 : tie.Need-returns-2
-returns-2 c = rw c.if1.false
+returns_2 : tie.Need-returns-2
+returns_2 c = rw c.if1.false
 
-pub see-if-spec : {M : Type 1} → statement M
-see-if-spec = tie.close (tie.spec (λ c κs. search rules) returns returns-2)
+pub see_if_spec : {M : Type 1} → statement M
+see_if_spec = tie.close (tie.spec (λ c κs. search rules) returns returns_2)

@@ -14,17 +14,17 @@ mul-put-four c = omega (arith, c.before.before.requires)
 add-put-four : tie.Need-overflow-add-put-four
 add-put-four c = omega (arith, c.before.before.requires)
 
-put-four-requires : tie.Need-put-four-requires
-put-four-requires c κs = (c.before.before.requires.1, omega (arith, c.before.before.requires.2))
+put-four_requires : tie.Need-put-four-requires
+put-four_requires c κs = (c.before.before.requires.1, omega (arith, c.before.before.requires.2))
 
-add-work : tie.Need-overflow-add-work
-add-work c = omega arith
+add_work : tie.Need-overflow-add-work
+add_work c = omega arith
 
-cast-work : tie.Need-overflow-cast-work
-cast-work c = omega arith
+cast_work : tie.Need-overflow-cast-work
+cast_work c = omega arith
 
-slice-write-work : tie.Need-slice-write-work
-slice-write-work c = omega (arith, c.before.before.put_four.auto.0, c.before.before.before.before.before.requires)
+slice_write_work : tie.Need-slice-write-work
+slice_write_work c = omega (arith, c.before.before.put_four.auto.0, c.before.before.before.before.before.requires)
 
 same_length : tie.Need-same-length
 same_length c = length-set c.before.before.put_four.new.0 (c.before.before.before.before.before.args.l / 2) (1 + c.before.before.before.before.before.args.l % 2) ∙ c.before.before.put_four.auto.0
@@ -33,5 +33,5 @@ returns : tie.Need-returns
 returns c = λ all σ p q t. making all c.before.before.before.before.before.args.from c.before.before.before.before.before.args.set c.before.before.before.before.before.args.l σ c.before.before.before.before.before.args.work.now c.before.before.put_four.new.0 p q c.before.before.before.before.before.requires.1 c.before.before.put_four.ensures t
 
 pub make_spec : {M : Type 1} → statement M
-make_spec = tie.close (tie.spec mul-put-four add-put-four put-four-requires add-work
-    cast-work slice-write-work same_length returns)
+make_spec = tie.close (tie.spec mul-put-four add-put-four put-four_requires add_work
+    cast_work slice_write_work same_length returns)

@@ -1,16 +1,16 @@
 -- `closed_read` meets its contract, by what was read. Assumes nothing.
 use mathlib.Core.Path.{sym, ap, ◌∙◌}
 use borrow.Author.Rules.{rules}
-use Rattle.formulas.specs.Words.{closedOf}
+use Rattle.formulas.specs.Words.{closed_of}
 use Rattle.formulas.proofs.pieces.closed_read.Statement.{statement}
 use Rattle.formulas.proofs.pieces.closed_read.Tie as tie
 
 returns : tie.Need-returns
-returns c = sym (ap (closedOf _) c.before.read.given.1)
+returns c = sym (ap (closed_of _) c.before.read.given.1)
 
-returns-2 : tie.Need-returns-2
-returns-2 c = c.closed.ensures ∙ sym (ap (closedOf _) c.before.before.read2.given.1)
+returns_2 : tie.Need-returns-2
+returns_2 c = c.closed.ensures ∙ sym (ap (closed_of _) c.before.before.read2.given.1)
 
-pub closed-read-spec : {M : Type 1} → statement M
-closed-read-spec =
-    tie.close (tie.spec (λ c. search rules) returns (λ c. search rules) (λ c κs. search rules) returns-2)
+pub closed_read_spec : {M : Type 1} → statement M
+closed_read_spec =
+    tie.close (tie.spec (λ c. search rules) returns (λ c. search rules) (λ c κs. search rules) returns_2)

@@ -12,7 +12,7 @@ returns c = rw (
   c.before.before.before.if1.true,
 )
 
-pub number-at-spec : {M : Type 1} → statement M
-number-at-spec =
+pub number_at_spec : {M : Type 1} → statement M
+number_at_spec =
     tie.close (tie.spec (λ c κs. search rules) (λ c. search rules) (λ c κs. search rules) (λ c κs. search rules) returns
     (λ c. search rules))

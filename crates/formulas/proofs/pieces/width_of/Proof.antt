@@ -12,8 +12,8 @@ two b = cond b 2 1
 returns : tie.Need-returns
 returns c = sym (ap two (le-leb 10 _ c.if1.true))
 
-returns-2 : tie.Need-returns-2
-returns-2 c = sym (ap two (lt-leb 10 _ c.if1.false))
+returns_2 : tie.Need-returns-2
+returns_2 c = sym (ap two (lt-leb 10 _ c.if1.false))
 
-pub width-of-spec : {M : Type 1} → statement M
-width-of-spec = tie.close (tie.spec returns returns-2)
+pub width-of_spec : {M : Type 1} → statement M
+width-of_spec = tie.close (tie.spec returns returns_2)

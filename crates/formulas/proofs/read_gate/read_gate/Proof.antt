@@ -3,5 +3,5 @@ use borrow.Author.Rules.{rules}
 use Rattle.formulas.proofs.read_gate.read_gate.Statement.{statement}
 use Rattle.formulas.proofs.read_gate.read_gate.Tie as tie
 
-pub read-gate-spec : {M : Type 1} → statement M
-read-gate-spec = tie.close (tie.spec (λ c κs. search rules) (λ c. search rules) (λ c. c.before.before.read-text.ensures))
+pub read_gate_spec : {M : Type 1} → statement M
+read_gate_spec = tie.close (tie.spec (λ c κs. search rules) (λ c. search rules) (λ c. c.before.before.read-text.ensures))

@@ -6,12 +6,12 @@ use native.Mathlib.Omega.{arith}
 use borrow.Author.Rules.{rules}
 use lib.ListN.{length}
 use lib.Bits.{bit_and, bit_or, bit_xor}
-use Rattle.values.specs.Stretches.{inBoth}
+use Rattle.values.specs.Stretches.{in_both}
 use Rattle.values.proofs.Bitwise.{number-and, number-or, number-xor}
-use Rattle.formulas.proofs.Words.{joined-stretch, inside-text, ahead, first-bad, last, last_end, next-bad, next}
-use Rattle.formulas.proofs.Words.{f-end, f-deep-not, f-deep-open, f-turned, f-closed}
-use Rattle.formulas.proofs.Counts.{number-most, number_fits, f-short, f-count, l-bad, l-ahead, l-next}
-use Rattle.formulas.proofs.Counts.{l-last}
+use Rattle.formulas.proofs.Words.{joined_stretch, inside_text, ahead, first-bad, last, last_end, next-bad, next}
+use Rattle.formulas.proofs.Words.{f_end, f_deep_not, f_deep_open, f_turned, f_closed}
+use Rattle.formulas.proofs.Counts.{number_most, number_fits, f_short, f_count, l_bad, l_ahead, l_next}
+use Rattle.formulas.proofs.Counts.{l_last}
 use borrow.Fn.Kinds.{In}
 use borrow.Fn.PlainCycle.{Measures, is, falls, and}
 use Rattle.formulas.proofs.reading.factor.Reads as factor
@@ -59,40 +59,40 @@ abbrev μ-sum : Measures 1 sum-kinds.ps ℕ
 abbrev μ-term : Measures 1 term-kinds.ps ℕ
 μ-term κs a = 4 * (a.1.1.0 + (length a.0.now - a.1.0)) + 2
 
-abbrev factor-at : ℕ → In 1 factor-kinds.ps
-factor-at t = and 1 factor-kinds.ps (is 1 factor-kinds.ps μ-factor t) factor.Pre
+abbrev factor_at : ℕ → In 1 factor-kinds.ps
+factor_at t = and 1 factor-kinds.ps (is 1 factor-kinds.ps μ-factor t) factor.Pre
 
-abbrev factor-below : ℕ → In 1 factor-kinds.ps
-factor-below t = and 1 factor-kinds.ps (falls 1 factor-kinds.ps ◌<◌ μ-factor t) factor.Pre
+abbrev factor_below : ℕ → In 1 factor-kinds.ps
+factor_below t = and 1 factor-kinds.ps (falls 1 factor-kinds.ps ◌<◌ μ-factor t) factor.Pre
 
 abbrev list_at : ℕ → In 1 list-kinds.ps
 list_at t = and 1 list-kinds.ps (is 1 list-kinds.ps μ-list t) list.Pre
 
-abbrev list-below : ℕ → In 1 list-kinds.ps
-list-below t = and 1 list-kinds.ps (falls 1 list-kinds.ps ◌<◌ μ-list t) list.Pre
+abbrev list_below : ℕ → In 1 list-kinds.ps
+list_below t = and 1 list-kinds.ps (falls 1 list-kinds.ps ◌<◌ μ-list t) list.Pre
 
 abbrev part_at : ℕ → In 1 part-kinds.ps
 part_at t = and 1 part-kinds.ps (is 1 part-kinds.ps μ-part t) part.Pre
 
-abbrev part-below : ℕ → In 1 part-kinds.ps
-part-below t = and 1 part-kinds.ps (falls 1 part-kinds.ps ◌<◌ μ-part t) part.Pre
+abbrev part_below : ℕ → In 1 part-kinds.ps
+part_below t = and 1 part-kinds.ps (falls 1 part-kinds.ps ◌<◌ μ-part t) part.Pre
 
-abbrev sum-at : ℕ → In 1 sum-kinds.ps
-sum-at t = and 1 sum-kinds.ps (is 1 sum-kinds.ps μ-sum t) sum.Pre
+abbrev sum_at : ℕ → In 1 sum-kinds.ps
+sum_at t = and 1 sum-kinds.ps (is 1 sum-kinds.ps μ-sum t) sum.Pre
 
 abbrev sum_below : ℕ → In 1 sum-kinds.ps
 sum_below t = and 1 sum-kinds.ps (falls 1 sum-kinds.ps ◌<◌ μ-sum t) sum.Pre
 
-abbrev term-at : ℕ → In 1 term-kinds.ps
-term-at t = and 1 term-kinds.ps (is 1 term-kinds.ps μ-term t) term.Pre
+abbrev term_at : ℕ → In 1 term-kinds.ps
+term_at t = and 1 term-kinds.ps (is 1 term-kinds.ps μ-term t) term.Pre
 
-abbrev term-below : ℕ → In 1 term-kinds.ps
-term-below t = and 1 term-kinds.ps (falls 1 term-kinds.ps ◌<◌ μ-term t) term.Pre
+abbrev term_below : ℕ → In 1 term-kinds.ps
+term_below t = and 1 term-kinds.ps (falls 1 term-kinds.ps ◌<◌ μ-term t) term.Pre
 
 -- what the functions that each calls ask and promise; those of the cycle only below t
-abbrev factor-beside : ℕ → factor-lts.Claims
-factor-beside t = (
-  factor-below t,
+abbrev factor_beside : ℕ → factor-lts.Claims
+factor_beside t = (
+  factor_below t,
   factor.Post,
   turned-read-reads.Asked,
   turned-read-reads.Learnt,
@@ -110,69 +110,69 @@ factor-beside t = (
   byte-in-reads.Learnt,
   short-by-reads.Asked,
   short-by-reads.Learnt,
-  list-below t,
+  list_below t,
   list.Post,
 )
 
-abbrev list-beside : ℕ → list-lts.Claims
-list-beside t = (
+abbrev list_beside : ℕ → list-lts.Claims
+list_beside t = (
   sum_below t,
   sum.Post,
   raise-reads.Asked,
   raise-reads.Learnt,
   byte-in-reads.Asked,
   byte-in-reads.Learnt,
-  list-below t,
+  list_below t,
   list.Post,
   closed-reads.Asked,
   closed-reads.Learnt,
 )
 
-abbrev part-beside : ℕ → part-lts.Claims
-part-beside t = (
-  factor-below t,
+abbrev part_beside : ℕ → part-lts.Claims
+part_beside t = (
+  factor_below t,
   factor.Post,
-  part-below t,
+  part_below t,
   part.Post,
   both-reads.Asked,
   both-reads.Learnt,
 )
 
-abbrev sum-beside : ℕ → sum-lts.Claims
-sum-beside t = (term-below t, term.Post, sum_below t, sum.Post, either-reads.Asked, either-reads.Learnt)
+abbrev sum_beside : ℕ → sum-lts.Claims
+sum_beside t = (term_below t, term.Post, sum_below t, sum.Post, either-reads.Asked, either-reads.Learnt)
 
-abbrev term-beside : ℕ → term-lts.Claims
-term-beside t = (part-below t, part.Post, term-below t, term.Post, one-of-reads.Asked, one-of-reads.Learnt)
+abbrev term_beside : ℕ → term-lts.Claims
+term_beside t = (part_below t, part.Post, term_below t, term.Post, one-of-reads.Asked, one-of-reads.Learnt)
 
-factor-returns : (t : ℕ) → factor-lts.Need-returns (factor-beside t) (factor-at t) factor.Post
-factor-returns t c = f-end _ _ _ _ c.if1.true
+factor_returns : (t : ℕ) → factor-lts.Need-returns (factor_beside t) (factor_at t) factor.Post
+factor_returns t c = f_end _ _ _ _ c.if1.true
 
-factor-returns-2 : (t : ℕ) → factor-lts.Need-returns-2 (factor-beside t) (factor-at t) factor.Post
-factor-returns-2 t c = f-deep-not _ _ _ _ c.before.if2.true c.if3.true
+factor_returns_2 : (t : ℕ) → factor-lts.Need-returns-2 (factor_beside t) (factor_at t) factor.Post
+factor_returns_2 t c = f_deep_not _ _ _ _ c.before.if2.true c.if3.true
 
-factor-returns-3 : (t : ℕ) → factor-lts.Need-returns-3 (factor-beside t) (factor-at t) factor.Post
-factor-returns-3 t c =
+factor_returns_3 : (t : ℕ) → factor-lts.Need-returns-3 (factor_beside t) (factor_at t) factor.Post
+factor_returns_3 t c =
     let m = c.before.before in
-    f-turned _ _ _ _ m.before.if2.true m.if3.false m.before.before.before.if1.false
+    f_turned _ _ _ _ m.before.if2.true m.if3.false m.before.before.before.if1.false
     c.before.factor.ensures c.turned-read.ensures
 
-factor-returns-4 : (t : ℕ) → factor-lts.Need-returns-4 (factor-beside t) (factor-at t) factor.Post
-factor-returns-4 t c = f-deep-open _ _ _ _ c.before.if4.true c.if5.true
+factor_returns_4 : (t : ℕ) → factor-lts.Need-returns-4 (factor_beside t) (factor_at t) factor.Post
+factor_returns_4 t c = f_deep_open _ _ _ _ c.before.if4.true c.if5.true
 
-factor-returns-5 : (t : ℕ) → factor-lts.Need-returns-5 (factor-beside t) (factor-at t) factor.Post
-factor-returns-5 t c =
+factor_returns_5 : (t : ℕ) → factor-lts.Need-returns-5 (factor_beside t) (factor_at t) factor.Post
+factor_returns_5 t c =
     let m = c.before.before in
-    f-closed _ _ _ _ m.before.if4.true m.if5.false
+    f_closed _ _ _ _ m.before.if4.true m.if5.false
     m.before.before.before.before.if1.false c.before.sum.ensures c.closed-read.ensures
 
-factor-returns-6 : (t : ℕ) → factor-lts.Need-returns-6 (factor-beside t) (factor-at t) factor.Post
-factor-returns-6 t c =
+factor_returns_6 : (t : ℕ) → factor-lts.Need-returns-6 (factor_beside t) (factor_at t) factor.Post
+factor_returns_6 t c =
     let a = c.before.before in
     (c.single.ensures _).gives _ a.before.before.if2.false a.before.if4.false
     (sym a.number_at.ensures ∙ c.before.if6.true)
 
-factor-add-open : (t : ℕ) → factor-lts.Need-overflow-add-open (factor-beside t) (factor-at t) factor.Post
-factor-add-open t c =
+factor-add_open : (t : ℕ) → factor-lts.Need-overflow-add-open (factor_beside t) (factor_at t) factor.Post
+factor-add_open t c =
     let a = c.before.before.before.before.before.before.before.before.args in
     omega (
       arith,
@@ -180,200 +180,200 @@ factor-add-open t c =
           c.before.if6.false c.width_of_lem.ensures,
     )
 
-factor-returns-7 : (t : ℕ) → factor-lts.Need-returns-7 (factor-beside t) (factor-at t) factor.Post
-factor-returns-7 t c =
+factor_returns_7 : (t : ℕ) → factor-lts.Need-returns-7 (factor_beside t) (factor_at t) factor.Post
+factor_returns_7 t c =
     let w = c.before.before in
-    f-short _ _ _ _ _ w.before.before.number_at.ensures w.before.if6.false w.width_of_lem.ensures
+    f_short _ _ _ _ _ w.before.before.number_at.ensures w.before.if6.false w.width_of_lem.ensures
     (λ e. absurd (c.if7.true (c.before.byte-in.ensures ∙ e)))
 
-factor-returns-8 : (t : ℕ) → factor-lts.Need-returns-8 (factor-beside t) (factor-at t) factor.Post
-factor-returns-8 t c =
+factor_returns_8 : (t : ℕ) → factor-lts.Need-returns-8 (factor_beside t) (factor_at t) factor.Post
+factor_returns_8 t c =
     let w = c.before.before.before in
-    f-short _ _ _ _ _ w.before.before.number_at.ensures w.before.if6.false w.width_of_lem.ensures
+    f_short _ _ _ _ _ w.before.before.number_at.ensures w.before.if6.false w.width_of_lem.ensures
     (λ e. c.if8.true)
 
-factor-short-by-requires : (t : ℕ) → factor-lts.Need-short-by-requires (factor-beside t) (factor-at t) factor.Post
-factor-short-by-requires t c κs =
+factor_short_by_requires : (t : ℕ) → factor-lts.Need-short-by-requires (factor_beside t) (factor_at t) factor.Post
+factor_short_by_requires t c κs =
     let w = c.before.before.before in
     let a = w.before.before.before.before.before.before.before.before.args in
-    number-most a.counts a.t.now a.n a.w a.at w.before.before.number_at.ensures
+    number_most a.counts a.t.now a.n a.w a.at w.before.before.number_at.ensures
     w.before.if6.false w.width_of_lem.ensures
 
-factor-list-requires : (t : ℕ) → factor-lts.Need-list-requires (factor-beside t) (factor-at t) factor.Post
-factor-list-requires t c κs =
+factor-list_requires : (t : ℕ) → factor-lts.Need-list-requires (factor_beside t) (factor_at t) factor.Post
+factor-list_requires t c κs =
     let m = c.before.before in
     let w = m.before.before in
     let z = w.before.before.before.before.before.before.before.before in
     let a = z.args in
-    let l = inside-text a.t.now (a.at + w.width_of_lem.result) 40
+    let l = inside_text a.t.now (a.at + w.width_of_lem.result) 40
     (sym m.before.byte-in.ensures ∙ m.if7.false) (omega arith) in
     let f = number_fits a.counts a.t.now a.n a.w a.at w.before.before.number_at.ensures
     w.before.if6.false w.width_of_lem.ensures in
     (omega (arith, c.before.if8.false, z.requires.0), (omega arith, z.requires.1.1))
 
-factor-returns-9 : (t : ℕ) → factor-lts.Need-returns-9 (factor-beside t) (factor-at t) factor.Post
-factor-returns-9 t c =
+factor_returns_9 : (t : ℕ) → factor-lts.Need-returns-9 (factor_beside t) (factor_at t) factor.Post
+factor_returns_9 t c =
     let m = c.before.before.before in
     let w = m.before.before in
-    f-count _ _ _ _ _ w.before.before.number_at.ensures w.before.if6.false w.width_of_lem.ensures
+    f_count _ _ _ _ _ w.before.before.number_at.ensures w.before.if6.false w.width_of_lem.ensures
     (sym m.before.byte-in.ensures ∙ m.if7.false) c.before.before.if8.false c.before.short-by.ensures
     c.list.ensures
 
-factor-add-list : (t : ℕ) → factor-lts.Need-overflow-add-list (factor-beside t) (factor-at t) factor.Post
+factor-add-list : (t : ℕ) → factor-lts.Need-overflow-add-list (factor_beside t) (factor_at t) factor.Post
 factor-add-list t c =
     let w = c.before.before.before in
     let a = w.before.before.before.before.before.before.before.before.args in
     omega (
       arith,
-      inside-text a.t.now (a.at + w.width_of_lem.result) 40
+      inside_text a.t.now (a.at + w.width_of_lem.result) 40
           (sym c.before.before.byte-in.ensures ∙ c.before.if7.false) (omega arith),
     )
 
-list-returns : (t : ℕ) → list-lts.Need-returns (list-beside t) (list_at t) list.Post
-list-returns t c = l-bad _ _ _ _ c.before.p.given.1 c.before.before.before.sum.ensures
+list_returns : (t : ℕ) → list-lts.Need-returns (list_beside t) (list_at t) list.Post
+list_returns t c = l_bad _ _ _ _ c.before.p.given.1 c.before.before.before.sum.ensures
 
-list-list-requires : (t : ℕ) → list-lts.Need-list-requires (list-beside t) (list_at t) list.Post
-list-list-requires t c κs =
+list-list_requires : (t : ℕ) → list-lts.Need-list-requires (list_beside t) (list_at t) list.Post
+list-list_requires t c κs =
     let r = c.before.before in
     let v = r.before.before in
-    let h = l-ahead _ _ _ _ v.v.given.1 v.before.before.sum.ensures (search rules)
+    let h = l_ahead _ _ _ _ v.v.given.1 v.before.before.sum.ensures (search rules)
     c.before.byte-in.ensures c.if1.true in
     (omega arith, (omega arith, search rules))
 
-list-returns-2 : (t : ℕ) → list-lts.Need-returns-2 (list-beside t) (list_at t) list.Post
-list-returns-2 t c =
+list_returns_2 : (t : ℕ) → list-lts.Need-returns-2 (list_beside t) (list_at t) list.Post
+list_returns_2 t c =
     let r = c.before.before.before in
     let v = r.before.before in
-    l-next _ _ _ _ v.v.given.1 v.before.before.sum.ensures (search rules)
+    l_next _ _ _ _ v.v.given.1 v.before.before.sum.ensures (search rules)
     (sym c.before.before.byte-in.ensures ∙ c.before.if1.true) r.raise.ensures c.list.ensures
 
-list-returns-3 : (t : ℕ) → list-lts.Need-returns-3 (list-beside t) (list_at t) list.Post
-list-returns-3 t c =
+list_returns_3 : (t : ℕ) → list-lts.Need-returns-3 (list_beside t) (list_at t) list.Post
+list_returns_3 t c =
     let r = c.before.before.before.before in
     let v = r.before.before in
-    l-last _ _ _ _ v.v.given.1 v.before.before.sum.ensures
+    l_last _ _ _ _ v.v.given.1 v.before.before.sum.ensures
     (λ e. c.before.before.if1.false (c.before.before.before.byte-in.ensures ∙ e)) r.raise.ensures
     c.closed.ensures
 
-list-add-list : (t : ℕ) → list-lts.Need-overflow-add-list (list-beside t) (list_at t) list.Post
+list-add-list : (t : ℕ) → list-lts.Need-overflow-add-list (list_beside t) (list_at t) list.Post
 list-add-list t c =
     let r = c.before.before in
     let v = r.before.before in
-    let h = l-ahead _ _ _ _ v.v.given.1 v.before.before.sum.ensures (search rules)
+    let h = l_ahead _ _ _ _ v.v.given.1 v.before.before.sum.ensures (search rules)
     c.before.byte-in.ensures c.if1.true in
     omega arith
 
-part-returns : (t : ℕ) → part-lts.Need-returns (part-beside t) (part_at t) part.Post
-part-returns t c = first-bad _ _ _ _ c.before.p.given.1 c.before.before.before.factor.ensures
+part_returns : (t : ℕ) → part-lts.Need-returns (part_beside t) (part_at t) part.Post
+part_returns t c = first-bad _ _ _ _ c.before.p.given.1 c.before.before.before.factor.ensures
 
-part-part-requires : (t : ℕ) → part-lts.Need-part-requires (part-beside t) (part_at t) part.Post
-part-part-requires t c κs = let h = ahead _ c.before.before.before.before.v.given.1
+part-part_requires : (t : ℕ) → part-lts.Need-part-requires (part_beside t) (part_at t) part.Post
+part-part_requires t c κs = let h = ahead _ c.before.before.before.before.v.given.1
     c.before.before.before.before.before.before.factor.ensures (search rules)
     in (omega arith, (omega arith, search rules))
 
-part-returns-2 : (t : ℕ) → part-lts.Need-returns-2 (part-beside t) (part_at t) part.Post
-part-returns-2 t c = next-bad _ _ _ _ c.before.before.before.before.before.before.before.before.v.given.1
+part_returns_2 : (t : ℕ) → part-lts.Need-returns-2 (part_beside t) (part_at t) part.Post
+part_returns_2 t c = next-bad _ _ _ _ c.before.before.before.before.before.before.before.before.v.given.1
     c.before.before.before.before.before.before.before.before.before.before.factor.ensures (search rules)
     c.before.before.before.before.if2.true c.before.p2.given.1 c.before.before.before.part.ensures
 
-part-returns-3 : (t : ℕ) → part-lts.Need-returns-3 (part-beside t) (part_at t) part.Post
-part-returns-3 t c = next _ _ _ _ (inBoth bit_and) (λ F G. joined-stretch 0 bit_and (number-and 64) F G _)
+part_returns_3 : (t : ℕ) → part-lts.Need-returns-3 (part_beside t) (part_at t) part.Post
+part_returns_3 t c = next _ _ _ _ (in_both bit_and) (λ F G. joined_stretch 0 bit_and (number-and 64) F G _)
     c.before.before.before.before.before.before.before.before.before.v.given.1
     c.before.before.before.before.before.before.before.before.before.before.before.factor.ensures
     (search rules) c.before.before.before.before.before.if2.true c.before.before.x.given.1
     c.before.before.before.before.part.ensures c.both.ensures
 
-part-returns-4 : (t : ℕ) → part-lts.Need-returns-4 (part-beside t) (part_at t) part.Post
-part-returns-4 t c = last _ _ _ _ c.before.before.before.before.v.given.1
+part_returns_4 : (t : ℕ) → part-lts.Need-returns-4 (part_beside t) (part_at t) part.Post
+part_returns_4 t c = last _ _ _ _ c.before.before.before.before.v.given.1
     c.before.before.before.before.before.before.factor.ensures c.if2.false
 
-part-returns-5 : (t : ℕ) → part-lts.Need-returns-5 (part-beside t) (part_at t) part.Post
-part-returns-5 t c = last_end _ _ _ _ c.before.before.v.given.1
+part_returns_5 : (t : ℕ) → part-lts.Need-returns-5 (part_beside t) (part_at t) part.Post
+part_returns_5 t c = last_end _ _ _ _ c.before.before.v.given.1
     c.before.before.before.before.factor.ensures c.if1.false
 
-sum-returns : (t : ℕ) → sum-lts.Need-returns (sum-beside t) (sum-at t) sum.Post
-sum-returns t c = first-bad _ _ _ _ c.before.p.given.1 c.before.before.before.term.ensures
+sum_returns : (t : ℕ) → sum-lts.Need-returns (sum_beside t) (sum_at t) sum.Post
+sum_returns t c = first-bad _ _ _ _ c.before.p.given.1 c.before.before.before.term.ensures
 
-sum-sum-requires : (t : ℕ) → sum-lts.Need-sum-requires (sum-beside t) (sum-at t) sum.Post
-sum-sum-requires t c κs = let h = ahead _ c.before.before.before.before.v.given.1
+sum-sum_requires : (t : ℕ) → sum-lts.Need-sum-requires (sum_beside t) (sum_at t) sum.Post
+sum-sum_requires t c κs = let h = ahead _ c.before.before.before.before.v.given.1
     c.before.before.before.before.before.before.term.ensures (search rules)
     in (omega arith, (omega arith, search rules))
 
-sum-returns-2 : (t : ℕ) → sum-lts.Need-returns-2 (sum-beside t) (sum-at t) sum.Post
-sum-returns-2 t c = next-bad _ _ _ _ c.before.before.before.before.before.before.before.before.v.given.1
+sum_returns_2 : (t : ℕ) → sum-lts.Need-returns-2 (sum_beside t) (sum_at t) sum.Post
+sum_returns_2 t c = next-bad _ _ _ _ c.before.before.before.before.before.before.before.before.v.given.1
     c.before.before.before.before.before.before.before.before.before.before.term.ensures (search rules)
     c.before.before.before.before.if2.true c.before.p2.given.1 c.before.before.before.sum.ensures
 
-sum-returns-3 : (t : ℕ) → sum-lts.Need-returns-3 (sum-beside t) (sum-at t) sum.Post
-sum-returns-3 t c = next _ _ _ _ (inBoth bit_or) (λ F G. joined-stretch 2 bit_or (number-or 64) F G _)
+sum_returns_3 : (t : ℕ) → sum-lts.Need-returns-3 (sum_beside t) (sum_at t) sum.Post
+sum_returns_3 t c = next _ _ _ _ (in_both bit_or) (λ F G. joined_stretch 2 bit_or (number-or 64) F G _)
     c.before.before.before.before.before.before.before.before.before.v.given.1
     c.before.before.before.before.before.before.before.before.before.before.before.term.ensures
     (search rules) c.before.before.before.before.before.if2.true c.before.before.x.given.1
     c.before.before.before.before.sum.ensures c.either.ensures
 
-sum-returns-4 : (t : ℕ) → sum-lts.Need-returns-4 (sum-beside t) (sum-at t) sum.Post
-sum-returns-4 t c = last _ _ _ _ c.before.before.before.before.v.given.1
+sum_returns_4 : (t : ℕ) → sum-lts.Need-returns-4 (sum_beside t) (sum_at t) sum.Post
+sum_returns_4 t c = last _ _ _ _ c.before.before.before.before.v.given.1
     c.before.before.before.before.before.before.term.ensures c.if2.false
 
-sum-returns-5 : (t : ℕ) → sum-lts.Need-returns-5 (sum-beside t) (sum-at t) sum.Post
-sum-returns-5 t c = last_end _ _ _ _ c.before.before.v.given.1 c.before.before.before.before.term.ensures
+sum_returns_5 : (t : ℕ) → sum-lts.Need-returns-5 (sum_beside t) (sum_at t) sum.Post
+sum_returns_5 t c = last_end _ _ _ _ c.before.before.v.given.1 c.before.before.before.before.term.ensures
     c.if1.false
 
-term-returns : (t : ℕ) → term-lts.Need-returns (term-beside t) (term-at t) term.Post
-term-returns t c = first-bad _ _ _ _ c.before.p.given.1 c.before.before.before.part.ensures
+term_returns : (t : ℕ) → term-lts.Need-returns (term_beside t) (term_at t) term.Post
+term_returns t c = first-bad _ _ _ _ c.before.p.given.1 c.before.before.before.part.ensures
 
-term-term-requires : (t : ℕ) → term-lts.Need-term-requires (term-beside t) (term-at t) term.Post
-term-term-requires t c κs = let h = ahead _ c.before.before.before.before.v.given.1
+term-term_requires : (t : ℕ) → term-lts.Need-term-requires (term_beside t) (term_at t) term.Post
+term-term_requires t c κs = let h = ahead _ c.before.before.before.before.v.given.1
     c.before.before.before.before.before.before.part.ensures (search rules)
     in (omega arith, (omega arith, search rules))
 
-term-returns-2 : (t : ℕ) → term-lts.Need-returns-2 (term-beside t) (term-at t) term.Post
-term-returns-2 t c = next-bad _ _ _ _ c.before.before.before.before.before.before.before.before.v.given.1
+term_returns_2 : (t : ℕ) → term-lts.Need-returns-2 (term_beside t) (term_at t) term.Post
+term_returns_2 t c = next-bad _ _ _ _ c.before.before.before.before.before.before.before.before.v.given.1
     c.before.before.before.before.before.before.before.before.before.before.part.ensures (search rules)
     c.before.before.before.before.if2.true c.before.p2.given.1 c.before.before.before.term.ensures
 
-term-returns-3 : (t : ℕ) → term-lts.Need-returns-3 (term-beside t) (term-at t) term.Post
-term-returns-3 t c = next _ _ _ _ (inBoth bit_xor) (λ F G. joined-stretch 1 bit_xor (number-xor 64) F G _)
+term_returns_3 : (t : ℕ) → term-lts.Need-returns-3 (term_beside t) (term_at t) term.Post
+term_returns_3 t c = next _ _ _ _ (in_both bit_xor) (λ F G. joined_stretch 1 bit_xor (number-xor 64) F G _)
     c.before.before.before.before.before.before.before.before.before.v.given.1
     c.before.before.before.before.before.before.before.before.before.before.before.part.ensures
     (search rules) c.before.before.before.before.before.if2.true c.before.before.x.given.1
     c.before.before.before.before.term.ensures c.one_of.ensures
 
-term-returns-4 : (t : ℕ) → term-lts.Need-returns-4 (term-beside t) (term-at t) term.Post
-term-returns-4 t c = last _ _ _ _ c.before.before.before.before.v.given.1
+term_returns_4 : (t : ℕ) → term-lts.Need-returns-4 (term_beside t) (term_at t) term.Post
+term_returns_4 t c = last _ _ _ _ c.before.before.before.before.v.given.1
     c.before.before.before.before.before.before.part.ensures c.if2.false
 
-term-returns-5 : (t : ℕ) → term-lts.Need-returns-5 (term-beside t) (term-at t) term.Post
-term-returns-5 t c = last_end _ _ _ _ c.before.before.v.given.1 c.before.before.before.before.part.ensures
+term_returns_5 : (t : ℕ) → term-lts.Need-returns-5 (term_beside t) (term_at t) term.Post
+term_returns_5 t c = last_end _ _ _ _ c.before.before.v.given.1 c.before.before.before.before.part.ensures
     c.if1.false
 
 pub +factor-list-part-sum-term-spec : {M : Type 1} → statement M
-+factor-list-part-sum-term-spec = close μ-factor μ-list μ-part μ-sum μ-term (λ t. factor-lts.spec (factor-beside t)
-    (factor-at t)
++factor-list-part-sum-term-spec = close μ-factor μ-list μ-part μ-sum μ-term (λ t. factor-lts.spec (factor_beside t)
+    (factor_at t)
     factor.Post
-    (factor-returns t) (λ c. search rules) (factor-returns-2 t) (λ c. search rules) (λ c. search rules)
-    (λ c κs. search rules) (λ c κs. search rules) (factor-returns-3 t) (factor-returns-4 t) (λ c. search rules)
-    (λ c. search rules) (λ c κs. search rules) (λ c κs. search rules) (factor-returns-5 t) (λ c κs. search rules)
-    (λ c κs. search rules) (factor-returns-6 t) (λ c κs. search rules) (factor-add-open t) (λ c κs. search rules)
-    (factor-returns-7 t) (factor-returns-8 t) (factor-add-list t) (λ c. search rules) (factor-short-by-requires t)
-    (factor-list-requires t) (factor-returns-9 t))
-    (λ t. list-lts.spec (list-beside t) (list_at t)
+    (factor_returns t) (λ c. search rules) (factor_returns_2 t) (λ c. search rules) (λ c. search rules)
+    (λ c κs. search rules) (λ c κs. search rules) (factor_returns_3 t) (factor_returns_4 t) (λ c. search rules)
+    (λ c. search rules) (λ c κs. search rules) (λ c κs. search rules) (factor_returns_5 t) (λ c κs. search rules)
+    (λ c κs. search rules) (factor_returns_6 t) (λ c κs. search rules) (factor-add_open t) (λ c κs. search rules)
+    (factor_returns_7 t) (factor_returns_8 t) (factor-add-list t) (λ c. search rules) (factor_short_by_requires t)
+    (factor-list_requires t) (factor_returns_9 t))
+    (λ t. list-lts.spec (list_beside t) (list_at t)
     list.Post
-    (λ c κs. search rules) (λ c. search rules) (list-returns t) (λ c. search rules) (λ c κs. search rules)
-    (λ c κs. search rules) (list-add-list t) (list-list-requires t) (list-returns-2 t) (λ c κs. search rules)
-    (list-returns-3 t))
-    (λ t. part-lts.spec (part-beside t) (part_at t)
+    (λ c κs. search rules) (λ c. search rules) (list_returns t) (λ c. search rules) (λ c κs. search rules)
+    (λ c κs. search rules) (list-add-list t) (list-list_requires t) (list_returns_2 t) (λ c κs. search rules)
+    (list_returns_3 t))
+    (λ t. part-lts.spec (part_beside t) (part_at t)
     part.Post
-    (λ c κs. search rules) (λ c. search rules) (part-returns t) (λ c. search rules) (λ c. search rules)
-    (λ c. search rules) (part-part-requires t) (λ c. search rules) (part-returns-2 t) (λ c. search rules)
-    (λ c κs. search rules) (part-returns-3 t) (part-returns-4 t) (part-returns-5 t))
-    (λ t. sum-lts.spec (sum-beside t) (sum-at t)
+    (λ c κs. search rules) (λ c. search rules) (part_returns t) (λ c. search rules) (λ c. search rules)
+    (λ c. search rules) (part-part_requires t) (λ c. search rules) (part_returns_2 t) (λ c. search rules)
+    (λ c κs. search rules) (part_returns_3 t) (part_returns_4 t) (part_returns_5 t))
+    (λ t. sum-lts.spec (sum_beside t) (sum_at t)
     sum.Post
-    (λ c κs. search rules) (λ c. search rules) (sum-returns t) (λ c. search rules) (λ c. search rules)
-    (λ c. search rules) (sum-sum-requires t) (λ c. search rules) (sum-returns-2 t) (λ c. search rules)
-    (λ c κs. search rules) (sum-returns-3 t) (sum-returns-4 t) (sum-returns-5 t))
-    λ t. term-lts.spec (term-beside t) (term-at t)
+    (λ c κs. search rules) (λ c. search rules) (sum_returns t) (λ c. search rules) (λ c. search rules)
+    (λ c. search rules) (sum-sum_requires t) (λ c. search rules) (sum_returns_2 t) (λ c. search rules)
+    (λ c κs. search rules) (sum_returns_3 t) (sum_returns_4 t) (sum_returns_5 t))
+    λ t. term-lts.spec (term_beside t) (term_at t)
     term.Post
-    (λ c κs. search rules) (λ c. search rules) (term-returns t) (λ c. search rules) (λ c. search rules)
-    (λ c. search rules) (term-term-requires t) (λ c. search rules) (term-returns-2 t) (λ c. search rules)
-    (λ c κs. search rules) (term-returns-3 t) (term-returns-4 t) (term-returns-5 t)
+    (λ c κs. search rules) (λ c. search rules) (term_returns t) (λ c. search rules) (λ c. search rules)
+    (λ c. search rules) (term-term_requires t) (λ c. search rules) (term_returns_2 t) (λ c. search rules)
+    (λ c κs. search rules) (term_returns_3 t) (term_returns_4 t) (term_returns_5 t)

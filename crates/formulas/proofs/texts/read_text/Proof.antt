@@ -5,53 +5,53 @@ use mathlib.Core.List.{List}
 use Prim.Native.Nat.{ℕ}
 use native.Mathlib.Omega.{arith}
 use borrow.Author.Rules.{rules}
-use Rattle.tables.specs.Table.{mostInputs}
+use Rattle.tables.specs.Table.{most_inputs}
 use Rattle.refusals.specs.declared.verdicts.Verdict.{Verdict}
 use Rattle.refusals.specs.declared.verdicts.Verdict.TheVariants.{Fine}
 use Rattle.refusals.specs.Lines.{reply}
-use Rattle.refusals.proofs.Lines.{in_order}
-use Rattle.refusals.proofs.Tests.{inside, right-table}
-use Rattle.formulas.specs.ReadFormula.{readLines, readDone, readNot, readIn}
+use Rattle.refusals.proofs.Lines.{in_order_lem}
+use Rattle.refusals.proofs.Tests.{inside, right_table}
+use Rattle.formulas.specs.ReadFormula.{read_lines, read_done, read_not, read_in}
 use Rattle.formulas.proofs.texts.read_text.Statement.{statement}
 use Rattle.formulas.proofs.texts.read_text.Tie as tie
 
 returns : tie.Need-returns
-unfolding readIn
+unfolding read_in
 returns c =
     let f = c.before.before in
     let a = f.before.before.before.before.args in
     let e = c.enum-told2.given.1 in
     ap (λ (v : Verdict). record { verdict = v; table = a.table.now }) e
-    ∙ ap (λ (v : Verdict). reply v (readDone a.counts a.n a.t.now) (readNot a.table.now))
+    ∙ ap (λ (v : Verdict). reply v (read_done a.counts a.n a.t.now) (read_not a.table.now))
     (sym e ∙ f.read-form.ensures)
 
-cast-fill : tie.Need-overflow-cast-fill
-cast-fill c =
+cast_fill : tie.Need-overflow-cast-fill
+cast_fill c =
     let f = c.before.before in
     let a = f.before.before.before.before.args in
-    let w = in_order (readLines a.counts a.n a.t.now a.table.now)
+    let w = in_order_lem (read_lines a.counts a.n a.t.now a.table.now)
     (sym f.read-form.ensures ∙ c.enum_told.given.1) in
-    omega (arith, inside 1 a.n mostInputs w.0)
+    omega (arith, inside 1 a.n most_inputs w.0)
 
-fill-requires : tie.Need-fill-requires
-fill-requires c κs =
+fill_requires : tie.Need-fill-requires
+fill_requires c κs =
     let f = c.before.before.before in
     let a = f.before.before.before.before.args in
-    let w = in_order (readLines a.counts a.n a.t.now a.table.now)
+    let w = in_order_lem (read_lines a.counts a.n a.t.now a.table.now)
     (sym f.read-form.ensures ∙ c.before.enum_told.given.1) in
-    ((inside 1 a.n mostInputs w.0).1, right-table a.n a.table.now w.1.0, w.1.1.0)
+    ((inside 1 a.n most_inputs w.0).1, right_table a.n a.table.now w.1.0, w.1.1.0)
 
-returns-2 : tie.Need-returns-2
-unfolding readIn
-returns-2 c =
+returns_2 : tie.Need-returns-2
+unfolding read_in
+returns_2 c =
     let r = c.before.before in
     let f = r.before.before.before.before in
     let a = f.before.before.before.before.args in
     ap (λ (t : List ℕ). record { verdict = Fine; table = t }) r.fill.ensures
-    ∙ ap (λ (v : Verdict). reply v (readDone a.counts a.n a.t.now) (readNot a.table.now))
+    ∙ ap (λ (v : Verdict). reply v (read_done a.counts a.n a.t.now) (read_not a.table.now))
     (sym r.before.before.enum_told.given.1 ∙ f.read-form.ensures)
 
-pub read-text-spec : {M : Type 1} → statement M
-read-text-spec =
+pub read_text_spec : {M : Type 1} → statement M
+read_text_spec =
     tie.close (tie.spec (λ c κs. search rules) (λ c. search rules) (λ c. search rules) (λ c. search rules) returns
-    cast-fill fill-requires (λ c. search rules) returns-2)
+    cast_fill fill_requires (λ c. search rules) returns_2)

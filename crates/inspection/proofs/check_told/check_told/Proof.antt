@@ -3,12 +3,12 @@
 use mathlib.Core.Path.{sym, ap, ◌∙◌, subst}
 use borrow.Author.Rules.{rules}
 use Rattle.sheets.specs.declared.kinds.Edition.{Edition}
-use Rattle.sheets.specs.Edition.{IsEdition, editionOf}
-use Rattle.sheets.specs.Desk.{deskOf}
-use Rattle.sheets.proofs.Keeping.{is-edition}
-use Rattle.refusals.specs.Refusals.{toldForm}
+use Rattle.sheets.specs.Edition.{IsEdition, edition_of}
+use Rattle.sheets.specs.Desk.{desk_of}
+use Rattle.sheets.proofs.Keeping.{is_edition}
+use Rattle.refusals.specs.Refusals.{told_form}
 use Rattle.refusals.proofs.Lines.{stopped, goes_on}
-use Rattle.inspection.specs.CheckSheet.{checkLines, checkOutcome, checkOwn}
+use Rattle.inspection.specs.CheckSheet.{check_lines, check_outcome, check_own}
 use Rattle.inspection.proofs.check_told.check_told.Statement.{statement}
 use Rattle.inspection.proofs.check_told.check_told.Tie as tie
 
@@ -16,23 +16,23 @@ returns : tie.Need-returns
 returns c =
     let f = c.before.before in
     let a = f.before.before.before.args in
-    let e = editionOf a.w in
-    stopped (toldForm a.w a.n) (checkLines e (deskOf e a.s.now) a.n a.t.now a.s.now)
+    let e = edition_of a.w in
+    stopped (told_form a.w a.n) (check_lines e (desk_of e a.s.now) a.n a.t.now a.s.now)
     f.told.result f.told.ensures
     c.enum-told2.given.0.0 c.enum-told2.given.1
 
-returns-2 : tie.Need-returns-2
-unfolding checkOutcome
-returns-2 c =
+returns_2 : tie.Need-returns-2
+unfolding check_outcome
+returns_2 c =
     let g = c.before.before in
     let f = g.before.before in
     let a = f.before.before.before.args in
-    let e = editionOf a.w in
-    goes_on (toldForm a.w a.n) (checkLines e (deskOf e a.s.now) a.n a.t.now a.s.now) _
+    let e = edition_of a.w in
+    goes_on (told_form a.w a.n) (check_lines e (desk_of e a.s.now) a.n a.t.now a.s.now) _
     f.told.ensures g.enum_told.given.1 (c.check-own.ensures
-    ∙ ap (λ (e : Edition). checkOwn e a.n a.t.now a.s.now) c.before.numbered.ensures)
+    ∙ ap (λ (e : Edition). check_own e a.n a.t.now a.s.now) c.before.numbered.ensures)
 
-pub check-told-spec : {M : Type 1} → statement M
-check-told-spec =
+pub check_told_spec : {M : Type 1} → statement M
+check_told_spec =
     tie.close (tie.spec (λ c κs. search rules) (λ c. search rules) (λ c. search rules) returns (λ c κs. search rules)
-    (λ c κs. subst IsEdition (sym c.numbered.ensures) (is-edition _)) returns-2)
+    (λ c κs. subst IsEdition (sym c.numbered.ensures) (is_edition _)) returns_2)

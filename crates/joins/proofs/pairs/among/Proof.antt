@@ -14,8 +14,8 @@ second s t e f g = g ∙ sym (ap (λ (b : Bool). b || t) (sym e ∙ f))
 returns : tie.Need-returns
 returns c = first _ _ c.before.same-column.ensures c.if1.true
 
-returns-2 : tie.Need-returns-2
-returns-2 c = second _ _ c.before.before.same-column.ensures c.before.if1.false c.same-column2.ensures
+returns_2 : tie.Need-returns-2
+returns_2 c = second _ _ c.before.before.same-column.ensures c.before.if1.false c.same-column2.ensures
 
-pub among-spec : {M : Type 1} → statement M
-among-spec = tie.close (tie.spec (λ c κs. search rules) returns (λ c κs. search rules) returns-2)
+pub among_spec : {M : Type 1} → statement M
+among_spec = tie.close (tie.spec (λ c κs. search rules) returns (λ c κs. search rules) returns_2)

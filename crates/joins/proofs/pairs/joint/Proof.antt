@@ -7,7 +7,7 @@ use borrow.Author.Rules.{rules}
 use Rattle.bits.specs.Numbers.{bit}
 use Rattle.bits.specs.Sets.{spread}
 use Rattle.bits.proofs.Spreading.{spread-zero}
-use Rattle.tables.specs.Table.{tableBit}
+use Rattle.tables.specs.Table.{table_bit}
 use Rattle.columns.specs.declared.split.Split.{Split}
 use Rattle.columns.specs.Reading.{Without}
 use Rattle.joins.proofs.Asking as asking
@@ -19,35 +19,35 @@ module _ (c : tie.Start) where
   abbrev own : ℕ
   own = 1 * 2 ^ c.args.j % 2 ^ 16 + 1 * 2 ^ c.args.i % 2 ^ 16
 
-  own-lt : own < 2 ^ c.args.n
-  own-lt = asking.own-lt c.args.n c.args.g c.requires.1 c.requires.0 c.args.i c.args.j c.requires.2
+  own_lt : own < 2 ^ c.args.n
+  own_lt = asking.own_lt c.args.n c.args.g c.requires.1 c.requires.0 c.args.i c.args.j c.requires.2
       c.requires.3 c.requires.4
 
   width : 2 ^ c.args.n < 2 ^ 16 + 1
   width = omega (arith, pow_mono {i = c.args.n} {j = 16} c.requires.0)
 
-add-own : tie.Need-overflow-add-own
-add-own c = omega (arith, own-lt c.before, width c.before)
+add_own : tie.Need-overflow-add-own
+add_own c = omega (arith, own_lt c.before, width c.before)
 
-of-requires : tie.Need-of-requires
-of-requires c κs =
+of_requires : tie.Need-of-requires
+of_requires c κs =
     let g = c.before in
     let a = g.args in (
       g.requires.0,
-      own-lt g,
+      own_lt g,
       g.requires.1.below,
-      asking.own-apart a.n a.g g.requires.1 g.requires.0 a.i a.j g.requires.2
+      asking.own_apart a.n a.g g.requires.1 g.requires.0 a.i a.j g.requires.2
           g.requires.3 g.requires.4,
     )
 
-next-requires : tie.Need-next-requires
-next-requires c κs = let g = c.before.before in (g.requires.0, own-lt g, pow_pos g.args.n)
+next_requires : tie.Need-next-requires
+next_requires c κs = let g = c.before.before in (g.requires.0, own_lt g, pow_pos g.args.n)
 
-next-requires-2 : tie.Need-next-requires-2
-next-requires-2 c κs = let g = c.before.before.before in (g.requires.0, own-lt g, c.next.ensures.0)
+next_requires_2 : tie.Need-next-requires-2
+next_requires_2 c κs = let g = c.before.before.before in (g.requires.0, own_lt g, c.next.ensures.0)
 
-next-requires-3 : tie.Need-next-requires-3
-next-requires-3 c κs = let g = c.before.before.before.before in (g.requires.0, own-lt g, c.next2.ensures.0)
+next_requires_3 : tie.Need-next-requires-3
+next_requires_3 c κs = let g = c.before.before.before.before in (g.requires.0, own_lt g, c.next2.ensures.0)
 
 -- the three points beside what is fixed
 module _ (c : tie.After-next3) where
@@ -82,17 +82,17 @@ module _ (c : tie.After-next3) where
         ap (λ (m : ℕ). 2 ^ m) c.before.before.before.of.ensures.1,
       )
 
-add-value-by : tie.Need-overflow-add-value-by
-add-value-by c = let d = c.before in record { fits = fits d 1 _ (omega arith) (first d) }
+add-value_by : tie.Need-overflow-add-value-by
+add-value_by c = let d = c.before in record { fits = fits d 1 _ (omega arith) (first d) }
 
-add-value-by-2 : tie.Need-overflow-add-value-by-2
-add-value-by-2 c = let d = c.before.before in record { fits = fits d 2 _ (omega arith) (second d) }
+add-value_by_2 : tie.Need-overflow-add-value-by-2
+add-value_by_2 c = let d = c.before.before in record { fits = fits d 2 _ (omega arith) (second d) }
 
-add-value-by-3 : tie.Need-overflow-add-value-by-3
-add-value-by-3 c = let d = c.before.before.before in record { fits = fits d 3 _ (omega arith) (third d) }
+add-value_by_3 : tie.Need-overflow-add-value-by-3
+add-value_by_3 c = let d = c.before.before.before in record { fits = fits d 3 _ (omega arith) (third d) }
 
-value-by-requires : tie.Need-value-by-requires
-value-by-requires c κs =
+value_by_requires : tie.Need-value-by-requires
+value_by_requires c κs =
     let d = c.before.before.before in
     let w = d.before.before.before.of.ensures in
     let s = g d in (
@@ -111,11 +111,11 @@ returns c =
     let w = d.before.before.before.of.ensures in
     let s = g d in
     asking.asked s.args.n s.args.g s.pre.1 s.pre.0 s.args.i s.args.j s.pre.2 s.pre.3
-    s.pre.4 (split d) w.0 w.1 w.2 w.3 (tableBit s.args.t.now) _ _ _ _ (first d) (second d)
+    s.pre.4 (split d) w.0 w.1 w.2 w.3 (table_bit s.args.t.now) _ _ _ _ (first d) (second d)
     (third d) c.value-by.ensures
 
-pub joint-spec : {M : Type 1} → statement M
-joint-spec =
-    tie.close (tie.spec (λ c. search rules) (λ c. search rules) (λ c. search rules) (λ c. search rules) add-own
-    of-requires next-requires next-requires-2 next-requires-3 add-value-by add-value-by-2 add-value-by-3
-    value-by-requires returns)
+pub joint_spec : {M : Type 1} → statement M
+joint_spec =
+    tie.close (tie.spec (λ c. search rules) (λ c. search rules) (λ c. search rules) (λ c. search rules) add_own
+    of_requires next_requires next_requires_2 next_requires_3 add-value_by add-value_by_2 add-value_by_3
+    value_by_requires returns)

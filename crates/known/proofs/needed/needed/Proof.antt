@@ -1,6 +1,6 @@
 -- Each turn adds what the table says of one pair; a member less is left. Assumes nothing.
 use Prim.Native.Nat.{◌-◌}
-use Rattle.known.proofs.Keeping.{adds_none, adds-both}
+use Rattle.known.proofs.Keeping.{adds_none, adds_both}
 use Rattle.known.specs.Notes.{Adds}
 use borrow.Author.Rules.{rules}
 use lib.Bits.{and_le_r}
@@ -8,29 +8,29 @@ use native.Mathlib.Omega.{arith}
 use Rattle.known.proofs.needed.needed.Statement.{statement}
 use Rattle.known.proofs.needed.needed.Tie as tie
 
-abbrev invariant-loop : tie.invariant-loop
-invariant-loop pairs acc j need more₀ x₀ more x = Adds pairs acc j need more
+abbrev invariant_loop : tie.invariant_loop
+invariant_loop pairs acc j need more₀ x₀ more x = Adds pairs acc j need more
 
-abbrev decreases-loop : tie.decreases-loop
-decreases-loop pairs acc j need more₀ x₀ more x = x
+abbrev decreases_loop : tie.decreases_loop
+decreases_loop pairs acc j need more₀ x₀ more x = x
 
-loop-holds : tie.Need-loop-init invariant-loop decreases-loop
-loop-holds c = adds_none _ _ _ _
+loop_holds : tie.Need-loop-init invariant_loop decreases_loop
+loop_holds c = adds_none _ _ _ _
 
-loop-less : tie.Need-loop-smaller invariant-loop decreases-loop
-loop-less c = omega (
+loop_less : tie.Need-loop-smaller invariant_loop decreases_loop
+loop_less c = omega (
   arith,
   and_le_r c.before.before.loop.x (c.before.before.loop.x - 1),
   c.before.loop-test.true,
 )
 
-loop-again : tie.Need-loop-preserved invariant-loop decreases-loop
-loop-again c = adds-both _ _ _ c.before.before.loop.invariant c.with_pair.ensures
+loop_again : tie.Need-loop-preserved invariant_loop decreases_loop
+loop_again c = adds_both _ _ _ c.before.before.loop.invariant c.with_pair.ensures
 
-returns : tie.Need-returns invariant-loop decreases-loop
+returns : tie.Need-returns invariant_loop decreases_loop
 returns c = c.before.loop.invariant
 
-pub needed-spec : {M : Type 1} → statement M
-needed-spec =
-    tie.close (tie.spec invariant-loop decreases-loop loop-holds (λ c κs. search rules) (λ c. search rules) loop-less loop-again
+pub needed_spec : {M : Type 1} → statement M
+needed_spec =
+    tie.close (tie.spec invariant_loop decreases_loop loop_holds (λ c κs. search rules) (λ c. search rules) loop_less loop_again
     returns)

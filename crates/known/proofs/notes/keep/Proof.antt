@@ -2,15 +2,15 @@
 use native.Mathlib.Omega.{arith}
 use borrow.Author.Rules.{rules}
 use lib.ListN.{length-set}
-use Rattle.known.proofs.Keeping.{learned-put, learned-count}
+use Rattle.known.proofs.Keeping.{learned_put, learned_count}
 use Rattle.known.proofs.notes.keep.Statement.{statement}
 use Rattle.known.proofs.notes.keep.Tie as tie
 
-slice-write-notes-2 : tie.Need-slice-write-notes-2
-slice-write-notes-2 c = simp length-set (omega (arith, c.place.ensures, c.before.before.before.requires))
+slice_write_notes_2 : tie.Need-slice-write-notes-2
+slice_write_notes_2 c = simp length-set (omega (arith, c.place.ensures, c.before.before.before.requires))
 
 returns : tie.Need-returns
-returns c n m F w r = learned-count _ _ (learned-put _ _ _ _ c.place.ensures w r)
+returns c n m F w r = learned_count _ _ (learned_put _ _ _ _ c.place.ensures w r)
 
 pub keep_spec : {M : Type 1} → statement M
 keep_spec =
@@ -22,7 +22,7 @@ keep_spec =
     (λ c. search rules)
     (λ c. search rules)
     (λ c. search rules)
-    slice-write-notes-2
+    slice_write_notes_2
     (λ c. search rules)
     (λ c. search rules)
     (λ c. search rules)

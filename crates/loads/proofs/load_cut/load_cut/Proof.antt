@@ -8,9 +8,9 @@ use lib.ListN.{take}
 use lib.Seq.{take_all}
 use borrow.Author.Rules.{rules}
 use Rattle.cards.specs.declared.stores.Store.{Store}
-use Rattle.cards.specs.Stores.{loadStores, storeCount}
-use Rattle.cards.specs.LoadDesk.{partOutcome}
-use Rattle.cards.proofs.Order.{length-load}
+use Rattle.cards.specs.Stores.{load_stores, store_count}
+use Rattle.cards.specs.LoadDesk.{part_outcome}
+use Rattle.cards.proofs.Order.{length_load}
 use Rattle.loads.proofs.load_cut.load_cut.Statement.{statement}
 use Rattle.loads.proofs.load_cut.load_cut.Tie as tie
 
@@ -18,26 +18,26 @@ returns : tie.Need-returns
 returns c =
     let p = c.before.before in
     let a = p.before.before.before.before.before.args in
-    let l = loadStores a.d a.n a.s.now in
+    let l = load_stores a.d a.n a.s.now in
     p.load_part.ensures
-    ∙ ap (λ (ts : List Store). partOutcome ts a.card.now a.d a.n a.s.now)
-    (take_all storeCount l (le_of_eq (length-load a.d a.n a.s.now))
+    ∙ ap (λ (ts : List Store). part_outcome ts a.card.now a.d a.n a.s.now)
+    (take_all store_count l (le_of_eq (length_load a.d a.n a.s.now))
     ∙ sym (take_all a.stores l (omega (
       arith,
-      length-load a.d a.n a.s.now,
+      length_load a.d a.n a.s.now,
       p.before.before.if1.true,
     ))))
 
-returns-2 : tie.Need-returns-2
-returns-2 c =
+returns_2 : tie.Need-returns-2
+returns_2 c =
     let p = c.before.before in
     let a = p.before.before.before.before.before.args in
     let all : a.stores - 0 ≡ a.stores = omega arith in
     p.load-part2.ensures
-    ∙ ap (λ (k : ℕ). partOutcome (take k (loadStores a.d a.n a.s.now)) a.card.now a.d a.n
+    ∙ ap (λ (k : ℕ). part_outcome (take k (load_stores a.d a.n a.s.now)) a.card.now a.d a.n
     a.s.now) all
 
-pub load-cut-spec : {M : Type 1} → statement M
-load-cut-spec =
+pub load_cut_spec : {M : Type 1} → statement M
+load_cut_spec =
     tie.close (tie.spec (λ c κs. search rules) (λ c. search rules) returns (λ c κs. search rules) (λ c. search rules)
-    returns-2)
+    returns_2)

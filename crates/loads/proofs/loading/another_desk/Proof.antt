@@ -6,7 +6,7 @@ use lib.Dec.{eqb}
 use lib.ListN.{length, get_or}
 use borrow.Author.Rules.{rules}
 use borrow.Author.Tests.{le-leb, lt-leb}
-use Rattle.sheets.specs.Edition.{recordSize}
+use Rattle.sheets.specs.Edition.{record_size}
 use Rattle.loads.proofs.loading.another_desk.Statement.{statement}
 use Rattle.loads.proofs.loading.another_desk.Tie as tie
 
@@ -14,15 +14,15 @@ returns : tie.Need-returns
 returns c =
     let a = c.before.args in
     sym (ap (λ (t : Bool). t && not (eqb (get_or a.s.now 7 0) a.d))
-    (lt-leb recordSize (length a.s.now) c.if1.true))
+    (lt-leb record_size (length a.s.now) c.if1.true))
 
-returns-2 : tie.Need-returns-2
-returns-2 c =
+returns_2 : tie.Need-returns-2
+returns_2 c =
     let a = c.before.before.args in
     sym (ap (λ (t : Bool). t && not (eqb (get_or a.s.now 7 0) a.d))
-    (le-leb recordSize (length a.s.now) (omega arith)))
+    (le-leb record_size (length a.s.now) (omega arith)))
 
-pub another-desk-spec : {M : Type 1} → statement M
-another-desk-spec =
+pub another_desk_spec : {M : Type 1} → statement M
+another_desk_spec =
     tie.close (tie.spec returns (λ c. search rules) (λ c. search rules)
-    (λ c. omega (arith, c.shared-slice-known.given 7)) returns-2)
+    (λ c. omega (arith, c.shared-slice-known.given 7)) returns_2)

@@ -8,40 +8,40 @@ use borrow.Author.Rules.{rules}
 use borrow.Author.Tests.{eq-eqb, ne_eqb}
 use Rattle.refusals.proofs.Lines.{here, later, decides, passes}
 use Rattle.refusals.proofs.Tests.{inside}
-use Rattle.cards.specs.Card.{desks, cardBytes}
-use Rattle.cards.specs.Refusals.{badCard, anotherDesk, badLoad, filedLines}
-use Rattle.cards.specs.LoadDesk.{loadLines}
+use Rattle.cards.specs.Card.{desks, card_bytes}
+use Rattle.cards.specs.Refusals.{bad_card, another_desk, bad_load, filed_lines}
+use Rattle.cards.specs.LoadDesk.{load_lines}
 use Rattle.loads.proofs.loading.load_form.Statement.{statement}
 use Rattle.loads.proofs.loading.load_form.Tie as tie
 
 returns : tie.Need-returns
 returns c =
     let a = c.before.before.before.before.args in
-    c.refuse.ensures ∙ decides (loadLines a.card.now a.d a.n a.s.now)
-    (here (ap not (ne_eqb (length a.card.now) cardBytes c.before.if1.true)))
+    c.refuse.ensures ∙ decides (load_lines a.card.now a.d a.n a.s.now)
+    (here (ap not (ne_eqb (length a.card.now) card_bytes c.before.if1.true)))
 
-returns-2 : tie.Need-returns-2
-returns-2 c =
+returns_2 : tie.Need-returns-2
+returns_2 c =
     let o = c.before.before in
     let a = o.before.before.before.before.args in
     c.refuse2.ensures
-    ∙ decides (loadLines a.card.now a.d a.n a.s.now)
-    (later (ap not (eq-eqb (length a.card.now) cardBytes o.before.if1.false))
-    (here (ap (λ (t : Bool). t || anotherDesk a.d a.s.now) (sym o.outside.ensures ∙ c.before.if2.true))))
+    ∙ decides (load_lines a.card.now a.d a.n a.s.now)
+    (later (ap not (eq-eqb (length a.card.now) card_bytes o.before.if1.false))
+    (here (ap (λ (t : Bool). t || another_desk a.d a.s.now) (sym o.outside.ensures ∙ c.before.if2.true))))
 
-returns-3 : tie.Need-returns-3
-returns-3 c =
+returns_3 : tie.Need-returns-3
+returns_3 c =
     let m = c.before.before in
     let o = m.before.before in
     let a = o.before.before.before.before.args in
     c.refuse3.ensures
-    ∙ decides (loadLines a.card.now a.d a.n a.s.now)
-    (later (ap not (eq-eqb (length a.card.now) cardBytes o.before.if1.false))
+    ∙ decides (load_lines a.card.now a.d a.n a.s.now)
+    (later (ap not (eq-eqb (length a.card.now) card_bytes o.before.if1.false))
     (here (ap₂ ◌||◌ (sym o.outside.ensures ∙ m.before.if2.false)
     (sym m.another-desk.ensures ∙ c.before.if3.true))))
 
-cast-filed : tie.Need-overflow-cast-filed
-cast-filed c =
+cast_filed : tie.Need-overflow-cast-filed
+cast_filed c =
     let o = c.before.before.before in
     omega (
       arith,
@@ -49,14 +49,14 @@ cast-filed c =
           (sym o.outside.ensures ∙ c.before.before.if2.false),
     )
 
-returns-4 : tie.Need-returns-4
-returns-4 c =
+returns_4 : tie.Need-returns-4
+returns_4 c =
     let m = c.before.before in
     let o = m.before.before in
     let a = o.before.before.before.before.args in
     c.filed.ensures
-    ∙ sym (passes (badCard a.card.now ∷ badLoad a.d a.s.now ∷ []) (filedLines a.d a.n a.s.now) (
-      ap not (eq-eqb (length a.card.now) cardBytes o.before.if1.false),
+    ∙ sym (passes (bad_card a.card.now ∷ bad_load a.d a.s.now ∷ []) (filed_lines a.d a.n a.s.now) (
+      ap not (eq-eqb (length a.card.now) card_bytes o.before.if1.false),
       (
         ap₂ ◌||◌ (sym o.outside.ensures ∙ m.before.if2.false)
             (sym m.another-desk.ensures ∙ c.before.if3.false),
@@ -64,7 +64,7 @@ returns-4 c =
       ),
     ))
 
-pub load-form-spec : {M : Type 1} → statement M
-load-form-spec =
-    tie.close (tie.spec (λ c κs. search rules) returns (λ c κs. search rules) (λ c κs. search rules) returns-2
-    (λ c κs. search rules) (λ c κs. search rules) returns-3 cast-filed (λ c κs. search rules) returns-4)
+pub load_form_spec : {M : Type 1} → statement M
+load_form_spec =
+    tie.close (tie.spec (λ c κs. search rules) returns (λ c κs. search rules) (λ c κs. search rules) returns_2
+    (λ c κs. search rules) (λ c κs. search rules) returns_3 cast_filed (λ c κs. search rules) returns_4)

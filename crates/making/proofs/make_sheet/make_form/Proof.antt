@@ -8,14 +8,14 @@ use lib.ListN.{length}
 use borrow.Author.Rules.{rules}
 use borrow.Author.Tests.{lt-ltb, le-ltb}
 use Rattle.bits.proofs.Bools.{or_left, or_right}
-use Rattle.sheets.specs.Edition.{mostRecords, mostDesk}
+use Rattle.sheets.specs.Edition.{most_records, most_desk}
 use Rattle.refusals.specs.declared.verdicts.Verdict.{Verdict}
 use Rattle.refusals.specs.declared.verdicts.Verdict.TheVariants.{Fine}
 use Rattle.refusals.specs.Lines.{Line, verdict}
-use Rattle.refusals.specs.Refusals.{gateLines, badDesk, shortSheet}
+use Rattle.refusals.specs.Refusals.{gate_lines, bad_desk, short_sheet}
 use Rattle.refusals.proofs.Lines.{First, fine, here, later, stopped, decided}
 use Rattle.refusals.proofs.Lent.{both_long}
-use Rattle.making.specs.MakeSheet.{makeForm}
+use Rattle.making.specs.MakeSheet.{make_form}
 use Rattle.making.proofs.make_sheet.make_form.Statement.{statement}
 use Rattle.making.proofs.make_sheet.make_form.Tie as tie
 
@@ -24,15 +24,15 @@ module _ (c : tie.After-gate) where
   g = c.before.before.before.before
 
   abbrev room : List Line
-  room = shortSheet g.args.e g.args.sheet.now g.args.work.now ∷ []
+  room = short_sheet g.args.e g.args.sheet.now g.args.work.now ∷ []
 
   abbrev all : Verdict
-  all = verdict (makeForm g.args.e g.args.d g.args.n g.args.k g.args.t.now g.args.sheet.now
+  all = verdict (make_form g.args.e g.args.d g.args.n g.args.k g.args.t.now g.args.sheet.now
       g.args.work.now)
 
   -- the gate is in order: the desk and the room decide
-  past : c.gate.result ≡ Fine → {v : Verdict} → First (badDesk g.args.d ∷ room) v → v ≡ all
-  past = decided (gateLines g.args.e g.args.n g.args.k g.args.t.now) _ _ c.gate.ensures
+  past : c.gate.result ≡ Fine → {v : Verdict} → First (bad_desk g.args.d ∷ room) v → v ≡ all
+  past = decided (gate_lines g.args.e g.args.n g.args.k g.args.t.now) _ _ c.gate.ensures
 
 -- and so is the desk: the room decides
 module _ (c : tie.Else1) where
@@ -40,46 +40,46 @@ module _ (c : tie.Else1) where
   f = c.before.before.before
 
   beyond : {v : Verdict} → First (room f) v → v ≡ all f
-  beyond h = past f c.before.enum_told.given.1 (later (le-ltb mostDesk (g f).args.d c.if1.false) h)
+  beyond h = past f c.before.enum_told.given.1 (later (le-ltb most_desk (g f).args.d c.if1.false) h)
 
 returns : tie.Need-returns
 returns c =
     let f = c.before.before in
     let a = (g f).args in
-    stopped (gateLines a.e a.n a.k a.t.now) (badDesk a.d ∷ room f) _ f.gate.ensures
+    stopped (gate_lines a.e a.n a.k a.t.now) (bad_desk a.d ∷ room f) _ f.gate.ensures
     c.enum-told2.given.0.0 c.enum-told2.given.1
 
-returns-2 : tie.Need-returns-2
-returns-2 c =
+returns_2 : tie.Need-returns-2
+returns_2 c =
     let i = c.before in
     let o = i.before in
-    c.refuse.ensures ∙ past o.before.before o.enum_told.given.1 (here (lt-ltb mostDesk _ i.if1.true))
+    c.refuse.ensures ∙ past o.before.before o.enum_told.given.1 (here (lt-ltb most_desk _ i.if1.true))
 
-mul-if2 : tie.Need-overflow-mul-if2
-mul-if2 c = omega (arith, c.before.before.before.before.before.before.before.before.requires.short)
+mul_if2 : tie.Need-overflow-mul-if2
+mul_if2 c = omega (arith, c.before.before.before.before.before.before.before.before.requires.short)
 
-returns-3 : tie.Need-returns-3
-returns-3 c =
+returns_3 : tie.Need-returns-3
+returns_3 c =
     let i = c.before in
     c.refuse2.ensures ∙ beyond i.before.before (here (or_left _ _ (lt-ltb _ _ i.if2.true)))
 
-returns-4 : tie.Need-returns-4
-returns-4 c =
+returns_4 : tie.Need-returns-4
+returns_4 c =
     let i = c.before in
     let j = i.before.before.before in
     let a = (g (f j)).args in
     c.refuse3.ensures
-    ∙ beyond j (here (or_right (ltb (length a.sheet.now) (a.e.size * mostRecords)) _
+    ∙ beyond j (here (or_right (ltb (length a.sheet.now) (a.e.size * most_records)) _
     (lt-ltb _ _ i.if3.true)))
 
-returns-5 : tie.Need-returns-5
-returns-5 c =
+returns_5 : tie.Need-returns-5
+returns_5 c =
     let j = c.before.before.before in
     let a = (g (f j)).args in
     beyond j (later (both_long a.e a.sheet.now a.work.now c.before.if2.false c.if3.false) fine)
 
-pub make-form-spec : {M : Type 1} → statement M
-make-form-spec =
+pub make_form_spec : {M : Type 1} → statement M
+make_form_spec =
     tie.close (tie.spec (λ c κs. search rules) (λ c. search rules) (λ c. search rules) returns (λ c. search rules)
-    (λ c κs. search rules) returns-2 mul-if2 (λ c κs. search rules) returns-3 (λ c κs. search rules) returns-4
-    returns-5)
+    (λ c κs. search rules) returns_2 mul_if2 (λ c κs. search rules) returns_3 (λ c κs. search rules) returns_4
+    returns_5)

@@ -4,15 +4,15 @@ use mathlib.Core.List.{List, [], ◌∷◌}
 use Prim.Native.Nat.{ℕ}
 use native.Mathlib.Omega.{arith}
 use borrow.Author.Rules.{rules}
-use Rattle.tables.specs.Table.{tableBit}
-use Rattle.chains.proofs.Aside.{cells-few}
+use Rattle.tables.specs.Table.{table_bit}
+use Rattle.chains.proofs.Aside.{cells_few}
 use Rattle.refusals.specs.declared.verdicts.Verdict.{Verdict}
 use Rattle.refusals.specs.declared.verdicts.Verdict.TheVariants.{Fine}
 use Rattle.refusals.specs.Lines.{Line}
-use Rattle.making.specs.Refusals.{chainStuck}
-use Rattle.refusals.proofs.Lines.{in_order, left-to}
-use Rattle.refusals.proofs.Refusing.{form-refuses}
-use Rattle.making.specs.MakeSheet.{MakeOutcome, sheetFor, cells_in, makeForm, makeDone, makeNot, makeOutcome}
+use Rattle.making.specs.Refusals.{chain_stuck}
+use Rattle.refusals.proofs.Lines.{in_order_lem, left_to}
+use Rattle.refusals.proofs.Refusing.{form_refuses}
+use Rattle.making.specs.MakeSheet.{MakeOutcome, sheet_for, cells_in, make_form, make_done, make_not, make_outcome}
 use Rattle.making.proofs.Ready.{Ready, ready}
 use Rattle.making.proofs.Written.{writable, one_written}
 use Rattle.making.proofs.make_sheet.make_in.Statement.{statement}
@@ -24,14 +24,14 @@ module _ (c : tie.After-make-form) where
 
   -- form and room; the line of the chain; what is left where nothing is wrong
   abbrev ls : List Line
-  ls = makeForm g.args.e g.args.d g.args.n g.args.k g.args.t.now g.args.sheet.now
+  ls = make_form g.args.e g.args.d g.args.n g.args.k g.args.t.now g.args.sheet.now
       g.args.work.now
 
   abbrev ms : List Line
-  ms = chainStuck (sheetFor g.args.n g.args.k g.args.t.now) ∷ []
+  ms = chain_stuck (sheet_for g.args.n g.args.k g.args.t.now) ∷ []
 
   abbrev done : MakeOutcome
-  done = makeDone g.args.e g.args.d (cells_in (sheetFor g.args.n g.args.k g.args.t.now))
+  done = make_done g.args.e g.args.d (cells_in (sheet_for g.args.n g.args.k g.args.t.now))
       g.args.sheet.now g.args.work.now
 
   -- both are in order
@@ -39,22 +39,22 @@ module _ (c : tie.After-make-form) where
       → Ready g.args.e g.args.d g.args.n g.args.k g.args.t.now g.args.sheet.now
       g.args.work.now
   through fine = ready g.args.e g.args.d g.args.n g.args.k g.args.t.now g.args.sheet.now
-      g.args.work.now (in_order ls (sym c.make-form.ensures ∙ fine))
+      g.args.work.now (in_order_lem ls (sym c.make-form.ensures ∙ fine))
 
 returns : tie.Need-returns
-unfolding makeOutcome
+unfolding make_outcome
 returns c =
     let f = c.before.before in
     let a = (g f).args in
-    form-refuses (ls f) (ms f) (done f) (λ (v : Verdict) (l : List ℕ). record {
+    form_refuses (ls f) (ms f) (done f) (λ (v : Verdict) (l : List ℕ). record {
       answer = record { verdict = v; count = 0 };
       sheet = a.sheet.now;
       work = l;
     }) a.work.now refl f.make-form.result c.enum-told2.given.0.0 f.make-form.ensures
     c.enum-told2.given.1
 
-chain-upto-requires : tie.Need-chain-upto-requires
-chain-upto-requires c κs =
+chain_upto_requires : tie.Need-chain-upto-requires
+chain_upto_requires c κs =
     let f = c.before.before.before in
     let w = through f c.before.enum_told.given.1 in (
       w.gate.some,
@@ -75,37 +75,37 @@ module _ (c : tie.After-chain-upto) where
       (g f).args.work.now
   ok = through f c.before.before.enum_told.given.1
 
-write-end-requires : tie.Need-write-end-requires
-write-end-requires c κs =
+write_end_requires : tie.Need-write-end-requires
+write_end_requires c κs =
     let m = c.before.before.before in
     let a = (g (f m)).args in
     let w = (ok m).gate in (
       (g (f m)).pre,
       (ok m).records,
-      writable a.e a.d a.sheet.now a.work.now m.chain-upto.result (sheetFor a.n a.k a.t.now)
-          m.chain-upto.ensures.told (λ cs e. cells-few 1 a.n a.k (tableBit a.t.now) w.some
+      writable a.e a.d a.sheet.now a.work.now m.chain-upto.result (sheet_for a.n a.k a.t.now)
+          m.chain-upto.ensures.told (λ cs e. cells_few 1 a.n a.k (table_bit a.t.now) w.some
           (omega (arith, w.two)) cs e a.e.most w.largest),
     )
 
-returns-2 : tie.Need-returns-2
-unfolding makeOutcome
-returns-2 c =
+returns_2 : tie.Need-returns-2
+unfolding make_outcome
+returns_2 c =
     let o = c.before.before in
     let m = o.before.before.before.before in
     let a = (g (f m)).args in
     ap (λ (l : List ℕ). record { answer = o.write-end.result; sheet = o.write-end.new.1.1.1.0; work = l })
     m.chain-upto.ensures.cleared
-    ∙ o.write-end.ensures (sheetFor a.n a.k a.t.now) a.work.now m.chain-upto.ensures.told
+    ∙ o.write-end.ensures (sheet_for a.n a.k a.t.now) a.work.now m.chain-upto.ensures.told
     ∙ one_written a.e a.d a.sheet.now a.work.now a.n a.k a.t.now (ok m).gate
-    ∙ left-to (ls (f m)) (ms (f m)) (done (f m)) (makeNot a.sheet.now a.work.now) (f m).make-form.result
+    ∙ left_to (ls (f m)) (ms (f m)) (done (f m)) (make_not a.sheet.now a.work.now) (f m).make-form.result
     (f m).make-form.ensures m.before.before.enum_told.given.1
 
-pub make-in-spec : {M : Type 1} → statement M
-make-in-spec =
+pub make_in_spec : {M : Type 1} → statement M
+make_in_spec =
     tie.close (tie.spec (λ c κs. search rules) (λ c. search rules) (λ c. search rules) (λ c. search rules)
     (λ c. search rules) returns
     (λ c. omega (arith, (through c.before.before c.enum_told.given.1).gate.most))
     (λ c. let f = c.before.before in omega
     (arith, (through f c.enum_told.given.1).gate.largest, (g f).requires.eight))
-    chain-upto-requires (λ c. omega (arith, (ok c.before.before).desk)) write-end-requires (λ c. search rules)
-    (λ c. search rules) returns-2)
+    chain_upto_requires (λ c. omega (arith, (ok c.before.before).desk)) write_end_requires (λ c. search rules)
+    (λ c. search rules) returns_2)

@@ -9,7 +9,7 @@ returns c =
     rw (c.before.number-of.ensures, ← c.before.before.before.before.bound-cells.ensures)
     (refl, refl)
 
-pub pelzurivan-bound-spec : {M : Type 1} → statement M
-pelzurivan-bound-spec =
+pub pelzurivan_bound_spec : {M : Type 1} → statement M
+pelzurivan_bound_spec =
     tie.close (tie.spec (λ c κs. search rules) (λ c κs. search rules) (λ c. search rules) (λ c. search rules)
     (λ c. search rules) returns)

@@ -9,7 +9,7 @@ returns c =
     rw (c.before.number-of.ensures, c.place_of.ensures, ← c.before.before.check-sheet.ensures)
     refl
 
-pub pelzurivan-check-spec : {M : Type 1} → statement M
-pelzurivan-check-spec =
+pub pelzurivan_check_spec : {M : Type 1} → statement M
+pelzurivan_check_spec =
     tie.close (tie.spec (λ c κs. search rules) (λ c κs. search rules) (λ c. search rules) (λ c κs. search rules)
     returns)

@@ -10,7 +10,7 @@ returns c =
     rw (c.before.number-of.ensures, c.place_of.ensures, ← c.before.before.check-told.ensures)
     refl
 
-pub pelzurivan-check-told-spec : {M : Type 1} → statement M
-pelzurivan-check-told-spec =
+pub pelzurivan_check_told_spec : {M : Type 1} → statement M
+pelzurivan_check_told_spec =
     tie.close (tie.spec (λ c κs. search rules) (λ c κs. search rules) (λ c. search rules) (λ c κs. search rules)
     returns)

@@ -9,7 +9,7 @@ returns c =
     rw (c.before.before.number-of.ensures, ← c.before.before.before.before.before.find-best.ensures)
     (refl, refl)
 
-pub pelzurivan-find-spec : {M : Type 1} → statement M
-pelzurivan-find-spec =
+pub pelzurivan_find_spec : {M : Type 1} → statement M
+pelzurivan_find_spec =
     tie.close (tie.spec (λ c κs. search rules) (λ c κs. search rules) (λ c. search rules) (λ c. search rules)
     (λ c. search rules) (λ c. search rules) returns)

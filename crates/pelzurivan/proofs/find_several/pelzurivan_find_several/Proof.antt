@@ -14,7 +14,7 @@ returns c =
     )
     (refl, refl)
 
-pub pelzurivan-find-several-spec : {M : Type 1} → statement M
-pelzurivan-find-several-spec =
+pub pelzurivan_find_several_spec : {M : Type 1} → statement M
+pelzurivan_find_several_spec =
     tie.close (tie.spec (λ c κs. search rules) (λ c κs. search rules) (λ c. search rules) (λ c. search rules)
     (λ c. search rules) (λ c. search rules) (λ c. search rules) returns)

@@ -10,7 +10,7 @@ returns c =
     rw (c.before.before.number-of.ensures, ← c.before.before.before.before.before.find-told.ensures)
     (refl, refl)
 
-pub pelzurivan-find-told-spec : {M : Type 1} → statement M
-pelzurivan-find-told-spec =
+pub pelzurivan_find_told_spec : {M : Type 1} → statement M
+pelzurivan_find_told_spec =
     tie.close (tie.spec (λ c κs. search rules) (λ c κs. search rules) (λ c. search rules) (λ c. search rules)
     (λ c. search rules) (λ c. search rules) returns)

@@ -6,31 +6,31 @@ use lib.Dec.{eqb}
 use lib.Ieee.{Float}
 use borrow.Author.Tests.{eq-eqb, ne_eqb}
 use Rattle.times.specs.declared.input_time.InputTime.TheVariants.{NotRead, Arrival, Between}
-use Rattle.pelzurivan.specs.InputTimes.{timeOfKind}
+use Rattle.pelzurivan.specs.InputTimes.{time_of_kind}
 use Rattle.pelzurivan.proofs.input_times.time_of_kind.Statement.{statement}
 use Rattle.pelzurivan.proofs.input_times.time_of_kind.Tie as tie
 
 module _ (kind : ℕ) (x y : Float) where
   by_kind : {p q : Bool} → eqb kind 1 ≡ p → eqb kind 2 ≡ q → cond p (Arrival x) (cond q (Between x y) NotRead)
-      ≡ timeOfKind kind x y
+      ≡ time_of_kind kind x y
   by_kind {p} h k =
       sym (ap (λ (t : Bool). cond t (Arrival x) (cond (eqb kind 2) (Between x y) NotRead)) h
       ∙ ap (λ (t : Bool). cond p (Arrival x) (cond t (Between x y) NotRead)) k)
 
-  one : kind ≡ 1 → Arrival x ≡ timeOfKind kind x y
+  one : kind ≡ 1 → Arrival x ≡ time_of_kind kind x y
   one h = sym (ap (λ (t : Bool). cond t (Arrival x) (cond (eqb kind 2) (Between x y) NotRead)) (eq-eqb kind 1 h))
 
-returns-2 : tie.Need-returns-2
-returns-2 c =
+returns_2 : tie.Need-returns-2
+returns_2 c =
     let a = c.before.before.args in
     by_kind a.kind a.first a.second (ne_eqb a.kind 1 c.before.if1.false)
     (eq-eqb a.kind 2 c.if2.true)
 
-returns-3 : tie.Need-returns-3
-returns-3 c =
+returns_3 : tie.Need-returns-3
+returns_3 c =
     let a = c.before.before.args in
     by_kind a.kind a.first a.second (ne_eqb a.kind 1 c.before.if1.false)
     (ne_eqb a.kind 2 c.if2.false)
 
-pub time-of-kind-spec : {M : Type 1} → statement M
-time-of-kind-spec = tie.close (tie.spec (λ c. one _ _ _ c.if1.true) returns-2 returns-3)
+pub time_of-kind_spec : {M : Type 1} → statement M
+time_of-kind_spec = tie.close (tie.spec (λ c. one _ _ _ c.if1.true) returns_2 returns_3)

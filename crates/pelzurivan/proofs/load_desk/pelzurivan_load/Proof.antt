@@ -13,7 +13,7 @@ returns c =
     )
     (refl, refl)
 
-pub pelzurivan-load-spec : {M : Type 1} → statement M
-pelzurivan-load-spec =
+pub pelzurivan_load_spec : {M : Type 1} → statement M
+pelzurivan_load_spec =
     tie.close (tie.spec (λ c κs. search rules) (λ c κs. search rules) (λ c. search rules) (λ c κs. search rules)
     (λ c. search rules) returns)

@@ -14,7 +14,7 @@ returns c =
     )
     (refl, refl)
 
-pub pelzurivan-load-store-spec : {M : Type 1} → statement M
-pelzurivan-load-store-spec =
+pub pelzurivan_load_store_spec : {M : Type 1} → statement M
+pelzurivan_load_store_spec =
     tie.close (tie.spec (λ c κs. search rules) (λ c κs. search rules) (λ c. search rules) (λ c κs. search rules)
     (λ c. search rules) returns)

@@ -9,7 +9,7 @@ returns : tie.Need-returns
 returns c =
     rw (c.number-of.ensures, ← c.before.before.before.before.before.make-any-told.ensures) (refl, refl, refl)
 
-pub pelzurivan-make-any-told-spec : {M : Type 1} → statement M
-pelzurivan-make-any-told-spec =
+pub pelzurivan_make_any_told_spec : {M : Type 1} → statement M
+pelzurivan_make_any_told_spec =
     tie.close (tie.spec (λ c κs. search rules) (λ c κs. search rules) (λ c. search rules) (λ c. search rules)
     (λ c. search rules) returns)

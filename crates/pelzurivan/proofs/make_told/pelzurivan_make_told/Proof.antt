@@ -9,7 +9,7 @@ returns : tie.Need-returns
 returns c =
     rw (c.number-of.ensures, ← c.before.before.before.before.before.make-told.ensures) (refl, refl, refl)
 
-pub pelzurivan-make-told-spec : {M : Type 1} → statement M
-pelzurivan-make-told-spec =
+pub pelzurivan_make_told_spec : {M : Type 1} → statement M
+pelzurivan_make_told_spec =
     tie.close (tie.spec (λ c κs. search rules) (λ c κs. search rules) (λ c. search rules) (λ c. search rules)
     (λ c. search rules) returns)

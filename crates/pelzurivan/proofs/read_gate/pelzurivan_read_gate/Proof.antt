@@ -14,7 +14,7 @@ returns c =
     )
     (refl, refl)
 
-pub pelzurivan-read-gate-spec : {M : Type 1} → statement M
-pelzurivan-read-gate-spec =
+pub pelzurivan_read_gate_spec : {M : Type 1} → statement M
+pelzurivan_read_gate_spec =
     tie.close (tie.spec (λ c κs. search rules) (λ c κs. search rules) (λ c. search rules) (λ c κs. search rules)
     (λ c. search rules) returns)

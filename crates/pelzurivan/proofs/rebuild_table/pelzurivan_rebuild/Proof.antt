@@ -13,7 +13,7 @@ returns c =
     )
     (refl, refl)
 
-pub pelzurivan-rebuild-spec : {M : Type 1} → statement M
-pelzurivan-rebuild-spec =
+pub pelzurivan_rebuild_spec : {M : Type 1} → statement M
+pelzurivan_rebuild_spec =
     tie.close (tie.spec (λ c κs. search rules) (λ c κs. search rules) (λ c. search rules) (λ c κs. search rules)
     (λ c. search rules) returns)

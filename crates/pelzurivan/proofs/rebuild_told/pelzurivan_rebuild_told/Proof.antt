@@ -14,7 +14,7 @@ returns c =
     )
     (refl, refl)
 
-pub pelzurivan-rebuild-told-spec : {M : Type 1} → statement M
-pelzurivan-rebuild-told-spec =
+pub pelzurivan_rebuild-told_spec : {M : Type 1} → statement M
+pelzurivan_rebuild-told_spec =
     tie.close (tie.spec (λ c κs. search rules) (λ c κs. search rules) (λ c. search rules) (λ c κs. search rules)
     (λ c. search rules) returns)

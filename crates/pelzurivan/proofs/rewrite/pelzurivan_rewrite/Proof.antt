@@ -13,7 +13,7 @@ returns c =
     )
     (refl, refl)
 
-pub pelzurivan-rewrite-spec : {M : Type 1} → statement M
-pelzurivan-rewrite-spec =
+pub pelzurivan_rewrite_spec : {M : Type 1} → statement M
+pelzurivan_rewrite_spec =
     tie.close (tie.spec (λ c κs. search rules) (λ c κs. search rules) (λ c. search rules) (λ c κs. search rules)
     (λ c. search rules) returns)

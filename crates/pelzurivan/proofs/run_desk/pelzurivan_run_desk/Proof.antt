@@ -9,7 +9,7 @@ returns c =
     rw (c.before.before.number-of.ensures, c.place_of.ensures, ← c.before.before.before.run-desk.ensures)
     refl
 
-pub pelzurivan-run-desk-spec : {M : Type 1} → statement M
-pelzurivan-run-desk-spec =
+pub pelzurivan_run_desk_spec : {M : Type 1} → statement M
+pelzurivan_run_desk_spec =
     tie.close (tie.spec (λ c κs. search rules) (λ c κs. search rules) (λ c. search rules) (λ c. search rules)
     (λ c κs. search rules) returns)

@@ -9,7 +9,7 @@ returns c =
     rw (c.before.before.number-of.ensures, c.place_of.ensures, ← c.before.before.before.run-sheet.ensures)
     refl
 
-pub pelzurivan-run-spec : {M : Type 1} → statement M
-pelzurivan-run-spec =
+pub pelzurivan_run_spec : {M : Type 1} → statement M
+pelzurivan_run_spec =
     tie.close (tie.spec (λ c κs. search rules) (λ c κs. search rules) (λ c. search rules) (λ c. search rules)
     (λ c κs. search rules) returns)

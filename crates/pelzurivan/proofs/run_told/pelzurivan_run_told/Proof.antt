@@ -9,7 +9,7 @@ returns c =
     rw (c.before.before.number-of.ensures, c.place_of.ensures, ← c.before.before.before.run-told.ensures)
     refl
 
-pub pelzurivan-run-told-spec : {M : Type 1} → statement M
-pelzurivan-run-told-spec =
+pub pelzurivan_run-told_spec : {M : Type 1} → statement M
+pelzurivan_run-told_spec =
     tie.close (tie.spec (λ c κs. search rules) (λ c κs. search rules) (λ c. search rules) (λ c. search rules)
     (λ c κs. search rules) returns)

@@ -14,7 +14,7 @@ returns c =
       ← c.before.before.before.keep-shorter.ensures,
     ) refl
 
-pub pelzurivan-shorter-spec : {M : Type 1} → statement M
-pelzurivan-shorter-spec =
+pub pelzurivan_shorter_spec : {M : Type 1} → statement M
+pelzurivan_shorter_spec =
     tie.close (tie.spec (λ c κs. search rules) (λ c κs. search rules) (λ c κs. search rules) (λ c. search rules)
     (λ c κs. search rules) returns)

@@ -14,7 +14,7 @@ returns c =
     )
     (refl, refl)
 
-pub pelzurivan-too-few-spec : {M : Type 1} → statement M
-pelzurivan-too-few-spec =
+pub pelzurivan_too_few_spec : {M : Type 1} → statement M
+pelzurivan_too_few_spec =
     tie.close (tie.spec (λ c κs. search rules) (λ c κs. search rules) (λ c. search rules) (λ c κs. search rules)
     (λ c. search rules) returns)

@@ -19,7 +19,7 @@ returns c =
     )
     (refl, refl)
 
-pub pelzurivan-try-several-spec : {M : Type 1} → statement M
-pelzurivan-try-several-spec =
+pub pelzurivan_try_several_spec : {M : Type 1} → statement M
+pelzurivan_try_several_spec =
     tie.close (tie.spec (λ c κs. search rules) (λ c κs. search rules) (λ c. search rules) (λ c κs. search rules)
     (λ c κs. search rules) (λ c κs. search rules) (λ c κs. search rules) (λ c. search rules) returns)

@@ -16,7 +16,7 @@ returns c =
     )
     (refl, refl)
 
-pub pelzurivan-try-spec : {M : Type 1} → statement M
-pelzurivan-try-spec =
+pub pelzurivan_try_spec : {M : Type 1} → statement M
+pelzurivan_try_spec =
     tie.close (tie.spec (λ c κs. search rules) (λ c κs. search rules) (λ c. search rules) (λ c κs. search rules)
     (λ c κs. search rules) (λ c. search rules) returns)

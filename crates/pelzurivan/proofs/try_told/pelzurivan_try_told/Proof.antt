@@ -19,8 +19,8 @@ returns c =
     )
     (refl, refl)
 
-pub pelzurivan-try-told-spec : {M : Type 1} → statement M
-pelzurivan-try-told-spec =
+pub pelzurivan_try_told_spec : {M : Type 1} → statement M
+pelzurivan_try_told_spec =
     tie.close (tie.spec (λ c κs. search rules) (λ c κs. search rules) (λ c. search rules) (λ c κs. search rules)
     (λ c κs. search rules) (λ c κs. search rules) (λ c κs. search rules) (λ c κs. search rules) (λ c. search rules)
     returns)

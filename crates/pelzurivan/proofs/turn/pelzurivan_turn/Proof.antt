@@ -10,7 +10,7 @@ returns c =
     rw (n.number-of.ensures, ← n.before.before.turn.ensures)
     refl
 
-pub pelzurivan-turn-spec : {M : Type 1} → statement M
-pelzurivan-turn-spec =
+pub pelzurivan_turn_spec : {M : Type 1} → statement M
+pelzurivan_turn_spec =
     tie.close (tie.spec (λ c κs. search rules) (λ c κs. search rules) (λ c. search rules) (λ c. search rules)
     (λ c. search rules) (λ c. search rules) (λ c. search rules) (λ c. search rules) returns)

@@ -15,7 +15,7 @@ returns c =
     )
     (refl, refl)
 
-pub pelzurivan-write-formula-spec : {M : Type 1} → statement M
-pelzurivan-write-formula-spec =
+pub pelzurivan_write_formula_spec : {M : Type 1} → statement M
+pelzurivan_write_formula_spec =
     tie.close (tie.spec (λ c κs. search rules) (λ c κs. search rules) (λ c. search rules) (λ c κs. search rules)
     (λ c. search rules) returns)

@@ -13,8 +13,8 @@ returns c =
           (arith, l.1, c.one-if2.ensures.1),
     )
 
-returns-2 : tie.Need-returns-2
-returns-2 c = let l = c.before.one-if.ensures in (times-one _ _ _ c.if1.false l.0, omega (arith, l.1))
+returns_2 : tie.Need-returns-2
+returns_2 c = let l = c.before.one-if.ensures in (times-one _ _ _ c.if1.false l.0, omega (arith, l.1))
 
-pub times-in-spec : {M : Type 1} → statement M
-times-in-spec = tie.close (tie.spec (λ c κs. search rules) (λ c κs. search rules) (λ c. search rules) returns returns-2)
+pub times_in_spec : {M : Type 1} → statement M
+times_in_spec = tie.close (tie.spec (λ c κs. search rules) (λ c κs. search rules) (λ c. search rules) returns returns_2)

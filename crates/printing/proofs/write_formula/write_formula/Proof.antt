@@ -5,13 +5,13 @@ use Prim.Native.Nat.{ℕ}
 use borrow.Author.Rules.{rules}
 use Rattle.sheets.specs.declared.kinds.Edition.{Edition}
 use Rattle.sheets.specs.Edition.{IsEdition}
-use Rattle.sheets.proofs.Keeping.{first-edition}
-use Rattle.printing.specs.WriteFormula.{writeOutcome, writeOwn}
+use Rattle.sheets.proofs.Keeping.{first_edition_lem}
+use Rattle.printing.specs.WriteFormula.{write_outcome, write_own}
 use Rattle.printing.proofs.write_formula.write_formula.Statement.{statement}
 use Rattle.printing.proofs.write_formula.write_formula.Tie as tie
 
-write-in-requires : tie.Need-write-in-requires
-write-in-requires c κs = subst IsEdition (sym c.before.before.first.ensures) first-edition
+write_in_requires : tie.Need-write-in-requires
+write_in_requires c κs = subst IsEdition (sym c.before.before.first.ensures) first_edition_lem
 
 returns : tie.Need-returns
 returns c =
@@ -20,10 +20,10 @@ returns c =
     let f = o.before in
     let a = f.before.before.before.args in
     w.write-in.ensures
-    ∙ ap (λ (d : ℕ). writeOutcome f.first.result d a.n a.s.now a.room.now) o.desk-of.ensures
-    ∙ ap (λ (e : Edition). writeOwn e a.n a.s.now a.room.now) f.first.ensures
+    ∙ ap (λ (d : ℕ). write_outcome f.first.result d a.n a.s.now a.room.now) o.desk-of.ensures
+    ∙ ap (λ (e : Edition). write_own e a.n a.s.now a.room.now) f.first.ensures
 
-pub write-formula-spec : {M : Type 1} → statement M
-write-formula-spec =
-    tie.close (tie.spec (λ c κs. search rules) (λ c κs. subst IsEdition (sym c.first.ensures) first-edition)
-    write-in-requires (λ c. search rules) returns)
+pub write_formula_spec : {M : Type 1} → statement M
+write_formula_spec =
+    tie.close (tie.spec (λ c κs. search rules) (λ c κs. subst IsEdition (sym c.first.ensures) first_edition_lem)
+    write_in_requires (λ c. search rules) returns)

@@ -32,15 +32,15 @@ same_length c =
     length-set (put_mid 1 (length o - 1) o ys) 0 c.before.number-of.result
     ∙ same_len_mid 1 (length o - 1) o ys p.out2.given.0 ∙ i.out.given
 
-add-result : tie.Need-overflow-add-result
-add-result c =
+add_result : tie.Need-overflow-add-result
+add_result c =
     let w = c.before.before.before.before.before.before.before.before.before.before.before.before in
     let s = w.before.before.before.before.before.before.before.before.before.before.before.before in
     omega (arith, within s.args.input.now (returns c), same_length c, s.requires.0)
 
-pub answer-input-spec : {M : Type 1} → statement M
-answer-input-spec =
+pub answer_input_spec : {M : Type 1} → statement M
+answer_input_spec =
     tie.close (tie.spec (λ c κs. search rules) (λ c κs. search rules) (λ c κs. search rules) (λ c κs. search rules)
     (λ c κs. search rules) (λ c. search rules) (λ c. search rules) (λ c. search rules) (λ c. search rules)
     (λ c. search rules) (λ c. search rules) (λ c κs. search rules) (λ c κs. search rules) (λ c. search rules)
-    (λ c. omega (arith, add-result c)) add-result same_length (λ c. search rules) returns)
+    (λ c. omega (arith, add_result c)) add_result same_length (λ c. search rules) returns)

@@ -6,11 +6,11 @@ use borrow.Author.Rules.{rules}
 use Rattle.programs.proofs.bench_program.byte_or_zero.Statement.{statement}
 use Rattle.programs.proofs.bench_program.byte_or_zero.Tie as tie
 
-cast-result : tie.Need-overflow-cast-result
-cast-result c = omega (arith, c.shared-slice-known.given c.before.before.args.i)
+cast_result : tie.Need-overflow-cast-result
+cast_result c = omega (arith, c.shared-slice-known.given c.before.before.args.i)
 
-returns-2 : tie.Need-returns-2
-returns-2 c = sym (get_or-eq_default c.before.args.s.now 0 (search rules))
+returns_2 : tie.Need-returns-2
+returns_2 c = sym (get_or-eq_default c.before.args.s.now 0 (search rules))
 
-pub byte-or-zero-spec : {M : Type 1} → statement M
-byte-or-zero-spec = tie.close (tie.spec (λ c. search rules) cast-result (λ c. search rules) returns-2)
+pub byte-or-zero_spec : {M : Type 1} → statement M
+byte-or-zero_spec = tie.close (tie.spec (λ c. search rules) cast_result (λ c. search rules) returns_2)

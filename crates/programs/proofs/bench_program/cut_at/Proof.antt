@@ -15,5 +15,5 @@ returns c =
       drop-length s ∙ sym (drop_of_length-le s {i = a.i} (omega arith)),
     )
 
-pub cut-at-spec : {M : Type 1} → statement M
-cut-at-spec = tie.close (tie.spec returns (λ c. (omega arith, refl, refl)))
+pub cut_at_spec : {M : Type 1} → statement M
+cut_at_spec = tie.close (tie.spec returns (λ c. (omega arith, refl, refl)))

@@ -1,7 +1,7 @@
 -- The cycle of calls {write_decimal}, whose number falls. Each way out is one law of digits. Assumes nothing.
 use native.Mathlib.Omega.{arith}
 use borrow.Author.Rules.{rules}
-use Rattle.programs.proofs.InspectProgram.{last-digit, one-longer, same_length, inside, next-digit}
+use Rattle.programs.proofs.InspectProgram.{last_digit, one_longer, same_length, inside, next-digit}
 use Prim.Native.Nat.{ℕ, ◌<◌}
 use borrow.Fn.Kinds.{In}
 use borrow.Fn.PlainCycle.{Measures, is, falls, and}
@@ -14,12 +14,12 @@ use Rattle.programs.proofs.inspect_program.+write_decimal.Tie.{close}
 abbrev μ-write-decimal : Measures 1 write-decimal-kinds.ps ℕ
 μ-write-decimal κs a = a.0
 
-abbrev write-decimal-at : ℕ → In 1 write-decimal-kinds.ps
-write-decimal-at t =
+abbrev write-decimal_at : ℕ → In 1 write-decimal-kinds.ps
+write-decimal_at t =
     and 1 write-decimal-kinds.ps (is 1 write-decimal-kinds.ps μ-write-decimal t) write-decimal.Pre
 
-abbrev write-decimal-below : ℕ → In 1 write-decimal-kinds.ps
-write-decimal-below t =
+abbrev write-decimal_below : ℕ → In 1 write-decimal-kinds.ps
+write-decimal_below t =
     and
     1
     write-decimal-kinds.ps
@@ -28,22 +28,22 @@ write-decimal-below t =
 
 pub +write-decimal-spec : {M : Type 1} → statement M
 +write-decimal-spec = close μ-write-decimal λ t. write-decimal-lts.spec (
-  write-decimal-below t,
+  write-decimal_below t,
   write-decimal.Post,
 )
-    (write-decimal-at t)
+    (write-decimal_at t)
     write-decimal.Post
     -- one digit
     (λ c. search rules)
     (λ c. search rules)
     (λ c. let s = c.before.before in
-    (last-digit s.args.x s.args.out.now c.if1.true s.requires.1).0)
+    (last_digit s.args.x s.args.out.now c.if1.true s.requires.1).0)
     (λ c. search rules)
     (λ c. let s = c.before.before in
-    (last-digit s.args.x s.args.out.now c.if1.true s.requires.1).1)
+    (last_digit s.args.x s.args.out.now c.if1.true s.requires.1).1)
     -- those before the last
     (λ c κs. let s = c.before.before.before in
-    let l = one-longer s.args.x (omega (arith, c.before.if1.false)) in
+    let l = one_longer s.args.x (omega (arith, c.before.if1.false)) in
     (omega (arith, s.requires.0, c.before.if1.false), omega (arith, l, s.requires.1)))
     -- the last
     (λ c. search rules)

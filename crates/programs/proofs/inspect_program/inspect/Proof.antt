@@ -14,12 +14,12 @@ returns c =
     let n = s.before in
     c.check-sheet.ensures
     ∙ parted n.before.before.args.input.now n.byte-or-zero.result s.cut_at.result
-    b.table-bytes.result
+    b.table_bytes.result
     e.cut-at2.result n.byte-or-zero.ensures s.cut_at.ensures.2
-    b.table-bytes.ensures e.cut-at2.ensures.1 e.cut-at2.ensures.2
+    b.table_bytes.ensures e.cut-at2.ensures.1 e.cut-at2.ensures.2
 
-pub inspect-spec : {M : Type 1} → statement M
-inspect-spec =
+pub inspect_spec : {M : Type 1} → statement M
+inspect_spec =
     tie.close (tie.spec (λ c κs. search rules) (λ c κs. search rules) (λ c. search rules) (λ c. search rules)
     (λ c. search rules) (λ c κs. search rules) (λ c κs. search rules)
     (λ c. sym (length-take-le _ _ c.before.cut-at2.ensures.0)) (λ c. search rules) (λ c. search rules)

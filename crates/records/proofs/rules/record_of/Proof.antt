@@ -14,7 +14,7 @@ returns c =
     let q : at + a.e.size - at ≡ a.e.size = omega arith in
     ap (λ (n : ℕ). take n (drop at a.s.now)) q
 
-pub record-of-spec : {M : Type 1} → statement M
-record-of-spec =
+pub record_of_spec : {M : Type 1} → statement M
+record_of_spec =
     tie.close (tie.spec (λ c. search rules) (λ c. search rules) (λ c. search rules) (λ c. search rules)
     (λ c. search rules) returns)

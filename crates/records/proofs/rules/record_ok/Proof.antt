@@ -7,40 +7,40 @@ use native.Mathlib.Omega.{arith}
 use borrow.Author.Rules.{rules}
 use borrow.Author.Tests.{not-true, not-false}
 use Rattle.bits.specs.Below.{every}
-use Rattle.bits.proofs.Below.{every_more, every-stop}
+use Rattle.bits.proofs.Below.{every_more, every_stop}
 use Rattle.sheets.specs.declared.kinds.Edition.{Edition}
-use Rattle.sheets.specs.Record.{byte_at, byteOk}
-use Rattle.sheets.proofs.Keeping.{keeps-none, keeps-many, keeps-every}
+use Rattle.sheets.specs.Record.{byte_at, byte_ok}
+use Rattle.sheets.proofs.Keeping.{keeps-none, keeps_many, keeps-every}
 use Rattle.records.proofs.rules.record_ok.Statement.{statement}
 use Rattle.records.proofs.rules.record_ok.Tie as tie
 
 abbrev asked : Edition → ℕ → ℕ → List ℕ → ℕ → Bool
-asked e d top b h = byteOk e d top (byte_at b 0) h (byte_at b h) (byte_at b (h + 1))
+asked e d top b h = byte_ok e d top (byte_at b 0) h (byte_at b h) (byte_at b (h + 1))
 
-abbrev invariant-loop : tie.invariant-loop
-invariant-loop e d top b end k j₀ j = (j ≤ e.size - 1) × (every j (asked e d top b) ≡ true)
+abbrev invariant_loop : tie.invariant_loop
+invariant_loop e d top b end k j₀ j = (j ≤ e.size - 1) × (every j (asked e d top b) ≡ true)
 
-abbrev decreases-loop : tie.decreases-loop
-decreases-loop e d top b end k j₀ j = e.size - 1 - j
+abbrev decreases_loop : tie.decreases_loop
+decreases_loop e d top b end k j₀ j = e.size - 1 - j
 
-returns : tie.Need-returns invariant-loop decreases-loop
+returns : tie.Need-returns invariant_loop decreases_loop
 returns c = let a = c.before.before.before.before.args
     in sym (keeps-none a.e a.d a.top (byte_at a.b.now) c.if1.true)
 
-returns-2 : tie.Need-returns-2 invariant-loop decreases-loop
-returns-2 c = let a = c.before.before.before.before.before.before.args
-    in sym (keeps-many a.e a.d a.top (byte_at a.b.now) (omega arith) (omega arith))
+returns_2 : tie.Need-returns-2 invariant_loop decreases_loop
+returns_2 c = let a = c.before.before.before.before.before.before.args
+    in sym (keeps_many a.e a.d a.top (byte_at a.b.now) (omega arith) (omega arith))
 
-returns-3 : tie.Need-returns-3 invariant-loop decreases-loop
-returns-3 c =
+returns_3 : tie.Need-returns-3 invariant_loop decreases_loop
+returns_3 c =
     let q = c.before.before.before.before.before in
     let a = q.before.before.before.before.before.before.before.args in
     sym (keeps-every a.e a.d a.top (byte_at a.b.now) (omega arith) (omega arith)
-    ∙ every-stop (a.e.size - 1) (asked a.e a.d a.top a.b.now) q.loop.j (omega arith)
+    ∙ every_stop (a.e.size - 1) (asked a.e a.d a.top a.b.now) q.loop.j (omega arith)
     (sym c.before.byte-ok.ensures ∙ not-true c.before.byte-ok.result c.if3.true))
 
-loop-again : tie.Need-loop-preserved invariant-loop decreases-loop
-loop-again c =
+loop_again : tie.Need-loop-preserved invariant_loop decreases_loop
+loop_again c =
     let q = c.before.before.before.before.before in
     let a = q.before.before.before.before.before.before.before.args in (
       omega arith,
@@ -48,17 +48,17 @@ loop-again c =
           (sym c.before.byte-ok.ensures ∙ not-false c.before.byte-ok.result c.if3.false),
     )
 
-returns-4 : tie.Need-returns-4 invariant-loop decreases-loop
-returns-4 c =
+returns_4 : tie.Need-returns-4 invariant_loop decreases_loop
+returns_4 c =
     let q = c.before in
     let a = q.before.before.before.before.before.before.before.args in
     let f : q.loop.j ≡ a.e.size - 1 = omega arith in
     sym (keeps-every a.e a.d a.top (byte_at a.b.now) (omega arith) (omega arith)
     ∙ sym (ap (λ (m : ℕ). every m (asked a.e a.d a.top a.b.now)) f) ∙ q.loop.invariant.1)
 
-pub record-ok-spec : {M : Type 1} → statement M
-record-ok-spec =
-    tie.close (tie.spec invariant-loop decreases-loop (λ c. search rules) (λ c. search rules)
-    (λ c. omega (arith, c.shared-slice-known2.given 0)) returns returns-2 (λ c. search rules) (λ c. search rules)
-    (λ c. search rules) (λ c. search rules) (λ c κs. search rules) returns-3 (λ c. search rules) (λ c. search rules)
-    loop-again returns-4)
+pub record_ok_spec : {M : Type 1} → statement M
+record_ok_spec =
+    tie.close (tie.spec invariant_loop decreases_loop (λ c. search rules) (λ c. search rules)
+    (λ c. omega (arith, c.shared-slice-known2.given 0)) returns returns_2 (λ c. search rules) (λ c. search rules)
+    (λ c. search rules) (λ c. search rules) (λ c κs. search rules) returns_3 (λ c. search rules) (λ c. search rules)
+    loop_again returns_4)

@@ -11,5 +11,5 @@ use Rattle.refusals.proofs.form.bad_table.Tie as tie
 returns : tie.Need-returns
 returns c = ap (λ (l : ℕ). not (eqb (length c.before.before.args.t.now) l)) c.length-for.ensures
 
-pub bad-table-spec : {M : Type 1} → statement M
-bad-table-spec = tie.close (tie.spec (λ c κs. search rules) returns)
+pub bad-table_spec : {M : Type 1} → statement M
+bad-table_spec = tie.close (tie.spec (λ c κs. search rules) returns)

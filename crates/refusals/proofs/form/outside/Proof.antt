@@ -7,8 +7,8 @@ use Rattle.refusals.proofs.form.outside.Tie as tie
 returns : tie.Need-returns
 returns c = let a = c.before.args in sym (under a.low a.x a.high c.if1.true)
 
-returns-2 : tie.Need-returns-2
-returns-2 c = let a = c.before.args in sym (over a.low a.x a.high c.if1.false)
+returns_2 : tie.Need-returns-2
+returns_2 c = let a = c.before.args in sym (over a.low a.x a.high c.if1.false)
 
-pub outside-spec : {M : Type 1} → statement M
-outside-spec = tie.close (tie.spec returns returns-2)
+pub outside_spec : {M : Type 1} → statement M
+outside_spec = tie.close (tie.spec returns returns_2)

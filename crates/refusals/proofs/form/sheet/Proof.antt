@@ -7,9 +7,9 @@ use Rattle.records.specs.declared.rules.Looked.{Looked}
 use Rattle.records.specs.Look.{Saw}
 use Rattle.refusals.specs.declared.verdicts.Verdict.TheVariants.{Refused}
 use Rattle.refusals.specs.Lines.{refusal}
-use Rattle.refusals.specs.Refusals.{sheetLines}
+use Rattle.refusals.specs.Refusals.{sheet_lines}
 use Rattle.refusals.proofs.Lines.{fine, here, later, decides}
-use Rattle.refusals.proofs.Sheets.{record-bad, records-fine}
+use Rattle.refusals.proofs.Sheets.{record_bad, records_fine}
 use Rattle.refusals.proofs.form.sheet.Statement.{statement}
 use Rattle.refusals.proofs.form.sheet.Tie as tie
 
@@ -19,28 +19,28 @@ returns c =
     let a = l.before.before.args in
     let w = subst (λ (r : Looked). Saw a.e a.d a.n a.s.now r) c.before.enum_told.given.1
     l.look.ensures in
-    c.refuse.ensures ∙ decides (sheetLines a.e a.d a.n a.s.now) (here w)
+    c.refuse.ensures ∙ decides (sheet_lines a.e a.d a.n a.s.now) (here w)
 
-returns-2 : tie.Need-returns-2
-returns-2 c =
+returns_2 : tie.Need-returns-2
+returns_2 c =
     let i = c.before.before in
     let l = i.before.before in
     let a = l.before.before.args in
     let w = subst (λ (r : Looked). Saw a.e a.d a.n a.s.now r) i.seen.given.1 l.look.ensures in
     c.refuse-at.ensures ∙ ap (λ (j : ℕ). Refused (refusal 10 j)) (sym w.1)
-    ∙ decides (sheetLines a.e a.d a.n a.s.now)
-    (later w.0 (here (record-bad a.e a.d a.n a.s.now i.seen.given.0.0 w)))
+    ∙ decides (sheet_lines a.e a.d a.n a.s.now)
+    (later w.0 (here (record_bad a.e a.d a.n a.s.now i.seen.given.0.0 w)))
 
-returns-3 : tie.Need-returns-3
-returns-3 c =
+returns_3 : tie.Need-returns-3
+returns_3 c =
     let l = c.before.before in
     let a = l.before.before.args in
     let w = subst (λ (r : Looked). Saw a.e a.d a.n a.s.now r) c.enum-told2.given.1 l.look.ensures
     in
-    decides (sheetLines a.e a.d a.n a.s.now)
-    (later w.0 (later (records-fine a.e a.d a.n a.s.now c.enum-told2.given.0.0 w) fine))
+    decides (sheet_lines a.e a.d a.n a.s.now)
+    (later w.0 (later (records_fine a.e a.d a.n a.s.now c.enum-told2.given.0.0 w) fine))
 
-pub sheet-spec : {M : Type 1} → statement M
-sheet-spec =
+pub sheet_spec : {M : Type 1} → statement M
+sheet_spec =
     tie.close (tie.spec (λ c κs. search rules) (λ c. search rules) (λ c κs. search rules) (λ c. search rules)
-    (λ c κs. search rules) (λ c. search rules) returns returns-2 returns-3)
+    (λ c κs. search rules) (λ c. search rules) returns returns_2 returns_3)

@@ -1,7 +1,7 @@
 -- `told` meets its contract: each return is the first of the two lines that holds, or that none does. Assumes nothing.
 use mathlib.Core.Path.{sym, ◌∙◌}
 use borrow.Author.Rules.{rules}
-use Rattle.refusals.specs.Refusals.{toldForm}
+use Rattle.refusals.specs.Refusals.{told_form}
 use Rattle.refusals.proofs.Lines.{fine, here, later, decides}
 use Rattle.refusals.proofs.form.told.Statement.{statement}
 use Rattle.refusals.proofs.form.told.Tie as tie
@@ -10,25 +10,25 @@ returns : tie.Need-returns
 returns c =
     let i = c.before in
     let a = i.before.before.args in
-    c.refuse.ensures ∙ decides (toldForm a.w a.n) (here (sym i.before.bad-inputs.ensures ∙ i.if1.true))
+    c.refuse.ensures ∙ decides (told_form a.w a.n) (here (sym i.before.bad-inputs.ensures ∙ i.if1.true))
 
-returns-2 : tie.Need-returns-2
-returns-2 c =
+returns_2 : tie.Need-returns-2
+returns_2 c =
     let k = c.before in
     let i = k.before.before in
     let a = i.before.before.args in
     c.refuse2.ensures
-    ∙ decides (toldForm a.w a.n) (later (sym i.before.bad-inputs.ensures ∙ i.if1.false)
+    ∙ decides (told_form a.w a.n) (later (sym i.before.bad-inputs.ensures ∙ i.if1.false)
     (here (sym k.before.bad-edition.ensures ∙ k.if2.true)))
 
-returns-3 : tie.Need-returns-3
-returns-3 c =
+returns_3 : tie.Need-returns-3
+returns_3 c =
     let i = c.before.before in
     let a = i.before.before.args in
-    decides (toldForm a.w a.n) (later (sym i.before.bad-inputs.ensures ∙ i.if1.false)
+    decides (told_form a.w a.n) (later (sym i.before.bad-inputs.ensures ∙ i.if1.false)
     (later (sym c.before.bad-edition.ensures ∙ c.if2.false) fine))
 
-pub told-spec : {M : Type 1} → statement M
-told-spec =
+pub told_spec : {M : Type 1} → statement M
+told_spec =
     tie.close (tie.spec (λ c κs. search rules) (λ c κs. search rules) returns (λ c κs. search rules)
-    (λ c κs. search rules) returns-2 returns-3)
+    (λ c κs. search rules) returns_2 returns_3)

@@ -5,12 +5,12 @@ use borrow.Author.Rules.{rules}
 use Rattle.sheets.specs.Record.{byte_at}
 use Rattle.sheets.proofs.Places.{table-bits}
 use Rattle.runs.proofs.Runs.{part_length}
-use Rattle.rewriting.proofs.Holding.{held-cell}
+use Rattle.rewriting.proofs.Holding.{held_cell}
 use Rattle.rewriting.proofs.cells.cell_of.Statement.{statement}
 use Rattle.rewriting.proofs.cells.cell_of.Tie as tie
 
-first-of-requires : tie.Need-first-of-requires
-first-of-requires c κs =
+first-of_requires : tie.Need-first-of-requires
+first-of_requires c κs =
     let t = c.before.before.before.before in
     let e = t.args.e in
     let b = t.args.b.now in
@@ -32,11 +32,11 @@ returns c =
     let t = c.before.before.before.before.before in
     let a = t.args in (
       t.requires.readable.few,
-      held-cell a.e a.b.now t.requires c.before.before.signals-of.result
+      held_cell a.e a.b.now t.requires c.before.before.signals-of.result
           c.first_of.result c.before.before.signals-of.ensures c.first_of.ensures,
     )
 
-pub cell-of-spec : {M : Type 1} → statement M
-cell-of-spec =
+pub cell-of_spec : {M : Type 1} → statement M
+cell-of_spec =
     tie.close (tie.spec (λ c. search rules) (λ c κs. search rules) (λ c. search rules) (λ c. search rules)
-    (λ c. search rules) (λ c. search rules) first-of-requires (λ c. search rules) returns)
+    (λ c. search rules) (λ c. search rules) first-of_requires (λ c. search rules) returns)

@@ -8,72 +8,72 @@ use native.Mathlib.Omega.{arith}
 use lib.ListN.{length, drop}
 use borrow.Author.Rules.{rules}
 use borrow.Author.Tests.{ltb-false}
-use Rattle.tables.specs.Table.{mostInputs}
-use Rattle.sheets.specs.Edition.{mostRecords}
-use Rattle.sheets.specs.Sheet.{records, sheetCells}
-use Rattle.sheets.proofs.Wiring.{cells-length}
+use Rattle.tables.specs.Table.{most_inputs}
+use Rattle.sheets.specs.Edition.{most_records}
+use Rattle.sheets.specs.Sheet.{records, sheet_cells}
+use Rattle.sheets.proofs.Wiring.{cells_length}
 use Rattle.sheets.proofs.Wholes.{length-sheet}
 use Rattle.refusals.specs.declared.verdicts.Verdict.{Verdict}
 use Rattle.refusals.specs.declared.verdicts.Verdict.TheVariants.{Fine}
 use Rattle.refusals.specs.Lines.{reply}
-use Rattle.refusals.proofs.Lines.{in_order}
+use Rattle.refusals.proofs.Lines.{in_order_lem}
 use Rattle.refusals.proofs.Tests.{inside}
-use Rattle.refusals.proofs.Sheets.{good-sheet, runnable}
-use Rattle.rewriting.specs.Rewrite.{rewritten, rewriteLines, rewriteDone, rewriteNot, rewriteOutcome}
+use Rattle.refusals.proofs.Sheets.{good_sheet, runnable}
+use Rattle.rewriting.specs.Rewrite.{rewritten, rewrite_lines, rewrite_done, rewrite_not, rewrite_outcome}
 use Rattle.rewriting.proofs.rewrite.rewrite_in.Statement.{statement}
 use Rattle.rewriting.proofs.rewrite.rewrite_in.Tie as tie
 
 returns : tie.Need-returns
-unfolding rewriteOutcome
+unfolding rewrite_outcome
 returns c =
     let f = c.before.before in
     let a = f.before.before.before.before.args in
     let e = c.enum-told2.given.1 in
     ap (λ (v : Verdict). record { answer = record { verdict = v; count = 0 }; room = a.room.now }) e
-    ∙ ap (λ (v : Verdict). reply v (rewriteDone a.e a.f a.d a.s.now a.room.now)
-    (rewriteNot a.room.now)) (sym e ∙ f.rewrite-form.ensures)
+    ∙ ap (λ (v : Verdict). reply v (rewrite_done a.e a.f a.d a.s.now a.room.now)
+    (rewrite_not a.room.now)) (sym e ∙ f.rewrite-form.ensures)
 
-write-cells-requires : tie.Need-write-cells-requires
-write-cells-requires c κs =
+write_cells_requires : tie.Need-write-cells-requires
+write_cells_requires c κs =
     let f = c.before.before.before.before in
     let s = f.before.before.before.before in
     let a = s.args in
-    let w = in_order (rewriteLines a.e a.f a.d a.n a.s.now a.room.now)
+    let w = in_order_lem (rewrite_lines a.e a.f a.d a.n a.s.now a.room.now)
     (sym f.rewrite-form.ensures ∙ c.before.before.enum_told.given.1) in
     let r = runnable a.e a.d a.n a.s.now s.requires.0 (records a.e a.s.now)
-    (inside 1 a.n mostInputs w.0).1
-    (good-sheet a.e a.d a.n a.s.now s.requires.0 (w.1.1.0, (w.1.1.1.0, tt))) in (
+    (inside 1 a.n most_inputs w.0).1
+    (good_sheet a.e a.d a.n a.s.now s.requires.0 (w.1.1.0, (w.1.1.1.0, tt))) in (
       (r.0, r.1, r.3, r.4),
       (
         s.requires.1,
         s.requires.2,
         omega (
           arith,
-          ltb-false (length a.room.now) (a.f.size * mostRecords) w.1.0,
+          ltb-false (length a.room.now) (a.f.size * most_records) w.1.0,
           mul-le-mul_left
-              {m = records a.e a.s.now} {n = mostRecords} a.f.size r.1,
+              {m = records a.e a.s.now} {n = most_records} a.f.size r.1,
         ),
       ),
     )
 
-returns-2 : tie.Need-returns-2
-unfolding rewriteOutcome
-returns-2 c =
+returns_2 : tie.Need-returns-2
+unfolding rewrite_outcome
+returns_2 c =
     let r = c.before.before in
     let f = r.before.before.before.before.before in
     let a = f.before.before.before.before.args in
     let m = records a.e a.s.now in
     let bytes = rewritten a.e a.f a.d a.s.now m in
     let long : length bytes ≡ a.f.size * m =
-    length-sheet a.f a.d (sheetCells a.e a.s.now m)
-    ∙ ap (λ (k : ℕ). a.f.size * k) (cells-length a.e a.s.now 0 m) in
+    length-sheet a.f a.d (sheet_cells a.e a.s.now m)
+    ∙ ap (λ (k : ℕ). a.f.size * k) (cells_length a.e a.s.now 0 m) in
     ap (λ (l : List ℕ). record { answer = record { verdict = Fine; count = m }; room = l })
     (r.write-cells.ensures ∙ ap (λ (k : ℕ). bytes ++ drop k a.room.now) (sym long))
-    ∙ ap (λ (v : Verdict). reply v (rewriteDone a.e a.f a.d a.s.now a.room.now)
-    (rewriteNot a.room.now))
+    ∙ ap (λ (v : Verdict). reply v (rewrite_done a.e a.f a.d a.s.now a.room.now)
+    (rewrite_not a.room.now))
     (sym r.before.before.before.enum_told.given.1 ∙ f.rewrite-form.ensures)
 
-pub rewrite-in-spec : {M : Type 1} → statement M
-rewrite-in-spec =
+pub rewrite_in_spec : {M : Type 1} → statement M
+rewrite_in_spec =
     tie.close (tie.spec (λ c κs. search rules) (λ c. search rules) (λ c. search rules) (λ c. search rules) returns
-    (λ c. search rules) write-cells-requires (λ c. search rules) returns-2)
+    (λ c. search rules) write_cells_requires (λ c. search rules) returns_2)

@@ -4,5 +4,5 @@ use Rattle.bits.proofs.Machine.{test_bit}
 use Rattle.runs.proofs.checking.word_bit.Statement.{statement}
 use Rattle.runs.proofs.checking.word_bit.Tie as tie
 
-pub word-bit-spec : {M : Type 1} → statement M
-word-bit-spec = tie.close (tie.spec (λ c. search rules) (λ c. simp test_bit))
+pub word-bit_spec : {M : Type 1} → statement M
+word-bit_spec = tie.close (tie.spec (λ c. search rules) (λ c. simp test_bit))

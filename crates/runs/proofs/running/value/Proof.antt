@@ -17,8 +17,8 @@ returns c =
     let b = byte_at a.b.now in
     sym (ap (λ (t : Bool). t && bit a.w (b (a.j + 1))) (le-ltb a.j (b 0) (omega arith)))
 
-returns-2 : tie.Need-returns-2
-returns-2 c =
+returns_2 : tie.Need-returns-2
+returns_2 c =
     let a = c.before.before.before.args in
     let b = byte_at a.b.now in
     test_bit a.w (b (a.j + 1)) ∙ sym (ap (λ (t : Bool). t && bit a.w (b (a.j + 1)))
@@ -29,4 +29,4 @@ value_spec =
     tie.close (tie.spec (λ c. search rules) (λ c. search rules) returns (λ c. search rules) (λ c. search rules)
     (λ c. omega (arith, c.shared-slice-known2.given (c.before.before.before.args.j + 1)))
     (λ c. let t = c.before.before.before in omega (arith, t.requires.readable.below t.args.j (omega arith)))
-    returns-2)
+    returns_2)

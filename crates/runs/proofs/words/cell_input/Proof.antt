@@ -17,22 +17,22 @@ returns c = λ i.
     let b = byte_at a.b.now in
     bit-zero i ∙ sym (ap (λ (t : Bool). t && lane a.words.now i (b (a.j + 1))) (le-ltb a.j (b 0) (omega arith)))
 
-mul-result : tie.Need-overflow-mul-result
-mul-result c = omega (arith, c.shared-slice-known2.given (c.before.before.before.args.j + 1))
+mul_result : tie.Need-overflow-mul-result
+mul_result c = omega (arith, c.shared-slice-known2.given (c.before.before.before.args.j + 1))
 
-shared-slice-read-result : tie.Need-shared-slice-read-result
-shared-slice-read-result c =
+shared_slice_read_result : tie.Need-shared-slice-read-result
+shared_slice_read_result c =
     let t = c.before.before.before.before in
     omega (arith, t.requires.0.readable.below t.args.j (omega arith))
 
-returns-2 : tie.Need-returns-2
-returns-2 c = λ i.
+returns_2 : tie.Need-returns-2
+returns_2 c = λ i.
     let a = c.before.before.before.before.args in
     let b = byte_at a.b.now in
     sym (ap (λ (t : Bool). t && lane a.words.now i (b (a.j + 1))) (lt-ltb a.j (b 0) (omega arith)))
 
-pub cell-input-spec : {M : Type 1} → statement M
-cell-input-spec =
+pub cell_input_spec : {M : Type 1} → statement M
+cell_input_spec =
     tie.close (tie.spec (λ c. search rules) (λ c. search rules) returns (λ c. search rules) (λ c. search rules)
-    (λ c. omega (arith, c.shared-slice-known2.given (c.before.before.before.args.j + 1))) mul-result
-    shared-slice-read-result returns-2)
+    (λ c. omega (arith, c.shared-slice-known2.given (c.before.before.before.args.j + 1))) mul_result
+    shared_slice_read_result returns_2)

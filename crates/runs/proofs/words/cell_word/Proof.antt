@@ -6,22 +6,22 @@ use lib.ListN.{length}
 use lib.Pow.{pow_mono}
 use borrow.Author.Rules.{rules}
 use Rattle.bits.proofs.Machine.{shl_one}
-use Rattle.sheets.specs.Record.{byte_at, cellBit}
+use Rattle.sheets.specs.Record.{byte_at, cell_bit}
 use Rattle.runs.specs.Running.{input_at}
 use Rattle.runs.specs.Words.{lane}
 use Rattle.runs.proofs.Choosing.{left, Left, left-none, left-halved, left-output}
 use Rattle.runs.proofs.words.cell_word.Statement.{statement}
 use Rattle.runs.proofs.words.cell_word.Tie as tie
 
-abbrev invariant-loop : tie.invariant-loop
-invariant-loop e b words v₀ j₀ v j = (j ≤ byte_at b 0 - 1) × (length v ≡ length v₀)
+abbrev invariant_loop : tie.invariant_loop
+invariant_loop e b words v₀ j₀ v j = (j ≤ byte_at b 0 - 1) × (length v ≡ length v₀)
     × Left e (byte_at b) words (byte_at b 0 - 1) v j
 
-abbrev decreases-loop : tie.decreases-loop
-decreases-loop e b words v₀ j₀ v j = j
+abbrev decreases_loop : tie.decreases_loop
+decreases_loop e b words v₀ j₀ v j = j
 
-loop-holds : tie.Need-loop-init invariant-loop decreases-loop
-loop-holds c =
+loop_holds : tie.Need-loop-init invariant_loop decreases_loop
+loop_holds c =
     let f = c.before.before in
     let a = f.before.before.before.before.before.args in
     let b = byte_at a.b.now in
@@ -30,17 +30,17 @@ loop-holds c =
       refl,
       λ h i l g.
           f.first-half.ensures.1 h i l g
-          ∙ sym (ap (λ (j : ℕ). left (cellBit a.e b) (input_at b (lane a.words.now i)) (b 0 - 1) j h) n
-          ∙ left-none (cellBit a.e b) (input_at b (lane a.words.now i)) (b 0 - 1) h),
+          ∙ sym (ap (λ (j : ℕ). left (cell_bit a.e b) (input_at b (lane a.words.now i)) (b 0 - 1) j h) n
+          ∙ left-none (cell_bit a.e b) (input_at b (lane a.words.now i)) (b 0 - 1) h),
     )
 
-shl-halve : tie.Need-overflow-shl-halve invariant-loop decreases-loop
+shl-halve : tie.Need-overflow-shl-halve invariant_loop decreases_loop
 shl-halve c =
     let p = c.before.before.before.before.before.before.before.before.before.before.requires in
     omega (arith, p.0.sound.eight, p.0.readable.few)
 
-halve-requires : tie.Need-halve-requires invariant-loop decreases-loop
-halve-requires c κs =
+halve_requires : tie.Need-halve-requires invariant_loop decreases_loop
+halve_requires c κs =
     let q = c.before.before.before in
     let f = q.before.before.before in
     let p = f.before.before.before.before.before.requires in
@@ -55,8 +55,8 @@ halve-requires c κs =
       p.2,
     )
 
-loop-again : tie.Need-loop-preserved invariant-loop decreases-loop
-loop-again c =
+loop_again : tie.Need-loop-preserved invariant_loop decreases_loop
+loop_again c =
     let q = c.before.before.before.before.before.before in
     let t = q.before.before.before.before.before.before.before.before in
     let a = t.args in
@@ -73,16 +73,16 @@ loop-again c =
           h.ensures q.loop.invariant.2,
     )
 
-slice-read-result : tie.Need-slice-read-result invariant-loop decreases-loop
-slice-read-result c =
+slice_read_result : tie.Need-slice-read-result invariant_loop decreases_loop
+slice_read_result c =
     let q = c.before.before in
     let f = q.before.before.before in
     omega (arith, q.loop.invariant.1, f.first-half.auto.1.1.1.0, f.before.before.before.before.before.requires.2)
 
-same_length : tie.Need-same-length invariant-loop decreases-loop
+same_length : tie.Need-same-length invariant_loop decreases_loop
 same_length c = let q = c.before.before in q.loop.invariant.1 ∙ q.before.before.before.first-half.auto.1.1.1.0
 
-returns : tie.Need-returns invariant-loop decreases-loop
+returns : tie.Need-returns invariant_loop decreases_loop
 returns c =
     let q = c.before.before in
     let a = q.before.before.before.before.before.before.before.before.args in
@@ -91,7 +91,7 @@ returns c =
     left-output a.e b a.words.now (b 0 - 1) q.loop.v (omega arith)
     (subst (Left a.e b a.words.now (b 0 - 1) q.loop.v) z q.loop.invariant.2)
 
-pub cell-word-spec : {M : Type 1} → statement M
-cell-word-spec =
-    tie.close (tie.spec invariant-loop decreases-loop (λ c κs. search rules) loop-holds (λ c κs. search rules) (λ c. search rules)
-    shl-halve halve-requires (λ c. search rules) loop-again slice-read-result same_length returns)
+pub cell-word_spec : {M : Type 1} → statement M
+cell-word_spec =
+    tie.close (tie.spec invariant_loop decreases_loop (λ c κs. search rules) loop_holds (λ c κs. search rules) (λ c. search rules)
+    shl-halve halve_requires (λ c. search rules) loop_again slice_read_result same_length returns)

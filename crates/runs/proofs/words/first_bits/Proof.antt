@@ -6,7 +6,7 @@ use native.Mathlib.Omega.{arith}
 use lib.Pow.{pow_mono, pow_pos}
 use borrow.Author.Rules.{rules}
 use Rattle.bits.proofs.Machine.{shl_one}
-use Rattle.runs.proofs.Choosing.{first_short, first-whole}
+use Rattle.runs.proofs.Choosing.{first_short, first_whole}
 use Rattle.runs.proofs.words.first_bits.Statement.{statement}
 use Rattle.runs.proofs.words.first_bits.Tie as tie
 
@@ -20,10 +20,10 @@ returns : tie.Need-returns
 returns c = let a = c.before.args in ap (λ (k : ℕ). a.o % k) (end a.n c.if1.true)
     ∙ first_short a.n a.o c.if1.true
 
-returns-2 : tie.Need-returns-2
-returns-2 c = let a = c.before.args in first-whole a.n a.o (omega arith) (omega arith)
+returns_2 : tie.Need-returns-2
+returns_2 c = let a = c.before.args in first_whole a.n a.o (omega arith) (omega arith)
 
-pub first-bits-spec : {M : Type 1} → statement M
-first-bits-spec =
+pub first-bits_spec : {M : Type 1} → statement M
+first-bits_spec =
     tie.close (tie.spec (λ c. search rules) (λ c. many c.before.args.n c.if1.true)
-    (λ c. let a = c.before.args in omega (arith, end a.n c.if1.true, pow_pos (2 ^ a.n))) returns returns-2)
+    (λ c. let a = c.before.args in omega (arith, end a.n c.if1.true, pow_pos (2 ^ a.n))) returns returns_2)

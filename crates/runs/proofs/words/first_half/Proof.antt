@@ -9,13 +9,13 @@ use borrow.Author.Rules.{rules}
 use Rattle.bits.specs.Numbers.{bit, val}
 use Rattle.bits.proofs.Machine.{shl_one}
 use Rattle.bits.proofs.Numbers.{val-lt}
-use Rattle.sheets.specs.Record.{byte_at, cellBit}
+use Rattle.sheets.specs.Record.{byte_at, cell_bit}
 use Rattle.runs.proofs.Runs.{part_length, pairs-room, table-part}
 use Rattle.runs.proofs.words.first_half.Statement.{statement}
 use Rattle.runs.proofs.words.first_half.Tie as tie
 
-pairs-requires : tie.Need-pairs-requires
-pairs-requires c κs =
+pairs_requires : tie.Need-pairs-requires
+pairs_requires c κs =
     let r = c.before.before.before in
     let t = r.before.before.before.before.before in
     let a = t.args in
@@ -47,11 +47,11 @@ returns c =
                 (bit i.cell-input.result j),
             t.requires.0.long,
           ))
-          ∙ ap (λ (b : Bool). cellBit a.e (byte_at a.b.now) (2 * h + val b)) (i.cell-input.ensures j),
+          ∙ ap (λ (b : Bool). cell_bit a.e (byte_at a.b.now) (2 * h + val b)) (i.cell-input.ensures j),
     )
 
-pub first-half-spec : {M : Type 1} → statement M
-first-half-spec =
+pub first-half_spec : {M : Type 1} → statement M
+first-half_spec =
     tie.close (tie.spec (λ c. search rules) (λ c. search rules) (λ c κs. search rules) (λ c. search rules)
-    (λ c. search rules) (λ c. search rules) (λ c κs. search rules) (λ c. search rules) pairs-requires
+    (λ c. search rules) (λ c. search rules) (λ c κs. search rules) (λ c. search rules) pairs_requires
     (λ c. search rules) returns)

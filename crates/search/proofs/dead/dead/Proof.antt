@@ -8,7 +8,7 @@ use borrow.Author.Tests.{ltb-true}
 use Rattle.bits.specs.Numbers.{bit}
 use Rattle.bits.proofs.Sizes.{size-le}
 use Rattle.bits.proofs.Machine.{shl_one}
-use Rattle.search.proofs.Early.{dead-code}
+use Rattle.search.proofs.Early.{dead_code}
 use Rattle.search.proofs.dead.dead.Statement.{statement}
 use Rattle.search.proofs.dead.dead.Tie as tie
 
@@ -19,8 +19,8 @@ small m p q h = lt_of_le_of_lt (and_le_l (bit_and m p) q) (lt_of_le_of_lt (and_l
 abbrev but : ℕ → ℕ
 but i = 65535 - 1 * 2 ^ i % 2 ^ 16
 
-add-result : tie.Need-overflow-add-result
-add-result c =
+add_result : tie.Need-overflow-add-result
+add_result c =
     let a = c.before.args in
     omega (
       arith,
@@ -33,7 +33,7 @@ returns : tie.Need-returns
 returns c e =
     let s = c.before in
     let a = s.args in
-    dead-code a.mask a.i a.j a.k _ _ s.requires.0 s.requires.1 (shl_one 16 a.i s.requires.0)
+    dead_code a.mask a.i a.j a.k _ _ s.requires.0 s.requires.1 (shl_one 16 a.i s.requires.0)
     (shl_one 16 a.j s.requires.1)
     (omega (
       arith,
@@ -42,6 +42,6 @@ returns c e =
           (2 + c.members.result) e,
     ))
 
-pub dead-spec : {M : Type 1} → statement M
-dead-spec = tie.close (tie.spec (λ c. search rules) (λ c. search rules) (λ c. search rules) (λ c. search rules)
-    (λ c κs. search rules) add-result returns)
+pub dead_spec : {M : Type 1} → statement M
+dead_spec = tie.close (tie.spec (λ c. search rules) (λ c. search rules) (λ c. search rules) (λ c. search rules)
+    (λ c κs. search rules) add_result returns)

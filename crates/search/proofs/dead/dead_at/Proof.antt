@@ -4,8 +4,8 @@ use borrow.Author.Rules.{rules}
 use Rattle.search.proofs.dead.dead_at.Statement.{statement}
 use Rattle.search.proofs.dead.dead_at.Tie as tie
 
-pub dead-at-spec : {M : Type 1} → statement M
-dead-at-spec =
+pub dead_at_spec : {M : Type 1} → statement M
+dead_at_spec =
     tie.close
     (tie.spec
     (λ c. search rules)

@@ -5,28 +5,28 @@ use lib.Bits.{bit_and, and_le_r}
 use lib.Pow.{pow_pos}
 use borrow.Author.Rules.{rules}
 use Rattle.bits.proofs.Machine.{shl_one}
-use Rattle.tables.specs.Table.{tableBit}
-use Rattle.witness.proofs.Points.{said-no}
+use Rattle.tables.specs.Table.{table_bit}
+use Rattle.witness.proofs.Points.{said_no}
 use Rattle.search.specs.Owning.{Takes}
-use Rattle.search.proofs.Taking.{takes-own, takes-more, takes_all}
+use Rattle.search.proofs.Taking.{takes_own, takes_more, takes_all}
 use Rattle.search.proofs.owning.dead_own.Statement.{statement}
 use Rattle.search.proofs.owning.dead_own.Tie as tie
 
-abbrev invariant-loop : tie.invariant-loop
-invariant-loop t n r k own all used₀ count₀ free₀ used count free = Takes n k r (tableBit t) own used count
+abbrev invariant_loop : tie.invariant_loop
+invariant_loop t n r k own all used₀ count₀ free₀ used count free = Takes n k r (table_bit t) own used count
 
-abbrev decreases-loop : tie.decreases-loop
-decreases-loop t n r k own all used₀ count₀ free₀ used count free = free
+abbrev decreases_loop : tie.decreases_loop
+decreases_loop t n r k own all used₀ count₀ free₀ used count free = free
 
-loop-holds : tie.Need-loop-init invariant-loop decreases-loop
-loop-holds c = let s = c.before.before in takes-own _ (c.members.ensures s.args.n s.requires.4)
+loop_holds : tie.Need-loop-init invariant_loop decreases_loop
+loop_holds c = let s = c.before.before in takes_own _ (c.members.ensures s.args.n s.requires.4)
 
-sub-free : tie.Need-overflow-sub-free invariant-loop decreases-loop
-sub-free c = let s = c.before.before in omega
+sub_free : tie.Need-overflow-sub-free invariant_loop decreases_loop
+sub_free c = let s = c.before.before in omega
     (arith, shl_one 32 s.args.n (omega (arith, s.requires.0)), pow_pos s.args.n)
 
-loop-less : tie.Need-loop-smaller invariant-loop decreases-loop
-loop-less c =
+loop_less : tie.Need-loop-smaller invariant_loop decreases_loop
+loop_less c =
     let x = c.before.before.before.before.before.loop.free in
     omega (
       arith,
@@ -35,23 +35,23 @@ loop-less c =
       c.before.before.before.if1.false,
     )
 
-loop-again : tie.Need-loop-preserved invariant-loop decreases-loop
-loop-again c = takes-more _ _ _ (c.before.bad-two.ensures c.if3.true)
+loop_again : tie.Need-loop-preserved invariant_loop decreases_loop
+loop_again c = takes_more _ _ _ (c.before.bad-two.ensures c.if3.true)
     c.before.before.before.before.before.loop.invariant
 
-loop-less-2 : tie.Need-loop-smaller-2 invariant-loop decreases-loop
-loop-less-2 c =
+loop_less_2 : tie.Need-loop-smaller-2 invariant_loop decreases_loop
+loop_less_2 c =
     let x = c.before.before.before.before.before.loop.free in
     omega (arith, and_le_r x (x - 1), c.before.before.before.if1.false)
 
-loop-again-2 : tie.Need-loop-preserved-2 invariant-loop decreases-loop
-loop-again-2 c = c.before.before.before.before.before.loop.invariant
+loop_again_2 : tie.Need-loop-preserved-2 invariant_loop decreases_loop
+loop_again_2 c = c.before.before.before.before.before.loop.invariant
 
-returns-3 : tie.Need-returns-3 invariant-loop decreases-loop
-returns-3 c e = takes_all _ _ c.before.loop.invariant (omega (arith, c.loop-test.false))
+returns_3 : tie.Need-returns-3 invariant_loop decreases_loop
+returns_3 c e = takes_all _ _ c.before.loop.invariant (omega (arith, c.loop-test.false))
 
-pub dead-own-spec : {M : Type 1} → statement M
-dead-own-spec =
-    tie.close (tie.spec invariant-loop decreases-loop (λ c. search rules) (λ c κs. search rules) sub-free loop-holds (λ c. said-no)
-    (λ c. search rules) (λ c. said-no) (λ c. search rules)
-    (λ c κs. search rules) (λ c. search rules) loop-less loop-again loop-less-2 loop-again-2 returns-3)
+pub dead_own_spec : {M : Type 1} → statement M
+dead_own_spec =
+    tie.close (tie.spec invariant_loop decreases_loop (λ c. search rules) (λ c κs. search rules) sub_free loop_holds (λ c. said_no)
+    (λ c. search rules) (λ c. said_no) (λ c. search rules)
+    (λ c κs. search rules) (λ c. search rules) loop_less loop_again loop_less_2 loop_again_2 returns_3)

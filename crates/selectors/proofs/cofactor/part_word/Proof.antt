@@ -9,10 +9,10 @@ use lib.Pow.{pow_mono, pow_pos}
 use borrow.Author.Rules.{rules}
 use Rattle.bits.specs.Numbers.{bit}
 use Rattle.bits.proofs.Machine.{shl_one}
-use Rattle.tables.specs.Table.{tableBit}
+use Rattle.tables.specs.Table.{table_bit}
 use Rattle.tables.specs.Words.{WordAt}
-use Rattle.selectors.specs.Standing.{partBit}
-use Rattle.selectors.proofs.Parts.{past-part, whole_word, part-word}
+use Rattle.selectors.specs.Standing.{part_bit}
+use Rattle.selectors.proofs.Parts.{past_part, whole_word, part-word}
 use Rattle.selectors.proofs.cofactor.part_word.Statement.{statement}
 use Rattle.selectors.proofs.cofactor.part_word.Tie as tie
 use Rattle.selectors.proofs.cofactor.part_word.Reads as reads
@@ -31,16 +31,16 @@ returns : tie.Need-returns
 returns c =
     let g = c.before.before in
     let a = g.args in
-    sym (past-part a.k a.w (partBit a.t.now a.k a.v) (omega (arith, ends a.k g.requires.0, c.if1.true)))
+    sym (past_part a.k a.w (part_bit a.t.now a.k a.v) (omega (arith, ends a.k g.requires.0, c.if1.true)))
 
-add-bits-from : tie.Need-overflow-add-bits-from
-add-bits-from c =
+add-bits_from : tie.Need-overflow-add-bits-from
+add-bits_from c =
     let g = c.before.before in
     let a = g.args in
     omega (arith, starts a.k g.requires.0 a.v g.requires.1)
 
-bits-from-requires : tie.Need-bits-from-requires
-bits-from-requires c κs =
+bits_from_requires : tie.Need-bits-from-requires
+bits_from_requires c κs =
     let g = c.before.before in
     let a = g.args in
     let e = ends a.k g.requires.0 in
@@ -55,15 +55,15 @@ module _ (c : tie.After-bits-from) where
   inside = omega (arith, ends g.args.k g.pre.0, c.before.if1.false)
 
   bits : (j : ℕ) → (g.args.v * 2 ^ g.args.k + 64 * g.args.w) % 64 + j < 64
-      → bit c.bits-from.result j ≡ tableBit g.args.t.now (g.args.v * 2 ^ g.args.k + 64 * g.args.w + j)
+      → bit c.bits-from.result j ≡ table_bit g.args.t.now (g.args.v * 2 ^ g.args.k + 64 * g.args.w + j)
   bits j h =
       let a = g.args in
       let s = starts a.k g.pre.0 a.v g.pre.1 in
       c.bits-from.ensures j (subst (λ (x : ℕ). (x + 64 * a.w) % 64 + j < 64) (sym s) h)
-      ∙ ap (λ (x : ℕ). tableBit a.t.now (x + 64 * a.w + j)) s
+      ∙ ap (λ (x : ℕ). table_bit a.t.now (x + 64 * a.w + j)) s
 
-returns-2 : tie.Need-returns-2
-returns-2 c =
+returns_2 : tie.Need-returns-2
+returns_2 c =
     let m = c.before in
     let a = (g m).args in
     whole_word a.t.now a.k a.v a.w m.bits-from.result (inside m) (omega arith) (bits m)
@@ -81,21 +81,21 @@ module _ (c : tie.Else2) where
       let e = ends (g b).args.k (g b).pre.0 in
       shl_one 64 (1 * 2 ^ (g b).args.k % 2 ^ 32) (omega (arith, e, few)) ∙ ap (λ (x : ℕ). 2 ^ x) e
 
-shl-result : tie.Need-overflow-shl-result
-shl-result c = omega (arith, ends (g c.before).args.k (g c.before).pre.0, few c)
+shl_result : tie.Need-overflow-shl-result
+shl_result c = omega (arith, ends (g c.before).args.k (g c.before).pre.0, few c)
 
-rem-result : tie.Need-nonzero-rem-result
-rem-result c = omega (arith, cut c, pow_pos (2 ^ (g c.before).args.k))
+rem_result : tie.Need-nonzero-rem-result
+rem_result c = omega (arith, cut c, pow_pos (2 ^ (g c.before).args.k))
 
-returns-3 : tie.Need-returns-3
-returns-3 c =
+returns_3 : tie.Need-returns-3
+returns_3 c =
     let m = c.before in
     let a = (g m).args in
     ap (λ (x : ℕ). m.bits-from.result % x) (cut c)
     ∙ part-word a.t.now a.k a.v a.w m.bits-from.result (inside m) (omega arith) (bits m)
     (omega (arith, c.if2.false))
 
-pub part-word-spec : {M : Type 1} → statement M
-part-word-spec =
+pub part-word_spec : {M : Type 1} → statement M
+part-word_spec =
     tie.close (tie.spec (λ c. search rules) (λ c. search rules) returns (λ c. search rules) (λ c. search rules)
-    add-bits-from bits-from-requires returns-2 (λ c. search rules) shl-result rem-result returns-3)
+    add-bits_from bits_from_requires returns_2 (λ c. search rules) shl_result rem_result returns_3)

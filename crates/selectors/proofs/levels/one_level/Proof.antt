@@ -8,13 +8,13 @@ use lib.Pow.{pow-add, pow_mono}
 use borrow.Author.Rules.{rules}
 use Rattle.bits.proofs.Machine.{shl_one}
 use Rattle.sheets.specs.Held.{cells_of}
-use Rattle.cofactors.specs.Cofactors.{cellsEach, join_of}
+use Rattle.cofactors.specs.Cofactors.{cells_each, join_of}
 use Rattle.cofactors.proofs.Levels.{group}
-use Rattle.steps.specs.Stage.{signalsOf}
+use Rattle.steps.specs.Stage.{signals_of}
 use Rattle.selectors.specs.declared.levels.Stand.{Stand}
 use Rattle.selectors.specs.Standing.{spaced, from, OneLevel}
-use Rattle.selectors.proofs.Widths.{few-each}
-use Rattle.selectors.proofs.Standing.{level-room, level-few, level-places, one-level}
+use Rattle.selectors.proofs.Widths.{few_each}
+use Rattle.selectors.proofs.Standing.{level-room, level_few, level_places, one-level}
 use Rattle.selectors.proofs.levels.one_level.Statement.{statement}
 use Rattle.selectors.proofs.levels.one_level.Tie as tie
 
@@ -30,7 +30,7 @@ module _ (c : tie.After-width) where
   m = 2 ^ (g.args.s.left - w)
 
   abbrev p : ℕ
-  p = cellsEach (leb 3 g.args.k)
+  p = cells_each (leb 3 g.args.k)
 
   many : 1 * 2 ^ (g.args.s.left - w) % 2 ^ 8 ≡ 2 ^ (g.args.s.left - w)
   many = shl_one 8 (g.args.s.left - w) (omega (arith, g.pre.2.left))
@@ -39,7 +39,7 @@ module _ (c : tie.After-width) where
   room = level-room g.args.k g.args.l g.args.s w c.width.ensures g.pre.2 g.pre.3
 
   few : g.args.s.sheet.count + p * m ≤ 15
-  few = level-few g.args.k g.args.l g.args.s w c.width.ensures g.pre.2 g.pre.3
+  few = level_few g.args.k g.args.l g.args.s w c.width.ensures g.pre.2 g.pre.3
 
   all : 2 ^ w * m ≤ 8
   all =
@@ -52,8 +52,8 @@ module _ (c : tie.After-width) where
         pow_mono {i = s.left} {j = 3} g.pre.2.left,
       )
 
-level-requires : tie.Need-level-requires
-level-requires c κs =
+level_requires : tie.Need-level-requires
+level_requires c κs =
     let d = c.before.before in
     let a = (g d).args in
     let i = (g d).requires.2 in
@@ -61,7 +61,7 @@ level-requires c κs =
       subst (λ (m : ℕ). a.s.sheet.count + p d * m ≤ 15) back (few d),
       d.width.ensures.fits,
       (g d).requires.1,
-      level-places a.k a.l a.s (w d) d.width.ensures i (g d).requires.3,
+      level_places a.k a.l a.s (w d) d.width.ensures i (g d).requires.3,
       record {
         base = omega (arith, i.base, i.next);
         step = i.step;
@@ -81,11 +81,11 @@ module _ (c : tie.After-level) where
   product : c.before.before.cells-each.result * (1 * 2 ^ ((g d).args.s.left - w d) % 2 ^ 8) ≡ p d * m d
   product = ap₂ ◌*◌ each (many d)
 
-mul-t17 : tie.Need-overflow-mul-t17
-mul-t17 c = omega (arith, product c, room (d c))
+mul_t17 : tie.Need-overflow-mul-t17
+mul_t17 c = omega (arith, product c, room (d c))
 
-add-t18 : tie.Need-overflow-add-t18
-add-t18 c = omega (arith, product c, room (d c))
+add_t18 : tie.Need-overflow-add-t18
+add_t18 c = omega (arith, product c, room (d c))
 
 returns : tie.Need-returns
 returns c =
@@ -93,7 +93,7 @@ returns c =
     let s = a.s in
     let x = w (d c) in
     let sheet = c.level.result in
-    let h = group (leb 3 a.k) s.next x (s.left - x) (from (signalsOf a.l) s.at)
+    let h = group (leb 3 a.k) s.next x (s.left - x) (from (signals_of a.l) s.at)
     (spaced s.base s.step) in
     subst₂ (λ (e j : ℕ). OneLevel a.k a.l s (record {
       sheet = sheet;
@@ -107,8 +107,8 @@ returns c =
     (c.level.ensures.0 ∙ ap (λ (m : ℕ). cells_of s.sheet ++ join_of m h) (many (d c)))
     (c.level.ensures.1 ∙ ap (λ (m : ℕ). s.sheet.count + p (d c) * m) (many (d c))))
 
-pub one-level-spec : {M : Type 1} → statement M
-one-level-spec =
+pub one-level_spec : {M : Type 1} → statement M
+one-level_spec =
     tie.close (tie.spec (λ c κs. search rules) (λ c. search rules) (λ c. search rules) (λ c. search rules)
-    (λ c κs. search rules) level-requires (λ c. search rules) (λ c. search rules) (λ c. search rules)
-    (λ c. search rules) (λ c. search rules) mul-t17 add-t18 returns)
+    (λ c κs. search rules) level_requires (λ c. search rules) (λ c. search rules) (λ c. search rules)
+    (λ c. search rules) (λ c. search rules) mul_t17 add_t18 returns)

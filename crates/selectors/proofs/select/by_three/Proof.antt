@@ -4,7 +4,7 @@ use mathlib.Core.List.{[], ◌∷◌}
 use native.Mathlib.Omega.{arith}
 use borrow.Author.Rules.{rules}
 use Rattle.sheets.specs.Held.{cells_of}
-use Rattle.selectors.proofs.Piles.{one_more, three-more}
+use Rattle.selectors.proofs.Piles.{one_more, three_more}
 use Rattle.selectors.proofs.select.by_three.Statement.{statement}
 use Rattle.selectors.proofs.select.by_three.Tie as tie
 
@@ -15,11 +15,11 @@ returns c =
     let a = x.before.before.args in (
       one_more c.with-cell3.ensures (one_more y.with-cell2.ensures (one_more x.with_cell.ensures refl
           x.before.two-cell.ensures) y.before.two-cell2.ensures) c.before.two-cell3.ensures
-          ∙ three-more (cells_of a.sheet) _ _ _,
+          ∙ three_more (cells_of a.sheet) _ _ _,
       omega (arith, c.with-cell3.ensures.count, y.with-cell2.ensures.count, x.with_cell.ensures.count),
     )
 
-pub by-three-spec : {M : Type 1} → statement M
-by-three-spec =
+pub by_three_spec : {M : Type 1} → statement M
+by_three_spec =
     tie.close (tie.spec (λ c κs. search rules) (λ c κs. search rules) (λ c κs. search rules) (λ c κs. search rules)
     (λ c. search rules) (λ c κs. search rules) (λ c κs. search rules) returns)

@@ -10,5 +10,5 @@ returns : tie.Need-returns
 unfolding list_of
 returns c = c.word_cell.ensures
 
-pub two-cell-spec : {M : Type 1} → statement M
-two-cell-spec = tie.close (tie.spec (λ c κs. search rules) returns)
+pub two-cell_spec : {M : Type 1} → statement M
+two-cell_spec = tie.close (tie.spec (λ c κs. search rules) returns)

@@ -2,7 +2,7 @@
 use mathlib.Core.Path.{ap}
 use Prim.Native.Nat.{◌<◌}
 use native.Mathlib.Omega.{arith}
-use Rattle.selectors.specs.Standing.{wordCell}
+use Rattle.selectors.specs.Standing.{word_cell}
 use Rattle.selectors.proofs.Cells.{one_word}
 use Rattle.selectors.proofs.select.word_cell.Statement.{statement}
 use Rattle.selectors.proofs.select.word_cell.Tie as tie
@@ -12,7 +12,7 @@ use Rattle.selectors.proofs.select.word_cell.Lts as lts
 returns : tie.Need-returns
 returns c =
     let h : c.args.table < 18446744073709551616 = omega arith in
-    ap (wordCell c.args.k c.args.signals) (one_word c.args.table h)
+    ap (word_cell c.args.k c.args.signals) (one_word c.args.table h)
 
-pub word-cell-spec : {M : Type 1} → statement M
-word-cell-spec = tie.close (tie.spec returns)
+pub word-cell_spec : {M : Type 1} → statement M
+word-cell_spec = tie.close (tie.spec returns)

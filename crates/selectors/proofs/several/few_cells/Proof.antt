@@ -9,8 +9,8 @@ use Rattle.selectors.proofs.several.few_cells.Tie as tie
 returns : tie.Need-returns
 returns c q = (c.before.if1.true, leb-true c.before.before.args.chain.count 3 q)
 
-returns-2 : tie.Need-returns-2
-returns-2 c q = absurd (clash q refl)
+returns_2 : tie.Need-returns-2
+returns_2 c q = absurd (clash q refl)
 
-pub few-cells-spec : {M : Type 1} → statement M
-few-cells-spec = tie.close (tie.spec returns returns-2)
+pub few_cells_spec : {M : Type 1} → statement M
+few_cells_spec = tie.close (tie.spec returns returns_2)

@@ -2,7 +2,7 @@
 use native.Mathlib.Omega.{arith}
 use borrow.Author.Rules.{rules}
 use Rattle.bits.proofs.Bools.{clash}
-use Rattle.selectors.proofs.Choosing.{near-two, near-three}
+use Rattle.selectors.proofs.Choosing.{near-two, near_three}
 use Rattle.selectors.proofs.several.is_near.Statement.{statement}
 use Rattle.selectors.proofs.several.is_near.Tie as tie
 use mathlib.Core.Path.{refl}
@@ -10,16 +10,16 @@ use mathlib.Core.Path.{refl}
 returns : tie.Need-returns
 returns c = (λ q. absurd (clash q refl), λ q w. omega (arith, w.more, c.if1.true))
 
-returns-2 : tie.Need-returns-2
-returns-2 c =
+returns_2 : tie.Need-returns-2
+returns_2 c =
     let a = c.before.before.args in
     near-two a.k a.many (omega (arith, c.before.if1.false)) c.if2.true
 
-returns-3 : tie.Need-returns-3
-returns-3 c =
+returns_3 : tie.Need-returns-3
+returns_3 c =
     let a = c.before.before.args in
-    near-three a.k a.many (omega (arith, c.before.if1.false)) (omega (arith, c.if2.false))
+    near_three a.k a.many (omega (arith, c.before.if1.false)) (omega (arith, c.if2.false))
 
-pub is-near-spec : {M : Type 1} → statement M
-is-near-spec =
-    tie.close (tie.spec returns (λ c. search rules) returns-2 (λ c. search rules) returns-3)
+pub is_near_spec : {M : Type 1} → statement M
+is_near_spec =
+    tie.close (tie.spec returns (λ c. search rules) returns_2 (λ c. search rules) returns_3)

@@ -7,11 +7,11 @@ use borrow.Author.Rules.{rules}
 use borrow.Author.Tests.{not-true, not-false}
 use Rattle.sheets.specs.Sheet.{records}
 use Rattle.refusals.specs.Lines.{Line}
-use Rattle.refusals.specs.Refusals.{badInputs, sheetLines}
+use Rattle.refusals.specs.Refusals.{bad_inputs, sheet_lines}
 use Rattle.refusals.proofs.Lines.{fine, here, later, stopped, decided}
-use Rattle.refusals.proofs.Sheets.{good-sheet, runnable}
-use Rattle.refusals.proofs.Tests.{sheet-through}
-use Rattle.settling.specs.Refusals.{badTimes}
+use Rattle.refusals.proofs.Sheets.{good_sheet, runnable}
+use Rattle.refusals.proofs.Tests.{sheet_through}
+use Rattle.settling.specs.Refusals.{bad_times}
 use Rattle.settling.proofs.settle.settle_form.Statement.{statement}
 use Rattle.settling.proofs.settle.settle_form.Tie as tie
 
@@ -21,10 +21,10 @@ module _ (c : tie.After-sheet-for) where
   start = c.before.before
 
   abbrev ls : List Line
-  ls = badInputs start.args.n ∷ sheetLines start.args.e start.args.d start.args.n start.args.s.now
+  ls = bad_inputs start.args.n ∷ sheet_lines start.args.e start.args.d start.args.n start.args.s.now
 
   abbrev ms : List Line
-  ms = badTimes start.args.e start.args.n start.args.s.now start.args.delay start.args.times ∷ []
+  ms = bad_times start.args.e start.args.n start.args.s.now start.args.delay start.args.times ∷ []
 
 -- line 13, test by test
 unsound : {p : Bool} (q : Bool) → p ≡ false → not (p && q) ≡ true
@@ -37,29 +37,29 @@ returns : tie.Need-returns
 returns c = let l = c.before.before in stopped (ls l) (ms l) _ l.sheet-for.ensures c.enum-told2.given.0.0
     c.enum-told2.given.1
 
-returns-2 : tie.Need-returns-2
-returns-2 c =
+returns_2 : tie.Need-returns-2
+returns_2 c =
     let g = c.before in
     let t = g.before.before in
     let l = t.before.before in
     c.refuse.ensures ∙ decided (ls l) (ms l) _ l.sheet-for.ensures t.enum_told.given.1
     (here (unsound _ (sym g.before.in-range.ensures ∙ not-true _ g.if1.true)))
 
-div-m : tie.Need-nonzero-div-m
-div-m c = let p = c.before.before.before.before.before.before.before.requires in omega (arith, p.ends, p.order)
+div_m : tie.Need-nonzero-div-m
+div_m c = let p = c.before.before.before.before.before.before.before.requires in omega (arith, p.ends, p.order)
 
-inputs-sound-requires : tie.Need-inputs-sound-requires
-inputs-sound-requires c κs =
+inputs_sound_requires : tie.Need-inputs-sound-requires
+inputs_sound_requires c κs =
     let t = c.before.before.before in
     let s = start t.before.before in
     let a = s.args in
-    let w = sheet-through a.e a.d a.n a.s.now _ t.before.before.sheet-for.ensures
+    let w = sheet_through a.e a.d a.n a.s.now _ t.before.before.sheet-for.ensures
     t.enum_told.given.1 in
-    let g = good-sheet a.e a.d a.n a.s.now s.pre w.1 in
+    let g = good_sheet a.e a.d a.n a.s.now s.pre w.1 in
     (runnable a.e a.d a.n a.s.now s.pre (records a.e a.s.now) w.0 g, g.some)
 
-returns-3 : tie.Need-returns-3
-returns-3 c =
+returns_3 : tie.Need-returns-3
+returns_3 c =
     let h = c.before in
     let g = h.before.before.before in
     let t = g.before.before in
@@ -68,8 +68,8 @@ returns-3 c =
     (here (both (sym g.before.in-range.ensures ∙ not-false _ g.if1.false)
     (sym h.before.inputs-sound.ensures ∙ not-true _ h.if2.true)))
 
-returns-4 : tie.Need-returns-4
-returns-4 c =
+returns_4 : tie.Need-returns-4
+returns_4 c =
     let g = c.before.before.before in
     let t = g.before.before in
     let l = t.before.before in
@@ -77,9 +77,9 @@ returns-4 c =
     (later (both (sym g.before.in-range.ensures ∙ not-false _ g.if1.false)
     (sym c.before.inputs-sound.ensures ∙ not-false _ c.if2.false)) fine)
 
-pub settle-form-spec : {M : Type 1} → statement M
-settle-form-spec =
+pub settle_form_spec : {M : Type 1} → statement M
+settle_form_spec =
     tie.close (tie.spec (λ c κs. search rules) (λ c. search rules) (λ c. search rules) returns (λ c κs. search rules)
-    (λ c κs. search rules) returns-2 div-m
-    (λ c. omega (arith, (inputs-sound-requires c c.before.before.before.before.before.before.before.lifetimes).0.2))
-    inputs-sound-requires (λ c κs. search rules) returns-3 returns-4)
+    (λ c κs. search rules) returns_2 div_m
+    (λ c. omega (arith, (inputs_sound_requires c c.before.before.before.before.before.before.before.lifetimes).0.2))
+    inputs_sound_requires (λ c κs. search rules) returns_3 returns_4)

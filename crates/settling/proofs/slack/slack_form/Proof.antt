@@ -10,12 +10,12 @@ use borrow.Author.Rules.{rules}
 use borrow.Author.Tests.{not-true, not-false}
 use Rattle.bits.specs.Below.{every}
 use Rattle.times.specs.declared.input_time.InputTime.{InputTime}
-use Rattle.times.specs.InputTimes.{timeAt}
-use Rattle.times.specs.Sixteenths.{inSixteenths, timeInSixteenths, deadlineOk}
+use Rattle.times.specs.InputTimes.{time_at}
+use Rattle.times.specs.Sixteenths.{in_sixteenths, time_in_sixteenths, deadline_ok}
 use Rattle.refusals.specs.declared.verdicts.Verdict.{Verdict}
 use Rattle.refusals.specs.declared.verdicts.Verdict.TheVariants.{Fine, Refused}
 use Rattle.refusals.specs.Lines.{refusal, verdict}
-use Rattle.settling.specs.Refusals.{badSlack}
+use Rattle.settling.specs.Refusals.{bad_slack}
 use Rattle.settling.proofs.slack.slack_form.Statement.{statement}
 use Rattle.settling.proofs.slack.slack_form.Tie as tie
 
@@ -24,13 +24,13 @@ given : Bool → Verdict
 given t = cond (not t) (Refused (refusal 14 0)) Fine
 
 module _ (n : ℕ) (delay : Float) (ts : List InputTime) (deadline : ℤ) where
-  by : (p q r : Bool) → inSixteenths delay ≡ p → every n (λ j. timeInSixteenths (timeAt ts j)) ≡ q → deadlineOk deadline
+  by : (p q r : Bool) → in_sixteenths delay ≡ p → every n (λ j. time_in_sixteenths (time_at ts j)) ≡ q → deadline_ok deadline
       ≡ r
-      → given (p && (q && r)) ≡ verdict (badSlack n delay ts deadline ∷ [])
+      → given (p && (q && r)) ≡ verdict (bad_slack n delay ts deadline ∷ [])
   unfolding given
   by p q r h k l =
-      sym (ap (λ (t : Bool). given (t && (every n (λ j. timeInSixteenths (timeAt ts j)) && deadlineOk deadline))) h
-      ∙ ap (λ (t : Bool). given (p && (t && deadlineOk deadline))) k ∙ ap (λ (t : Bool). given (p && (q && t))) l)
+      sym (ap (λ (t : Bool). given (t && (every n (λ j. time_in_sixteenths (time_at ts j)) && deadline_ok deadline))) h
+      ∙ ap (λ (t : Bool). given (p && (t && deadline_ok deadline))) k ∙ ap (λ (t : Bool). given (p && (q && t))) l)
 
 returns : tie.Need-returns
 unfolding given
@@ -40,9 +40,9 @@ returns c =
     c.refuse.ensures ∙ by a.n a.delay a.times a.deadline _ _ _
     (sym i.before.in-sixteenths.ensures ∙ not-true _ i.if1.true) refl refl
 
-returns-2 : tie.Need-returns-2
+returns_2 : tie.Need-returns-2
 unfolding given
-returns-2 c =
+returns_2 c =
     let j = c.before in
     let i = j.before.before in
     let a = i.before.before.args in
@@ -51,9 +51,9 @@ returns-2 c =
     (sym i.before.in-sixteenths.ensures ∙ not-false _ i.if1.false)
     (sym j.before.inputs-in-sixteenths.ensures ∙ not-true _ j.if2.true) refl
 
-returns-3 : tie.Need-returns-3
+returns_3 : tie.Need-returns-3
 unfolding given
-returns-3 c =
+returns_3 c =
     let k = c.before in
     let j = k.before.before in
     let i = j.before.before in
@@ -62,24 +62,24 @@ returns-3 c =
     ∙ by a.n a.delay a.times a.deadline _ _ _
     (sym i.before.in-sixteenths.ensures ∙ not-false _ i.if1.false)
     (sym j.before.inputs-in-sixteenths.ensures ∙ not-false _ j.if2.false)
-    (ap deadlineOk (sym (to_z-of_z i.before.before.ranges.deadline)) ∙ sym k.before.deadline-ok.ensures
+    (ap deadline_ok (sym (to_z-of_z i.before.before.ranges.deadline)) ∙ sym k.before.deadline-ok.ensures
     ∙ not-true _ k.if3.true)
 
-returns-4 : tie.Need-returns-4
+returns_4 : tie.Need-returns-4
 unfolding given
-returns-4 c =
+returns_4 c =
     let j = c.before.before in
     let i = j.before.before in
     let a = i.before.before.args in
     by a.n a.delay a.times a.deadline _ _ _
     (sym i.before.in-sixteenths.ensures ∙ not-false _ i.if1.false)
     (sym j.before.inputs-in-sixteenths.ensures ∙ not-false _ j.if2.false)
-    (ap deadlineOk (sym (to_z-of_z i.before.before.ranges.deadline)) ∙ sym c.before.deadline-ok.ensures
+    (ap deadline_ok (sym (to_z-of_z i.before.before.ranges.deadline)) ∙ sym c.before.deadline-ok.ensures
     ∙ not-false _ c.if3.false)
 
-pub slack-form-spec : {M : Type 1} → statement M
-slack-form-spec =
+pub slack_form_spec : {M : Type 1} → statement M
+slack_form_spec =
     tie.close (tie.spec (λ c κs. c.requires.1) (λ c κs. search rules) returns
-    (λ c κs. (c.before.before.requires.0, c.before.before.requires.2)) (λ c κs. search rules) returns-2
+    (λ c κs. (c.before.before.requires.0, c.before.before.requires.2)) (λ c κs. search rules) returns_2
     (λ c κs. search rules)
-    (λ c κs. search rules) returns-3 returns-4)
+    (λ c κs. search rules) returns_3 returns_4)

@@ -3,5 +3,5 @@ use mathlib.Core.Path.{refl}
 use Rattle.several.proofs.find_several.without.Statement.{statement}
 use Rattle.several.proofs.find_several.without.Tie as tie
 
-pub without-spec : {M : Type 1} → statement M
-without-spec = tie.close (tie.spec (λ c. refl))
+pub without_spec : {M : Type 1} → statement M
+without_spec = tie.close (tie.spec (λ c. refl))

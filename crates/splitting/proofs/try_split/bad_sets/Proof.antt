@@ -11,9 +11,9 @@ use Rattle.bits.specs.Numbers.{bit}
 use Rattle.bits.proofs.Machine.{shl_one}
 use Rattle.bits.proofs.Disjoint.{disjoint-and}
 use Rattle.bits.proofs.Sizes.{size-le}
-use Rattle.tables.specs.Table.{mostInputs}
-use Rattle.splits.specs.Columns.{mostFirst}
-use Rattle.splitting.proofs.Sets.{bad-first, high-own, high-shared, overlap, few-own, by-sizes}
+use Rattle.tables.specs.Table.{most_inputs}
+use Rattle.splits.specs.Columns.{most_first}
+use Rattle.splitting.proofs.Sets.{bad-first, high_own, high_shared, overlap, few_own, by_sizes}
 use Rattle.splitting.proofs.try_split.bad_sets.Statement.{statement}
 use Rattle.splitting.proofs.try_split.bad_sets.Tie as tie
 
@@ -23,59 +23,59 @@ returns c =
     sym (bad-first a.n a.k a.r a.own a.shared (sym c.before.outside.ensures ∙ c.if1.true))
 
 -- r is 1 to 3
-good-first : (c : tie.Else1) → not (leb 1 c.before.before.args.r && leb c.before.before.args.r mostFirst)
+good_first : (c : tie.Else1) → not (leb 1 c.before.before.args.r && leb c.before.before.args.r most_first)
     ≡ false
-good-first c = sym c.before.outside.ensures ∙ c.if1.false
+good_first c = sym c.before.outside.ensures ∙ c.if1.false
 
-returns-2 : tie.Need-returns-2
-returns-2 c =
+returns_2 : tie.Need-returns-2
+returns_2 c =
     let i = c.before in
     let a = i.before.before.args in
-    sym (high-own a.n a.k a.r a.own a.shared (good-first i)
+    sym (high_own a.n a.k a.r a.own a.shared (good_first i)
     (omega (arith, c.if2.true, shl_one 64 a.n (omega arith))))
 
-returns-3 : tie.Need-returns-3
-returns-3 c =
+returns_3 : tie.Need-returns-3
+returns_3 c =
     let i = c.before.before in
     let a = i.before.before.args in
     let p = shl_one 64 a.n (omega arith) in
-    sym (high-shared a.n a.k a.r a.own a.shared (good-first i) (omega arith)
+    sym (high_shared a.n a.k a.r a.own a.shared (good_first i) (omega arith)
     (omega (arith, c.if3.true)))
 
-returns-4 : tie.Need-returns-4
-returns-4 c =
+returns_4 : tie.Need-returns-4
+returns_4 c =
     let i = c.before.before.before in
     let a = i.before.before.args in
     let p = shl_one 64 a.n (omega arith) in
     let l : a.own < 2 ^ a.n = omega arith in
-    sym (overlap a.n a.k a.r a.own a.shared (good-first i) l (omega arith)
+    sym (overlap a.n a.k a.r a.own a.shared (good_first i) l (omega arith)
     (disjoint-and a.n a.own a.shared l ∙ ne_eqb _ 0 c.if4.true))
 
-cast-members : tie.Need-overflow-cast-members
-cast-members c =
+cast_members : tie.Need-overflow-cast-members
+cast_members c =
     let s = c.before.before.before.before.before in
     let a = s.args in
-    omega (arith, shl_one 64 a.n (omega arith), pow_mono {i = a.n} {j = mostInputs} s.requires)
+    omega (arith, shl_one 64 a.n (omega arith), pow_mono {i = a.n} {j = most_inputs} s.requires)
 
-returns-5 : tie.Need-returns-5
-returns-5 c =
+returns_5 : tie.Need-returns-5
+returns_5 c =
     let o = c.before.before in
     let i = o.before.before.before in
     let a = i.before.before.args in
     let p = shl_one 64 a.n (omega arith) in
     let l : a.own < 2 ^ a.n = omega arith in
-    sym (few-own a.n a.k a.r a.own a.shared (good-first i) l (omega arith)
+    sym (few_own a.n a.k a.r a.own a.shared (good_first i) l (omega arith)
     (disjoint-and a.n a.own a.shared l ∙ eq-eqb _ 0 o.if4.false)
     (omega (arith, c.before.members.ensures a.n l, c.if5.true)))
 
-cast-members-2 : tie.Need-overflow-cast-members-2
-cast-members-2 c =
+cast_members_2 : tie.Need-overflow-cast-members-2
+cast_members_2 c =
     let s = c.before.before.before.before.before.before.before in
     let a = s.args in
-    omega (arith, shl_one 64 a.n (omega arith), pow_mono {i = a.n} {j = mostInputs} s.requires)
+    omega (arith, shl_one 64 a.n (omega arith), pow_mono {i = a.n} {j = most_inputs} s.requires)
 
-add-result : tie.Need-overflow-add-result
-add-result c =
+add_result : tie.Need-overflow-add-result
+add_result c =
     let o = c.before.before in
     let a = o.before.before.before.before.before.before.args in
     let p = shl_one 64 a.n (omega arith) in
@@ -87,8 +87,8 @@ add-result c =
       size-le a.n (bit a.shared),
     )
 
-returns-6 : tie.Need-returns-6
-returns-6 c =
+returns_6 : tie.Need-returns-6
+returns_6 c =
     let m = c.before.before.members in
     let o = c.before.before.before in
     let i = o.before.before.before in
@@ -97,11 +97,11 @@ returns-6 c =
     let l : a.own < 2 ^ a.n = omega arith in
     let h : a.shared < 2 ^ a.n = omega arith in
     ap₂ (λ (i j : ℕ). ltb a.k (i + j)) (m.ensures a.n l) (c.members2.ensures a.n h)
-    ∙ sym (by-sizes a.n a.k a.r a.own a.shared (good-first i) l h
+    ∙ sym (by_sizes a.n a.k a.r a.own a.shared (good_first i) l h
     (disjoint-and a.n a.own a.shared l ∙ eq-eqb _ 0 o.if4.false)
     (omega (arith, m.ensures a.n l, c.before.if5.false)))
 
-pub bad-sets-spec : {M : Type 1} → statement M
-bad-sets-spec =
-    tie.close (tie.spec (λ c κs. search rules) returns (λ c. search rules) returns-2 returns-3 returns-4 cast-members
-    (λ c κs. search rules) (λ c. search rules) returns-5 cast-members-2 (λ c κs. search rules) add-result returns-6)
+pub bad_sets_spec : {M : Type 1} → statement M
+bad_sets_spec =
+    tie.close (tie.spec (λ c κs. search rules) returns (λ c. search rules) returns_2 returns_3 returns_4 cast_members
+    (λ c κs. search rules) (λ c. search rules) returns_5 cast_members_2 (λ c κs. search rules) add_result returns_6)

@@ -12,49 +12,49 @@ use borrow.Author.Rules.{rules}
 use borrow.Author.Tests.{lt-ltb, le-ltb, not-true, not-false}
 use Rattle.bits.specs.Numbers.{bit}
 use Rattle.bits.proofs.Machine.{shl_one}
-use Rattle.tables.specs.Table.{tableBit}
+use Rattle.tables.specs.Table.{table_bit}
 use Rattle.tables.proofs.Bytes.{length-holds}
 use Rattle.columns.specs.declared.split.Split.{Split}
 use Rattle.charts.specs.declared.pair.FirstCells.{FirstCells}
 use Rattle.columns.specs.declared.columns.Broken.{Broken}
-use Rattle.splits.specs.Columns.{mostFirst, columns, fewColumns, firstBroken}
-use Rattle.columns.specs.Broken.{brokenAt}
-use Rattle.columns.proofs.Breaking.{broken-some}
+use Rattle.splits.specs.Columns.{most_first, columns, few_columns, first_broken}
+use Rattle.columns.specs.Broken.{broken_at}
+use Rattle.columns.proofs.Breaking.{broken_some}
 use Rattle.refusals.specs.declared.verdicts.Verdict.{Verdict}
 use Rattle.refusals.specs.declared.verdicts.Verdict.TheVariants.{Fine, Refused}
 use Rattle.refusals.specs.Lines.{refusal, naming, verdict, reply}
-use Rattle.splitting.specs.TrySplit.{TryOutcome, tryDone, tryNot}
-use Rattle.splitting.proofs.Sets.{bytes-H}
+use Rattle.splitting.specs.TrySplit.{TryOutcome, try_done, try_not}
+use Rattle.splitting.proofs.Sets.{bytes_H}
 use Rattle.splitting.proofs.try_split.pair_of.Statement.{statement}
 use Rattle.splitting.proofs.try_split.pair_of.Tie as tie
 
 module _ (s : Split) (r : ℕ) (t : List ℕ) where
   abbrev few : Bool
-  few = fewColumns s.n (tableBit t) (bit s.own) (bit s.shared) (2 ^ r)
+  few = few_columns s.n (table_bit t) (bit s.own) (bit s.shared) (2 ^ r)
 
   abbrev first : ℕ
-  first = firstBroken s.n (tableBit t) (bit s.own) (bit s.shared) (2 ^ r)
+  first = first_broken s.n (table_bit t) (bit s.own) (bit s.shared) (2 ^ r)
 
   -- what is answered as the test says
   abbrev answered : List ℕ → Bool → TryOutcome
   answered room b =
-      reply (verdict (naming 8 first (not b) ∷ [])) (tryDone s.n r s.own s.shared t room)
-      (tryNot s.n s.own s.shared t room)
+      reply (verdict (naming 8 first (not b) ∷ [])) (try_done s.n r s.own s.shared t room)
+      (try_not s.n s.own s.shared t room)
 
   -- where the split breaks, as the test says
   abbrev broken : Bool → Broken
   broken b = cond b (record { b = 0; columns = 0 })
-      (record { b = first; columns = length (columns s.n (tableBit t) (bit s.own) (bit s.shared) first) })
+      (record { b = first; columns = length (columns s.n (table_bit t) (bit s.own) (bit s.shared) first) })
 
   -- the limit as the code makes it
-  module _ (most : r ≤ mostFirst) (w : Broken) (told : w
-      ≡ brokenAt s.n (tableBit t) (bit s.own) (bit s.shared) (1 * 2 ^ r % 2 ^ 64)) where
-    is : w ≡ brokenAt s.n (tableBit t) (bit s.own) (bit s.shared) (2 ^ r)
-    is = told ∙ ap (brokenAt s.n (tableBit t) (bit s.own) (bit s.shared)) (shl_one 64 r (omega arith))
+  module _ (most : r ≤ most_first) (w : Broken) (told : w
+      ≡ broken_at s.n (table_bit t) (bit s.own) (bit s.shared) (1 * 2 ^ r % 2 ^ 64)) where
+    is : w ≡ broken_at s.n (table_bit t) (bit s.own) (bit s.shared) (2 ^ r)
+    is = told ∙ ap (broken_at s.n (table_bit t) (bit s.own) (bit s.shared)) (shl_one 64 r (omega arith))
 
     test : ltb 0 w.columns ≡ not few
     test = ap (λ (w : Broken). ltb 0 w.columns) is
-        ∙ broken-some s.n (tableBit t) (bit s.own) (bit s.shared) (2 ^ r)
+        ∙ broken_some s.n (table_bit t) (bit s.own) (bit s.shared) (2 ^ r)
 
     breaks : 0 < w.columns → few ≡ false
     breaks h = not-true few (sym test ∙ lt-ltb 0 w.columns h)
@@ -65,8 +65,8 @@ module _ (s : Split) (r : ℕ) (t : List ℕ) where
     named : few ≡ false → w ≡ broken false
     named e = is ∙ ap broken e
 
-break-of-requires : tie.Need-break-of-requires
-break-of-requires c κs =
+break_of_requires : tie.Need-break-of-requires
+break_of_requires c κs =
     let s = c.before.before in
     let p = s.requires.0 in (
       (
@@ -74,7 +74,7 @@ break-of-requires c κs =
         omega (
           arith,
           shl_one 64 s.args.r (omega (arith, p.3)),
-          pow_mono {i = s.args.r} {j = mostFirst}
+          pow_mono {i = s.args.r} {j = most_first}
               p.3,
         ),
         omega (arith, p.2, length-holds s.args.s.n),
@@ -106,12 +106,12 @@ returns c =
     }) c.none.ensures
     ∙ ap (answered a.s a.r a.t.now a.room.now) (sym e)
 
-bytes-of-h-requires : tie.Need-bytes-of-h-requires
-bytes-of-h-requires c κs = let p = c.before.before.before.before.before.requires.0
-    in (p.0.most, p.0.belowA, p.1.more, p.3)
+bytes_of_h_requires : tie.Need-bytes-of-h-requires
+bytes_of_h_requires c κs = let p = c.before.before.before.before.before.requires.0
+    in (p.0.most, p.0.below_a, p.1.more, p.3)
 
-put-pair-requires : tie.Need-put-pair-requires
-put-pair-requires c κs =
+put_pair_requires : tie.Need-put-pair-requires
+put_pair_requires c κs =
     let b = c.before.bytes-of-h.ensures in
     let i = c.before.before in
     let w = i.before.before in
@@ -119,14 +119,14 @@ put-pair-requires c κs =
     let p = s.requires.0 in (
       (p.0, omega (arith, p.2, length-holds s.args.s.n), p.1, p.3, omega (arith, b.0, s.requires.1), b.1),
       (
-        b.0 ∙ bytes-H p.1 (tableBit s.args.t.now),
+        b.0 ∙ bytes_H p.1 (table_bit s.args.t.now),
         holds s.args.s s.args.r s.args.t.now p.3 _
             w.break-of.ensures (omega arith),
       ),
     )
 
-returns-2 : tie.Need-returns-2
-returns-2 c =
+returns_2 : tie.Need-returns-2
+returns_2 c =
     let h = c.before.before in
     let i = h.before.before.before in
     let w = i.before.before in
@@ -137,7 +137,7 @@ returns-2 c =
     ∙ ap (answered a.s a.r a.t.now a.room.now)
     (sym (holds a.s a.r a.t.now g.requires.0.3 _ w.break-of.ensures (omega (arith, i.if1.false))))
 
-pub pair-of-spec : {M : Type 1} → statement M
-pair-of-spec =
-    tie.close (tie.spec (λ c. search rules) break-of-requires (λ c. search rules) (λ c κs. search rules)
-    (λ c κs. search rules) returns bytes-of-h-requires put-pair-requires (λ c. search rules) returns-2)
+pub pair_of_spec : {M : Type 1} → statement M
+pair_of_spec =
+    tie.close (tie.spec (λ c. search rules) break_of_requires (λ c. search rules) (λ c κs. search rules)
+    (λ c κs. search rules) returns bytes_of_h_requires put_pair_requires (λ c. search rules) returns_2)

@@ -10,24 +10,24 @@ use Rattle.bits.specs.Numbers.{bit}
 use Rattle.bits.specs.Sets.{size}
 use Rattle.bits.specs.Lists.{list_of}
 use Rattle.bits.proofs.Masks.{mask_lt}
-use Rattle.splits.specs.Columns.{mostFirst, fewColumns}
-use Rattle.splits.specs.Split.{readsH}
-use Rattle.columns.proofs.Reading.{beside-mask}
+use Rattle.splits.specs.Columns.{most_first, few_columns}
+use Rattle.splits.specs.Split.{reads_h}
+use Rattle.columns.proofs.Reading.{beside_mask}
 use Rattle.splits.proofs.Respect.{reads-H}
-use Rattle.steps.specs.Stage.{signalsOf}
-use Rattle.steps.specs.Area.{atHand}
-use Rattle.steps.proofs.Halves.{half-whole, half-bits}
-use Rattle.steps.proofs.Picking.{picked-set, picked-count}
+use Rattle.steps.specs.Stage.{signals_of}
+use Rattle.steps.specs.Area.{at_hand}
+use Rattle.steps.proofs.Halves.{half_whole, half-bits}
+use Rattle.steps.proofs.Picking.{picked_set, picked_count}
 use Rattle.charts.proofs.Charting.{chart-room, power, charted}
 use Rattle.steps.proofs.chaining.step.Statement.{statement}
 use Rattle.steps.proofs.chaining.step.Tie as tie
 
-slice-aggregate-chart : tie.Need-slice-aggregate-chart
-slice-aggregate-chart c = let g = c.before.before.before.before.before
-    in sym (half-whole g.args.work.now g.pre.0.3)
+slice_aggregate_chart : tie.Need-slice-aggregate-chart
+slice_aggregate_chart c = let g = c.before.before.before.before.before
+    in sym (half_whole g.args.work.now g.pre.0.3)
 
-chart-requires : tie.Need-chart-requires
-chart-requires c κs =
+chart_requires : tie.Need-chart-requires
+chart_requires c κs =
     let g = c.before.before.before.before.before.before in
     let s = g.args.s in
     let p = g.requires.0 in
@@ -35,29 +35,29 @@ chart-requires c κs =
     let e = power p.5 in (
       (
         p.0,
-        omega (arith, e, pow_mono {i = g.args.r} {j = mostFirst} p.5),
+        omega (arith, e, pow_mono {i = g.args.r} {j = most_first} p.5),
         half-bits g.args.work.now p.3
             s.n p.0.most,
       ),
       (
         (omega (arith, b.0, chart-room p.6 e), b.1),
-        subst (λ (m : ℕ). fewColumns s.n (atHand g.args.work.now) (bit s.own) (bit s.shared) m ≡ true) e
+        subst (λ (m : ℕ). few_columns s.n (at_hand g.args.work.now) (bit s.own) (bit s.shared) m ≡ true) e
             g.requires.1.3,
       ),
     )
 
-slice-aggregate-pile-first : tie.Need-slice-aggregate-pile-first
-slice-aggregate-pile-first c =
+slice_aggregate_pile_first : tie.Need-slice-aggregate-pile-first
+slice_aggregate_pile_first c =
     let g = c.before.before.before.before.before.before.before.before.before in
-    sym (half-whole g.args.work.now g.requires.0.3)
+    sym (half_whole g.args.work.now g.requires.0.3)
 
-slice-aggregate-pile-first-2 : tie.Need-slice-aggregate-pile-first-2
-slice-aggregate-pile-first-2 c =
+slice_aggregate_pile_first_2 : tie.Need-slice-aggregate-pile-first-2
+slice_aggregate_pile_first_2 c =
     let h = c.before.before.before in
     sym (h.chart.auto.1.1.1.0 ∙ h.before.before.before.blank.ensures.0)
 
-pile-first-requires : tie.Need-pile-first-requires
-pile-first-requires c κs =
+pile_first_requires : tie.Need-pile-first-requires
+pile_first_requires c κs =
     let h = c.before.before.before in
     let g = h.before.before.before.before.before.before.before in
     let p = g.requires.0 in (
@@ -72,47 +72,47 @@ add-pick c =
     let h = g.requires.0.0 in
     omega (
       arith,
-      mask_lt s.n (readsH (bit s.own) (bit s.shared)) (s.shared + s.free) (beside-mask s h),
+      mask_lt s.n (reads_h (bit s.own) (bit s.shared)) (s.shared + s.free) (beside_mask s h),
       pow_mono {i = s.n} {j = 16} h.most,
     )
 
-pick-requires : tie.Need-pick-requires
-pick-requires c κs = c.before.before.before.before.before.before.before.before.before.before.before.before.requires.0.1
+pick_requires : tie.Need-pick-requires
+pick_requires c κs = c.before.before.before.before.before.before.before.before.before.before.before.before.requires.0.1
 
 -- the signals that are left, and how many
 module _ (c : tie.After-pick) where
   abbrev g : tie.Start
   g = c.before.before.before.before.before.before.before.before.before.before.before.before.before
 
-  left-count : c.pick.result.count ≡ size g.args.s.n (readsH (bit g.args.s.own) (bit g.args.s.shared))
+  left-count : c.pick.result.count ≡ size g.args.s.n (reads_h (bit g.args.s.own) (bit g.args.s.shared))
   left-count = let s = g.args.s in
-      picked-count s.n (s.shared + s.free) (readsH (bit s.own) (bit s.shared)) (beside-mask s g.pre.0.0)
+      picked_count s.n (s.shared + s.free) (reads_h (bit s.own) (bit s.shared)) (beside_mask s g.pre.0.0)
       g.args.stage.signals.count
-      g.pre.0.2 (signalsOf g.args.stage.signals) c.pick.result c.pick.ensures.1
+      g.pre.0.2 (signals_of g.args.stage.signals) c.pick.result c.pick.ensures.1
 
-  left-few : c.pick.result.count + size g.args.s.n (bit g.args.s.own) ≡ g.args.s.n
-  left-few = let s = g.args.s in omega (
+  left_few : c.pick.result.count + size g.args.s.n (bit g.args.s.own) ≡ g.args.s.n
+  left_few = let s = g.args.s in omega (
     arith,
     left-count,
     reads-H s.n (bit s.own) (bit s.shared)
         g.pre.0.0.apart,
   )
 
-with-next-requires : tie.Need-with-next-requires
-with-next-requires c κs =
+with-next_requires : tie.Need-with-next-requires
+with-next_requires c κs =
     let p = (g c).requires in
-    (c.pick.ensures.0, p.0.4, p.0.5, omega (arith, left-few c, p.0.6.more, p.0.0.most), p.1.2)
+    (c.pick.ensures.0, p.0.4, p.0.5, omega (arith, left_few c, p.0.6.more, p.0.0.most), p.1.2)
 
-slice-aggregate-next-table : tie.Need-slice-aggregate-next-table
-slice-aggregate-next-table c =
+slice_aggregate_next-table : tie.Need-slice-aggregate-next-table
+slice_aggregate_next-table c =
     let h = c.before.before.before.before.before.before.before.before.before in
     sym (h.chart.auto.1.1.1.0 ∙ h.before.before.before.blank.ensures.0)
 
-cast-next-table : tie.Need-overflow-cast-next-table
-cast-next-table c = omega (arith, c.before.before.before.with-next.ensures.0.few)
+cast_next-table : tie.Need-overflow-cast-next-table
+cast_next-table c = omega (arith, c.before.before.before.with-next.ensures.0.few)
 
-next-table-requires : tie.Need-next-table-requires
-next-table-requires c κs =
+next-table_requires : tie.Need-next-table-requires
+next-table_requires c κs =
     let w = c.before.before.before in
     let p = w.before in
     let h = p.before.before.before.before.before.before in
@@ -139,16 +139,16 @@ returns c =
       cells = f.pile-first.ensures;
       listed = w.with-next.ensures.0;
       signals = w.with-next.ensures.1 ∙ ap (λ (l : List ℕ). l ++ list_of (g p).args.r (λ t. (g p).args.next + t))
-          (picked-set s.n (s.shared + s.free) (readsH (bit s.own) (bit s.shared))
-          (beside-mask s (g p).requires.0.0) (g p).args.stage.signals.count
-          (g p).requires.0.2 (signalsOf (g p).args.stage.signals) p.pick.result p.pick.ensures.1);
+          (picked_set s.n (s.shared + s.free) (reads_h (bit s.own) (bit s.shared))
+          (beside_mask s (g p).requires.0.0) (g p).args.stage.signals.count
+          (g p).requires.0.2 (signals_of (g p).args.stage.signals) p.pick.result p.pick.ensures.1);
       table = t.next-table.ensures;
     }
 
 pub step_spec : {M : Type 1} → statement M
 step_spec =
-    tie.close (tie.spec (λ c κs. search rules) (λ c. search rules) slice-aggregate-chart (λ c. search rules)
-    (λ c. sym c.before.before.blank.ensures.0) chart-requires (λ c. search rules) slice-aggregate-pile-first
-    slice-aggregate-pile-first-2 pile-first-requires add-pick pick-requires with-next-requires
-    slice-aggregate-next-table
-    cast-next-table next-table-requires same_length returns)
+    tie.close (tie.spec (λ c κs. search rules) (λ c. search rules) slice_aggregate_chart (λ c. search rules)
+    (λ c. sym c.before.before.blank.ensures.0) chart_requires (λ c. search rules) slice_aggregate_pile_first
+    slice_aggregate_pile_first_2 pile_first_requires add-pick pick_requires with-next_requires
+    slice_aggregate_next-table
+    cast_next-table next-table_requires same_length returns)

@@ -10,14 +10,14 @@ use Rattle.bits.specs.Numbers.{bit, number}
 use Rattle.bits.specs.Sets.{size, spread}
 use Rattle.bits.proofs.Machine.{shl_one}
 use Rattle.bits.proofs.Sizes.{size-le}
-use Rattle.tables.specs.Table.{tableLength, tableBit, bytes_of}
+use Rattle.tables.specs.Table.{table_length, table_bit, bytes_of}
 use Rattle.tables.proofs.Bytes.{length-holds}
-use Rattle.tables.proofs.Setting.{packed-over, whole-over}
+use Rattle.tables.proofs.Setting.{packed_over, whole_over}
 use Rattle.tables.proofs.aside.set_aside.Statement.{statement}
 use Rattle.tables.proofs.aside.set_aside.Tie as tie
 
-sub-all : tie.Need-overflow-sub-all
-sub-all c = let g = c.before.before in omega
+sub_all : tie.Need-overflow-sub-all
+sub_all c = let g = c.before.before in omega
     (arith, shl_one 32 g.args.n (omega (arith, g.requires.1)), pow_pos g.args.n)
 
 returns : tie.Need-returns
@@ -33,8 +33,8 @@ returns c =
       shl_one 32 a.n (omega (arith, g.requires.1)),
       pow_pos a.n,
     ) in
-    ap (λ (r : List ℕ). number (2 ^ size a.n (bit a.mask)) (tableBit r)) b.copy.ensures
-    ∙ whole-over a.n a.mask t (drop (length t) a.room.now) full g.requires.0
+    ap (λ (r : List ℕ). number (2 ^ size a.n (bit a.mask)) (table_bit r)) b.copy.ensures
+    ∙ whole_over a.n a.mask t (drop (length t) a.room.now) full g.requires.0
 
 -- as many bytes as the table over the inputs has
 module _ (c : tie.After-members) where
@@ -45,11 +45,11 @@ module _ (c : tie.After-members) where
   few : c.members.result ≤ c.before.before.before.before.args.n
   few = let g = c.before.before.before.before in omega (arith, count, size-le g.args.n (bit g.args.mask))
 
-length-for-requires : tie.Need-length-for-requires
-length-for-requires c κs = omega (arith, few c, c.before.before.before.before.requires.1)
+length_for_requires : tie.Need-length-for-requires
+length_for_requires c κs = omega (arith, few c, c.before.before.before.before.requires.1)
 
-pack-requires : tie.Need-pack-requires
-pack-requires c κs =
+pack_requires : tie.Need-pack-requires
+pack_requires c κs =
     let l = c.before in
     let g = l.before.before.before.before.before in
     let len = l.length-for.ensures in
@@ -66,19 +66,19 @@ pack-requires c κs =
       omega (arith, len, short, g.requires.0, g.requires.3),
     )
 
-returns-2 : tie.Need-returns-2
-returns-2 c =
+returns_2 : tie.Need-returns-2
+returns_2 c =
     let b = c.before.before in
     let l = b.before.before in
     let g = l.before.before.before.before.before in
     let a = g.args in
-    let len = l.length-for.ensures ∙ ap tableLength (count l.before) in
-    ap (λ (r : List ℕ). number (2 ^ size a.n (bit a.mask)) (tableBit r))
-    (b.pack.ensures ∙ ap (λ (k : ℕ). bytes_of k (λ v. tableBit a.t.now (spread a.n (bit a.mask) v))
+    let len = l.length-for.ensures ∙ ap table_length (count l.before) in
+    ap (λ (r : List ℕ). number (2 ^ size a.n (bit a.mask)) (table_bit r))
+    (b.pack.ensures ∙ ap (λ (k : ℕ). bytes_of k (λ v. table_bit a.t.now (spread a.n (bit a.mask) v))
     ++ drop k a.room.now) len)
-    ∙ packed-over a.n a.mask a.t.now (drop (tableLength (size a.n (bit a.mask))) a.room.now)
+    ∙ packed_over a.n a.mask a.t.now (drop (table_length (size a.n (bit a.mask))) a.room.now)
 
-pub set-aside-spec : {M : Type 1} → statement M
-set-aside-spec =
-    tie.close (tie.spec (λ c. search rules) sub-all (λ c κs. search rules) (λ c. search rules) returns
-    (λ c κs. search rules) length-for-requires pack-requires (λ c. search rules) returns-2)
+pub set_aside_spec : {M : Type 1} → statement M
+set_aside_spec =
+    tie.close (tie.spec (λ c. search rules) sub_all (λ c κs. search rules) (λ c. search rules) returns
+    (λ c κs. search rules) length_for_requires pack_requires (λ c. search rules) returns_2)

@@ -4,7 +4,7 @@ use Prim.Native.Nat.{ℕ, ◌*◌, ◌-◌, ◌%◌, ◌^◌, ◌≤◌}
 use native.Mathlib.Omega.{arith}
 use borrow.Author.Rules.{rules}
 use Rattle.bits.proofs.Machine.{shl_one}
-use Rattle.tables.specs.Table.{tableBit}
+use Rattle.tables.specs.Table.{table_bit}
 use Rattle.tables.proofs.Digits.{past_words}
 use Rattle.tables.proofs.cell.word_or_zero.Statement.{statement}
 use Rattle.tables.proofs.cell.word_or_zero.Tie as tie
@@ -17,15 +17,15 @@ returns : tie.Need-returns
 returns c =
     let g = c.before.before.before in
     let a = g.args in
-    sym (past_words a.n a.w (tableBit a.t.now)
+    sym (past_words a.n a.w (table_bit a.t.now)
     (omega (arith, many a.n _ g.requires.0 c.before.above-words.ensures, c.if1.true)))
 
-word-of-requires : tie.Need-word-of-requires
-word-of-requires c κs =
+word-of_requires : tie.Need-word-of-requires
+word-of_requires c κs =
     let g = c.before.before.before in
     (g.requires.1, omega (arith, many g.args.n _ g.requires.0 c.before.above-words.ensures, c.if1.false))
 
-pub word-or-zero-spec : {M : Type 1} → statement M
-word-or-zero-spec =
-    tie.close (tie.spec (λ c κs. search rules) (λ c. search rules) (λ c. search rules) returns word-of-requires
+pub word-or-zero_spec : {M : Type 1} → statement M
+word-or-zero_spec =
+    tie.close (tie.spec (λ c κs. search rules) (λ c. search rules) (λ c. search rules) returns word-of_requires
     (λ c. search rules))

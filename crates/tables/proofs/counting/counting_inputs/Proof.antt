@@ -7,7 +7,7 @@ use Rattle.bits.specs.Numbers.{bit}
 use Rattle.bits.specs.Sets.{size}
 use Rattle.bits.proofs.Numbers.{number_lt}
 use Rattle.bits.proofs.Sizes.{size-le}
-use Rattle.tables.specs.Table.{tableBit}
+use Rattle.tables.specs.Table.{table_bit}
 use Rattle.tables.specs.Counting.{counts, support}
 use Rattle.tables.proofs.counting.counting_inputs.Statement.{statement}
 use Rattle.tables.proofs.counting.counting_inputs.Tie as tie
@@ -18,7 +18,7 @@ returns c =
     let s = c.before in
     let a = s.before.before.args in
     let is = s.support-of.ensures in
-    let below = subst (λ (m : ℕ). m < 2 ^ a.n) (sym is) (number_lt a.n (counts a.n (tableBit a.t.now))) in
+    let below = subst (λ (m : ℕ). m < 2 ^ a.n) (sym is) (number_lt a.n (counts a.n (table_bit a.t.now))) in
     let many = c.members.ensures a.n below in
     record {
       is = is;
@@ -27,5 +27,5 @@ returns c =
       few = omega (arith, size-le a.n (bit s.support-of.result));
     }
 
-pub counting-inputs-spec : {M : Type 1} → statement M
-counting-inputs-spec = tie.close (tie.spec (λ c κs. search rules) (λ c κs. search rules) returns)
+pub counting_inputs_spec : {M : Type 1} → statement M
+counting_inputs_spec = tie.close (tie.spec (λ c κs. search rules) (λ c κs. search rules) returns)

@@ -9,56 +9,56 @@ use borrow.Author.Rules.{rules}
 use Rattle.bits.specs.Numbers.{bit}
 use Rattle.bits.specs.Sets.{spread}
 use Rattle.bits.proofs.Below.{below_suc}
-use Rattle.bits.proofs.Walking.{Walked, walked_none, walked_more, walked-lt, walked_end}
-use Rattle.tables.specs.Table.{tableBit}
+use Rattle.bits.proofs.Walking.{Walked, walked_none, walked_more, walked_lt, walked_end}
+use Rattle.tables.specs.Table.{table_bit}
 use Rattle.tables.specs.Words.{WordWithout, Steady}
-use Rattle.tables.proofs.Depending.{steady-idle}
-use Rattle.tables.proofs.Changing.{Others, others-are, without-j, enough-words}
+use Rattle.tables.proofs.Depending.{steady_idle}
+use Rattle.tables.proofs.Changing.{Others, others_are, without_j, enough_words}
 use Rattle.tables.proofs.counting.counts_in.Statement.{statement}
 use Rattle.tables.proofs.counting.counts_in.Tie as tie
 
-abbrev invariant-loop : tie.invariant-loop
-invariant-loop t n live j half top others many w₀ v₀ w v =
+abbrev invariant_loop : tie.invariant_loop
+invariant_loop t n live j half top others many w₀ v₀ w v =
     Others n live j top others × Walked top others many w v
-    × ((u : ℕ) → u < v → (i : ℕ) → i < 64 → Steady n (tableBit t) j (64 * spread top (bit others) u + i))
+    × ((u : ℕ) → u < v → (i : ℕ) → i < 64 → Steady n (table_bit t) j (64 * spread top (bit others) u + i))
 
-abbrev decreases-loop : tie.decreases-loop
-decreases-loop t n live j half top others many w₀ v₀ w v = many - v
+abbrev decreases_loop : tie.decreases_loop
+decreases_loop t n live j half top others many w₀ v₀ w v = many - v
 
-parts-requires : tie.Need-parts-requires invariant-loop decreases-loop
-parts-requires c κs =
+parts_requires : tie.Need-parts-requires invariant_loop decreases_loop
+parts_requires c κs =
     let g = c.before.before.before in
     let a = g.args in
     let e = c.above-words.ensures in (
       omega (arith, e, g.requires.1),
-      (others-are a.n a.live a.j c.above-words.result g.requires.1
+      (others_are a.n a.live a.j c.above-words.result g.requires.1
           g.requires.3.below g.requires.2 e).below,
     )
 
-loop-holds : tie.Need-loop-init invariant-loop decreases-loop
-loop-holds c =
+loop_holds : tie.Need-loop-init invariant_loop decreases_loop
+loop_holds c =
     let b = c.before in
     let g = b.before.before.before in
     let a = g.args in (
-      others-are a.n a.live a.j b.above-words.result g.requires.1 g.requires.3.below g.requires.2
+      others_are a.n a.live a.j b.above-words.result g.requires.1 g.requires.3.below g.requires.2
           b.above-words.ensures,
       walked_none (omega (arith, b.above-words.ensures, g.requires.1)) c.parts.ensures.0,
       λ u h. absurd (not-suc-le-zero h),
     )
 
-cast-changes : tie.Need-overflow-cast-changes invariant-loop decreases-loop
-cast-changes c =
+cast_changes : tie.Need-overflow-cast-changes invariant_loop decreases_loop
+cast_changes c =
     let q = c.before.loop in
     let g = c.before.before.before.before.before.before in
     omega (
       arith,
-      walked-lt q.invariant.1,
+      walked_lt q.invariant.1,
       pow_mono {i = c.before.before.before.above-words.result} {j = 16}
           (omega (arith, q.invariant.0.at, g.requires.1)),
     )
 
-changes-requires : tie.Need-changes-requires invariant-loop decreases-loop
-changes-requires c κs =
+changes_requires : tie.Need-changes-requires invariant_loop decreases_loop
+changes_requires c κs =
     let q = c.before.loop in
     let h = c.before.before.before.before in
     let g = h.before.before in
@@ -68,20 +68,20 @@ changes-requires c κs =
       g.requires.2,
       h.lower-half.ensures,
       subst (WordWithout a.n a.j) (sym q.invariant.1.at)
-          (without-j a.n (tableBit a.t.now) a.j g.requires.2 a.live _ _ g.requires.3 q.invariant.0 q.v),
+          (without_j a.n (table_bit a.t.now) a.j g.requires.2 a.live _ _ g.requires.3 q.invariant.0 q.v),
     )
 
-returns : tie.Need-returns invariant-loop decreases-loop
+returns : tie.Need-returns invariant_loop decreases_loop
 returns c = sym (c.before.changes.ensures.changes c.if1.true)
 
-next-requires : tie.Need-next-requires invariant-loop decreases-loop
-next-requires c κs =
+next_requires : tie.Need-next-requires invariant_loop decreases_loop
+next_requires c κs =
     let q = c.before.before.before.loop in
     let g = c.before.before.before.before.before.before.before.before in
-    (omega (arith, q.invariant.0.at, g.requires.1), q.invariant.0.below, walked-lt q.invariant.1)
+    (omega (arith, q.invariant.0.at, g.requires.1), q.invariant.0.below, walked_lt q.invariant.1)
 
-loop-again : tie.Need-loop-preserved invariant-loop decreases-loop
-loop-again c =
+loop_again : tie.Need-loop-preserved invariant_loop decreases_loop
+loop_again c =
     let d = c.before.before in
     let q = d.before.before.loop in
     let l = d.before.loop-test.true in
@@ -89,24 +89,24 @@ loop-again c =
       q.invariant.0,
       walked_more q.invariant.1 l c.next.ensures.1,
       λ u h i g. ⊎_elim (λ old. q.invariant.2 u old i g)
-          (λ e. subst (λ (w : ℕ). Steady a.n (tableBit a.t.now) a.j (64 * w + i))
+          (λ e. subst (λ (w : ℕ). Steady a.n (table_bit a.t.now) a.j (64 * w + i))
           (q.invariant.1.at ∙ ap (spread _ (bit _)) (sym e))
           (d.changes.ensures.steady c.before.if1.false i g))
           (below_suc {j = u} {n = q.v} (omega arith)),
     )
 
-returns-2 : tie.Need-returns-2 invariant-loop decreases-loop
-returns-2 c =
+returns_2 : tie.Need-returns-2 invariant_loop decreases_loop
+returns_2 c =
     let q = c.before.loop in
     let g = c.before.before.before.before.before.before in
     let a = g.args in
-    let F = tableBit a.t.now in
+    let F = table_bit a.t.now in
     let end = walked_end q.invariant.1 (omega arith) in
-    sym (steady-idle a.n F a.j g.requires.2
-    (enough-words a.n F a.j g.requires.2 a.live _ _ g.requires.3 q.invariant.0 (λ v h. q.invariant.2 v (omega arith))))
+    sym (steady_idle a.n F a.j g.requires.2
+    (enough_words a.n F a.j g.requires.2 a.live _ _ g.requires.3 q.invariant.0 (λ v h. q.invariant.2 v (omega arith))))
 
-pub counts-in-spec : {M : Type 1} → statement M
-counts-in-spec =
-    tie.close (tie.spec invariant-loop decreases-loop (λ c κs. search rules) (λ c κs. search rules) (λ c. search rules)
-    (λ c. search rules) parts-requires loop-holds cast-changes changes-requires returns next-requires
-    (λ c. search rules) (λ c. search rules) loop-again returns-2)
+pub counts_in_spec : {M : Type 1} → statement M
+counts_in_spec =
+    tie.close (tie.spec invariant_loop decreases_loop (λ c κs. search rules) (λ c κs. search rules) (λ c. search rules)
+    (λ c. search rules) parts_requires loop_holds cast_changes changes_requires returns next_requires
+    (λ c. search rules) (λ c. search rules) loop_again returns_2)

@@ -8,8 +8,8 @@ use Rattle.tables.proofs.counting.lower_half.Tie as tie
 returns : tie.Need-returns
 returns c six i h = pattern-off c.before.before.args.j c.of-input.result i h c.of-input.ensures
 
-returns-2 : tie.Need-returns-2
-returns-2 c six = absurd (omega arith)
+returns_2 : tie.Need-returns-2
+returns_2 c six = absurd (omega arith)
 
-pub lower-half-spec : {M : Type 1} → statement M
-lower-half-spec = tie.close (tie.spec (λ c κs. search rules) returns returns-2)
+pub lower-half_spec : {M : Type 1} → statement M
+lower-half_spec = tie.close (tie.spec (λ c κs. search rules) returns returns_2)

@@ -7,28 +7,28 @@ use lib.Bits.{bit_and, bit_or, or_lt}
 use lib.Pow.{pow_mono}
 use borrow.Author.Rules.{rules}
 use Rattle.bits.specs.Numbers.{bit}
-use Rattle.bits.specs.Sets.{wordPositions, size}
+use Rattle.bits.specs.Sets.{word_positions, size}
 use Rattle.bits.proofs.Building.{bit-digit}
 use Rattle.bits.proofs.Machine.{shl_one}
-use Rattle.bits.proofs.Packing.{count-more, count_most}
-use Rattle.tables.proofs.Squeezing.{Squeezed, kept-le, squeezed-none, squeezed-more, squeezed-all}
+use Rattle.bits.proofs.Packing.{count_more, count_most}
+use Rattle.tables.proofs.Squeezing.{Squeezed, kept-le, squeezed_none, squeezed_more, squeezed_all}
 use Rattle.tables.proofs.fixed.squeeze.Statement.{statement}
 use Rattle.tables.proofs.fixed.squeeze.Tie as tie
 
-abbrev invariant-loop : tie.invariant-loop
-invariant-loop word mask m w₀ k₀ j₀ w k j = (j ≤ wordPositions) × (k ≤ j) × (k ≡ size j (bit mask)) × (w < 2 ^ 64)
+abbrev invariant_loop : tie.invariant_loop
+invariant_loop word mask m w₀ k₀ j₀ w k j = (j ≤ word_positions) × (k ≤ j) × (k ≡ size j (bit mask)) × (w < 2 ^ 64)
     × Squeezed word mask w j
 
-abbrev decreases-loop : tie.decreases-loop
-decreases-loop word mask m w₀ k₀ j₀ w k j = wordPositions - j
+abbrev decreases_loop : tie.decreases_loop
+decreases_loop word mask m w₀ k₀ j₀ w k j = word_positions - j
 
-loop-holds : tie.Need-loop-init invariant-loop decreases-loop
+loop_holds : tie.Need-loop-init invariant_loop decreases_loop
 unfolding size
-loop-holds c = (omega arith, omega arith, refl, omega arith, squeezed-none c.args.word c.args.mask)
+loop_holds c = (omega arith, omega arith, refl, omega arith, squeezed_none c.args.word c.args.mask)
 
 -- the two places of the shift
-module _ (c : tie.After-upper invariant-loop decreases-loop) where
-  abbrev q : tie.At-loop invariant-loop decreases-loop
+module _ (c : tie.After-upper invariant_loop decreases_loop) where
+  abbrev q : tie.At-loop invariant_loop decreases_loop
   q = c.before.before
 
   abbrev mask : ℕ
@@ -46,8 +46,8 @@ module _ (c : tie.After-upper invariant-loop decreases-loop) where
   most : 2 ^ q.loop.j ≤ 2 ^ 5
   most = pow_mono {i = q.loop.j} {j = 5} (omega (arith, c.before.loop-test.true))
 
-loop-again : tie.Need-loop-preserved invariant-loop decreases-loop
-loop-again c =
+loop_again : tie.Need-loop-preserved invariant_loop decreases_loop
+loop_again c =
     let b = c.before in
     let s = (q b).loop in
     let a = (q b).before.args in
@@ -55,32 +55,32 @@ loop-again c =
     let by = 1 * 2 ^ s.j % 2 ^ 64 - 1 * 2 ^ s.k % 2 ^ 64 in (
       omega (arith, b.before.loop-test.true),
       count_most (mask b) s.j s.inv.2,
-      count-more (mask b) s.j s.inv.2,
+      count_more (mask b) s.j s.inv.2,
       or_lt 64 c.lower.result (b.upper.result * member / 2 ^ by) (omega arith)
           (lt_of_le_of_lt (div-le_self (b.upper.result * member) (2 ^ by))
           (omega (arith, kept-le b.upper.result (mask b) s.j))),
       subst (λ (y : ℕ). Squeezed a.word (mask b) (bit_or c.lower.result y) (s.j + 1))
           (sym (ap₂ (λ (d i : ℕ). b.upper.result * d / 2 ^ i) (bit-digit (mask b) s.j)
           (ap₂ ◌-◌ (to b) (from b ∙ ap (λ (i : ℕ). 2 ^ i) s.inv.2))))
-          (squeezed-more a.word (mask b) s.w c.lower.result b.upper.result s.j s.inv.4
+          (squeezed_more a.word (mask b) s.w c.lower.result b.upper.result s.j s.inv.4
           b.before.loop-test.true
           s.inv.3 (omega arith) c.lower.ensures b.upper.ensures),
     )
 
-returns : tie.Need-returns invariant-loop decreases-loop
+returns : tie.Need-returns invariant_loop decreases_loop
 returns c =
     let s = c.before.loop in
     let a = c.before.before.args in
-    let e : s.j ≡ wordPositions = omega arith in
-    squeezed-all a.word a.mask s.w s.invariant.3
+    let e : s.j ≡ word_positions = omega arith in
+    squeezed_all a.word a.mask s.w s.invariant.3
     (subst (λ (i : ℕ). Squeezed a.word a.mask s.w i) e s.invariant.4)
 
-pub squeeze-spec : {M : Type 1} → statement M
-squeeze-spec =
-    tie.close (tie.spec invariant-loop decreases-loop loop-holds (λ c. search rules) (λ c. search rules) (λ c κs. search rules)
+pub squeeze_spec : {M : Type 1} → statement M
+squeeze_spec =
+    tie.close (tie.spec invariant_loop decreases_loop loop_holds (λ c. search rules) (λ c. search rules) (λ c κs. search rules)
     (λ c. omega (arith, kept-le c.upper.result (mask c) (q c).loop.j)) (λ c. search rules) (λ c. search rules)
     (λ c. search rules)
     (λ c. omega (arith, to c, from c, down c)) (λ c. omega (arith, to c, from c, most c)) (λ c κs. search rules)
     (λ c. let b = c.before in omega (arith, count_most (mask b) (q b).loop.j (q b).loop.invariant.2))
     (λ c. search rules)
-    (λ c. search rules) loop-again returns)
+    (λ c. search rules) loop_again returns)

@@ -12,12 +12,12 @@ returns c =
     ∙ sym (ap (λ (b : Bool). b && le_z s.args.deadline (pos 1048576))
     (ap (le_z (negsuc 1048575)) (sym e) ∙ c.if1.true))
 
-returns-2 : tie.Need-returns-2
-returns-2 c =
+returns_2 : tie.Need-returns-2
+returns_2 c =
     let s = c.before in
     let e = to_z-of_z s.ranges.deadline in
     sym (ap (λ (b : Bool). b && le_z s.args.deadline (pos 1048576))
     (ap (le_z (negsuc 1048575)) (sym e) ∙ c.if1.false))
 
-pub deadline-ok-spec : {M : Type 1} → statement M
-deadline-ok-spec = tie.close (tie.spec returns returns-2)
+pub deadline_ok_spec : {M : Type 1} → statement M
+deadline_ok_spec = tie.close (tie.spec returns returns_2)

@@ -10,29 +10,29 @@ use Rattle.refusals.specs.declared.verdicts.Verdict.{Verdict}
 use Rattle.refusals.specs.declared.verdicts.Verdict.TheVariants.{Fine, Refused}
 use Rattle.refusals.specs.Lines.{refusal, line, verdict, reply}
 use Rattle.turning.specs.declared.ways.Way.{Way}
-use Rattle.turning.specs.Ways.{wayCount}
-use Rattle.turning.specs.Listing.{wayAt, firstWay}
+use Rattle.turning.specs.Ways.{way_count}
+use Rattle.turning.specs.Listing.{way_at_lem, first_way_lem}
 use Rattle.turning.specs.Reach.{reaches}
-use Rattle.turning.specs.Turn.{turnDone, turnNot, turnOutcome}
+use Rattle.turning.specs.Turn.{turn_done, turn_not, turn_outcome}
 use Rattle.turning.proofs.turn.turn.Statement.{statement}
 use Rattle.turning.proofs.turn.turn.Tie as tie
 
-module _ (f g i : ℕ) (e : i ≡ firstWay f g) where
+module _ (f g i : ℕ) (e : i ≡ first_way_lem f g) where
   -- whether there is a way decides the only line
-  by : {t : Bool} → reaches f g ≡ t → reply (verdict (line 21 (not t) ∷ [])) (turnDone f g) turnNot ≡ turnOutcome f g
-  unfolding turnOutcome
-  by h = ap (λ (t : Bool). reply (verdict (line 21 (not t) ∷ [])) (turnDone f g) turnNot) (sym h)
+  by : {t : Bool} → reaches f g ≡ t → reply (verdict (line 21 (not t) ∷ [])) (turn_done f g) turn_not ≡ turn_outcome f g
+  unfolding turn_outcome
+  by h = ap (λ (t : Bool). reply (verdict (line 21 (not t) ∷ [])) (turn_done f g) turn_not) (sym h)
 
-  found : (w : Way) → i < wayCount → w ≡ wayAt i → record { verdict = Fine; way = w } ≡ turnOutcome f g
+  found : (w : Way) → i < way_count → w ≡ way_at_lem i → record { verdict = Fine; way = w } ≡ turn_outcome f g
   found w l q =
-      ap (λ (v : Way). record { verdict = Fine; way = v }) (q ∙ ap wayAt e)
-      ∙ by (lt-ltb (firstWay f g) wayCount (omega arith))
+      ap (λ (v : Way). record { verdict = Fine; way = v }) (q ∙ ap way_at_lem e)
+      ∙ by (lt-ltb (first_way_lem f g) way_count (omega arith))
 
-  none : (v : Verdict) → wayCount ≤ i → v ≡ Refused (refusal 21 0)
-      → record { verdict = v; way = (turnNot (refusal 21 0)).way } ≡ turnOutcome f g
+  none : (v : Verdict) → way_count ≤ i → v ≡ Refused (refusal 21 0)
+      → record { verdict = v; way = (turn_not (refusal 21 0)).way } ≡ turn_outcome f g
   none v l q =
-      ap (λ (u : Verdict). record { verdict = u; way = (turnNot (refusal 21 0)).way }) q
-      ∙ by (le-ltb (firstWay f g) wayCount (omega arith))
+      ap (λ (u : Verdict). record { verdict = u; way = (turn_not (refusal 21 0)).way }) q
+      ∙ by (le-ltb (first_way_lem f g) way_count (omega arith))
 
 returns : tie.Need-returns
 returns c =
@@ -40,11 +40,11 @@ returns c =
     let a = b.before.args in
     found a.first a.second _ b.first_way.ensures _ (omega arith) c.way_at.ensures
 
-returns-2 : tie.Need-returns-2
-returns-2 c =
+returns_2 : tie.Need-returns-2
+returns_2 c =
     let b = c.before.before in
     let a = b.before.args in
     none a.first a.second _ b.first_way.ensures _ (omega arith) c.refuse.ensures
 
 pub turn_spec : {M : Type 1} → statement M
-turn_spec = tie.close (tie.spec (λ c κs. search rules) (λ c κs. search rules) returns (λ c κs. search rules) returns-2)
+turn_spec = tie.close (tie.spec (λ c κs. search rules) (λ c κs. search rules) returns (λ c κs. search rules) returns_2)

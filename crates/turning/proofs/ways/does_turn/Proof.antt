@@ -7,7 +7,7 @@ use borrow.Author.Rules.{rules}
 use borrow.Author.Tests.{not-true, not-false}
 use Rattle.bits.specs.Numbers.{bit}
 use Rattle.bits.specs.Below.{every}
-use Rattle.bits.proofs.Below.{every_more, every-stop}
+use Rattle.bits.proofs.Below.{every_more, every_stop}
 use Rattle.turning.specs.declared.ways.Way.{Way}
 use Rattle.turning.specs.Ways.{flipped, moved}
 use Rattle.turning.specs.Listing.{agrees, turns}
@@ -19,18 +19,18 @@ seen : (w : Way) (f g x : ℕ) {y : ℕ} {a b d r : Bool}
     → y ≡ moved w x → a ≡ bit f y → b ≡ flipped w.flip a → d ≡ bit g x → r ≡ beq d b → r ≡ agrees w f g x
 seen w f g x p q r s t = t ∙ ap₂ beq s (r ∙ ap (flipped w.flip) (q ∙ ap (bit f) p))
 
-abbrev invariant-loop : tie.invariant-loop
-invariant-loop w f g x₀ x = (x ≤ 8) × (every x (agrees w f g) ≡ true)
+abbrev invariant_loop : tie.invariant_loop
+invariant_loop w f g x₀ x = (x ≤ 8) × (every x (agrees w f g) ≡ true)
 
-abbrev decreases-loop : tie.decreases-loop
-decreases-loop w f g x₀ x = 8 - x
+abbrev decreases_loop : tie.decreases_loop
+decreases_loop w f g x₀ x = 8 - x
 
-bit-of-requires : tie.Need-bit-of-requires invariant-loop decreases-loop
-bit-of-requires c κs =
+bit-of_requires : tie.Need-bit-of-requires invariant_loop decreases_loop
+bit-of_requires c κs =
     let q = c.before.before in
     omega (arith, c.moved_to.ensures, moved-lt q.before.args.w q.loop.x)
 
-looked : (c : tie.After-same invariant-loop decreases-loop)
+looked : (c : tie.After-same invariant_loop decreases_loop)
     → let q = c.before.before.before.before.before.before in
     let a = q.before.args in c.same.result ≡ agrees a.w a.f a.g q.loop.x
 looked c =
@@ -43,33 +43,33 @@ looked c =
     seen t.w t.f t.g q.loop.x y.moved_to.ensures a.bit-of.ensures b.flip-if.ensures
     d.bit-of2.ensures c.same.ensures
 
-returns : tie.Need-returns invariant-loop decreases-loop
+returns : tie.Need-returns invariant_loop decreases_loop
 unfolding turns
 returns c =
     let s = c.before in
     let q = s.before.before.before.before.before.before in
     let a = q.before.args in
-    sym (every-stop 8 (agrees a.w a.f a.g) q.loop.x (omega arith)
+    sym (every_stop 8 (agrees a.w a.f a.g) q.loop.x (omega arith)
     (sym (looked s) ∙ not-true _ c.if1.true))
 
-loop-again : tie.Need-loop-preserved invariant-loop decreases-loop
-loop-again c =
+loop_again : tie.Need-loop-preserved invariant_loop decreases_loop
+loop_again c =
     let s = c.before in
     let q = s.before.before.before.before.before.before in
     let a = q.before.args in
     let m = every_more q.loop.x (agrees a.w a.f a.g) q.loop.invariant.1 in
     (omega arith, m (sym (looked s) ∙ not-false _ c.if1.false))
 
-returns-2 : tie.Need-returns-2 invariant-loop decreases-loop
+returns_2 : tie.Need-returns-2 invariant_loop decreases_loop
 unfolding turns
-returns-2 c =
+returns_2 c =
     let q = c.before in
     let a = q.before.args in
     let z : q.loop.x ≡ 8 = omega arith in
     sym q.loop.invariant.1 ∙ ap (λ (k : ℕ). every k (agrees a.w a.f a.g)) z
 
-pub does-turn-spec : {M : Type 1} → statement M
-does-turn-spec =
-    tie.close (tie.spec invariant-loop decreases-loop (λ c. (omega arith, refl)) (λ c κs. search rules) bit-of-requires
+pub does_turn_spec : {M : Type 1} → statement M
+does_turn_spec =
+    tie.close (tie.spec invariant_loop decreases_loop (λ c. (omega arith, refl)) (λ c κs. search rules) bit-of_requires
     (λ c κs. search rules) (λ c κs. search rules) (λ c κs. search rules) returns (λ c. search rules) (λ c. search rules)
-    loop-again returns-2)
+    loop_again returns_2)

@@ -10,20 +10,20 @@ use Rattle.unread.proofs.ReadMasks.{Named, named_none, named_more}
 use Rattle.unread.proofs.reading.also_read.Statement.{statement}
 use Rattle.unread.proofs.reading.also_read.Tie as tie
 
-abbrev invariant-loop : tie.invariant-loop
-invariant-loop b w k read₀ j₀ read j = (j ≤ byte_at b 0) × (read ≡ Named (byte_at b) w j)
+abbrev invariant_loop : tie.invariant_loop
+invariant_loop b w k read₀ j₀ read j = (j ≤ byte_at b 0) × (read ≡ Named (byte_at b) w j)
 
-abbrev decreases-loop : tie.decreases-loop
-decreases-loop b w k read₀ j₀ read j = byte_at b 0 - j
+abbrev decreases_loop : tie.decreases_loop
+decreases_loop b w k read₀ j₀ read j = byte_at b 0 - j
 
-loop-holds : tie.Need-loop-init invariant-loop decreases-loop
-loop-holds c = let a = c.before.args in (omega arith, named_none (byte_at a.b.now) a.w (omega arith))
+loop_holds : tie.Need-loop-init invariant_loop decreases_loop
+loop_holds c = let a = c.before.args in (omega arith, named_none (byte_at a.b.now) a.w (omega arith))
 
-shl-read : tie.Need-overflow-shl-read invariant-loop decreases-loop
-shl-read c = c.before.before.before.before.requires.1 c.before.before.loop.j (omega arith)
+shl_read : tie.Need-overflow-shl-read invariant_loop decreases_loop
+shl_read c = c.before.before.before.before.requires.1 c.before.before.loop.j (omega arith)
 
-loop-again : tie.Need-loop-preserved invariant-loop decreases-loop
-loop-again c =
+loop_again : tie.Need-loop-preserved invariant_loop decreases_loop
+loop_again c =
     let q = c.before.before in
     let t = q.before.before in
     let b = byte_at t.args.b.now in
@@ -33,14 +33,14 @@ loop-again c =
           ∙ named_more b t.args.w q.loop.j below,
     )
 
-returns : tie.Need-returns invariant-loop decreases-loop
+returns : tie.Need-returns invariant_loop decreases_loop
 returns c =
     let q = c.before in
     let a = q.before.before.args in
     let f : q.loop.j ≡ byte_at a.b.now 0 = omega arith in
     q.loop.invariant.1 ∙ ap (Named (byte_at a.b.now) a.w) f
 
-pub also-read-spec : {M : Type 1} → statement M
-also-read-spec =
-    tie.close (tie.spec invariant-loop decreases-loop (λ c. search rules) (λ c. search rules) loop-holds (λ c. search rules)
-    (λ c. search rules) (λ c. omega (arith, shl-read c)) shl-read (λ c. search rules) loop-again returns)
+pub also_read_spec : {M : Type 1} → statement M
+also_read_spec =
+    tie.close (tie.spec invariant_loop decreases_loop (λ c. search rules) (λ c. search rules) loop_holds (λ c. search rules)
+    (λ c. search rules) (λ c. omega (arith, shl_read c)) shl_read (λ c. search rules) loop_again returns)

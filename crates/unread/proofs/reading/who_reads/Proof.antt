@@ -9,69 +9,69 @@ use lib.ListN.{length}
 use borrow.Author.Rules.{rules}
 use Rattle.bits.proofs.Least.{LeastFrom, from_end, from_all}
 use Rattle.sheets.specs.Record.{byte_at}
-use Rattle.sheets.specs.Sheet.{cellsFrom}
-use Rattle.sheets.specs.Reading.{unread, alsoRead}
-use Rattle.sheets.proofs.Places.{record-within}
-use Rattle.unread.specs.ReadMasks.{readMask}
-use Rattle.unread.proofs.ReadMasks.{mask-last, mask-more, found_here, found-later, record-named}
+use Rattle.sheets.specs.Sheet.{cells_from}
+use Rattle.sheets.specs.Reading.{unread, also_read}
+use Rattle.sheets.proofs.Places.{record_within}
+use Rattle.unread.specs.ReadMasks.{read_mask}
+use Rattle.unread.proofs.ReadMasks.{mask_last, mask_more, found_here, found_later, record_named}
 use Rattle.unread.proofs.reading.who_reads.Statement.{statement}
 use Rattle.unread.proofs.reading.who_reads.Tie as tie
 
-abbrev invariant-loop : tie.invariant-loop
-invariant-loop e n s m i₀ first₀ read₀ i first read =
-    (i < m) × (read ≡ readMask (cellsFrom e s i (m - i))) × LeastFrom i (m - 1) (unread e n s m) first
+abbrev invariant_loop : tie.invariant_loop
+invariant_loop e n s m i₀ first₀ read₀ i first read =
+    (i < m) × (read ≡ read_mask (cells_from e s i (m - i))) × LeastFrom i (m - 1) (unread e n s m) first
 
-abbrev decreases-loop : tie.decreases-loop
-decreases-loop e n s m i₀ first₀ read₀ i first read = i
+abbrev decreases_loop : tie.decreases_loop
+decreases_loop e n s m i₀ first₀ read₀ i first read = i
 
-record-of-requires : tie.Need-record-of-requires invariant-loop decreases-loop
-record-of-requires c κs =
+record_of_requires : tie.Need-record-of-requires invariant_loop decreases_loop
+record_of_requires c κs =
     let t = c.before in
     let a = t.args in (
       t.requires.0.0,
       omega arith,
-      record-within a.e.size (a.m - 1) a.m (length a.s.now) (omega arith)
+      record_within a.e.size (a.m - 1) a.m (length a.s.now) (omega arith)
           t.requires.0.3,
     )
 
-also-read-requires : tie.Need-also-read-requires invariant-loop decreases-loop
-also-read-requires c κs =
+also_read_requires : tie.Need-also-read-requires invariant_loop decreases_loop
+also_read_requires c κs =
     let t = c.before.before in
     let a = t.args in
-    record-named a.e t.requires.0.0 a.s.now a.m (a.m - 1) c.record_of.result.now (omega arith)
+    record_named a.e t.requires.0.0 a.s.now a.m (a.m - 1) c.record_of.result.now (omega arith)
     t.requires.0.3 t.requires.0.4 c.record_of.ensures
 
-loop-holds : tie.Need-loop-init invariant-loop decreases-loop
-loop-holds c =
+loop_holds : tie.Need-loop-init invariant_loop decreases_loop
+loop_holds c =
     let r = c.before in
     let a = r.before.before.args in (
       omega arith,
-      c.also-read.ensures ∙ ap (λ (b : List ℕ). alsoRead (byte_at b) 0) r.record_of.ensures
-          ∙ mask-last a.e a.s.now a.m (omega arith),
+      c.also-read.ensures ∙ ap (λ (b : List ℕ). also_read (byte_at b) 0) r.record_of.ensures
+          ∙ mask_last a.e a.s.now a.m (omega arith),
       from_end (a.m - 1) (unread a.e a.n a.s.now a.m),
     )
 
-record-of-requires-2 : tie.Need-record-of-requires-2 invariant-loop decreases-loop
-record-of-requires-2 c κs =
+record_of_requires_2 : tie.Need-record-of-requires-2 invariant_loop decreases_loop
+record_of_requires_2 c κs =
     let q = c.before.before in
     let t = q.before.before.before.before in
     let a = t.args in (
       t.requires.0.0,
       omega arith,
-      record-within a.e.size (q.loop.i - 1) a.m (length a.s.now) (omega arith)
+      record_within a.e.size (q.loop.i - 1) a.m (length a.s.now) (omega arith)
           t.requires.0.3,
     )
 
-also-read-requires-2 : tie.Need-also-read-requires-2 invariant-loop decreases-loop
-also-read-requires-2 c κs =
+also_read_requires_2 : tie.Need-also-read-requires-2 invariant_loop decreases_loop
+also_read_requires_2 c κs =
     let q = c.before.before.before in
     let t = q.before.before.before.before in
     let a = t.args in
-    record-named a.e t.requires.0.0 a.s.now a.m (q.loop.i - 1) c.record-of2.result.now (omega arith)
+    record_named a.e t.requires.0.0 a.s.now a.m (q.loop.i - 1) c.record-of2.result.now (omega arith)
     t.requires.0.3 t.requires.0.4 c.record-of2.ensures
 
-loop-again : tie.Need-loop-preserved invariant-loop decreases-loop
-loop-again c =
+loop_again : tie.Need-loop-preserved invariant_loop decreases_loop
+loop_again c =
     let f = c.before.before in
     let q = f.before.before in
     let t = q.before.before.before.before in
@@ -80,19 +80,19 @@ loop-again c =
     let w = q.loop.read in
     let p = unread a.e a.n a.s.now a.m in (
       omega arith,
-      c.also-read2.ensures ∙ ap (λ (b : List ℕ). alsoRead (byte_at b) w) c.before.record-of2.ensures
-          ∙ mask-more a.e a.s.now i a.m w (omega arith) (omega arith) q.loop.invariant.1,
+      c.also-read2.ensures ∙ ap (λ (b : List ℕ). also_read (byte_at b) w) c.before.record-of2.ensures
+          ∙ mask_more a.e a.s.now i a.m w (omega arith) (omega arith) q.loop.invariant.1,
       ⊎_elim
           (λ u. subst (λ (g : ℕ). LeastFrom (i - 1) (a.m - 1) p g) (sym u.1)
           (found_here a.e a.s.now a.n a.m i w q.loop.first (omega arith) (omega arith) (omega arith)
           q.loop.invariant.1 u.0.taken))
           (λ u. subst (λ (g : ℕ). LeastFrom (i - 1) (a.m - 1) p g) (sym u.1)
-          (found-later a.e a.s.now a.n a.m i w q.loop.first (omega arith) (omega arith) (omega arith)
+          (found_later a.e a.s.now a.n a.m i w q.loop.first (omega arith) (omega arith) (omega arith)
           q.loop.invariant.1 u.0.left q.loop.invariant.2))
           f.if1.branch,
     )
 
-returns : tie.Need-returns invariant-loop decreases-loop
+returns : tie.Need-returns invariant_loop decreases_loop
 returns c =
     let q = c.before in
     let a = q.before.before.before.before.args in
@@ -102,11 +102,11 @@ returns c =
     (from_all (a.m - 1) (unread a.e a.n a.s.now a.m) q.loop.first
     (subst (λ (i : ℕ). LeastFrom i (a.m - 1) (unread a.e a.n a.s.now a.m) q.loop.first) z
     q.loop.invariant.2))
-    (q.loop.invariant.1 ∙ ap (λ (i : ℕ). readMask (cellsFrom a.e a.s.now i (a.m - i))) z
-    ∙ ap (λ (k : ℕ). readMask (cellsFrom a.e a.s.now 0 k)) all)
+    (q.loop.invariant.1 ∙ ap (λ (i : ℕ). read_mask (cells_from a.e a.s.now i (a.m - i))) z
+    ∙ ap (λ (k : ℕ). read_mask (cells_from a.e a.s.now 0 k)) all)
 
-pub who-reads-spec : {M : Type 1} → statement M
-who-reads-spec =
-    tie.close (tie.spec invariant-loop decreases-loop (λ c. search rules) record-of-requires also-read-requires loop-holds
-    (λ c. search rules) (λ c. search rules) (λ c. search rules) (λ c. search rules) record-of-requires-2
-    also-read-requires-2 (λ c. search rules) loop-again returns)
+pub who_reads_spec : {M : Type 1} → statement M
+who_reads_spec =
+    tie.close (tie.spec invariant_loop decreases_loop (λ c. search rules) record_of_requires also_read_requires loop_holds
+    (λ c. search rules) (λ c. search rules) (λ c. search rules) (λ c. search rules) record_of_requires_2
+    also_read_requires_2 (λ c. search rules) loop_again returns)

@@ -1,12 +1,12 @@
 -- `word_in` meets its contract. Assumes nothing.
 use borrow.Author.Rules.{rules}
-use Rattle.values.proofs.Bitwise.{word-last}
+use Rattle.values.proofs.Bitwise.{word_last}
 use Rattle.values.proofs.stretches.word_in.Statement.{statement}
 use Rattle.values.proofs.stretches.word_in.Tie as tie
 
-returns-4 : tie.Need-returns-4
-returns-4 c = let a = c.before.before.before.args
-    in word-last a.v a.k c.before.before.if1.false c.before.if2.false c.if3.false
+returns_4 : tie.Need-returns-4
+returns_4 c = let a = c.before.before.before.args
+    in word_last a.v a.k c.before.before.if1.false c.before.if2.false c.if3.false
 
-pub word-in-spec : {M : Type 1} → statement M
-word-in-spec = tie.close (tie.spec (λ c. search rules) (λ c. search rules) (λ c. search rules) returns-4)
+pub word_in_spec : {M : Type 1} → statement M
+word_in_spec = tie.close (tie.spec (λ c. search rules) (λ c. search rules) (λ c. search rules) returns_4)

@@ -12,8 +12,8 @@ use Rattle.values.proofs.tallies.always_if.Tie as tie
 returns : tie.Need-returns
 returns c = c.same.ensures ∙ ap alike (omega (arith, all_ones 64)) ∙ ap always (sym c.before.if1.true)
 
-returns-2 : tie.Need-returns-2
-returns-2 c = c.same2.ensures ∙ ap alike (sym (none-zero 64)) ∙ ap always (sym c.before.if1.false)
+returns_2 : tie.Need-returns-2
+returns_2 c = c.same2.ensures ∙ ap alike (sym (none-zero 64)) ∙ ap always (sym c.before.if1.false)
 
-pub always-if-spec : {M : Type 1} → statement M
-always-if-spec = tie.close (tie.spec (λ c κs. search rules) returns (λ c κs. search rules) returns-2)
+pub always_if_spec : {M : Type 1} → statement M
+always_if_spec = tie.close (tie.spec (λ c κs. search rules) returns (λ c κs. search rules) returns_2)

@@ -20,8 +20,8 @@ returns c =
       d.before.before.before.both.ensures,
     )
 
-pub raise-spec : {M : Type 1} → statement M
-raise-spec =
+pub raise_spec : {M : Type 1} → statement M
+raise_spec =
     tie.close (tie.spec (λ c κs. search rules) (λ c κs. search rules) (λ c κs. search rules) (λ c κs. search rules)
     (λ c κs. search rules) (λ c κs. search rules) (λ c κs. search rules) (λ c κs. search rules) (λ c κs. search rules)
     returns)

@@ -14,7 +14,7 @@ returns c = rw (
   div-one,
 )
 
-pub short-by-spec : {M : Type 1} → statement M
-short-by-spec =
+pub short_by_spec : {M : Type 1} → statement M
+short_by_spec =
     tie.close (tie.spec (λ c. search rules) (λ c κs. search rules) (λ c κs. search rules) (λ c κs. search rules)
     (λ c κs. search rules) (λ c κs. search rules) returns)

@@ -5,17 +5,17 @@ use native.Mathlib.Omega.{arith}
 use borrow.Author.Rules.{rules}
 use Rattle.bits.specs.Numbers.{bit, number}
 use Rattle.bits.specs.Sets.{rest, Apart}
-use Rattle.bits.proofs.Masks.{mask-most}
+use Rattle.bits.proofs.Masks.{mask_most}
 use Rattle.bits.proofs.Machine.{shl_one}
 use Rattle.bits.proofs.Numbers.{number_lt}
-use Rattle.tables.specs.Table.{mostInputs}
-use Rattle.columns.specs.Reading.{highPart, lowPlaces}
+use Rattle.tables.specs.Table.{most_inputs}
+use Rattle.columns.specs.Reading.{high_part, low_places}
 use Rattle.splits.proofs.Parts.{rest_sum}
 use Rattle.columns.proofs.split.Split.of.Statement.{statement}
 use Rattle.columns.proofs.split.Split.of.Tie as tie
 
 -- 2 ^ n - 1 - own - shared, at a width of 32 bits
-module _ (n own shared : ℕ) (pre : (n ≤ mostInputs) × (own < 2 ^ n) × (shared < 2 ^ n) × Apart n (bit own) (bit shared))
+module _ (n own shared : ℕ) (pre : (n ≤ most_inputs) × (own < 2 ^ n) × (shared < 2 ^ n) × Apart n (bit own) (bit shared))
   where
     sum : number n (rest (bit own) (bit shared)) + own + shared + 1 ≡ 1 * 2 ^ n % 4294967296
     sum = rest_sum n own shared pre.1 pre.2 pre.3 ∙ sym (shl_one 32 n (omega arith))
@@ -26,18 +26,18 @@ module _ (n own shared : ℕ) (pre : (n ≤ mostInputs) × (own < 2 ^ n) × (sha
     left_lt : 1 * 2 ^ n % 4294967296 - 1 - own - shared < 2 ^ n
     left_lt = subst (λ (m : ℕ). m < 2 ^ n) (sym left_is) (number_lt n (rest (bit own) (bit shared)))
 
-    high_lt : highPart (1 * 2 ^ n % 4294967296 - 1 - own - shared) < 2 ^ n
+    high_lt : high_part (1 * 2 ^ n % 4294967296 - 1 - own - shared) < 2 ^ n
     high_lt = omega (arith, left_lt)
 
 returns : tie.Need-returns
-unfolding lowPlaces
+unfolding low_places
 returns c =
     let p = c.before.before.requires in
     let a = c.before.before.args in (
       record {
         most = p.0;
-        belowA = p.1;
-        belowB = p.2;
+        below_a = p.1;
+        below_b = p.2;
         apart = p.3;
         free = left_is a.n a.own a.shared p;
         words = c.before.parts.ensures.0;
@@ -54,7 +54,7 @@ of_spec =
     (λ c. omega (arith, sum c.args.n c.args.own c.args.shared c.requires))
     (λ c. omega (arith, sum c.args.n c.args.own c.args.shared c.requires))
     (λ c. omega (arith, sum c.args.n c.args.own c.args.shared c.requires))
-    (λ c. omega (arith, left_lt c.args.n c.args.own c.args.shared c.requires, mask-most c.requires.0))
-    (λ c. omega (arith, high_lt c.args.n c.args.own c.args.shared c.requires, mask-most c.requires.0))
+    (λ c. omega (arith, left_lt c.args.n c.args.own c.args.shared c.requires, mask_most c.requires.0))
+    (λ c. omega (arith, high_lt c.args.n c.args.own c.args.shared c.requires, mask_most c.requires.0))
     (λ c κs. (c.requires.0, high_lt c.args.n c.args.own c.args.shared c.requires)) (λ c κs. search rules)
     returns)

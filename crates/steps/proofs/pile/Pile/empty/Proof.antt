@@ -13,5 +13,5 @@ returns c = record {
   held = λ h. c.empty.ensures.1;
 }
 
-pub empty-spec : {M : Type 1} → statement M
-empty-spec = tie.close (tie.spec (λ c κs. search rules) returns)
+pub empty_spec : {M : Type 1} → statement M
+empty_spec = tie.close (tie.spec (λ c κs. search rules) returns)

@@ -8,8 +8,8 @@ use lib.Dec.{eqb}
 use lib.ListN.{get_or}
 use borrow.Author.Tests.{eqb-true}
 use Rattle.bits.specs.Below.{every}
-use Rattle.bits.proofs.Below.{every-at}
-use Rattle.tables.specs.Table.{mostInputs}
+use Rattle.bits.proofs.Below.{every_at}
+use Rattle.tables.specs.Table.{most_inputs}
 use Rattle.bits.proofs.Lists.{list_ext}
 use Rattle.steps.proofs.signals.Signals.inputs.Statement.{statement}
 use Rattle.steps.proofs.signals.Signals.inputs.Tie as tie
@@ -17,7 +17,7 @@ use Rattle.steps.proofs.signals.Signals.inputs.Tie as tie
 places : List ℕ
 places = 0 ∷ 1 ∷ 2 ∷ 3 ∷ 4 ∷ 5 ∷ 6 ∷ 7 ∷ 8 ∷ 9 ∷ 10 ∷ 11 ∷ 12 ∷ 13 ∷ 14 ∷ 15 ∷ []
 
-rule : every mostInputs (λ j. eqb (get_or places j 0) j) ≡ true
+rule : every most_inputs (λ j. eqb (get_or places j 0) j) ≡ true
 unfolding places
 rule = refl
 
@@ -26,10 +26,10 @@ unfolding places
 returns c = (
   record { places = refl; few = c.requires },
   list_ext c.args.n (λ j. get_or places j 0) (λ j. j)
-      (λ j l. eqb-true (get_or places j 0) j (every-at mostInputs (λ j. eqb (get_or places j 0) j) rule j
+      (λ j l. eqb-true (get_or places j 0) j (every_at most_inputs (λ j. eqb (get_or places j 0) j) rule j
       (omega (arith, c.requires)))),
   refl,
 )
 
-pub inputs-spec : {M : Type 1} → statement M
-inputs-spec = tie.close (tie.spec returns)
+pub inputs_spec : {M : Type 1} → statement M
+inputs_spec = tie.close (tie.spec returns)

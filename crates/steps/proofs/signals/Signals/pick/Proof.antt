@@ -10,7 +10,7 @@ use lib.ListN.{length, get_or, set, length-set}
 use borrow.Author.Rules.{rules}
 use Rattle.bits.specs.Numbers.{bit}
 use Rattle.bits.proofs.Machine.{bit-set, bit-clear}
-use Rattle.tables.specs.Table.{mostInputs}
+use Rattle.tables.specs.Table.{most_inputs}
 use Rattle.bits.specs.Lists.{list_of}
 use Rattle.bits.proofs.Lists.{list_set, list_at}
 use Rattle.chains.specs.Chain.{pick}
@@ -36,26 +36,26 @@ pick_takes j m s from at count l h e ih =
     ∙ ap₂ (λ (y : List ℕ) (x : ℕ). y ++ (x ∷ [])) ih (sym (list_at count (λ i. get_or from i 0) j 0 l))
     ∙ sym (pick_more j s (first count from) true e)
 
-abbrev invariant-loop : tie.invariant-loop
-invariant-loop set from count at₀ m₀ j₀ at m j = (first m at ≡ pick j (bit set) (first count from)) × (m ≤ j) × (j ≤ count)
-    × (count ≤ mostInputs)
-    × (length at ≡ mostInputs) × (length from ≡ mostInputs)
+abbrev invariant_loop : tie.invariant_loop
+invariant_loop set from count at₀ m₀ j₀ at m j = (first m at ≡ pick j (bit set) (first count from)) × (m ≤ j) × (j ≤ count)
+    × (count ≤ most_inputs)
+    × (length at ≡ most_inputs) × (length from ≡ most_inputs)
 
-abbrev decreases-loop : tie.decreases-loop
-decreases-loop set from count at₀ m₀ j₀ at m j = count - j
+abbrev decreases_loop : tie.decreases_loop
+decreases_loop set from count at₀ m₀ j₀ at m j = count - j
 
-loop-holds : tie.Need-loop-init invariant-loop decreases-loop
+loop_holds : tie.Need-loop-init invariant_loop decreases_loop
 unfolding list_of pick
-loop-holds c = (refl, omega arith, omega arith, c.before.requires.few, refl, c.before.requires.places)
+loop_holds c = (refl, omega arith, omega arith, c.before.requires.few, refl, c.before.requires.places)
 
-array-read-at : tie.Need-array-read-at invariant-loop decreases-loop
-array-read-at c = let q = c.before.before.loop in omega (arith, q.invariant.3, c.before.loop-test.true)
+array_read_at : tie.Need-array-read-at invariant_loop decreases_loop
+array_read_at c = let q = c.before.before.loop in omega (arith, q.invariant.3, c.before.loop-test.true)
 
-array-write-at : tie.Need-array-write-at invariant-loop decreases-loop
-array-write-at c = let q = c.before.before.loop in omega (arith, q.invariant.1, q.invariant.3, c.before.loop-test.true)
+array_write_at : tie.Need-array-write-at invariant_loop decreases_loop
+array_write_at c = let q = c.before.before.loop in omega (arith, q.invariant.1, q.invariant.3, c.before.loop-test.true)
 
-loop-again : tie.Need-loop-preserved invariant-loop decreases-loop
-loop-again c =
+loop_again : tie.Need-loop-preserved invariant_loop decreases_loop
+loop_again c =
     let w = c.before in
     let q = w.before.loop in
     let a = w.before.before.before.args in
@@ -84,7 +84,7 @@ loop-again c =
     ))
     c.if1.branch
 
-returns : tie.Need-returns invariant-loop decreases-loop
+returns : tie.Need-returns invariant_loop decreases_loop
 returns c =
     let q = c.before.loop in
     let a = c.before.before.before.args in
@@ -96,5 +96,5 @@ returns c =
 
 pub pick_spec : {M : Type 1} → statement M
 pick_spec =
-    tie.close (tie.spec invariant-loop decreases-loop loop-holds (λ c. search rules) (λ c. search rules) array-read-at array-write-at
-    (λ c. search rules) (λ c. search rules) (λ c. search rules) loop-again returns)
+    tie.close (tie.spec invariant_loop decreases_loop loop_holds (λ c. search rules) (λ c. search rules) array_read_at array_write_at
+    (λ c. search rules) (λ c. search rules) (λ c. search rules) loop_again returns)
