@@ -1,0 +1,37 @@
+-- `bound_cells` meets its contract: what n and the edition refuse, else the bound in that edition. Assumes nothing.
+use mathlib.Core.Path.{refl, sym, ap, ◌∙◌, subst}
+use mathlib.Core.List.{List}
+use Prim.Native.Nat.{ℕ}
+use Rattle.sheets.specs.declared.kinds.Edition.{Edition}
+use Rattle.sheets.specs.Edition.{IsEdition, edition_of}
+use Rattle.sheets.proofs.Keeping.{is_edition}
+use Rattle.refusals.specs.declared.verdicts.Verdict.{Verdict}
+use Rattle.refusals.specs.Refusals.{told_form}
+use Rattle.refusals.proofs.Lines.{left_to}
+use Rattle.refusals.proofs.Refusing.{form_refuses}
+use Rattle.finding.specs.FindBest.{find_form}
+use Rattle.bounds.specs.BoundCells.{bound_done, bound_not, bound_in, bound_outcome}
+use Rattle.bounds.proofs.bound_cells.bound_cells.Goals as goal
+
+pub returns-in_default : goal.returns-in_default
+unfolding bound_outcome
+returns-in_default c =
+    let a = c.args in
+    form_refuses (told_form a.w a.n) (find_form (edition_of a.w) a.n a.k a.t.now a.work.now)
+    (bound_done a.n a.k a.t.now a.work.now) (λ (v : Verdict) (l : List ℕ). record {
+      answer = record { verdict = v; least = 0 };
+      work = l;
+    }) a.work.now refl c.told-told.result c.in_default.field-0 c.told-told.ensures c.in_default.is
+
+pub bound_in-requires : goal.bound_in-requires
+bound_in-requires c = subst IsEdition (sym c.numbered.ensures) (is_edition _)
+
+pub returns : goal.returns
+unfolding bound_outcome
+returns c =
+    let a = c.args in
+    c.bound_in.ensures ∙ ap (λ (c.before.before.before.before.before : Edition). bound_in c.before.before.before.before.before a.n a.k a.t.now a.work.now)
+    c.numbered.ensures
+    ∙ left_to (told_form a.w a.n) (find_form (edition_of a.w) a.n a.k a.t.now a.work.now)
+    (bound_done a.n a.k a.t.now a.work.now)
+    (bound_not a.work.now) c.told-told.result c.told-told.ensures c.in-Fine.is

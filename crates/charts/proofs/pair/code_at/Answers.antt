@@ -1,0 +1,79 @@
+-- The column is looked for in its shared assignment's row of the chart. Assumes nothing.
+use mathlib.Core.Path.{◌≡◌, refl, ap}
+use Prim.Native.Nat.{ℕ, ◌+◌, ◌-◌, ◌*◌, ◌≤◌}
+use native.Mathlib.Omega.{arith}
+use lib.Bits.{bit_and}
+use lib.ListN.{length}
+use Rattle.tables.specs.Table.{table_bit}
+use Rattle.columns.specs.Reading.{shared_part}
+use Rattle.charts.proofs.Codes.{base-le, base_within, own_within, row_there, row_length, row_own, code_found}
+use Rattle.charts.proofs.pair.code_at.Lts as lts
+use Rattle.charts.proofs.pair.code_at.Reads as reads
+use Rattle.charts.proofs.pair.code_at.Tie as tie
+use Rattle.charts.proofs.pair.code_at.Goals as goal
+
+module _ (c : lts.After-gather_in tie.the-claims reads.Pre reads.Post) where
+  abbrev g : lts.Start tie.the-claims reads.Pre reads.Post
+  g = c.before.before.before.before
+
+  abbrev base : ℕ
+  base = bit_and g.args.x g.args.s.shared
+
+  abbrev from : ℕ
+  from = c.gather_in.result * g.args.limit
+
+  start : from ≡ shared_part g.args.s g.args.x * g.args.limit
+  start = ap (λ (b : ℕ). b * g.args.limit) c.gather_in.ensures.0
+
+  there : from + g.args.limit ≤ length g.args.seen.now
+  there =
+      row_there g.args.s g.requires.held.0 (table_bit g.args.t.now) g.args.x base g.requires.held.1 refl
+      g.requires.chart from g.args.limit start refl
+
+pub overflow_sub-x : goal.overflow_sub-x
+overflow_sub-x c =
+    base-le (g c.before).args.s (g c.before).requires.held.0 (table_bit (g c.before).args.t.now) (g c.before).args.x (base c.before)
+    (g c.before).requires.held.1 refl
+
+pub place-requires : goal.place-requires
+place-requires c =
+    let a = (g c.before.before).args in
+    let p = (g c.before.before).requires.held in
+    let F = table_bit a.t.now in
+    let m = from c.before.before + a.limit - from c.before.before in record {
+      held = (
+        p.0,
+        base_within a.s p.0 F a.x (base c.before.before) p.1 refl,
+        own_within a.s p.0 F a.x (base c.before.before) p.1
+            refl,
+      );
+      n_bound = p.2;
+      k_in_bounds = (
+        omega (
+          arith,
+          row_length a.s p.0 F a.x (base c.before.before) p.1 refl (g c.before.before).requires.chart (from c.before.before) m (start c.before.before)
+              (omega arith),
+        ),
+        row_own a.s p.0 F a.x (base c.before.before) p.1 refl (g c.before.before).requires.chart (from c.before.before) m (start c.before.before) (omega arith),
+      );
+    }
+
+pub returns : goal.returns
+returns c =
+    let a = (g c.before.before.before).args in
+    let p = (g c.before.before.before).requires.held in
+    code_found a.s p.0 (table_bit a.t.now) a.x (base c.before.before.before) p.1 refl (g c.before.before.before).requires.chart (from c.before.before.before)
+    (from c.before.before.before + a.limit - from c.before.before.before) (start c.before.before.before) (omega arith)
+    (g c.before.before.before).requires.limit_value _ c.place.ensures
+
+pub overflow_mul-from : goal.overflow_mul-from
+overflow_mul-from c = omega (arith, there c.before)
+
+pub overflow_add-end : goal.overflow_add-end
+overflow_add-end c = omega (arith, there c.before)
+
+pub offset_bounds-seen-from : goal.offset_bounds-seen-from
+offset_bounds-seen-from c = omega (arith, there c.before)
+
+pub slice_bounds-place-end : goal.slice_bounds-place-end
+slice_bounds-place-end c = omega (arith, there c.before)

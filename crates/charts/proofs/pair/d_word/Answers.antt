@@ -1,0 +1,142 @@
+-- The loop keeps the first i bits of the word. Assumes nothing.
+use mathlib.Core.Path.{◌≡◌, refl, sym, ap, ◌∙◌, subst}
+use mathlib.Core.Bool.{Bool}
+use Prim.Native.Nat.{ℕ, ◌+◌, ◌*◌, ◌^◌, ◌<◌}
+use native.Mathlib.Omega.{arith}
+use Rattle.bits.specs.Numbers.{bit, number}
+use Rattle.bits.specs.Sets.{size, gather, spread}
+use Rattle.bits.proofs.Building.{bool_digit, summed_fits, summed}
+use Rattle.bits.proofs.Masks.{mask_most, mask_lt, mask_size, mask_spread, mask_gather}
+use Rattle.bits.proofs.Walking.{Walked, walked_none, walked_more, walked_lt, walked_gather}
+use Rattle.tables.proofs.Digits.{cut_none, part-word}
+use Rattle.columns.specs.declared.split.Split.{Split}
+use Rattle.splits.specs.Split.{reads_d}
+use Rattle.columns.specs.Reading.{Held}
+use Rattle.columns.proofs.Reading.{below_mask}
+use Rattle.charts.proofs.pair.d_word.Invariants.{M, D}
+use Rattle.charts.proofs.pair.d_word.Lts as lts
+use Rattle.charts.proofs.pair.d_word.Reads as reads
+use Rattle.charts.proofs.pair.d_word.Tie as tie
+use Rattle.charts.proofs.pair.d_word.Goals as goal
+
+-- what the first cells read, as a set and as a mask, and the bit of one at v
+abbrev S : Split → ℕ → Bool
+S s = reads_d (bit s.own) (bit s.shared)
+
+-- the mask stands for the set
+module _ (s : Split) (h : Held s) where
+  below : M s < 2 ^ s.n
+  below = mask_lt s.n (S s) (M s) (below_mask s h)
+
+  all : {many : ℕ} → many ≡ 2 ^ size s.n (bit (M s)) → many ≡ 2 ^ size s.n (S s)
+  all e = e ∙ ap (λ (k : ℕ). 2 ^ k) (mask_size s.n (S s) (M s) (below_mask s h))
+
+  module _ {many x v : ℕ} (w : Walked s.n (M s) many x v) (l : v < many) where
+    read : gather s.n (S s) x ≡ v
+    read = sym (mask_gather s.n (S s) (M s) (below_mask s h) x) ∙ walked_gather w l
+
+    itself : x ≡ spread s.n (S s) (gather s.n (S s) x)
+    itself = w.at ∙ mask_spread s.n (S s) (M s) (below_mask s h) v ∙ ap (spread s.n (S s)) (sym read)
+
+pub returns-then-many-from : goal.returns-then-many-from
+returns-then-many-from c =
+    let a = c.args in
+    sym (cut_none (2 ^ size a.s.n (S a.s)) (64 * a.w) 64 (D a.t.now a.s a.which)
+    (omega (arith, all a.s c.requires.held.0 c.parts-many.ensures.0, c.if-many-from.true)))
+
+pub loop-i-init : goal.loop-i-init
+unfolding number
+loop-i-init c =
+    let none = walked_none {m = M c.args.s} c.requires.held.0.most c.parts-many.ensures.0 in
+    let e : 64 * c.args.w ≡ 64 * c.args.w + 0 = omega arith in (
+      refl,
+      record {
+        all = none.all;
+        few = none.few;
+        upto = omega (arith, c.if-many-from.false);
+        at = c.spread_out-x.ensures.0 ∙ ap (spread c.args.s.n (bit (M c.args.s))) e;
+      },
+      omega arith,
+      c.bits_left-here.ensures.0,
+      c.bits_left-here.ensures.1,
+    )
+
+-- bit i comes in
+module _ (c : lts.After-d_bit tie.the-claims reads.Pre reads.Post goal.the-invariant-loop-i goal.the-decreases-loop-i) where
+  abbrev g : lts.Start tie.the-claims reads.Pre reads.Post goal.the-invariant-loop-i goal.the-decreases-loop-i
+  g = c.before.before.before.before.before.before.before.before.before.before
+
+  abbrev f : ℕ → Bool
+  f j = D g.args.t.now g.args.s g.args.which (64 * g.args.w + j)
+
+  inside : 64 * g.args.w + c.loop-i.i
+      < c.parts-many.result
+  inside = let q = c.loop-i.invariant in omega (arith, q.4, c.loop-i-test.true)
+
+  gives : c.d_bit.result ≡ f c.loop-i.i
+  gives = c.d_bit.ensures ∙ ap (D g.args.t.now g.args.s g.args.which)
+      (read g.args.s g.requires.held.0 c.loop-i.invariant.1 inside)
+
+  turn : c.loop-i.i < 64
+  turn = let q = c.loop-i.invariant in omega (arith, q.3, c.loop-i-test.true)
+
+pub overflow_add-r : goal.overflow_add-r
+overflow_add-r c =
+    omega (arith, summed_fits 64 (f c.before) (turn c.before) c.loop-i.invariant.0 (bool_digit (gives c.before)))
+
+pub loop-i-preserved : goal.loop-i-preserved
+loop-i-preserved c =
+    let q = c.loop-i in
+    let a = (g c.before.before).args in
+    let e : 64 * a.w + q.i + 1 ≡ 64 * a.w + (q.i + 1) = omega arith in (
+      summed 64 (f c.before.before) (turn c.before.before) q.invariant.0 (bool_digit (gives c.before.before)),
+      subst (λ (v : ℕ). Walked a.s.n (M a.s) c.parts-many.result
+          c.next-x.result v) e
+          (walked_more q.invariant.1 (inside c.before.before) c.next-x.ensures.1),
+      omega (arith, c.loop-i-test.true),
+      q.invariant.3,
+      q.invariant.4,
+    )
+
+pub returns : goal.returns
+returns c =
+    let q = c.loop-i in
+    let a = c.args in
+    let k = size a.s.n (S a.s) in
+    let F = D a.t.now a.s a.which in
+    let many = all a.s c.requires.held.0 c.parts-many.ensures.0 in
+    let e : q.i ≡ c.bits_left-here.result = omega (arith, q.invariant.2, c.loop-i-test.false) in
+    q.invariant.0 ∙ ap (λ (m : ℕ). number m (λ j. F (64 * a.w + j))) e
+    ∙ part-word k a.w c.bits_left-here.result F c.bits_left-here.ensures.0
+    (omega (arith, many, c.bits_left-here.ensures.1))
+    (λ l. let r = c.bits_left-here.ensures.2 l in omega (arith, many))
+
+pub overflow_add-both : goal.overflow_add-both
+overflow_add-both c =
+    omega
+    (arith, below c.args.s c.requires.held.0, mask_most c.requires.held.0.most)
+
+pub parts-many-requires : goal.parts-many-requires
+parts-many-requires c = (c.requires.held.0.most, below c.args.s c.requires.held.0)
+
+pub overflow_mul-from : goal.overflow_mul-from
+overflow_mul-from c = omega (arith, c.requires.held.1)
+
+pub bits_left-here-requires : goal.bits_left-here-requires
+bits_left-here-requires c = omega (arith, c.if-many-from.false)
+
+pub spread_out-x-requires : goal.spread_out-x-requires
+spread_out-x-requires c = c.requires.held.0.most
+
+pub d_bit-requires : goal.d_bit-requires
+d_bit-requires c =
+    let q = c.loop-i.invariant in
+    let s = itself c.args.s c.requires.held.0 q.1 (omega (arith, q.4, c.loop-i-test.true)) in
+    ((c.requires.held.0, s, c.requires.held.2, c.requires.held.3), c.requires.1)
+
+pub overflow_shl-r : goal.overflow_shl-r
+overflow_shl-r c = let t = turn c.before in omega arith
+
+pub next-x-requires : goal.next-x-requires
+next-x-requires c =
+    ((g c.before).requires.held.0.most, below (g c.before).args.s (g c.before).requires.held.0, walked_lt c.loop-i.invariant.1)

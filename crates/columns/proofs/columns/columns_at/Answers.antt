@@ -1,0 +1,63 @@
+-- With room for the columns of all own assignments none is one too many. Assumes nothing.
+use mathlib.Core.Path.{◌≡◌, sym, ap, ◌∙◌, subst}
+use mathlib.Core.Bool.{Bool}
+use Prim.Native.Nat.{ℕ, ◌^◌, ◌≤◌}
+use native.Mathlib.Decide.{dec_lt}
+use native.Mathlib.Omega.{arith}
+use lib.Pow.{pow_mono}
+use lib.ListN.{length}
+use Rattle.bits.specs.Numbers.{bit}
+use Rattle.bits.specs.Sets.{size, gather}
+use Rattle.bits.proofs.Spreading.{gather-spread}
+use Rattle.tables.specs.Table.{table_bit}
+use Rattle.splits.specs.Columns.{most_own, columns, column}
+use Rattle.columns.specs.Reading.{Within, columns_of}
+use Rattle.columns.proofs.Reading.{within_spread}
+use Rattle.columns.proofs.Breaking.{firsts_most}
+use Rattle.columns.proofs.columns.columns_at.Goals as goal
+
+pub look_through-requires : goal.look_through-requires
+look_through-requires c =
+    let o = c.spread_out.ensures in
+    let p = c.requires in record {
+      held = (
+        p.0.0,
+        subst (Within c.args.s.n c.args.s.shared) (sym o.0)
+            (within_spread c.args.s.n c.args.s.shared c.args.b p.1),
+        omega arith,
+        omega arith,
+      );
+      n_bound = p.0.2;
+    }
+
+-- at most as many columns as own assignments
+columns_most : (n : ℕ) (F : ℕ → Bool) (A B : ℕ → Bool) (b : ℕ) → size n A ≤ most_own → length (columns n F A B b)
+    ≤ 2 ^ most_own
+unfolding columns
+columns_most n F A B b h = omega (
+  arith,
+  firsts_most (column n F A B b) (2 ^ size n A),
+  pow_mono {i = size n A}
+      {j = most_own} h,
+)
+
+pub returns : goal.returns
+returns c =
+    let o = c.spread_out.ensures in
+    let a = c.args in
+    let F = table_bit a.t.now in
+    let at : gather a.s.n (bit a.s.shared) c.spread_out.result ≡ a.b =
+    ap (gather a.s.n (bit a.s.shared)) o.0 ∙ gather-spread a.s.n (bit a.s.shared) a.b c.requires.b_bound
+    in
+    let w = c.look_through.ensures in
+    let few : c.look_through.result ≤ 2 ^ most_own = elim (dec_lt (2 ^ most_own) c.look_through.result) [
+      | yes g ↦ absurd (omega (
+        arith,
+        w.many (λ m. omega arith),
+        columns_most a.s.n F (bit a.s.own)
+            (bit a.s.shared) (gather a.s.n (bit a.s.shared) c.spread_out.result)
+            c.requires.held.1,
+      ))
+      | no g ↦ omega arith
+    ] in
+    w.few few ∙ ap (λ (b : ℕ). length (columns_of a.s F b)) at

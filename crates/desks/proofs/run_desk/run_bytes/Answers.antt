@@ -1,0 +1,75 @@
+-- `run_bytes` meets its contract: a refusal is its lines' verdict, and where these are in order the desk can be run.
+-- Assumes nothing.
+use mathlib.Core.Path.{sym, ap, ◌∙◌, subst}
+use mathlib.Core.Bool.{Bool, false}
+use mathlib.Core.List.{List}
+use Prim.Native.Nat.{ℕ, ◌/◌}
+use native.Mathlib.Omega.{arith}
+use lib.ListN.{length}
+use lib.Pow.{pow_mono}
+use Rattle.tables.specs.Table.{most_inputs}
+use Rattle.sheets.specs.declared.kinds.Edition.{Edition}
+use Rattle.sheets.specs.Edition.{record_size, first_edition}
+use Rattle.sheets.specs.Sheet.{sheet_bit}
+use Rattle.refusals.specs.declared.verdicts.Verdict.{Verdict}
+use Rattle.refusals.specs.declared.verdicts.Verdict.TheVariants.{Fine}
+use Rattle.refusals.specs.Lines.{reply}
+use Rattle.running.specs.RunSheet.{run_done, run_not}
+use Rattle.cards.specs.Card.{inputs_on, sheet_on}
+use Rattle.cards.specs.RunDesk.{desk_outcome}
+use Rattle.cards.proofs.Desks.{Ready, ready}
+use Rattle.desks.proofs.run_desk.run_bytes.Lts as lts
+use Rattle.desks.proofs.run_desk.run_bytes.Reads as reads
+use Rattle.desks.proofs.run_desk.run_bytes.Tie as tie
+use Rattle.desks.proofs.run_desk.run_bytes.Goals as goal
+
+pub returns-in_default : goal.returns-in_default
+unfolding desk_outcome
+returns-in_default c =
+    let o = c.args.o.now in
+    let e = c.in_default.is in
+    ap (λ (v : Verdict). record { verdict = v; bit = false }) e
+    ∙ ap (λ (v : Verdict). reply v (run_done first_edition (inputs_on o) (sheet_on o) c.args.x) run_not)
+    (sym e ∙ c.own_form-form.ensures)
+
+-- where the desk's lines are in order
+module _ (c : lts.After-shared_slice_known2 tie.the-claims reads.Pre reads.Post) where
+  abbrev start : lts.Start tie.the-claims reads.Pre reads.Post
+  start = c.before.before.before.before.before.before.before
+
+  abbrev o : List ℕ
+  o = start.args.o.now
+
+  able : Ready first_edition (inputs_on o) (sheet_on o) start.args.x
+  able = ready o start.args.d start.args.x start.requires.0
+      (sym c.own_form-form.ensures
+      ∙ c.in-Fine.is)
+
+pub overflow_cast-o : goal.overflow_cast-o
+overflow_cast-o c = omega (arith, (able c.before).0.2)
+
+pub overflow_cast-x : goal.overflow_cast-x
+overflow_cast-x c =
+    omega (arith, (able c.before).1, pow_mono {i = inputs_on (o c.before)} {j = most_inputs} (able c.before).0.2)
+
+pub bit_of-requires : goal.bit_of-requires
+bit_of-requires c =
+    let x = (start c.before).args.x in
+    subst (λ (e : Edition). Ready e (inputs_on (o c.before)) c.sheet_on-s.result.now x)
+    (sym c.first.ensures)
+    (subst (λ (s : List ℕ). Ready first_edition (inputs_on (o c.before)) s x) (sym c.sheet_on-s.ensures)
+    (able c.before))
+
+pub returns : goal.returns
+unfolding desk_outcome
+returns c =
+    let x = (start c.before.before).args.x in
+    let n = inputs_on (o c.before.before) in
+    let bit = c.bit_of.ensures
+    ∙ ap (λ (e : Edition). sheet_bit e n c.sheet_on-s.result.now
+    (length c.sheet_on-s.result.now / record_size) x) c.first.ensures
+    ∙ ap (λ (s : List ℕ). sheet_bit first_edition n s (length s / record_size) x) c.sheet_on-s.ensures in
+    ap (λ (b : Bool). record { verdict = Fine; bit = b }) bit
+    ∙ ap (λ (v : Verdict). reply v (run_done first_edition n (sheet_on (o c.before.before)) x) run_not)
+    (sym c.in-Fine.is
+    ∙ c.own_form-form.ensures)

@@ -1,0 +1,64 @@
+-- `find_in` meets its contract: what form and room refuse, else what the search finds. Assumes nothing.
+use mathlib.Core.Path.{◌≡◌, refl, ◌∙◌}
+use mathlib.Core.List.{List}
+use Prim.Native.Nat.{ℕ}
+use native.Mathlib.Omega.{arith}
+use Rattle.refusals.specs.declared.verdicts.Verdict.{Verdict}
+use Rattle.refusals.specs.declared.verdicts.Verdict.TheVariants.{Fine}
+use Rattle.refusals.specs.Lines.{Line}
+use Rattle.refusals.proofs.Lines.{left_to}
+use Rattle.refusals.proofs.Refusing.{form_refuses}
+use Rattle.finding.specs.FindBest.{FindOutcome, best_for, find_form, find_says, find_done, find_not, find_outcome}
+use Rattle.finding.proofs.Ready.{Ready, ready}
+use Rattle.finding.proofs.find_best.find_in.Lts as lts
+use Rattle.finding.proofs.find_best.find_in.Reads as reads
+use Rattle.finding.proofs.find_best.find_in.Tie as tie
+use Rattle.finding.proofs.find_best.find_in.Goals as goal
+
+module _ (c : lts.After-find_form tie.the-claims reads.Pre reads.Post) where
+  abbrev g : lts.Start tie.the-claims reads.Pre reads.Post
+  g = c.before.before.before
+
+  -- form and room; what the table says; what is left where nothing is wrong
+  abbrev ls : List Line
+  ls = find_form g.args.e g.args.n g.args.k g.args.t.now g.args.work.now
+
+  abbrev ms : List Line
+  ms = find_says g.args.n g.args.k g.args.t.now
+
+  abbrev done : FindOutcome
+  done = find_done (best_for g.args.n g.args.k g.args.t.now) g.args.work.now
+
+  -- both are in order
+  through : c.find_form-form.result ≡ Fine
+      → Ready g.args.e g.args.n g.args.k g.args.t.now g.args.work.now
+  through = ready g.args.e g.args.n g.args.k g.args.t.now g.args.work.now c.find_form-form.result
+      c.find_form-form.ensures
+
+pub returns-in_default : goal.returns-in_default
+unfolding find_outcome
+returns-in_default c =
+    form_refuses (ls c.before.before.before) (ms c.before.before.before) (done c.before.before.before) (λ (v : Verdict) (l : List ℕ). record {
+      answer = record { verdict = v; own = 0; shared = 0 };
+      work = l;
+    }) (g c.before.before.before).args.work.now refl c.find_form-form.result c.in_default.field-0 c.find_form-form.ensures
+    c.in_default.is
+
+pub overflow_cast-k : goal.overflow_cast-k
+overflow_cast-k c =
+    omega (arith, (through c.before.before.before c.in-Fine.is).gate.largest, (g c.before.before.before).requires.eight)
+
+pub search-requires : goal.search-requires
+search-requires c =
+    let w = through c.before.before.before.before c.in-Fine.is in
+    (w.gate.most, omega (arith, w.gate.largest, (g c.before.before.before.before).requires.eight), w.gate.long, w.area)
+
+pub returns : goal.returns
+unfolding find_outcome
+returns c =
+    c.search.ensures
+    ∙ left_to (ls c.before.before.before.before.before.before.before) (ms c.before.before.before.before.before.before.before) (done c.before.before.before.before.before.before.before) (find_not (g c.before.before.before.before.before.before.before).args.work.now) c.find_form-form.result c.find_form-form.ensures
+    c.in-Fine.is
+
+pub overflow_cast-n : goal.overflow_cast-n
+overflow_cast-n c = omega (arith, (through c.before.before.before c.in-Fine.is).gate.most)

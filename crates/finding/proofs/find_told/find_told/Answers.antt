@@ -1,0 +1,35 @@
+-- `find_told` meets its contract: what n and the edition refuse, else the call in that edition. Assumes nothing.
+use mathlib.Core.Path.{refl, sym, ap, ◌∙◌, subst}
+use mathlib.Core.List.{List}
+use Prim.Native.Nat.{ℕ}
+use Rattle.sheets.specs.declared.kinds.Edition.{Edition}
+use Rattle.sheets.specs.Edition.{IsEdition, edition_of}
+use Rattle.sheets.proofs.Keeping.{is_edition}
+use Rattle.refusals.specs.declared.verdicts.Verdict.{Verdict}
+use Rattle.refusals.specs.Refusals.{told_form}
+use Rattle.refusals.proofs.Lines.{left_to}
+use Rattle.refusals.proofs.Refusing.{form_refuses}
+use Rattle.finding.specs.FindBest.{best_for, find_lines, find_done, find_not, find_outcome}
+use Rattle.finding.proofs.find_told.find_told.Goals as goal
+
+pub returns-in_default : goal.returns-in_default
+returns-in_default c =
+    let a = c.args in
+    form_refuses (told_form a.w a.n) (find_lines (edition_of a.w) a.n a.k a.t.now a.work.now)
+    (find_done (best_for a.n a.k a.t.now) a.work.now) (λ (v : Verdict) (l : List ℕ). record {
+      answer = record { verdict = v; own = 0; shared = 0 };
+      work = l;
+    }) a.work.now refl c.told-told.result c.in_default.field-0 c.told-told.ensures c.in_default.is
+
+pub find_in-requires : goal.find_in-requires
+find_in-requires c = subst IsEdition (sym c.numbered.ensures) (is_edition _)
+
+pub returns : goal.returns
+unfolding find_outcome
+returns c =
+    let a = c.args in
+    c.find_in.ensures ∙ ap (λ (c.before.before.before.before.before : Edition). find_outcome c.before.before.before.before.before a.n a.k a.t.now a.work.now)
+    c.numbered.ensures
+    ∙ left_to (told_form a.w a.n) (find_lines (edition_of a.w) a.n a.k a.t.now a.work.now)
+    (find_done (best_for a.n a.k a.t.now) a.work.now)
+    (find_not a.work.now) c.told-told.result c.told-told.ensures c.in-Fine.is

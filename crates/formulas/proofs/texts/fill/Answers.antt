@@ -1,0 +1,49 @@
+-- `fill` meets its contract. The loop's invariant: the bytes passed are the table's, and within a stretch v is that
+-- stretch. Assumes nothing.
+use mathlib.Core.Path.{◌≡◌, refl, ap, ◌∙◌}
+use mathlib.Core.Logic.{⊎_elim}
+use Prim.Native.Nat.{ℕ, ◌+◌, ◌-◌, ◌/◌}
+use native.Mathlib.Omega.{arith}
+use lib.Pow.{pow_mono}
+use Rattle.bits.proofs.Filling.{filled_none, filled_more, filled_whole}
+use Rattle.tables.specs.Table.{bytes_of, table_of}
+use Rattle.tables.proofs.Pieces.{word_byte}
+use Rattle.runs.proofs.Choosing.{word_starts}
+use Rattle.formulas.specs.Reading.{text_of, value_in}
+use Rattle.values.specs.Stretches.{stretch_of}
+use Rattle.values.proofs.Bitwise.{table-word}
+use Rattle.formulas.proofs.texts.fill.Invariants.{bits}
+use Rattle.formulas.proofs.texts.fill.Goals as goal
+
+pub overflow_cast-i : goal.overflow_cast-i
+overflow_cast-i c =
+    omega (arith, pow_mono {i = c.args.n - 3} {j = 13} (omega (arith, c.requires.0)), c.requires.1)
+
+pub text_stretch-v-requires : goal.text_stretch-v-requires
+text_stretch-v-requires c = (c.requires.0, c.requires.2)
+
+pub first_bits-o-requires : goal.first_bits-o-requires
+first_bits-o-requires c = c.requires.0
+
+pub loop-i-preserved : goal.loop-i-preserved
+loop-i-preserved c =
+    let a = c.args in
+    let i = c.loop-i.i in
+    let w : c.if-i-eq0.v ≡ stretch_of (value_in (text_of a.counts a.n a.t.now)) (i / 32) =
+    ⊎_elim (λ c. c.2 ∙ c.1.ensures) (λ c. c.1 ∙ c.loop-i.invariant.1 c.0.left) c.if-i-eq0.branch in (
+      filled_more c.loop-i.invariant.0 (omega arith) (omega arith)
+          (word_byte (bits a.counts a.n a.t.now) i _ (table-word a.n i (value_in (text_of a.counts a.n a.t.now))
+          (word_starts a.n i (omega (arith, c.requires.1))) w c.word_in.ensures
+          c.first_bits-o.ensures)),
+      λ h. let e : i / 32 ≡ (i + 1) / 32 = omega arith in w ∙ ap (stretch_of (value_in (text_of a.counts a.n a.t.now))) e,
+    )
+
+pub returns : goal.returns
+unfolding table_of
+returns c =
+    let a = c.args in
+    filled_whole c.loop-i.invariant.0 (omega arith) (omega arith)
+    ∙ ap (λ (k : ℕ). bytes_of k (bits a.counts a.n a.t.now)) c.requires.1
+
+pub loop-i-init : goal.loop-i-init
+loop-i-init c = (filled_none (omega arith), λ h. absurd (h refl))

@@ -1,0 +1,26 @@
+-- `read_form` meets its contract: what lines 1 and 3 refuse, else what the look at the text comes to. Assumes nothing.
+use mathlib.Core.List.{[], ◌∷◌}
+use native.Mathlib.Omega.{arith}
+use Rattle.refusals.specs.Refusals.{sized_lines}
+use Rattle.refusals.proofs.Lines.{stopped, goes_on}
+use Rattle.refusals.proofs.Tests.{sized_through}
+use Rattle.formulas.specs.Refusals.{bad_text}
+use Rattle.formulas.proofs.texts.read_form.Goals as goal
+
+pub returns-in_default : goal.returns-in_default
+returns-in_default c =
+    let a = c.args in
+    stopped (sized_lines a.n a.table.now) (bad_text a.counts a.n a.t.now ∷ []) _ c.sized-seen.ensures
+    c.in_default.field-0 c.in_default.is
+
+pub look_at_text-requires : goal.look_at_text-requires
+look_at_text-requires c = (sized_through _ c.args.table.now _ c.sized-seen.ensures c.in-Fine.is).0
+
+pub returns : goal.returns
+returns c =
+    let a = c.args in
+    goes_on (sized_lines a.n a.table.now) (bad_text a.counts a.n a.t.now ∷ []) _ c.sized-seen.ensures
+    c.in-Fine.is c.look_at_text.ensures
+
+pub overflow_cast-n : goal.overflow_cast-n
+overflow_cast-n c = omega (arith, look_at_text-requires c.before c.lifetimes)

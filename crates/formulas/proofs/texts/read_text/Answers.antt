@@ -1,0 +1,45 @@
+-- `read_text` meets its contract: a refusal is its lines' verdict, and where these are in order the text is a
+-- formula. Assumes nothing.
+use mathlib.Core.Path.{sym, ap, ◌∙◌}
+use mathlib.Core.List.{List}
+use Prim.Native.Nat.{ℕ}
+use native.Mathlib.Omega.{arith}
+use Rattle.tables.specs.Table.{most_inputs}
+use Rattle.refusals.specs.declared.verdicts.Verdict.{Verdict}
+use Rattle.refusals.specs.declared.verdicts.Verdict.TheVariants.{Fine}
+use Rattle.refusals.specs.Lines.{reply}
+use Rattle.refusals.proofs.Lines.{in_order_lem}
+use Rattle.refusals.proofs.Tests.{inside, right_table}
+use Rattle.formulas.specs.ReadFormula.{read_lines, read_done, read_not, read_in}
+use Rattle.formulas.proofs.texts.read_text.Goals as goal
+
+pub returns-in_default : goal.returns-in_default
+unfolding read_in
+returns-in_default c =
+    let a = c.args in
+    let e = c.in_default.is in
+    ap (λ (v : Verdict). record { verdict = v; table = a.table.now }) e
+    ∙ ap (λ (v : Verdict). reply v (read_done a.counts a.n a.t.now) (read_not a.table.now))
+    (sym e ∙ c.read_form-form.ensures)
+
+pub overflow_cast-n : goal.overflow_cast-n
+overflow_cast-n c =
+    let a = c.args in
+    let w = in_order_lem (read_lines a.counts a.n a.t.now a.table.now)
+    (sym c.read_form-form.ensures ∙ c.in-Fine.is) in
+    omega (arith, inside 1 a.n most_inputs w.0)
+
+pub fill-requires : goal.fill-requires
+fill-requires c =
+    let a = c.args in
+    let w = in_order_lem (read_lines a.counts a.n a.t.now a.table.now)
+    (sym c.read_form-form.ensures ∙ c.in-Fine.is) in
+    ((inside 1 a.n most_inputs w.0).1, right_table a.n a.table.now w.1.0, w.1.1.0)
+
+pub returns : goal.returns
+unfolding read_in
+returns c =
+    let a = c.args in
+    ap (λ (t : List ℕ). record { verdict = Fine; table = t }) c.fill.ensures
+    ∙ ap (λ (v : Verdict). reply v (read_done a.counts a.n a.t.now) (read_not a.table.now))
+    (sym c.in-Fine.is ∙ c.read_form-form.ensures)

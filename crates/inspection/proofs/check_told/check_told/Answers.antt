@@ -1,0 +1,31 @@
+-- `check_told` meets its contract: n and the edition refuse, or the edition handed down is the one with that number.
+-- Assumes nothing.
+use mathlib.Core.Path.{sym, ap, ◌∙◌, subst}
+use Rattle.sheets.specs.declared.kinds.Edition.{Edition}
+use Rattle.sheets.specs.Edition.{IsEdition, edition_of}
+use Rattle.sheets.specs.Desk.{desk_of}
+use Rattle.sheets.proofs.Keeping.{is_edition}
+use Rattle.refusals.specs.Refusals.{told_form}
+use Rattle.refusals.proofs.Lines.{stopped, goes_on}
+use Rattle.inspection.specs.CheckSheet.{check_lines, check_outcome, check_own}
+use Rattle.inspection.proofs.check_told.check_told.Goals as goal
+
+pub returns-in_default : goal.returns-in_default
+returns-in_default c =
+    let a = c.args in
+    let e = edition_of a.w in
+    stopped (told_form a.w a.n) (check_lines e (desk_of e a.s.now) a.n a.t.now a.s.now)
+    c.told-told.result c.told-told.ensures
+    c.in_default.field-0 c.in_default.is
+
+pub returns : goal.returns
+unfolding check_outcome
+returns c =
+    let a = c.args in
+    let e = edition_of a.w in
+    goes_on (told_form a.w a.n) (check_lines e (desk_of e a.s.now) a.n a.t.now a.s.now) _
+    c.told-told.ensures c.in-Fine.is (c.check_own.ensures
+    ∙ ap (λ (e : Edition). check_own e a.n a.t.now a.s.now) c.numbered.ensures)
+
+pub check_own-requires : goal.check_own-requires
+check_own-requires c = subst IsEdition (sym c.numbered.ensures) (is_edition _)

@@ -1,0 +1,40 @@
+-- `make_told` meets its contract: what n and the edition refuse, else the call in that edition. Assumes nothing.
+use mathlib.Core.Path.{refl, sym, ap, ◌∙◌, subst}
+use mathlib.Core.List.{List}
+use Prim.Native.Nat.{ℕ}
+use Rattle.sheets.specs.declared.kinds.Edition.{Edition}
+use Rattle.sheets.specs.Edition.{IsEdition, edition_of}
+use Rattle.sheets.proofs.Keeping.{is_edition}
+use Rattle.refusals.specs.declared.verdicts.Verdict.{Verdict}
+use Rattle.refusals.specs.Refusals.{told_form}
+use Rattle.refusals.proofs.Lines.{left_to}
+use Rattle.refusals.proofs.Refusing.{form_refuses}
+use Rattle.making.specs.MakeSheet.{sheet_for, cells_in, make_lines, make_done, make_not, make_outcome}
+use Rattle.making.proofs.make_told.make_told.Goals as goal
+
+pub returns-in_default : goal.returns-in_default
+returns-in_default c =
+    let a = c.args in
+    form_refuses (told_form a.w a.n)
+    (make_lines (edition_of a.w) a.desk a.n a.k a.t.now a.sheet.now a.work.now)
+    (make_done (edition_of a.w) a.desk (cells_in (sheet_for a.n a.k a.t.now)) a.sheet.now
+    a.work.now) (λ (v : Verdict) (l : List ℕ). record {
+      answer = record { verdict = v; count = 0 };
+      sheet = a.sheet.now;
+      work = l;
+    }) a.work.now refl c.told-told.result c.in_default.field-0 c.told-told.ensures c.in_default.is
+
+pub make_in-requires : goal.make_in-requires
+make_in-requires c = subst IsEdition (sym c.numbered.ensures) (is_edition _)
+
+pub returns : goal.returns
+unfolding make_outcome
+returns c =
+    let a = c.args in
+    c.make_in.ensures ∙ ap (λ (c.before.before.before.before.before.before.before.before : Edition). make_outcome c.before.before.before.before.before.before.before.before a.desk a.n a.k a.t.now a.sheet.now
+    a.work.now) c.numbered.ensures
+    ∙ left_to (told_form a.w a.n) (make_lines (edition_of a.w) a.desk a.n a.k a.t.now a.sheet.now
+    a.work.now)
+    (make_done (edition_of a.w) a.desk (cells_in (sheet_for a.n a.k a.t.now)) a.sheet.now
+    a.work.now) (make_not a.sheet.now a.work.now)
+    c.told-told.result c.told-told.ensures c.in-Fine.is

@@ -1,0 +1,8 @@
+-- `pelzurivan_check` meets its contract: the number and the place are those of the call's outcome. Assumes nothing.
+use mathlib.Core.Path.{refl}
+use Rattle.pelzurivan.proofs.check_sheet.pelzurivan_check.Goals as goal
+
+pub returns : goal.returns
+returns c =
+    rw (c.number_of.ensures, c.place_of.ensures, ← c.check_sheet-verdict.ensures)
+    refl

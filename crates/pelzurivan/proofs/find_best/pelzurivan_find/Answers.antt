@@ -1,0 +1,8 @@
+-- `pelzurivan_find` meets its contract: the number and the values are those of the call's outcome. Assumes nothing.
+use mathlib.Core.Path.{refl}
+use Rattle.pelzurivan.proofs.find_best.pelzurivan_find.Goals as goal
+
+pub returns : goal.returns
+returns c =
+    rw (c.number_of.ensures, ← c.find_best-answer.ensures)
+    (refl, refl)

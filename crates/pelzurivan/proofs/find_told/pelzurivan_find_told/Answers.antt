@@ -1,0 +1,9 @@
+-- `pelzurivan_find_told` meets its contract: the number and the values are those of the call's outcome. Assumes
+-- nothing.
+use mathlib.Core.Path.{refl}
+use Rattle.pelzurivan.proofs.find_told.pelzurivan_find_told.Goals as goal
+
+pub returns : goal.returns
+returns c =
+    rw (c.number_of.ensures, ← c.find_told-answer.ensures)
+    (refl, refl)

@@ -1,0 +1,12 @@
+-- `pelzurivan_load_cut` meets its contract: the number and the values are those of the call's outcome. Assumes nothing.
+use mathlib.Core.Path.{refl}
+use Rattle.pelzurivan.proofs.load_cut.pelzurivan_load_cut.Goals as goal
+
+pub returns : goal.returns
+returns c =
+    rw (
+      c.number_of.ensures,
+      c.place_of.ensures,
+      ← c.load_cut-verdict.ensures,
+    )
+    (refl, refl)

@@ -1,0 +1,6 @@
+-- `pelzurivan_make_any` meets its contract: the number and the values are those of the call's outcome. Assumes nothing.
+use mathlib.Core.Path.{refl}
+use Rattle.pelzurivan.proofs.make_any.pelzurivan_make_any.Goals as goal
+
+pub returns : goal.returns
+returns c = rw (c.number_of.ensures, ← c.make_any-answer.ensures) (refl, refl, refl)

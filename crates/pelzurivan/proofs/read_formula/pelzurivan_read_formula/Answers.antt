@@ -1,0 +1,13 @@
+-- `pelzurivan_read_formula` meets its contract: the number and the values are those of the call's outcome. Assumes
+-- nothing.
+use mathlib.Core.Path.{refl}
+use Rattle.pelzurivan.proofs.read_formula.pelzurivan_read_formula.Goals as goal
+
+pub returns : goal.returns
+returns c =
+    rw (
+      c.number_of.ensures,
+      c.place_of.ensures,
+      ← c.read_formula-verdict.ensures,
+    )
+    (refl, refl)

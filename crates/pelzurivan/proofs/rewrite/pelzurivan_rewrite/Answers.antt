@@ -1,0 +1,12 @@
+-- `pelzurivan_rewrite` meets its contract: the number and the values are those of the call's outcome. Assumes nothing.
+use mathlib.Core.Path.{refl}
+use Rattle.pelzurivan.proofs.rewrite.pelzurivan_rewrite.Goals as goal
+
+pub returns : goal.returns
+returns c =
+    rw (
+      c.number_of.ensures,
+      c.place_of.ensures,
+      ← c.rewrite-answer.ensures,
+    )
+    (refl, refl)

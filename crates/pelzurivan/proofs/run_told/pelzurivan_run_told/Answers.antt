@@ -1,0 +1,8 @@
+-- `pelzurivan_run_told` meets its contract: the number and the values are those of the call's outcome. Assumes nothing.
+use mathlib.Core.Path.{refl}
+use Rattle.pelzurivan.proofs.run_told.pelzurivan_run_told.Goals as goal
+
+pub returns : goal.returns
+returns c =
+    rw (c.number_of.ensures, c.place_of.ensures, ← c.run_told-answer.ensures)
+    refl

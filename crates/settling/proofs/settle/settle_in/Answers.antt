@@ -1,0 +1,55 @@
+-- `settle_in` meets its contract: a refusal is its lines' verdict, and where these are in order the sheet is good and
+-- its times can be found. Assumes nothing.
+use mathlib.Core.Path.{sym, ap, ap₂, ◌∙◌}
+use native.Mathlib.Omega.{arith}
+use lib.Ieee.{Float, of_bits}
+use Rattle.sheets.specs.Sheet.{records}
+use Rattle.times.specs.InputTimes.{zero_time}
+use Rattle.refusals.specs.declared.verdicts.Verdict.{Verdict}
+use Rattle.refusals.specs.declared.verdicts.Verdict.TheVariants.{Fine}
+use Rattle.refusals.specs.Lines.{verdict, reply}
+use Rattle.refusals.proofs.Lines.{in_order_lem}
+use Rattle.settling.specs.Settle.{settle_lines, settle_done, settle_not, settle_outcome}
+use Rattle.settling.proofs.Kept.{Leaves, leaves, good_timed}
+use Rattle.settling.proofs.settle.settle_in.Lts as lts
+use Rattle.settling.proofs.settle.settle_in.Reads as reads
+use Rattle.settling.proofs.settle.settle_in.Tie as tie
+use Rattle.settling.proofs.settle.settle_in.Goals as goal
+
+pub returns-in_default : goal.returns-in_default
+unfolding settle_outcome of_bits
+returns-in_default c =
+    let a = c.args in
+    let e = c.in_default.is in
+    ap (λ (v : Verdict). record { verdict = v; earliest = zero_time; latest = zero_time }) e
+    ∙ ap (λ (v : Verdict). reply v (settle_done a.e a.n a.s.now a.delay a.times) settle_not)
+    (sym e ∙ c.settle_form-form.ensures)
+
+-- what the lines leave
+left : (c : lts.After-enum_told tie.the-claims reads.Pre reads.Post) → let a = c.args in Leaves a.e a.d a.n a.s.now a.delay a.times
+left c =
+    let a = c.args in
+    leaves a.e c.requires a.d a.n a.s.now a.delay a.times
+    (in_order_lem (settle_lines a.e a.d a.n a.s.now a.delay a.times)
+    (sym c.settle_form-form.ensures ∙ c.in-Fine.is))
+
+pub overflow_cast-inputs : goal.overflow_cast-inputs
+overflow_cast-inputs c = omega (arith, (left c.before).inputs)
+
+pub settle_at-requires : goal.settle_at-requires
+settle_at-requires c =
+    let a = c.args in
+    let l = left c.before in
+    (good_timed a.e c.requires a.d a.n a.s.now (records a.e a.s.now) l.inputs l.good, l.inputs)
+
+pub settle_at-requires-2 : goal.settle_at-requires-2
+settle_at-requires-2 c = settle_at-requires c.before.before κs
+
+pub returns : goal.returns
+unfolding settle_outcome
+returns c =
+    let a = c.args in
+    ap₂ (λ (x y : Float). record { verdict = Fine; earliest = x; latest = y }) c.settle_at.ensures
+    c.settle_at-2.ensures
+    ∙ ap (λ (v : Verdict). reply v (settle_done a.e a.n a.s.now a.delay a.times) settle_not)
+    (sym c.in-Fine.is ∙ c.settle_form-form.ensures)

@@ -1,0 +1,115 @@
+-- `pair_of` meets its contract: where the split breaks decides, and a possible split has its fixed pair. Assumes
+-- nothing.
+use mathlib.Core.Path.{◌≡◌, sym, ap, ap₂, ◌∙◌}
+use mathlib.Core.Bool.{Bool, true, false, not, cond}
+use mathlib.Core.List.{List, [], ◌∷◌}
+use Prim.Native.Nat.{ℕ, ◌*◌, ◌%◌, ◌^◌, ◌<◌, ◌≤◌}
+use native.Mathlib.Omega.{arith}
+use lib.Dec.{ltb}
+use lib.ListN.{length}
+use lib.Pow.{pow_mono}
+use borrow.Author.Tests.{lt-ltb, le-ltb, not-true, not-false}
+use Rattle.bits.specs.Numbers.{bit}
+use Rattle.bits.proofs.Machine.{shl_one}
+use Rattle.tables.specs.Table.{table_bit}
+use Rattle.tables.proofs.Bytes.{length-holds}
+use Rattle.columns.specs.declared.split.Split.{Split}
+use Rattle.charts.specs.declared.pair.FirstCells.{FirstCells}
+use Rattle.columns.specs.declared.columns.Broken.{Broken}
+use Rattle.splits.specs.Columns.{most_first, columns, few_columns, first_broken}
+use Rattle.columns.specs.Broken.{broken_at}
+use Rattle.columns.proofs.Breaking.{broken_some}
+use Rattle.refusals.specs.declared.verdicts.Verdict.{Verdict}
+use Rattle.refusals.specs.declared.verdicts.Verdict.TheVariants.{Fine, Refused}
+use Rattle.refusals.specs.Lines.{refusal, naming, verdict, reply}
+use Rattle.splitting.specs.TrySplit.{TryOutcome, try_done, try_not}
+use Rattle.splitting.proofs.Sets.{bytes_H}
+use Rattle.splitting.proofs.try_split.pair_of.Goals as goal
+
+module _ (s : Split) (r : ℕ) (t : List ℕ) where
+  abbrev few : Bool
+  few = few_columns s.n (table_bit t) (bit s.own) (bit s.shared) (2 ^ r)
+
+  abbrev first : ℕ
+  first = first_broken s.n (table_bit t) (bit s.own) (bit s.shared) (2 ^ r)
+
+  -- what is answered as the test says
+  abbrev answered : List ℕ → Bool → TryOutcome
+  answered room b =
+      reply (verdict (naming 8 first (not b) ∷ [])) (try_done s.n r s.own s.shared t room)
+      (try_not s.n s.own s.shared t room)
+
+  -- where the split breaks, as the test says
+  abbrev broken : Bool → Broken
+  broken b = cond b (record { b = 0; columns = 0 })
+      (record { b = first; columns = length (columns s.n (table_bit t) (bit s.own) (bit s.shared) first) })
+
+  -- the limit as the code makes it
+  module _ (most : r ≤ most_first) (w : Broken) (told : w
+      ≡ broken_at s.n (table_bit t) (bit s.own) (bit s.shared) (1 * 2 ^ r % 2 ^ 64)) where
+    is : w ≡ broken_at s.n (table_bit t) (bit s.own) (bit s.shared) (2 ^ r)
+    is = told ∙ ap (broken_at s.n (table_bit t) (bit s.own) (bit s.shared)) (shl_one 64 r (omega arith))
+
+    test : ltb 0 w.columns ≡ not few
+    test = ap (λ (w : Broken). ltb 0 w.columns) is
+        ∙ broken_some s.n (table_bit t) (bit s.own) (bit s.shared) (2 ^ r)
+
+    breaks : 0 < w.columns → few ≡ false
+    breaks h = not-true few (sym test ∙ lt-ltb 0 w.columns h)
+
+    holds : w.columns ≤ 0 → few ≡ true
+    holds h = not-false few (sym test ∙ le-ltb 0 w.columns h)
+
+    named : few ≡ false → w ≡ broken false
+    named e = is ∙ ap broken e
+
+pub break_of-broken-requires : goal.break_of-broken-requires
+break_of-broken-requires c =
+    let p = c.requires.held in record { held = (
+        p.0,
+        omega (
+          arith,
+          shl_one 64 c.args.r (omega (arith, p.3)),
+          pow_mono {i = c.args.r} {j = most_first}
+              p.3,
+        ),
+        omega (arith, p.2, length-holds c.args.s.n),
+      ); own_bound = omega (arith, p.1.most) }
+
+pub returns-then-broken-gt0 : goal.returns-then-broken-gt0
+returns-then-broken-gt0 c =
+    let a = c.args in
+    let e = breaks a.s a.r a.t.now c.requires.held.3 _ c.break_of-broken.ensures c.if-broken-gt0.true in
+    let q = named a.s a.r a.t.now c.requires.held.3 _ c.break_of-broken.ensures e in
+    ap₂ (λ (v : Verdict) (k : ℕ). record {
+      answer = record { verdict = v; d = c.none.result; columns = k };
+      room = a.room.now;
+    })
+    (c.refuse_at.ensures ∙ ap (λ (c.before.before.before.before.before.before : Broken). Refused (refusal 8 c.b)) q)
+    (ap (λ (c.before.before.before.before.before.before : Broken). c.columns) q)
+    ∙ ap (λ (d : FirstCells). record {
+      answer = record {
+        verdict = Refused (refusal 8 (first a.s a.r a.t.now));
+        d = d;
+        columns = (broken a.s a.r a.t.now false).columns;
+      };
+      room = a.room.now;
+    }) c.none.ensures
+    ∙ ap (answered a.s a.r a.t.now a.room.now) (sym e)
+
+pub bytes_of_h-requires : goal.bytes_of_h-requires
+bytes_of_h-requires c = let p = c.requires.held in (p.0.most, p.0.below_a, p.1.more, p.3)
+
+pub put_pair-requires : goal.put_pair-requires
+put_pair-requires c =
+    let b = c.bytes_of_h.ensures in
+    let p = c.requires.held in record { held = (p.0, omega (arith, p.2, length-holds c.args.s.n), p.1, p.3, omega (arith, b.0, c.requires.own_in_bounds), b.1); end_value = b.0 ∙ bytes_H p.1 (table_bit c.args.t.now); r_value = holds c.args.s c.args.r c.args.t.now p.3 _
+            c.break_of-broken.ensures (omega arith) }
+
+pub returns : goal.returns
+returns c =
+    let a = c.args in
+    ap₂ (λ (d : FirstCells) (l : List ℕ). record { answer = record { verdict = Fine; d = d; columns = 0 }; room = l })
+    c.put_pair.ensures.0 c.put_pair.ensures.1
+    ∙ ap (answered a.s a.r a.t.now a.room.now)
+    (sym (holds a.s a.r a.t.now c.requires.held.3 _ c.break_of-broken.ensures (omega (arith, c.if-broken-gt0.false))))

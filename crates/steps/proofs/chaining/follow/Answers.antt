@@ -1,0 +1,185 @@
+-- The loop keeps that behind the cells so far stands the chain of the table at hand. Assumes nothing.
+use mathlib.Core.Path.{◌≡◌, refl, sym, ap, ap₂, ◌∙◌, subst}
+use mathlib.Core.Bool.{true}
+use mathlib.Core.List.{[], ◌∷◌, ◌++◌}
+use Prim.Native.Nat.{◌^◌}
+use native.Mathlib.Omega.{arith}
+use lib.Pow.{pow_mono}
+use Rattle.bits.specs.Numbers.{number}
+use Rattle.tables.specs.Cells.{cell_words, table_number}
+use Rattle.tables.proofs.CellTables.{words_joined}
+use Rattle.choices.specs.Search.{choice, best_up_to}
+use Rattle.choices.proofs.Best.{upto_best}
+use Rattle.choices.proofs.Choosing.{is_nothing_lem, is_choice}
+use Rattle.sheets.specs.Network.{Cell}
+use Rattle.sheets.specs.Held.{network_cell}
+use Rattle.chains.specs.Chain.{made, last_cell}
+use Rattle.steps.specs.Stage.{signals_of}
+use Rattle.steps.specs.Area.{at_hand}
+use Rattle.steps.specs.Chaining.{Tells}
+use Rattle.steps.proofs.Halves.{half_whole, half-bits}
+use Rattle.steps.proofs.Piling.{grown_piled}
+use Rattle.steps.proofs.Following.{following_starts, following_stops, following_shrinks}
+use Rattle.steps.proofs.Following.{following_goes, following_ends, Sound, split_sound}
+use Rattle.steps.proofs.chaining.follow.Lts as lts
+use Rattle.steps.proofs.chaining.follow.Reads as reads
+use Rattle.steps.proofs.chaining.follow.Tie as tie
+use Rattle.steps.proofs.chaining.follow.Goals as goal
+
+pub loop-signals-init : goal.loop-signals-init
+loop-signals-init c =
+    (
+      following_starts c.args.n c.args.most c.args.k c.empty-pile.result c.args.start
+          c.args.work.now c.requires.n_le_most_inputs.4 c.empty-pile.ensures
+          c.requires.listed.0 c.requires.listed.1 c.requires.listed.2,
+      refl,
+    )
+
+pub overflow_cast-m : goal.overflow_cast-m
+overflow_cast-m c = omega (arith, c.loop-signals.invariant.0.listed.few)
+
+pub slice_bounds-find_upto-end : goal.slice_bounds-find_upto-end
+slice_bounds-find_upto-end c = omega (arith, c.loop-signals.invariant.0.long)
+
+pub slice_bounds-find_upto-end-in-loop-signals : goal.slice_bounds-find_upto-end-in-loop-signals
+slice_bounds-find_upto-end-in-loop-signals c =
+    let q = c.loop-signals in sym (half_whole q.work q.invariant.0.long)
+
+pub find_upto-found-requires : goal.find_upto-found-requires
+find_upto-found-requires c =
+    let q = c.loop-signals in
+    (
+      q.invariant.0.listed.few,
+      c.requires.n_le_most_inputs.1,
+      half-bits q.work q.invariant.0.long q.signals.count q.invariant.0.listed.few,
+      omega (arith, c.requires.n_le_most_inputs.3),
+    )
+
+pub shape_of-work-then-found-eq0 : goal.shape_of-work-then-found-eq0
+shape_of-work-then-found-eq0 c = c.loop-signals.invariant.1
+
+pub returns-then-found-eq0 : goal.returns-then-found-eq0
+returns-then-found-eq0 c =
+    let q = c.loop-signals in
+    subst (Tells c.no_end.result) (sym (following_stops c.args.n c.args.most c.args.k _ q.pile
+    q.signals q.work q.invariant.0 c.loop-signals-test.true
+    (sym c.find_upto-found.ensures.0 ∙ is_nothing_lem c.find_upto-found.result c.if-found-eq0.true))) c.no_end.ensures
+
+-- the split that was found
+found_split : (c : lts.Else2 tie.the-claims reads.Pre reads.Post goal.the-invariant-loop-signals goal.the-decreases-loop-signals)
+    → best_up_to c.loop-signals.signals.count
+    (at_hand c.loop-signals.work)
+    c.args.k
+    c.args.most
+    ≡ choice c.find_upto-found.result.first c.find_upto-found.result.own
+    c.find_upto-found.result.shared
+found_split c = let f = c.find_upto-found in sym f.ensures.0 ∙ is_choice f.result c.if-found-eq0.false
+
+pub of-s-requires : goal.of-s-requires
+of-s-requires c =
+    let f = c.find_upto-found.result in
+    let q = c.loop-signals in
+    let b = (upto_best q.signals.count c.args.k (at_hand q.work) c.args.most f.first f.own
+    f.shared).0 (found_split c) in
+    (q.invariant.0.listed.few, b.works.candidate.below_a, b.works.candidate.below_b, b.works.candidate.apart)
+
+-- the same, of the split that the code made of it
+module _ (c : lts.After-of tie.the-claims reads.Pre reads.Post goal.the-invariant-loop-signals goal.the-decreases-loop-signals) where
+  made_split : best_up_to c.loop-signals.signals.count
+      (at_hand c.loop-signals.work)
+      c.args.k
+      c.args.most
+      ≡ choice c.find_upto-found.result.first c.of-s.result.own c.of-s.result.shared
+  made_split = found_split c.before ∙ ap₂ (choice c.find_upto-found.result.first)
+      (sym c.of-s.ensures.2) (sym c.of-s.ensures.3)
+
+  made_sound : Sound c.args.most
+      (at_hand c.loop-signals.work) c.of-s.result
+      c.find_upto-found.result.first
+  made_sound = let q = c.loop-signals in
+      split_sound c.of-s.result q.signals.count c.args.most c.args.k
+      c.find_upto-found.result.first (at_hand q.work)
+      c.of-s.ensures.1 c.requires.n_le_most_inputs.3 c.requires.n_le_most_inputs.1 made_split
+
+pub overflow_add-next : goal.overflow_add-next
+overflow_add-next c =
+    let q = c.loop-signals in
+    omega (arith, q.invariant.0.room, c.requires.n_le_most_inputs.0)
+
+pub overflow_cast-next-in-loop-signals : goal.overflow_cast-next-in-loop-signals
+overflow_cast-next-in-loop-signals c =
+    let q = c.loop-signals in
+    omega (arith, q.invariant.0.room, c.requires.n_le_most_inputs.0)
+
+pub step-stepped-requires : goal.step-stepped-requires
+step-stepped-requires c =
+    let q = c.loop-signals in
+    let e = c.of-s.ensures in
+    let w = made_sound c.before.before in
+    let u = q.invariant.0 in record { held = (e.0, u.listed, e.1, u.long, w.some, w.most, w.candidate); count_le_count = (
+        u.piled.within,
+        omega (arith, u.room, w.most, u.some, c.requires.n_le_most_inputs.0),
+        omega (arith, u.room, w.most, u.some, c.requires.n_le_most_inputs.0),
+        w.few,
+      ) }
+
+pub loop-signals-smaller : goal.loop-signals-smaller
+loop-signals-smaller c =
+    let q = c.loop-signals in
+    following_shrinks c.args.n c.args.most c.args.k _ q.pile q.signals q.work q.invariant.0
+    c.of-s.result _ c.of-s.ensures.1 c.loop-signals-test.true
+    c.requires.n_le_most_inputs.1 (made_split c.before.before.before.before.before.before.before.before) c.step-stepped.result _ c.step-stepped.ensures
+
+pub loop-signals-preserved : goal.loop-signals-preserved
+loop-signals-preserved c =
+    let q = c.loop-signals in
+    (
+      following_goes c.args.n c.args.most c.args.k _ q.pile q.signals q.work q.invariant.0
+          c.of-s.result _ c.of-s.ensures.1 c.loop-signals-test.true
+          c.requires.n_le_most_inputs.1 (made_split c.before.before.before.before.before.before.before.before) c.step-stepped.result _ c.step-stepped.ensures,
+      c.step-stepped.ensures.table.long ∙ q.invariant.1,
+    )
+
+pub slice_bounds-first_of-end : goal.slice_bounds-first_of-end
+slice_bounds-first_of-end c = omega (arith, c.loop-signals.invariant.0.long)
+
+pub slice_bounds-first_of-end-2 : goal.slice_bounds-first_of-end-2
+slice_bounds-first_of-end-2 c = let q = c.loop-signals in sym (half_whole q.work q.invariant.0.long)
+
+pub overflow_cast-signals : goal.overflow_cast-signals
+overflow_cast-signals c = omega (arith, c.loop-signals.invariant.0.listed.few)
+
+pub first_of-requires : goal.first_of-requires
+first_of-requires c =
+    let q = c.loop-signals in
+    (q.invariant.0.listed.few, half-bits q.work q.invariant.0.long q.signals.count q.invariant.0.listed.few)
+
+pub cell-last-requires : goal.cell-last-requires
+cell-last-requires c =
+    let q = c.loop-signals in
+    (q.invariant.0.listed, omega (arith, c.requires.n_le_most_inputs.3, c.loop-signals-test.false))
+
+pub with_cell-whole-requires : goal.with_cell-whole-requires
+with_cell-whole-requires c =
+    let q = c.loop-signals in
+    (q.invariant.0.piled.within, omega (arith, q.invariant.0.room, c.requires.n_le_most_inputs.0))
+
+pub shape_of-work : goal.shape_of-work
+shape_of-work c = c.loop-signals.invariant.1
+
+pub returns : goal.returns
+returns c =
+    let q = c.loop-signals in
+    let u = q.invariant.0 in
+    let held = words_joined cell_words q.signals.count (at_hand q.work)
+    (omega (arith, pow_mono {c.before.before.before.before.before.before = q.signals.count} {j = 8} (omega (arith, c.requires.n_le_most_inputs.3, c.loop-signals-test.false)))) in
+    let cell : network_cell c.cell-last.result
+    ≡ last_cell (signals_of q.signals) (number (2 ^ q.signals.count) (at_hand q.work)) =
+    c.cell-last.ensures.0 ∙ ap (last_cell (signals_of q.signals)) (ap table_number c.first_of.ensures ∙ held)
+    in
+    let p = grown_piled c.with_cell-whole.ensures u.piled in
+    subst (Tells (record { finished = true; count = c.with_cell-whole.result.count; sheet = c.with_cell-whole.result.sheet }))
+    (ap (λ (d : Cell). made (u.written ++ (d ∷ []))) cell
+    ∙ sym (following_ends c.args.n c.args.most c.args.k _ q.pile q.signals q.work u
+    c.loop-signals-test.false))
+    (refl, p.count, λ few. p.held (omega (arith, p.count)))

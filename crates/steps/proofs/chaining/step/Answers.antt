@@ -1,0 +1,127 @@
+-- The chart, the cells, the signals and the table are each their own function's. Assumes nothing.
+use mathlib.Core.Path.{◌≡◌, sym, ap, ◌∙◌, subst}
+use mathlib.Core.Bool.{true}
+use mathlib.Core.List.{List, ◌++◌}
+use Prim.Native.Nat.{ℕ, ◌+◌}
+use native.Mathlib.Omega.{arith}
+use lib.Pow.{pow_mono}
+use Rattle.bits.specs.Numbers.{bit}
+use Rattle.bits.specs.Sets.{size}
+use Rattle.bits.specs.Lists.{list_of}
+use Rattle.bits.proofs.Masks.{mask_lt}
+use Rattle.splits.specs.Columns.{most_first, few_columns}
+use Rattle.splits.specs.Split.{reads_h}
+use Rattle.columns.proofs.Reading.{beside_mask}
+use Rattle.splits.proofs.Respect.{reads-H}
+use Rattle.steps.specs.Stage.{signals_of}
+use Rattle.steps.specs.Area.{at_hand}
+use Rattle.steps.proofs.Halves.{half_whole, half-bits}
+use Rattle.steps.proofs.Picking.{picked_set, picked_count}
+use Rattle.charts.proofs.Charting.{chart-room, power, charted}
+use Rattle.steps.proofs.chaining.step.Lts as lts
+use Rattle.steps.proofs.chaining.step.Reads as reads
+use Rattle.steps.proofs.chaining.step.Tie as tie
+use Rattle.steps.proofs.chaining.step.Goals as goal
+
+pub slice_bounds-chart-end-2 : goal.slice_bounds-chart-end-2
+slice_bounds-chart-end-2 c = sym (half_whole c.args.work.now c.requires.held.3)
+
+pub chart-requires : goal.chart-requires
+chart-requires c =
+    let s = c.args.s in
+    let p = c.requires.held in
+    let b = c.blank-seen.ensures in
+    let e = power p.5 in record {
+      held = (
+        p.0,
+        omega (arith, e, pow_mono {i = c.args.r} {j = most_first} p.5),
+        half-bits c.args.work.now p.3
+            s.n p.0.most,
+      );
+      shared_in_bounds = (omega (arith, b.0, chart-room p.6 e), b.1);
+      limit_value = subst (λ (m : ℕ). few_columns s.n (at_hand c.args.work.now) (bit s.own) (bit s.shared) m ≡ true) e
+          c.requires.count_le_count.3;
+    }
+
+pub slice_bounds-pile_first-end-2 : goal.slice_bounds-pile_first-end-2
+slice_bounds-pile_first-end-2 c = sym (half_whole c.args.work.now c.requires.held.3)
+
+pub slice_bounds-pile_first-end-3 : goal.slice_bounds-pile_first-end-3
+slice_bounds-pile_first-end-3 c = sym (c.chart.auto.1.1.1.0 ∙ c.blank-seen.ensures.0)
+
+pub pile_first-more-requires : goal.pile_first-more-requires
+pile_first-more-requires c =
+    let p = c.requires.held in record { held = (p.0, p.1, p.2, half-bits c.args.work.now p.3 c.args.s.n p.0.most, p.4, p.5, p.6); chart = charted p.5 c.chart.ensures; count_le_count = (c.requires.count_le_count.0, c.requires.count_le_count.1, c.requires.count_le_count.3) }
+
+pub overflow_add-s : goal.overflow_add-s
+overflow_add-s c =
+    let s = c.args.s in
+    let h = c.requires.held.0 in
+    omega (
+      arith,
+      mask_lt s.n (reads_h (bit s.own) (bit s.shared)) (s.shared + s.free) (beside_mask s h),
+      pow_mono {i = s.n} {j = 16} h.most,
+    )
+
+pub pick-left-requires : goal.pick-left-requires
+pick-left-requires c = c.requires.held.1
+
+-- the signals that are left, and how many
+module _ (c : lts.After-pick tie.the-claims reads.Pre reads.Post) where
+  abbrev g : lts.Start tie.the-claims reads.Pre reads.Post
+  g = c.before.before.before.before.before.before.before.before.before.before.before
+
+  left-count : c.pick-left.result.count ≡ size g.args.s.n (reads_h (bit g.args.s.own) (bit g.args.s.shared))
+  left-count = let s = g.args.s in
+      picked_count s.n (s.shared + s.free) (reads_h (bit s.own) (bit s.shared)) (beside_mask s g.requires.held.0)
+      g.args.stage.signals.count
+      g.requires.held.2 (signals_of g.args.stage.signals) c.pick-left.result c.pick-left.ensures.1
+
+  left_few : c.pick-left.result.count + size g.args.s.n (bit g.args.s.own) ≡ g.args.s.n
+  left_few = let s = g.args.s in omega (
+    arith,
+    left-count,
+    reads-H s.n (bit s.own) (bit s.shared)
+        g.requires.held.0.apart,
+  )
+
+pub with_next-after-requires : goal.with_next-after-requires
+with_next-after-requires c =
+    let p = (g c).requires in
+    (c.pick-left.ensures.0, p.0.4, p.0.5, omega (arith, left_few c, p.0.6.more, p.0.0.most), p.1.2)
+
+pub slice_bounds-next_table-end : goal.slice_bounds-next_table-end
+slice_bounds-next_table-end c = sym (c.chart.auto.1.1.1.0 ∙ c.blank-seen.ensures.0)
+
+pub overflow_cast-after : goal.overflow_cast-after
+overflow_cast-after c = omega (arith, c.with_next-after.ensures.0.few)
+
+pub next_table-requires : goal.next_table-requires
+next_table-requires c =
+    let k = (g c.before.before.before.before).requires.held in (
+      k.0,
+      k.3,
+      c.with_next-after.ensures.0.few,
+      c.with_next-after.ensures.2 ∙ ap (λ (m : ℕ). m + (g c.before.before.before.before).args.r) (left-count c.before.before.before.before),
+      charted k.5 c.chart.ensures,
+      k.5,
+    )
+
+pub shape_of-work : goal.shape_of-work
+shape_of-work c = c.next_table.ensures.long
+
+pub returns : goal.returns
+returns c =
+    let s = (g c.before.before.before.before.before.before.before.before).args.s in
+    record {
+      cells = c.pile_first-more.ensures;
+      listed = c.with_next-after.ensures.0;
+      signals = c.with_next-after.ensures.1 ∙ ap (λ (l : List ℕ). l ++ list_of (g c.before.before.before.before.before.before.before.before).args.r (λ c. (g c.before.before.before.before.before.before.before.before).args.next + c.before.before.before))
+          (picked_set s.n (s.shared + s.free) (reads_h (bit s.own) (bit s.shared))
+          (beside_mask s (g c.before.before.before.before.before.before.before.before).requires.held.0) (g c.before.before.before.before.before.before.before.before).args.stage.signals.count
+          (g c.before.before.before.before.before.before.before.before).requires.held.2 (signals_of (g c.before.before.before.before.before.before.before.before).args.stage.signals) c.pick-left.result c.pick-left.ensures.1);
+      table = c.next_table.ensures;
+    }
+
+pub slice_bounds-chart-end-3 : goal.slice_bounds-chart-end-3
+slice_bounds-chart-end-3 c = sym c.blank-seen.ensures.0

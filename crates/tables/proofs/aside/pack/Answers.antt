@@ -1,0 +1,57 @@
+-- The loop keeps that the first i bytes are those of the table over the inputs, and within a word w is that word.
+-- Assumes nothing.
+use mathlib.Core.Path.{◌≡◌, refl, ap, ◌∙◌}
+use mathlib.Core.Logic.{⊎_elim}
+use mathlib.Core.Bool.{Bool}
+use Prim.Native.Nat.{ℕ, ◌+◌, ◌*◌, ◌/◌}
+use native.Mathlib.Nat.{zero-add}
+use native.Mathlib.Omega.{arith}
+use lib.Pow.{pow_pos}
+use Rattle.bits.specs.Numbers.{bit, number}
+use Rattle.bits.specs.Sets.{spread}
+use Rattle.bits.proofs.Filling.{filled_none, filled_more, filled_list}
+use Rattle.bits.proofs.Numbers.{bit-zero, number_ext}
+use Rattle.tables.specs.Table.{table_bit}
+use Rattle.tables.proofs.aside.pack.Invariants.{over}
+use Rattle.tables.proofs.aside.pack.Goals as goal
+
+pub word_over-w-requires : goal.word_over-w-requires
+word_over-w-requires c = (
+  c.requires.0,
+  c.requires.1,
+  c.requires.2,
+  pow_pos c.args.n,
+  λ j l e. bit-zero j,
+  omega
+      (arith, c.requires.3, c.loop-i-test.true),
+)
+
+pub loop-i-preserved : goal.loop-i-preserved
+loop-i-preserved c =
+    let a = c.args in
+    let i = c.loop-i.i in
+    let F : ℕ → Bool = over a.t.now a.n a.mask in
+    let w : c.if-i-eq0.w ≡ number 64 (λ j. F (64 * (i / 8) + j)) =
+    ⊎_elim (λ u. u.2 ∙ u.1.ensures ∙ number_ext 64 _ (λ j. F (64 * (i / 8) + j))
+    (λ j l. ap (table_bit a.t.now) (zero-add (spread a.n (bit a.mask) (64 * (i / 8) + j)))))
+    (λ u. u.1 ∙ c.loop-i.invariant.1 u.0.left) c.if-i-eq0.branch in (
+      filled_more c.loop-i.invariant.0 (omega arith) (omega arith) (c.byte_in.ensures F w),
+      λ h. let e : i / 8 ≡ (i + 1) / 8 = omega arith in w ∙ ap (λ (k : ℕ). number 64 (λ j. F (64 * k + j))) e,
+    )
+
+pub loop-i-init : goal.loop-i-init
+loop-i-init c = (filled_none (omega arith), λ h. absurd (h refl))
+
+pub overflow_cast-i : goal.overflow_cast-i
+overflow_cast-i c = omega (arith, c.requires.3)
+
+pub bounds-room-i : goal.bounds-room-i
+bounds-room-i c =
+    omega
+    (arith, c.loop-i.invariant.0.long, c.loop-i.invariant.0.room)
+
+pub shape_of-room : goal.shape_of-room
+shape_of-room c = c.loop-i.invariant.0.long
+
+pub returns : goal.returns
+returns c = filled_list c.loop-i.invariant.0 (omega arith)

@@ -1,0 +1,72 @@
+-- `cell_time` meets its contract. The loop's invariant: of the inputs passed the right time is kept. Assumes nothing.
+use Rattle.std.proofs.Common.{◌≡◌, ℕ, ◌+◌, ◌-◌, get_or, sym, ap, ◌∙◌, ap₂, arith}
+use lib.Ieee.{nan}
+use Rattle.bits.proofs.Lists.{default}
+use Rattle.sheets.specs.Record.{byte_at}
+use Rattle.times.specs.InputTimes.{zero_time}
+use Rattle.times.specs.Signals.{keeping, kept_time, delayed}
+use Rattle.times.proofs.Passing.{kept_more, cell_at_lem}
+use Rattle.times.proofs.signals.cell_time.Invariants.{time_here}
+use Rattle.times.proofs.signals.cell_time.Goals as goal
+
+pub bounds-b-0 : goal.bounds-b-0
+bounds-b-0 c = let r = c.requires.0 in omega (arith, r.long, r.sound.ends, r.sound.order)
+
+pub bounds-b-1 : goal.bounds-b-1
+bounds-b-1 c = let r = c.requires.0 in omega (arith, r.long, r.sound.ends, r.sound.order)
+
+pub offset_bounds-signals-first : goal.offset_bounds-signals-first
+offset_bounds-signals-first c = let r = c.requires.0 in omega (arith, r.known 0 r.some)
+
+pub bounds-signals-first : goal.bounds-signals-first
+bounds-signals-first c = let r = c.requires.0 in r.known 0 r.some
+
+pub loop-j-init : goal.loop-j-init
+unfolding kept_time
+loop-j-init c =
+    let r = c.requires.0 in
+    let l = c.args.signals.times in
+    (omega arith, r.some, default l (byte_at c.args.b.now 1) nan zero_time (rw c.requires.1 (r.known 0 r.some)))
+
+pub overflow_cast-first : goal.overflow_cast-first
+overflow_cast-first c = let r = c.requires.0 in omega (arith, r.known 0 r.some)
+
+pub overflow_cast-t : goal.overflow_cast-t
+overflow_cast-t c = let r = c.requires.0 in omega (arith, r.known c.loop-j.j (omega arith))
+
+pub overflow_add-at : goal.overflow_add-at
+overflow_add-at c = omega arith
+
+pub bounds-b-at : goal.bounds-b-at
+bounds-b-at c =
+    let r = c.requires.0 in
+    omega (arith, r.long, r.few, r.sound.ends, r.sound.order)
+
+pub offset_bounds-signals-t : goal.offset_bounds-signals-t
+offset_bounds-signals-t c = let r = c.requires.0 in omega (arith, r.known c.loop-j.j (omega arith))
+
+pub bounds-signals-t : goal.bounds-signals-t
+bounds-signals-t c = let r = c.requires.0 in r.known c.loop-j.j (omega arith)
+
+pub loop-j-preserved : goal.loop-j-preserved
+loop-j-preserved c =
+    let r = c.requires.0 in
+    let l = c.args.signals.times in
+    let b = c.args.b.now in
+    let j = c.loop-j.j in
+    let here = default l (byte_at b (j + 1)) nan zero_time (rw c.requires.1 (r.known j (omega arith))) in (
+      omega arith,
+      omega arith,
+      c.keep-time.ensures ∙ ap₂ (keeping c.args.late) c.loop-j.invariant.2 here
+          ∙ kept_more (keeping c.args.late) j (time_here l b) c.loop-j.invariant.0,
+    )
+
+pub returns : goal.returns
+returns c =
+    let l = c.args.signals.times in
+    let b = c.args.b.now in
+    let z : c.loop-j.j ≡ byte_at b 0 = omega arith in
+    ap (delayed c.args.delay) (c.loop-j.invariant.2
+    ∙ ap (λ (k : ℕ). kept_time (keeping c.args.late) (time_here l b) (k - 1)) z)
+    ∙ sym (cell_at_lem (keeping c.args.late) (delayed c.args.delay) c.args.e (byte_at b) (λ h. get_or l h zero_time)
+    c.requires.0.some)

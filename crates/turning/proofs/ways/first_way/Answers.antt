@@ -1,0 +1,49 @@
+-- `first_way_lem` meets its contract. The loop's invariant: no way passed turns f into g. Assumes nothing.
+use mathlib.Core.Path.{◌≡◌, refl, sym, ap, subst, ◌∙◌}
+use Prim.Native.Nat.{ℕ}
+use native.Mathlib.Omega.{arith}
+use Rattle.bits.specs.Below.{least}
+use Rattle.bits.proofs.Least.{least_more, least_stop}
+use Rattle.turning.specs.declared.ways.Way.{Way}
+use Rattle.turning.specs.Ways.{IsWay, way_count}
+use Rattle.turning.specs.Listing.{way_at_lem, turns, first_way_lem}
+use Rattle.turning.proofs.Listed.{way_at_lem}
+use Rattle.turning.proofs.ways.first_way.Invariants.{test}
+use Rattle.turning.proofs.ways.first_way.Lts as lts
+use Rattle.turning.proofs.ways.first_way.Reads as reads
+use Rattle.turning.proofs.ways.first_way.Tie as tie
+use Rattle.turning.proofs.ways.first_way.Goals as goal
+
+pub loop-i-init : goal.loop-i-init
+unfolding least
+loop-i-init c = (omega arith, refl)
+
+pub does_turn-requires : goal.does_turn-requires
+does_turn-requires c =
+    subst (λ (w : Way). IsWay w) (sym c.way_at.ensures) (way_at_lem c.loop-i.i (omega arith))
+
+looked : (c : lts.After-does_turn tie.the-claims reads.Pre reads.Post goal.the-invariant-loop-i goal.the-decreases-loop-i)
+    → let a = c.args in c.does_turn.result ≡ test a.f a.g c.loop-i.i
+looked c =
+    let a = c.args in
+    c.does_turn.ensures ∙ ap (λ (w : Way). turns w a.f a.g) c.way_at.ensures
+
+pub returns-then-does_turn : goal.returns-then-does_turn
+unfolding first_way_lem
+returns-then-does_turn c =
+    let a = c.args in
+    sym (least_stop c.loop-i.i way_count (test a.f a.g) c.loop-i.invariant.1
+    (sym (looked c.before) ∙ c.if-does_turn.true) (omega arith))
+
+pub loop-i-preserved : goal.loop-i-preserved
+loop-i-preserved c =
+    let a = c.args in
+    let m = least_more c.loop-i.i (test a.f a.g) c.loop-i.invariant.1 in
+    (omega arith, m (sym (looked c.before) ∙ c.if-does_turn.false))
+
+pub returns : goal.returns
+unfolding first_way_lem
+returns c =
+    let a = c.args in
+    let z : c.loop-i.i ≡ way_count = omega arith in
+    sym (subst (λ (k : ℕ). least k (test a.f a.g) ≡ k) z c.loop-i.invariant.1)
