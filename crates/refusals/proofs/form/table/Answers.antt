@@ -23,14 +23,16 @@ returns-then-not-spare_clear c =
     c.refuse.ensures
     ∙ decided (sized_lines a.n a.t.now) (bad_spare a.n a.t.now ∷ []) _ c.sized-seen.ensures
     c.in-Fine.is
-    (here (spare_line a.n a.t.now ∙ ap not (sym c.spare_clear.ensures) ∙ c.if-not-spare_clear.true))
+    (here (spare_line a.n a.t.now ∙ ap not (sym c.spare_clear.ensures) ∙ ap not c.if-not-spare_clear.true))
 
 pub returns : goal.returns
 returns c =
     let a = c.args in
     decided (sized_lines a.n a.t.now) (bad_spare a.n a.t.now ∷ []) _ c.sized-seen.ensures
     c.in-Fine.is
-    (later (spare_line a.n a.t.now ∙ ap not (sym c.spare_clear.ensures) ∙ c.if-not-spare_clear.false) fine)
+    (later (spare_line a.n a.t.now ∙ ap not (sym c.spare_clear.ensures) ∙ ap not c.if-not-spare_clear.false) fine)
 
 pub overflow_cast-n : goal.overflow_cast-n
-overflow_cast-n c = omega (arith, (spare_clear-requires c.before c.lifetimes).0)
+overflow_cast-n c =
+    let a = c.args in
+    omega (arith, (sized_through a.n a.t.now _ c.sized-seen.ensures c.in-Fine.is).0)
