@@ -20,13 +20,12 @@ loop-i-init c =
     )
 
 pub record_of-requires : goal.record_of-requires
-record_of-requires c κs =
-    let t = c.before.before.before in
-    let a = t.args in (
-      t.requires.0.sound,
-      omega (arith, t.requires.0.most),
-      record_within a.e.size c.before.loop.i a.m
-          (length a.s.now) (omega arith) t.requires.0.long,
+record_of-requires c =
+    let a = c.args in (
+      c.requires.0.sound,
+      omega (arith, c.requires.0.most),
+      record_within a.e.size c.loop-i.i a.m
+          (length a.s.now) (omega arith) c.requires.0.long,
     )
 
 pub cell_time-time-requires : goal.cell_time-time-requires

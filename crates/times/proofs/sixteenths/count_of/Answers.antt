@@ -10,8 +10,9 @@ unfolding of_bits
 truncating_f64_to_u64-requires c =
     let x = c.args.x in
     let i = sixteenths_of x in
-    subst (λ (y : Float). T (lt (fin true 1 (pos 0)) y) × T (lt y (fin false 1 (pos 64)))) (sym (mul16 x i c.requires.0))
-    (cut (of_int binary64 (pos i)) i 1 (lit< tt) (omega (arith, c.requires.1)) (whole_value i c.requires.1))
+    let k = subst (λ (y : Float). T (lt (fin true 1 (pos 0)) y) × T (lt y (fin false 1 (pos 64)))) (sym (mul16 x i c.requires.0))
+    (cut (of_int binary64 (pos i)) i 1 (lit< tt) (omega (arith, c.requires.1)) (whole_value i c.requires.1)) in
+    record { lower_bound = k.0; upper_bound = k.1 }
 
 pub returns : goal.returns
 unfolding of_bits
