@@ -87,7 +87,7 @@ returns c =
     let p = shl_one 64 a.n (omega arith) in
     let l : a.own < 2 ^ a.n = omega arith in
     let h : a.shared < 2 ^ a.n = omega arith in
-    ap₂ (λ (c.before.before.before.before.before.before j : ℕ). ltb a.k (c.before.before.before.before.before.before + j)) (m.ensures a.n l) (c.members.ensures a.n h)
+    ap₂ (λ (i j : ℕ). ltb a.k (i + j)) (m.ensures a.n l) (c.members.ensures a.n h)
     ∙ sym (by_sizes a.n a.k a.r a.own a.shared (good_first c.before.before.before.before.before.before) l h
     (disjoint-and a.n a.own a.shared l ∙ eq-eqb _ 0 c.if-own-shared-ne0.false)
     (omega (arith, m.ensures a.n l, c.if-many-r.false)))

@@ -65,7 +65,8 @@ module _ (s : Split) (r : ℕ) (t : List ℕ) where
 
 pub break_of-broken-requires : goal.break_of-broken-requires
 break_of-broken-requires c =
-    let p = c.requires.held in record { held = (
+    let p = c.requires.held in record {
+      held = (
         p.0,
         omega (
           arith,
@@ -74,7 +75,9 @@ break_of-broken-requires c =
               p.3,
         ),
         omega (arith, p.2, length-holds c.args.s.n),
-      ); own_bound = omega (arith, p.1.most) }
+      );
+      own_bound = omega (arith, p.1.most);
+    }
 
 pub returns-then-broken-gt0 : goal.returns-then-broken-gt0
 returns-then-broken-gt0 c =
@@ -85,8 +88,8 @@ returns-then-broken-gt0 c =
       answer = record { verdict = v; d = c.none.result; columns = k };
       room = a.room.now;
     })
-    (c.refuse_at.ensures ∙ ap (λ (c.before.before.before.before.before.before : Broken). Refused (refusal 8 c.b)) q)
-    (ap (λ (c.before.before.before.before.before.before : Broken). c.columns) q)
+    (c.refuse_at.ensures ∙ ap (λ (w : Broken). Refused (refusal 8 w.b)) q)
+    (ap (λ (w : Broken). w.columns) q)
     ∙ ap (λ (d : FirstCells). record {
       answer = record {
         verdict = Refused (refusal 8 (first a.s a.r a.t.now));
@@ -103,8 +106,12 @@ bytes_of_h-requires c = let p = c.requires.held in (p.0.most, p.0.below_a, p.1.m
 pub put_pair-requires : goal.put_pair-requires
 put_pair-requires c =
     let b = c.bytes_of_h.ensures in
-    let p = c.requires.held in record { held = (p.0, omega (arith, p.2, length-holds c.args.s.n), p.1, p.3, omega (arith, b.0, c.requires.own_in_bounds), b.1); end_value = b.0 ∙ bytes_H p.1 (table_bit c.args.t.now); r_value = holds c.args.s c.args.r c.args.t.now p.3 _
-            c.break_of-broken.ensures (omega arith) }
+    let p = c.requires.held in record {
+      held = (p.0, omega (arith, p.2, length-holds c.args.s.n), p.1, p.3, omega (arith, b.0, c.requires.own_in_bounds), b.1);
+      end_value = b.0 ∙ bytes_H p.1 (table_bit c.args.t.now);
+      r_value = holds c.args.s c.args.r c.args.t.now p.3 _
+          c.break_of-broken.ensures (omega arith);
+    }
 
 pub returns : goal.returns
 returns c =

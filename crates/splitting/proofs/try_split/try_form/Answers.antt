@@ -47,44 +47,44 @@ module _ (c : lts.After-gate tie.the-claims reads.Pre reads.Post) where
 
 pub returns-in_default : goal.returns-in_default
 returns-in_default c =
-    stopped (ls c.before.before.before) (ms c.before.before.before) _ c.gate-gate.ensures c.in_default.field-0 c.in_default.is
+    stopped (ls c.before.before) (ms c.before.before) _ c.gate-gate.ensures c.in_default.field-0 c.in_default.is
 
 pub bad_sets-requires : goal.bad_sets-requires
-bad_sets-requires c = (looked c.before.before.before c.in-Fine.is).most
+bad_sets-requires c = (looked c.before.before c.in-Fine.is).most
 
 pub overflow_cast-inputs : goal.overflow_cast-inputs
-overflow_cast-inputs c = omega (arith, bad_sets-requires c.before _)
+overflow_cast-inputs c = omega (arith, bad_sets-requires c)
 
 pub overflow_cast-k : goal.overflow_cast-k
 overflow_cast-k c =
-    omega (arith, (looked c.before.before.before c.in-Fine.is).largest, (g c.before.before.before).requires.eight)
+    omega (arith, (looked c.before.before c.in-Fine.is).largest, (g c.before.before).requires.eight)
 
 pub returns-then-bad_sets : goal.returns-then-bad_sets
 returns-then-bad_sets c =
     c.refuse.ensures
-    ∙ past c.before.before.before.before.before.before c.in-Fine.is (here (sym c.bad_sets.ensures ∙ c.if-bad_sets.true))
+    ∙ past c.before.before.before.before.before c.in-Fine.is (here (sym c.bad_sets.ensures ∙ c.if-bad_sets.true))
 
 pub bytes_of_h-requires : goal.bytes_of_h-requires
 bytes_of_h-requires c =
-    let a = (g c.before.before.before.before.before).args in
-    let w = looked c.before.before.before.before.before c.in-Fine.is in
+    let a = (g c.before.before.before.before).args in
+    let w = looked c.before.before.before.before c.in-Fine.is in
     let good = sym c.bad_sets.ensures ∙ c.if-bad_sets.false in
     let s = candidate a.n a.k a.r a.own a.shared good a.e.most w.largest in
     (w.most, s.below_a, s.more, most_first_lem a.n a.k a.r a.own a.shared good)
 
 pub overflow_cast-r : goal.overflow_cast-r
-overflow_cast-r c = omega (arith, (bytes_of_h-requires c.before _).3)
+overflow_cast-r c = omega (arith, (bytes_of_h-requires c).3)
 
 pub overflow_cast-own : goal.overflow_cast-own
 overflow_cast-own c =
     let a = c.args in
-    let w = bytes_of_h-requires c.before _ in
+    let w = bytes_of_h-requires c in
     omega (arith, w.1, pow_mono {i = a.n} {j = most_inputs} w.0)
 
 -- so are the sets, and the bytes are those of H's table: the room decides
 module _ (c : lts.After-bytes_of_h tie.the-claims reads.Pre reads.Post) where
   abbrev f : lts.After-gate tie.the-claims reads.Pre reads.Post
-  f = c.before.before.before.before.before
+  f = c.before.before.before.before
 
   abbrev F : ℕ → Bool
   F = table_bit (g f).args.t.now

@@ -60,12 +60,12 @@ of-requires c =
 
 pub overflow_cast-own : goal.overflow_cast-own
 overflow_cast-own c =
-    let w = of-requires c.before _ in omega
+    let w = of-requires c in omega
     (arith, w.1, pow_mono {i = c.args.n} {j = most_inputs} w.0)
 
 pub overflow_cast-shared : goal.overflow_cast-shared
 overflow_cast-shared c =
-    let w = of-requires c.before _ in omega
+    let w = of-requires c in omega
     (arith, w.2, pow_mono {i = c.args.n} {j = most_inputs} w.0)
 
 pub overflow_cast-r : goal.overflow_cast-r
@@ -112,4 +112,4 @@ returns c =
     c.in-Fine.is
 
 pub overflow_cast-n : goal.overflow_cast-n
-overflow_cast-n c = omega (arith, (of-requires c.before _).0)
+overflow_cast-n c = omega (arith, (of-requires c).0)

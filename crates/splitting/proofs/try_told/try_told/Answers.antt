@@ -24,7 +24,7 @@ pub returns : goal.returns
 unfolding try_outcome
 returns c =
     let a = c.args in
-    c.try_in.ensures ∙ ap (λ (c.before.before.before.before.before : Edition). try_outcome c.before.before.before.before.before a.n a.k 1 a.own a.shared a.t.now
+    c.try_in.ensures ∙ ap (λ (e : Edition). try_outcome e a.n a.k 1 a.own a.shared a.t.now
     a.room.now) c.numbered.ensures
     ∙ left_to (told_form a.w a.n) (try_lines (edition_of a.w) a.n a.k 1 a.own a.shared a.t.now
     a.room.now)
