@@ -18,7 +18,7 @@ use Rattle.quick.proofs.search.first_try.Tie as tie
 use Rattle.quick.proofs.search.first_try.Goals as goal
 
 -- the least mask of k inputs, as the machine makes it
-module _ (c : lts.Else2 tie.the-claims reads.Pre reads.Post) where
+module _ (c : lts.Else2 tie.the-claims reads.Pre reads.Post tie.handed_clauses) where
   k : ℕ
   k = c.args.k
 

@@ -26,7 +26,7 @@ walk_own-found-requires c =
     }
 
 -- what the walk answers
-told : (c : lts.After-walk_own tie.the-claims reads.Pre reads.Post goal.the-invariant-loop-q goal.the-decreases-loop-q)
+told : (c : lts.After-walk_own tie.the-claims reads.Pre reads.Post goal.the-invariant-loop-q goal.the-decreases-loop-q tie.handed_clauses)
     → let a = c.args in of_sizes a.n a.r (table_bit a.t.now) a.p c.loop-q.q
     ≡ answer_of c.walk_own-found.result
 told c =
@@ -42,14 +42,14 @@ shape_of-notes-in-Split c =
 pub returns-in-Split : goal.returns-in-Split
 returns-in-Split c = (
   yet_stops c.loop-q.invariant.0 (omega arith)
-      (told c.before.before.before.before.before.before ∙ ap answer_of c.in-Split.is),
+      (told c.before.before.before.before ∙ ap answer_of c.in-Split.is),
   c.walk_own-found.ensures.1,
 )
 
 pub loop-q-preserved : goal.loop-q-preserved
 loop-q-preserved c = (
   yet_goes c.loop-q.invariant.0 (omega arith)
-      (told c.before.before.before.before.before ∙ ap answer_of c.in_default.is),
+      (told c.before.before.before.before ∙ ap answer_of c.in_default.is),
   c.walk_own-found.ensures.1,
 )
 
