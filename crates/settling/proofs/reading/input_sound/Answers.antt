@@ -2,7 +2,6 @@
 -- nothing.
 use mathlib.Core.Path.{sym, ap, ap₂, ◌∙◌}
 use mathlib.Core.Bool.{Bool, not, ◌&&◌, ◌||◌}
-use borrow.Author.Tests.{not-true, not-false}
 use Rattle.bits.specs.Numbers.{bit}
 use Rattle.bits.proofs.Machine.{test_bit}
 use Rattle.times.specs.InputTimes.{given, time_at}

@@ -1,9 +1,14 @@
 -- `settle_in` meets its contract: a refusal is its lines' verdict, and where these are in order the sheet is good and
 -- its times can be found. Assumes nothing.
-use mathlib.Core.Path.{sym, ap, ap₂, ◌∙◌}
+use mathlib.Core.Path.{◌≡◌, sym, ap, ap₂, ◌∙◌}
+use mathlib.Core.List.{List}
+use Prim.Native.Nat.{ℕ}
 use native.Mathlib.Omega.{arith}
 use lib.Ieee.{Float, of_bits}
+use Rattle.sheets.specs.declared.kinds.Edition.{Edition}
+use Rattle.sheets.specs.Edition.{IsEdition}
 use Rattle.sheets.specs.Sheet.{records}
+use Rattle.times.specs.declared.input_time.InputTime.{InputTime}
 use Rattle.times.specs.InputTimes.{zero_time}
 use Rattle.refusals.specs.declared.verdicts.Verdict.{Verdict}
 use Rattle.refusals.specs.declared.verdicts.Verdict.TheVariants.{Fine}
@@ -11,9 +16,6 @@ use Rattle.refusals.specs.Lines.{verdict, reply}
 use Rattle.refusals.proofs.Lines.{in_order_lem}
 use Rattle.settling.specs.Settle.{settle_lines, settle_done, settle_not, settle_outcome}
 use Rattle.settling.proofs.Kept.{Leaves, leaves, good_timed}
-use Rattle.settling.proofs.settle.settle_in.Lts as lts
-use Rattle.settling.proofs.settle.settle_in.Reads as reads
-use Rattle.settling.proofs.settle.settle_in.Tie as tie
 use Rattle.settling.proofs.settle.settle_in.Goals as goal
 
 pub returns-in_default : goal.returns-in_default
@@ -26,24 +28,28 @@ returns-in_default c =
     (sym e ∙ c.settle_form-form.ensures)
 
 -- what the lines leave
-left : (c : lts.After-enum_told tie.the-claims reads.Pre reads.Post) → let a = c.args in Leaves a.e a.d a.n a.s.now a.delay a.times
-left c =
-    let a = c.args in
-    leaves a.e c.requires a.d a.n a.s.now a.delay a.times
-    (in_order_lem (settle_lines a.e a.d a.n a.s.now a.delay a.times)
-    (sym c.settle_form-form.ensures ∙ c.in-Fine.is))
+left : (e : Edition) (d n : ℕ) (s : List ℕ) (delay : Float) (ts : List InputTime) (v : Verdict) → IsEdition e
+    → v ≡ verdict (settle_lines e d n s delay ts) → v ≡ Fine → Leaves e d n s delay ts
+left e d n s delay ts v ok h q =
+    leaves e ok d n s delay ts (in_order_lem (settle_lines e d n s delay ts) (sym h ∙ q))
 
 pub overflow_cast-inputs : goal.overflow_cast-inputs
-overflow_cast-inputs c = omega (arith, (left c.before).inputs)
+overflow_cast-inputs c =
+    let a = c.args in
+    let l = left a.e a.d a.n a.s.now a.delay a.times c.settle_form-form.result c.requires c.settle_form-form.ensures c.in-Fine.is in
+    omega (arith, l.inputs)
 
 pub settle_at-requires : goal.settle_at-requires
 settle_at-requires c =
     let a = c.args in
-    let l = left c.before in
+    let l = left a.e a.d a.n a.s.now a.delay a.times c.settle_form-form.result c.requires c.settle_form-form.ensures c.in-Fine.is in
     (good_timed a.e c.requires a.d a.n a.s.now (records a.e a.s.now) l.inputs l.good, l.inputs)
 
 pub settle_at-requires-2 : goal.settle_at-requires-2
-settle_at-requires-2 c = settle_at-requires c.before.before κs
+settle_at-requires-2 c =
+    let a = c.args in
+    let l = left a.e a.d a.n a.s.now a.delay a.times c.settle_form-form.result c.requires c.settle_form-form.ensures c.in-Fine.is in
+    (good_timed a.e c.requires a.d a.n a.s.now (records a.e a.s.now) l.inputs l.good, l.inputs)
 
 pub returns : goal.returns
 unfolding settle_outcome

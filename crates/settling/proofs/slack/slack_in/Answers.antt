@@ -28,9 +28,6 @@ use Rattle.settling.specs.Settle.{settle_lines, settle_done, settle_not, settle_
 use Rattle.settling.specs.Slack.{slack_done, slack_not, slack_outcome}
 use Rattle.settling.proofs.Kept.{Leaves, leaves, all_sound}
 use Rattle.settling.proofs.Slacking.{settled_exact, counted, small, InWhole, in_whole}
-use Rattle.settling.proofs.slack.slack_in.Lts as lts
-use Rattle.settling.proofs.slack.slack_in.Reads as reads
-use Rattle.settling.proofs.slack.slack_in.Tie as tie
 use Rattle.settling.proofs.slack.slack_in.Goals as goal
 
 -- what the answer of settle says: its verdict is that of the lines, and where it is fine it has the latest time
@@ -139,56 +136,65 @@ returns-in_default c =
     refused_first a.e a.d a.n a.s.now a.delay a.times a.deadline c.settle_in-answer.result
     c.settle_in-answer.ensures c.in_default.field-0 c.in_default.is
 
--- what settle's lines leave
-left : (c : lts.After-enum_told tie.the-claims reads.Pre reads.Post) → let a = c.args in Leaves a.e a.d a.n a.s.now a.delay a.times
-left c =
-    let a = c.args in
-    (passed a.e a.d a.n a.s.now a.delay a.times c.requires c.settle_in-answer.result
-    c.settle_in-answer.ensures c.in-Fine.is).0
-
 pub overflow_cast-n : goal.overflow_cast-n
-overflow_cast-n c = omega (arith, (left c.before).inputs)
+overflow_cast-n c =
+    let a = c.args in
+    let l = (passed a.e a.d a.n a.s.now a.delay a.times c.requires c.settle_in-answer.result
+    c.settle_in-answer.ensures c.in-Fine.is).0 in
+    omega (arith, l.inputs)
 
 pub slack_form-form-requires : goal.slack_form-form-requires
 slack_form-form-requires c =
     let a = c.args in
-    let l = left c.before in
+    let l = (passed a.e a.d a.n a.s.now a.delay a.times c.requires c.settle_in-answer.result
+    c.settle_in-answer.ensures c.in-Fine.is).0 in
     (l.inputs, l.within, all_sound a.e a.n a.s.now (records a.e a.s.now) a.times l.times)
 
 -- what is asked where settle's lines are in order
-asked : (g : lts.After-slack_form tie.the-claims reads.Pre reads.Post) → let a = g.args in Asked a.e a.d a.n a.s.now a.delay a.times a.deadline g.settle_in-answer.result
-    (to_z w64 (of_z w64 a.deadline)) g.slack_form-form.result
-asked g = record {
-  ok = g.requires;
-  settles = g.settle_in-answer.ensures;
-  fine = g.in-Fine.is;
-  due = to_z-of_z g.ranges.deadline;
-  looked = g.slack_form-form.ensures;
+asked : (e : Edition) (d n : ℕ) (s : List ℕ) (delay : Float) (ts : List InputTime) (deadline : ℤ) (a : SettleAnswer)
+    (v : Verdict) → IsEdition e → a ≡ settle_outcome e d n s delay ts → a.verdict ≡ Fine
+    → to_z w64 (of_z w64 deadline) ≡ deadline
+    → v ≡ verdict (bad_slack n delay ts (to_z w64 (of_z w64 deadline)) ∷ [])
+    → Asked e d n s delay ts deadline a (to_z w64 (of_z w64 deadline)) v
+asked e d n s delay ts deadline a v ok p q z l = record {
+  ok = ok;
+  settles = p;
+  fine = q;
+  due = z;
+  looked = l;
 }
 
 pub returns-in_default-form : goal.returns-in_default-form
 returns-in_default-form c =
-    refused_then (asked c.before.before.before) c.in_default-form.field-0 c.in_default-form.is
+    let a = c.args in
+    let k = asked a.e a.d a.n a.s.now a.delay a.times a.deadline c.settle_in-answer.result c.slack_form-form.result
+    c.requires c.settle_in-answer.ensures c.in-Fine.is (to_z-of_z c.ranges.deadline) c.slack_form-form.ensures in
+    refused_then k c.in_default-form.field-0 c.in_default-form.is
 
 pub count_of-requires : goal.count_of-requires
-count_of-requires c = latest (asked c.before.before.before) c.in-Fine-form.is
+count_of-requires c =
+    let a = c.args in
+    let k = asked a.e a.d a.n a.s.now a.delay a.times a.deadline c.settle_in-answer.result c.slack_form-form.result
+    c.requires c.settle_in-answer.ensures c.in-Fine.is (to_z-of_z c.ranges.deadline) c.slack_form-form.ensures in
+    latest k c.in-Fine-form.is
 
 pub overflow_cast-result : goal.overflow_cast-result
 overflow_cast-result c =
-    record {
-      sfits = omega (
-        arith,
-        few (asked c.before.before.before.before) c.in-Fine-form.is c.count_of.result
-            c.count_of.ensures,
-      );
-    }
+    let a = c.args in
+    let k = asked a.e a.d a.n a.s.now a.delay a.times a.deadline c.settle_in-answer.result c.slack_form-form.result
+    c.requires c.settle_in-answer.ensures c.in-Fine.is (to_z-of_z c.ranges.deadline) c.slack_form-form.ensures in
+    record { sfits = omega (arith, few k c.in-Fine-form.is c.count_of.result c.count_of.ensures) }
 
 pub overflow_sub-result : goal.overflow_sub-result
 overflow_sub-result c =
-    fits_less (asked c.before.before.before.before) c.in-Fine-form.is c.count_of.result
-    c.count_of.ensures
+    let a = c.args in
+    let k = asked a.e a.d a.n a.s.now a.delay a.times a.deadline c.settle_in-answer.result c.slack_form-form.result
+    c.requires c.settle_in-answer.ensures c.in-Fine.is (to_z-of_z c.ranges.deadline) c.slack_form-form.ensures in
+    fits_less k c.in-Fine-form.is c.count_of.result c.count_of.ensures
 
 pub returns : goal.returns
 returns c =
-    done (asked c.before.before.before.before) c.in-Fine-form.is c.count_of.result
-    c.count_of.ensures
+    let a = c.args in
+    let k = asked a.e a.d a.n a.s.now a.delay a.times a.deadline c.settle_in-answer.result c.slack_form-form.result
+    c.requires c.settle_in-answer.ensures c.in-Fine.is (to_z-of_z c.ranges.deadline) c.slack_form-form.ensures in
+    done k c.in-Fine-form.is c.count_of.result c.count_of.ensures
