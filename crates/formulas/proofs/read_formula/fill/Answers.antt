@@ -1,7 +1,6 @@
 -- `fill` meets its contract. The loop's invariant: the bytes passed are the table's, and within a stretch v is that
 -- stretch. Assumes nothing.
 use mathlib.Core.Path.{◌≡◌, refl, ap, ◌∙◌}
-use mathlib.Core.Logic.{⊎_elim}
 use Prim.Native.Nat.{ℕ, ◌+◌, ◌-◌, ◌/◌}
 use native.Mathlib.Omega.{arith}
 use lib.Pow.{pow_mono}
@@ -14,6 +13,7 @@ use Rattle.values.specs.Stretches.{stretch_of}
 use Rattle.values.proofs.Bitwise.{table-word}
 use Rattle.formulas.proofs.read_formula.fill.Invariants.{bits}
 use Rattle.formulas.proofs.read_formula.fill.Goals as goal
+use Rattle.formulas.proofs.read_formula.fill.Goals.{then-i-eq0, else-i-eq0}
 
 pub overflow_cast-i : goal.overflow_cast-i
 overflow_cast-i c =
@@ -30,7 +30,10 @@ loop-i-preserved c =
     let a = c.args in
     let i = c.loop-i.i in
     let w : c.if-i-eq0.v ≡ stretch_of (value_in (text_of a.n a.t.now)) (i / 32) =
-    ⊎_elim (λ c. c.2 ∙ c.1.ensures) (λ c. c.1 ∙ c.loop-i.invariant.1 c.0.left) c.if-i-eq0.branch in (
+    elim c.if-i-eq0.branch [
+      | then-i-eq0 u ↦ u.v-is ∙ u.text_stretch-v.ensures
+      | else-i-eq0 u ↦ u.v-is ∙ c.loop-i.invariant.1 u.if-i-eq0.false
+    ] in (
       filled_more c.loop-i.invariant.0 (omega arith) (omega arith)
           (word_byte (bits a.n a.t.now) i _ (table-word a.n i (value_in (text_of a.n a.t.now))
           (word_starts a.n i (omega (arith, c.requires.1))) w c.word_in.ensures

@@ -23,4 +23,6 @@ returns c =
     c.in-Fine.is c.look_at_text.ensures
 
 pub overflow_cast-n : goal.overflow_cast-n
-overflow_cast-n c = omega (arith, look_at_text-requires c.before c.lifetimes)
+overflow_cast-n c =
+    let a = c.args in
+    omega (arith, (sized_through a.n a.table.now _ c.sized-seen.ensures c.in-Fine.is).0)
