@@ -39,12 +39,17 @@ bit_of-requires c =
     }
 
 pub overflow_cast-n : goal.overflow_cast-n
-overflow_cast-n c = omega (arith, (bit_of-requires c.before c.lifetimes).0.2)
+overflow_cast-n c =
+    let a = c.args in
+    let w = in_order_lem (run_lines a.e a.d a.n a.s.now a.x) (sym c.run_form-form.ensures ∙ c.in-Fine.is) in
+    omega (arith, (inside 1 a.n most_inputs w.0).1)
 
 pub overflow_cast-x : goal.overflow_cast-x
 overflow_cast-x c =
-    let w = bit_of-requires c.before c.lifetimes
-    in omega (arith, w.1, pow_mono {i = c.args.n} {j = most_inputs} w.0.2)
+    let a = c.args in
+    let w = in_order_lem (run_lines a.e a.d a.n a.s.now a.x) (sym c.run_form-form.ensures ∙ c.in-Fine.is) in
+    let few = (inside 1 a.n most_inputs w.0).1 in
+    omega (arith, leb-false _ a.x w.1.1.1.0, pow_mono {i = a.n} {j = most_inputs} few)
 
 pub returns : goal.returns
 unfolding run_outcome
