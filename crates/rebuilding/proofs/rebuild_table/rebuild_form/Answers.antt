@@ -24,4 +24,6 @@ returns c =
     c.in-Fine.is c.read_sheet.ensures
 
 pub overflow_cast-n : goal.overflow_cast-n
-overflow_cast-n c = omega (arith, (read_sheet-requires c.before c.lifetimes).1)
+overflow_cast-n c =
+    let a = c.args in
+    omega (arith, (sized_through a.n a.table.now _ c.sized-seen.ensures c.in-Fine.is).0)
