@@ -1,4 +1,4 @@
--- `all_plain_lem` meets its contract. The loop's invariant: the records from i on decide. Assumes nothing.
+-- `all_plain` meets its contract. The loop's invariant: the records from i on decide. Assumes nothing.
 use mathlib.Core.Path.{◌≡◌, sym, ap, ◌∙◌}
 use mathlib.Core.Bool.{true, false}
 use mathlib.Core.List.{List}
@@ -16,13 +16,11 @@ pub loop-i-init : goal.loop-i-init
 loop-i-init c = let a = c.args in (omega arith, ap all_plain (cells_all a.e a.s.now a.m))
 
 pub record_of-requires : goal.record_of-requires
-record_of-requires c κs =
-    let t = c.before.before.before in
-    let a = t.args in (
-      t.requires.0,
-      omega (arith, t.requires.1),
-      record_within a.e.size c.before.loop.i a.m (length a.s.now)
-          (omega arith) t.requires.2,
+record_of-requires c =
+    let a = c.args in (
+      c.requires.0,
+      omega (arith, c.requires.1),
+      record_within a.e.size c.loop-i.i a.m (length a.s.now) (omega arith) c.requires.2,
     )
 
 pub plain-requires : goal.plain-requires
