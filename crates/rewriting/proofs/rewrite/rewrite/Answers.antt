@@ -24,7 +24,7 @@ returns c =
     c.rewrite_in.ensures
     ∙ ap (λ (d : ℕ). rewrite_outcome c.first-e.result c.second.result d a.n a.s.now a.room.now)
     c.desk_of.ensures
-    ∙ ap₂ (λ (e c.before.before.before.before.before.before.before : Edition). rewrite_own e c.before.before.before.before.before.before.before a.n a.s.now a.room.now) c.first-e.ensures c.second.ensures
+    ∙ ap₂ (λ (e f : Edition). rewrite_own e f a.n a.s.now a.room.now) c.first-e.ensures c.second.ensures
 
 pub desk_of-requires : goal.desk_of-requires
 desk_of-requires c = subst IsEdition (sym c.first-e.ensures) first_edition_lem

@@ -11,9 +11,6 @@ use Rattle.refusals.specs.Refusals.{bad_inputs, short_records, read_sheet_lines}
 use Rattle.refusals.proofs.Lines.{here, later, decides, passes}
 use Rattle.refusals.proofs.Tests.{few_inputs}
 use Rattle.rewriting.specs.Rewrite.{rewrite_lines}
-use Rattle.rewriting.proofs.rewrite.rewrite_form.Lts as lts
-use Rattle.rewriting.proofs.rewrite.rewrite_form.Reads as reads
-use Rattle.rewriting.proofs.rewrite.rewrite_form.Tie as tie
 use Rattle.rewriting.proofs.rewrite.rewrite_form.Goals as goal
 
 pub returns-then-bad_inputs : goal.returns-then-bad_inputs
@@ -30,9 +27,6 @@ returns-then-room-f c =
     (later (sym c.bad_inputs.ensures ∙ c.if-bad_inputs.false)
     (here (lt-ltb (length a.room.now) (a.f.size * most_records) c.if-room-f.true)))
 
-few : (c : lts.Else2 tie.the-claims reads.Pre reads.Post) → c.args.n ≤ most_inputs
-few c = few_inputs _ c.bad_inputs.ensures c.if-bad_inputs.false
-
 pub returns : goal.returns
 returns c =
     let a = c.args in
@@ -44,7 +38,9 @@ returns c =
     ))
 
 pub overflow_cast-n : goal.overflow_cast-n
-overflow_cast-n c = omega (arith, few c.before)
+overflow_cast-n c =
+    let few : c.args.n ≤ most_inputs = few_inputs _ c.bad_inputs.ensures c.if-bad_inputs.false in
+    omega arith
 
 pub read_sheet-requires : goal.read_sheet-requires
-read_sheet-requires c = (c.requires.0, few c.before)
+read_sheet-requires c = (c.requires.0, few_inputs _ c.bad_inputs.ensures c.if-bad_inputs.false)

@@ -25,13 +25,11 @@ loop-i-init c =
     (omega arith, refl, ap (λ (k : ℕ). drop k a.room.now) z)
 
 pub record_of-requires : goal.record_of-requires
-record_of-requires c κs =
-    let t = c.before.before.before.before in
-    let a = t.args in (
-      t.requires.0.0,
+record_of-requires c =
+    let a = c.args in (
+      c.requires.edition.0,
       omega arith,
-      record_within a.e.size c.before.loop.i a.m (length a.s.now)
-          (omega arith) t.requires.0.2,
+      record_within a.e.size c.loop-i.i a.m (length a.s.now) (omega arith) c.requires.edition.2,
     )
 
 pub cell_of-requires : goal.cell_of-requires
@@ -58,7 +56,7 @@ loop-i-preserved c =
     let cs = sheet_cells a.e a.s.now i in
     let x = cell_of a.e (record_at a.e a.s.now i) in (
       omega arith,
-      c.put.auto.1.1.1.0 ∙ c.loop-i.invariant.1,
+      c.put.auto.sheet ∙ c.loop-i.invariant.1,
       c.put.ensures
           ∙ ap₂ (λ (l : List ℕ) (x : Cell). laid l (a.f.size * i) (encode a.f a.d x)) c.loop-i.invariant.2
           (c.cell_of.ensures.1 ∙ ap (λ (b : List ℕ). cell_of a.e (byte_at b)) c.record_of.ensures)
