@@ -20,12 +20,12 @@ find_upto-found-requires c =
       omega (arith, w.few, c.requires.1),
       omega arith,
       length_more c.args.counting.many c.args.n (length c.set_aside.new.room) w.few
-          (omega (arith, c.requires.0, c.requires.4, c.set_aside.auto.1.1.1.0)),
+          (omega (arith, c.requires.0, c.requires.4, c.set_aside.auto.room)),
       c.requires.3,
     )
 
 pub shape_of-work : goal.shape_of-work
-shape_of-work c = c.clear.auto.0 ∙ c.set_aside.auto.1.1.1.0
+shape_of-work c = c.clear.auto.area ∙ c.set_aside.auto.room
 
 pub returns : goal.returns
 returns c =
@@ -34,5 +34,5 @@ returns c =
       c.spread_back.ensures ∙ ap (spread_choice a.n (bit x.mask)) c.find_upto-found.ensures.0
           ∙ over_found a.n most_first a.k (table_bit a.t.now) x c.set_aside.new.room c.requires.2
           c.set_aside.ensures,
-      c.clear.ensures ∙ ap (λ (z : ℕ). replicate z 0) c.set_aside.auto.1.1.1.0,
+      c.clear.ensures ∙ ap (λ (z : ℕ). replicate z 0) c.set_aside.auto.room,
     )
