@@ -38,27 +38,27 @@ module _ (c : lts.After-find_form tie.the-claims reads.Pre reads.Post) where
 pub returns-in_default : goal.returns-in_default
 unfolding find_outcome
 returns-in_default c =
-    form_refuses (ls c.before.before.before) (ms c.before.before.before) (done c.before.before.before) (λ (v : Verdict) (l : List ℕ). record {
+    form_refuses (ls c.before.before) (ms c.before.before) (done c.before.before) (λ (v : Verdict) (l : List ℕ). record {
       answer = record { verdict = v; own = 0; shared = 0 };
       work = l;
-    }) (g c.before.before.before).args.work.now refl c.find_form-form.result c.in_default.field-0 c.find_form-form.ensures
+    }) (g c.before.before).args.work.now refl c.find_form-form.result c.in_default.field-0 c.find_form-form.ensures
     c.in_default.is
 
 pub overflow_cast-k : goal.overflow_cast-k
 overflow_cast-k c =
-    omega (arith, (through c.before.before.before c.in-Fine.is).gate.largest, (g c.before.before.before).requires.eight)
+    omega (arith, (through c.before.before c.in-Fine.is).gate.largest, (g c.before.before).requires.eight)
 
 pub search-requires : goal.search-requires
 search-requires c =
-    let w = through c.before.before.before.before c.in-Fine.is in
-    (w.gate.most, omega (arith, w.gate.largest, (g c.before.before.before.before).requires.eight), w.gate.long, w.area)
+    let w = through c.before.before.before c.in-Fine.is in
+    (w.gate.most, omega (arith, w.gate.largest, (g c.before.before.before).requires.eight), w.gate.long, w.area)
 
 pub returns : goal.returns
 unfolding find_outcome
 returns c =
     c.search.ensures
-    ∙ left_to (ls c.before.before.before.before.before.before.before) (ms c.before.before.before.before.before.before.before) (done c.before.before.before.before.before.before.before) (find_not (g c.before.before.before.before.before.before.before).args.work.now) c.find_form-form.result c.find_form-form.ensures
+    ∙ left_to (ls c.before.before.before.before.before.before) (ms c.before.before.before.before.before.before) (done c.before.before.before.before.before.before) (find_not (g c.before.before.before.before.before.before).args.work.now) c.find_form-form.result c.find_form-form.ensures
     c.in-Fine.is
 
 pub overflow_cast-n : goal.overflow_cast-n
-overflow_cast-n c = omega (arith, (through c.before.before.before c.in-Fine.is).gate.most)
+overflow_cast-n c = omega (arith, (through c.before.before c.in-Fine.is).gate.most)

@@ -28,7 +28,7 @@ pub returns : goal.returns
 unfolding find_outcome
 returns c =
     let a = c.args in
-    c.find_in.ensures ∙ ap (λ (c.before.before.before.before.before : Edition). find_outcome c.before.before.before.before.before a.n a.k a.t.now a.work.now)
+    c.find_in.ensures ∙ ap (λ (e : Edition). find_outcome e a.n a.k a.t.now a.work.now)
     c.numbered.ensures
     ∙ left_to (told_form a.w a.n) (find_lines (edition_of a.w) a.n a.k a.t.now a.work.now)
     (find_done (best_for a.n a.k a.t.now) a.work.now)
