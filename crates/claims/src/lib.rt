@@ -1,1 +1,2 @@
 // The claims: theorems alone, for an inspector. Nothing here runs.
+#![tactic(auto)]

@@ -1,2 +1,4 @@
 // Of two sheets that anyone made, the shorter.
+#![tactic(auto)]
+
 pub mod shorter;

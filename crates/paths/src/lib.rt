@@ -1,1 +1,2 @@
 // Paths through a sheet: theorems alone. Nothing here runs.
+#![tactic(auto)]

@@ -1,5 +1,7 @@
 // The calls for C, one file for each, the two calls of make in one: the answer is a struct of the paper's number and
 // the values, all of 64 bits; of the book a byte. The header is include/pelzurivan.h.
+#![tactic(auto)]
+
 pub mod bound;
 pub mod check_sheet;
 pub mod check_told;

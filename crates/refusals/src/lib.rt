@@ -3,5 +3,7 @@
 // has one file, in the crate of its idea: its answer, the code that looks at its lines, and the call itself, which
 // hands down the edition, the first or the one that is told, and the desk, a sheet's own where one is read, to a
 // function that takes both.
+#![tactic(auto)]
+
 pub mod form;
 pub mod verdicts;

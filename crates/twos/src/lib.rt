@@ -1,1 +1,2 @@
 // Sheets made with cells of two inputs: theorems alone. Nothing here runs.
+#![tactic(auto)]
