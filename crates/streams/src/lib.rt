@@ -2,7 +2,10 @@
 // bytes go out.
 #![tactic(auto)]
 
-ghost use Rattle.std.specs.Prelude.{◌≡◌, ◌≤◌, length, take};
+ghost use Rattle.std.specs.Prelude.{◌≡◌, ◌≤◌, IfSome, length, take};
+ghost use Rattle.std.specs.Io.{StartsWith};
+ghost use Rattle.std.specs.Io.KnownBytes.{Consumes};
+ghost use Rattle.streams.specs.Handed.{AppendsFront};
 
 use std::io::{Read, Write};
 
@@ -26,6 +29,7 @@ fn pass_over_rest<R: Read>(input: &mut R) {
 fn fill<R: Read>(input: &mut R, room: &mut [u8]) -> usize
     ensures bound { result ≤ length room.new }
     ensures count { result ≡ length (take result room.new) }
+    ensures bytes { Consumes (R.remaining input.old) (R.remaining input.new) (take result room.new) }
 {
     let mut got = 0;
     while got < room.len() {
@@ -41,6 +45,7 @@ fn fill<R: Read>(input: &mut R, room: &mut [u8]) -> usize
 pub fn read_input<R: Read>(input: &mut R, room: &mut [u8]) -> usize
     ensures bound { result ≤ length room.new }
     ensures count { result ≡ length (take result room.new) }
+    ensures bytes { IfSome (R.remaining input.old) (λ xs. StartsWith xs (take result room.new)) }
 {
     let got = fill(input, room);
     if got == room.len() {
@@ -49,9 +54,23 @@ pub fn read_input<R: Read>(input: &mut R, room: &mut [u8]) -> usize
     got
 }
 
+// Writes bytes until they are all written or a write fails.
+fn hand_over<W: Write>(output: &mut W, bytes: &[u8])
+    ensures { AppendsFront (W.contents output.old) (W.contents output.new) bytes.now }
+{
+    let mut done = 0;
+    while done < bytes.len() {
+        match output.write(&bytes[done..]) {
+            Ok(count) if count > 0 => done += count,
+            _ => break,
+        }
+    }
+}
+
 // Writes the first count bytes of room. Nobody is told of a write that fails.
 pub fn write_output<W: Write>(output: &mut W, room: &[u8], count: usize)
     requires { count ≤ length room.now }
+    ensures { AppendsFront (W.contents output.old) (W.contents output.new) (take count room.now) }
 {
-    let _ = output.write_all(&room[..count]);
+    hand_over(output, &room[..count]);
 }
