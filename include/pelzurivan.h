@@ -1,4 +1,4 @@
-/* The calls of the Pelzurivan bench, for C. Link libpelzurivan.a (rt staticlib pelzurivan), on x86-64.
+/* The calls of the Pelzurivan bench, for C. Link libpelzurivan.a (rt lib in crates/pelzurivan), on x86-64.
  *
  * Anyone may make any call with any numbers and any bytes; each ends with an answer or one refusal. A slice is a
  * pointer and then a length. C must see to two things: every pointer is valid for its length and not null, not even

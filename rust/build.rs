@@ -1,6 +1,6 @@
-//! Tells the linker where libpelzurivan.a lies: in ../target/staticlib, where `rt staticlib
-//! pelzurivan` writes it for x86-64, or in the folder that PELZURIVAN_LIB names, for another build
-//! of the same calls.
+//! Tells the linker where libpelzurivan.a lies: in ../crates/pelzurivan/out, where `rt lib` in
+//! crates/pelzurivan writes it for x86-64, or in the folder that PELZURIVAN_LIB names, for another
+//! build of the same calls.
 
 use std::env;
 use std::path::{Path, PathBuf};
@@ -14,7 +14,7 @@ fn main() {
     let archive = folder.join(ARCHIVE);
     println!("cargo:rerun-if-changed={}", archive.display());
     if !archive.exists() {
-        fail(&format!("{} isn't there: rt staticlib pelzurivan makes it", archive.display()));
+        fail(&format!("{} isn't there: rt lib in crates/pelzurivan makes it", archive.display()));
     }
     println!("cargo:rustc-link-search=native={}", folder.display());
     println!("cargo:rustc-link-lib=static=pelzurivan");
@@ -26,7 +26,7 @@ fn proved() -> PathBuf {
         fail("libpelzurivan.a is for x86-64 and can't be linked into a program for this processor");
     }
     let here = env::var_os("CARGO_MANIFEST_DIR").unwrap_or_default();
-    Path::new(&here).join("../target/staticlib")
+    Path::new(&here).join("../crates/pelzurivan/out")
 }
 
 fn fail(why: &str) -> ! {

@@ -1,6 +1,8 @@
 // The bench program: one byte n, one byte K, then the table to the end of standard input. It writes the answer number
 // as one byte, then the sheet; after a refusal only that byte. What is handed over to be written is defined of the
 // bytes read alone (`written`, programs/specs/BenchProgram).
+#![tactic(auto)]
+
 ghost use Rattle.std.specs.Prelude.{◌≡◌, length};
 ghost use Rattle.tables.specs.Work.{work_length};
 ghost use Rattle.programs.specs.BenchProgram.{most_read, most_written};
@@ -27,11 +29,11 @@ fn work_room() -> [u8; WORK]
     [0; WORK]
 }
 
-fn main() {
+fn main(rt: HostRuntime) {
     let mut input = input_room();
-    let got = read_input(&mut input);
+    let got = read_input(&mut rt.stdin(), &mut input);
     let mut out = output_room();
     let mut work = work_room();
     let count = answer_input(&input[..got], &mut out, &mut work);
-    write_output(&out, count);
+    write_output(&mut rt.stdout(), &out, count);
 }

@@ -1,0 +1,2 @@
+-- What a writer is handed.
+pub mod Handed
