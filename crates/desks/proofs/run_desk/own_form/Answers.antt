@@ -7,6 +7,7 @@ use native.Mathlib.Omega.{arith}
 use borrow.Author.Tests.{ne_eqb, le-leb, lt-leb}
 use Rattle.bits.proofs.Machine.{shl_one}
 use Rattle.tables.specs.Table.{most_inputs}
+use Rattle.refusals.specs.declared.verdicts.Verdict.{Verdict}
 use Rattle.refusals.specs.declared.verdicts.Verdict.TheVariants.{Fine}
 use Rattle.refusals.specs.Lines.{Line, verdict}
 use Rattle.refusals.specs.Refusals.{bad_assignment}
@@ -16,9 +17,6 @@ use Rattle.cards.specs.Card.{open_mark, inputs_on, sheet_on}
 use Rattle.cards.specs.Refusals.{filed_lines}
 use Rattle.cards.specs.RunDesk.{desk_lines}
 use Rattle.cards.proofs.Desks.{open_lines}
-use Rattle.desks.proofs.run_desk.own_form.Lts as lts
-use Rattle.desks.proofs.run_desk.own_form.Reads as reads
-use Rattle.desks.proofs.run_desk.own_form.Tie as tie
 use Rattle.desks.proofs.run_desk.own_form.Goals as goal
 
 pub returns-then-o-ne1 : goal.returns-then-o-ne1
@@ -28,52 +26,55 @@ returns-then-o-ne1 c =
     (later c.requires.1 (here (ap not (ne_eqb (open_mark o) 1 c.if-o-ne1.true))))
 
 -- after the look at its sheet
-module _ (c : lts.After-filed tie.the-claims reads.Pre reads.Post) where
-  abbrev start : lts.Start tie.the-claims reads.Pre reads.Post
-  start = c.before.before.before.before.before.before
-
-  abbrev o : List ℕ
-  o = start.args.o.now
-
+module _ (o : List ℕ) (d x : ℕ) where
   abbrev ls : List Line
-  ls = filed_lines start.args.d (inputs_on o) (sheet_on o)
+  ls = filed_lines d (inputs_on o) (sheet_on o)
 
   abbrev ms : List Line
-  ms = bad_assignment (inputs_on o) start.args.x ∷ []
+  ms = bad_assignment (inputs_on o) x ∷ []
 
-  seen : c.filed-seen.result ≡ verdict ls
-  seen = c.filed-seen.ensures ∙ ap (λ (t : List ℕ). verdict (filed_lines start.args.d (inputs_on o) t))
-      c.sheet_on.ensures
+  module _ (v : Verdict) (t : List ℕ) (looked : v ≡ verdict (filed_lines d (inputs_on o) t)) (lent : t ≡ sheet_on o) where
+    seen : v ≡ verdict ls
+    seen = looked ∙ ap (λ (s : List ℕ). verdict (filed_lines d (inputs_on o) s)) lent
 
-  -- only its lines and 11 are left
-  opened : verdict (ls ++ ms) ≡ verdict (desk_lines o start.args.d start.args.x)
-  opened = sym (open_lines o start.args.d start.args.x start.requires.0 start.requires.1
-      c.if-o-ne1.false)
-
-  few : c.filed-seen.result ≡ Fine → inputs_on o < 64
-  few e = omega (arith, inside 1 (inputs_on o) most_inputs (in_order_lem ls (sym seen ∙ e)).0)
+    few : v ≡ Fine → inputs_on o < 64
+    few e = omega (arith, inside 1 (inputs_on o) most_inputs (in_order_lem ls (sym seen ∙ e)).0)
 
 pub returns-in_default : goal.returns-in_default
 returns-in_default c =
-    stopped (ls c.before.before.before) (ms c.before.before.before) _ (seen c.before.before.before) c.in_default.field-0
-    c.in_default.is ∙ opened c.before.before.before
+    let a = c.args in
+    let o = a.o.now in
+    stopped (ls o a.d a.x) (ms o a.d a.x) _ (seen o a.d a.x _ _ c.filed-seen.ensures c.sheet_on.ensures)
+    c.in_default.field-0
+    c.in_default.is ∙ sym (open_lines o a.d a.x c.requires.0 c.requires.1 c.if-o-ne1.false)
 
 pub overflow_shl-n : goal.overflow_shl-n
-overflow_shl-n c = few c.before.before.before c.in-Fine.is
+overflow_shl-n c =
+    let a = c.args in
+    few a.o.now a.d a.x _ _ c.filed-seen.ensures c.sheet_on.ensures c.in-Fine.is
 
 pub returns-then-n-x : goal.returns-then-n-x
 returns-then-n-x c =
+    let a = c.args in
+    let o = a.o.now in
     let e = c.in-Fine.is in
-    let x = (start c.before.before.before.before.before).args.x in
-    let far : 2 ^ inputs_on (o c.before.before.before.before.before) ≤ x = omega (arith, c.if-n-x.true, shl_one 64 (inputs_on (o c.before.before.before.before.before)) (few c.before.before.before.before.before e)) in
-    c.refuse-then-n-x.ensures ∙ decided (ls c.before.before.before.before.before) (ms c.before.before.before.before.before) _ (seen c.before.before.before.before.before) e (here (le-leb (2 ^ inputs_on (o c.before.before.before.before.before)) x far)) ∙ opened c.before.before.before.before.before
+    let less = few o a.d a.x _ _ c.filed-seen.ensures c.sheet_on.ensures e in
+    let far : 2 ^ inputs_on o ≤ a.x = omega (arith, c.if-n-x.true, shl_one 64 (inputs_on o) less) in
+    c.refuse-then-n-x.ensures
+    ∙ decided (ls o a.d a.x) (ms o a.d a.x) _ (seen o a.d a.x _ _ c.filed-seen.ensures c.sheet_on.ensures) e
+    (here (le-leb (2 ^ inputs_on o) a.x far))
+    ∙ sym (open_lines o a.d a.x c.requires.0 c.requires.1 c.if-o-ne1.false)
 
 pub returns : goal.returns
 returns c =
+    let a = c.args in
+    let o = a.o.now in
     let e = c.in-Fine.is in
-    let x = (start c.before.before.before.before).args.x in
-    let near : x < 2 ^ inputs_on (o c.before.before.before.before) = omega (arith, c.if-n-x.false, shl_one 64 (inputs_on (o c.before.before.before.before)) (few c.before.before.before.before e)) in
-    decided (ls c.before.before.before.before) (ms c.before.before.before.before) _ (seen c.before.before.before.before) e (later (lt-leb (2 ^ inputs_on (o c.before.before.before.before)) x near) fine) ∙ opened c.before.before.before.before
+    let less = few o a.d a.x _ _ c.filed-seen.ensures c.sheet_on.ensures e in
+    let near : a.x < 2 ^ inputs_on o = omega (arith, c.if-n-x.false, shl_one 64 (inputs_on o) less) in
+    decided (ls o a.d a.x) (ms o a.d a.x) _ (seen o a.d a.x _ _ c.filed-seen.ensures c.sheet_on.ensures) e
+    (later (lt-leb (2 ^ inputs_on o) a.x near) fine)
+    ∙ sym (open_lines o a.d a.x c.requires.0 c.requires.1 c.if-o-ne1.false)
 
 pub overflow_cast-n : goal.overflow_cast-n
 overflow_cast-n c = omega (arith, c.type_inv.o 241)

@@ -18,9 +18,6 @@ use Rattle.running.specs.RunSheet.{run_done, run_not}
 use Rattle.cards.specs.Card.{inputs_on, sheet_on}
 use Rattle.cards.specs.RunDesk.{desk_outcome}
 use Rattle.cards.proofs.Desks.{Ready, ready}
-use Rattle.desks.proofs.run_desk.run_bytes.Lts as lts
-use Rattle.desks.proofs.run_desk.run_bytes.Reads as reads
-use Rattle.desks.proofs.run_desk.run_bytes.Tie as tie
 use Rattle.desks.proofs.run_desk.run_bytes.Goals as goal
 
 pub returns-in_default : goal.returns-in_default
@@ -32,44 +29,39 @@ returns-in_default c =
     ∙ ap (λ (v : Verdict). reply v (run_done first_edition (inputs_on o) (sheet_on o) c.args.x) run_not)
     (sym e ∙ c.own_form-form.ensures)
 
--- where the desk's lines are in order
-module _ (c : lts.After-shared_slice_known2 tie.the-claims reads.Pre reads.Post) where
-  abbrev start : lts.Start tie.the-claims reads.Pre reads.Post
-  start = c.before.before.before.before.before.before.before
-
-  abbrev o : List ℕ
-  o = start.args.o.now
-
-  able : Ready first_edition (inputs_on o) (sheet_on o) start.args.x
-  able = ready o start.args.d start.args.x start.requires.0
-      (sym c.own_form-form.ensures
-      ∙ c.in-Fine.is)
-
 pub overflow_cast-o : goal.overflow_cast-o
-overflow_cast-o c = omega (arith, (able c.before).0.2)
+overflow_cast-o c =
+    let able = ready c.args.o.now c.args.d c.args.x c.requires.0 (sym c.own_form-form.ensures ∙ c.in-Fine.is) in
+    omega (arith, able.0.2)
 
 pub overflow_cast-x : goal.overflow_cast-x
 overflow_cast-x c =
-    omega (arith, (able c.before).1, pow_mono {i = inputs_on (o c.before)} {j = most_inputs} (able c.before).0.2)
+    let o = c.args.o.now in
+    let able = ready o c.args.d c.args.x c.requires.0 (sym c.own_form-form.ensures ∙ c.in-Fine.is) in
+    omega (arith, able.1, pow_mono {i = inputs_on o} {j = most_inputs} able.0.2)
 
 pub bit_of-requires : goal.bit_of-requires
 bit_of-requires c =
-    let x = (start c.before).args.x in
-    subst (λ (e : Edition). Ready e (inputs_on (o c.before)) c.sheet_on-s.result.now x)
+    let o = c.args.o.now in
+    let x = c.args.x in
+    let able = ready o c.args.d x c.requires.0 (sym c.own_form-form.ensures ∙ c.in-Fine.is) in
+    let w = subst (λ (e : Edition). Ready e (inputs_on o) c.sheet_on-s.result.now x)
     (sym c.first.ensures)
-    (subst (λ (s : List ℕ). Ready first_edition (inputs_on (o c.before)) s x) (sym c.sheet_on-s.ensures)
-    (able c.before))
+    (subst (λ (s : List ℕ). Ready first_edition (inputs_on o) s x) (sym c.sheet_on-s.ensures)
+    able) in
+    record { edition = w.0; x_bound = w.1 }
 
 pub returns : goal.returns
 unfolding desk_outcome
 returns c =
-    let x = (start c.before.before).args.x in
-    let n = inputs_on (o c.before.before) in
+    let o = c.args.o.now in
+    let x = c.args.x in
+    let n = inputs_on o in
     let bit = c.bit_of.ensures
     ∙ ap (λ (e : Edition). sheet_bit e n c.sheet_on-s.result.now
     (length c.sheet_on-s.result.now / record_size) x) c.first.ensures
     ∙ ap (λ (s : List ℕ). sheet_bit first_edition n s (length s / record_size) x) c.sheet_on-s.ensures in
     ap (λ (b : Bool). record { verdict = Fine; bit = b }) bit
-    ∙ ap (λ (v : Verdict). reply v (run_done first_edition n (sheet_on (o c.before.before)) x) run_not)
+    ∙ ap (λ (v : Verdict). reply v (run_done first_edition n (sheet_on o) x) run_not)
     (sym c.in-Fine.is
     ∙ c.own_form-form.ensures)
