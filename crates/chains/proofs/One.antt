@@ -107,12 +107,12 @@ made_exactly n K T cs p q = chain_made n K n (inputs n) T cs p (omega (arith, in
 
 -- ---- where it is stuck
 
-in_over : {K i : ℕ} {l l' : List ℕ} {T T' : ℕ} → InChain K l' T' i l T → InChainOver 1 K l' T' i l T
+in_over : {K : ℕ} {l' : List ℕ} {T' i : ℕ} {l : List ℕ} {T : ℕ} → InChain K l' T' i l T → InChainOver 1 K l' T' i l T
 in_over words.itself = itself
 in_over {K} {l' = l'} {T' = T'} (words.later {i = i} {l = l} {T = T} {A = A} {B = B} h b c) =
     later 1 A B h (one_best b) (before i l T A B (λ j s U. InChainOver 1 K l' T' j s U) (in_over c))
 
-over_in : {K i : ℕ} {l l' : List ℕ} {T T' : ℕ} → InChainOver 1 K l' T' i l T → InChain K l' T' i l T
+over_in : {K : ℕ} {l' : List ℕ} {T' i : ℕ} {l : List ℕ} {T : ℕ} → InChainOver 1 K l' T' i l T → InChain K l' T' i l T
 over_in itself = words.itself
 over_in {K} {l' = l'} {T' = T'} (later {i = i} {l = l} {T = T} r A B h b c) = subst Step (sym (one_only b)) step b
     (over_in c)
