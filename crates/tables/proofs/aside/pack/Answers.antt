@@ -34,8 +34,8 @@ loop-i-preserved c =
     let F : ℕ → Bool = over a.t.now a.n a.mask in
     let w : c.if-i-eq0.w ≡ number 64 (λ j. F (64 * (i / 8) + j)) =
     elim c.if-i-eq0.branch [
-      then-i-eq0 u ↦ u.w-is ∙ u.word_over-w.ensures ∙ number_ext 64 _ (λ j. F (64 * (i / 8) + j))
-        (λ j l. ap (table_bit a.t.now) (zero-add (spread a.n (bit a.mask) (64 * (i / 8) + j))))
+      | then-i-eq0 u ↦ u.w-is ∙ u.word_over-w.ensures ∙ number_ext 64 _ (λ j. F (64 * (i / 8) + j))
+          (λ j l. ap (table_bit a.t.now) (zero-add (spread a.n (bit a.mask) (64 * (i / 8) + j))))
       | else-i-eq0 u ↦ u.w-is ∙ c.loop-i.invariant.1 u.if-i-eq0.false
     ] in (
       filled_more c.loop-i.invariant.0 (omega arith) (omega arith) (c.byte_in.ensures F w),
