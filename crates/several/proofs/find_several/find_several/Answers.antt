@@ -42,30 +42,30 @@ module _ (c : lts.After-find_form tie.the-claims reads.Pre reads.Post) where
 pub returns-in_default : goal.returns-in_default
 unfolding find_several_outcome
 returns-in_default c =
-    let a = (g c.before.before.before.before).args in
+    let a = (g c.before.before.before).args in
     ap (λ (x : FindSeveralAnswer). record { answer = x; work = a.work.now }) c.without.ensures
-    ∙ form_refuses (ls c.before.before.before.before) (several_says a.n a.k a.t.now)
+    ∙ form_refuses (ls c.before.before.before) (several_says a.n a.k a.t.now)
     (several_done (best_several a.n a.k a.t.now) a.work.now) (λ (v : Verdict) (l : List ℕ). record {
       answer = record { verdict = v; first = 0; own = 0; shared = 0 };
       work = l;
-    }) a.work.now refl c.find_form-form.result c.in_default.field-0 (told c.before.before.before.before) c.in_default.is
+    }) a.work.now refl c.find_form-form.result c.in_default.field-0 (told c.before.before.before) c.in_default.is
 
 pub search-requires : goal.search-requires
 search-requires c =
-    let w = through c.before.before.before.before c.in-Fine.is in
+    let w = through c.before.before.before c.in-Fine.is in
     (w.gate.most, omega (arith, w.gate.largest), w.gate.long, w.area)
 
 pub returns : goal.returns
 unfolding find_several_outcome
 returns c =
-    let a = (g c.before.before.before.before.before.before.before).args in
+    let a = (g c.before.before.before.before.before.before).args in
     c.search.ensures
-    ∙ left_to (ls c.before.before.before.before.before.before.before) (several_says a.n a.k a.t.now)
+    ∙ left_to (ls c.before.before.before.before.before.before) (several_says a.n a.k a.t.now)
     (several_done (best_several a.n a.k a.t.now) a.work.now) (several_not a.work.now)
-    c.find_form-form.result (told c.before.before.before.before.before.before.before) c.in-Fine.is
+    c.find_form-form.result (told c.before.before.before.before.before.before) c.in-Fine.is
 
 pub overflow_cast-n : goal.overflow_cast-n
-overflow_cast-n c = omega (arith, (through c.before.before.before c.in-Fine.is).gate.most)
+overflow_cast-n c = omega (arith, (through c.before.before c.in-Fine.is).gate.most)
 
 pub overflow_cast-k : goal.overflow_cast-k
-overflow_cast-k c = omega (arith, (through c.before.before.before c.in-Fine.is).gate.largest)
+overflow_cast-k c = omega (arith, (through c.before.before c.in-Fine.is).gate.largest)
