@@ -92,8 +92,8 @@ module _ (n : ℕ) (F : ℕ → Bool) (A B : ℕ) (c : Candidate n 2 1 A B) (Q :
       differ : D (bit e.x a) (bit e.x b) ≡ D (bit e.y a) (bit e.x b) → ⊥
       differ q =
           let o : gives e.x ≡ gives e.y =
-          sym (pairs.first_cell n F A B c Q e.x) ∙ q ∙ ap (D (bit e.y a)) b_same
-          ∙ pairs.first_cell n F A B c Q e.y in
+          sym (pairs.first_cell_lem n F A B c Q e.x) ∙ q ∙ ap (D (bit e.y a)) b_same
+          ∙ pairs.first_cell_lem n F A B c Q e.y in
           e.differ (
           pairs.asked_gives n F A B c Q e.x e.below_x
           ∙ ap H (pairs.ask_sees n F A B c Q (gives e.x) e.x e.y
@@ -150,7 +150,7 @@ module _ (n : ℕ) (F : ℕ → Bool) (A B : ℕ) (c : Candidate n 2 1 A B) (Q :
         new : (q : ℕ) → q ≡ k → bit (ask (point y) (gives (point y))) q ≡ bit y q
         new q r =
             ap (bit (ask (point y) (gives (point y)))) r ∙ pairs.ask_top n F A B c Q (point y) (gives (point y))
-            ∙ sym (pairs.first_cell n F A B c Q (point y)) ∙ ap₂ D (at_a y) (at_b y) ∙ w.undo (bit y k)
+            ∙ sym (pairs.first_cell_lem n F A B c Q (point y)) ∙ ap₂ D (at_a y) (at_b y) ∙ w.undo (bit y k)
             ∙ ap (bit y) (sym r)
 
     value_at : (y p : ℕ) (s t : Bool) → value (by s t p) (bit y) ≡ bit_by s t y p

@@ -52,7 +52,7 @@ module _ (n : ℕ) (F : ℕ → Bool) (A B : ℕ) (c : Candidate n 2 1 A B) (Q :
       ≡ bit (ask x (gives x)) q
   unfolding by
   value_at x q l true r =
-      pairs.first_cell n F A B c Q x
+      pairs.first_cell_lem n F A B c Q x
       ∙ sym (ap (bit (ask x (gives x))) (eqb-true q k r) ∙ pairs.ask_top n F A B c Q x (gives x))
   value_at x q l false r =
       let g = less q l r in
