@@ -11,16 +11,11 @@ use Rattle.joins.specs.declared.deciding.Partner.{Partner}
 use Rattle.joins.specs.Left.{gate_left, Unfixed, one_fixed, Partnered, Reduced, DecidedFrom}
 use Rattle.joins.proofs.Leaving.{less_sum}
 use Rattle.joins.proofs.Turns.{reduced_fixed, from_fixed, open_fixed, undecided, reduced_decided, from_decided}
+use Rattle.joins.proofs.deciding.decide.Invariants.{Looked}
 use Rattle.joins.proofs.deciding.decide.Lts as lts
 use Rattle.joins.proofs.deciding.decide.Reads as reads
 use Rattle.joins.proofs.deciding.decide.Tie as tie
 use Rattle.joins.proofs.deciding.decide.Goals as goal
-
--- what holds of what is left while j is looked at
-record Looked (n : ℕ) (F : ℕ → Bool) (g : Left) (j : ℕ) : Type 0 where
-  reduced : Reduced n F g
-  from : DecidedFrom n g (j + 1)
-  unfixed : Unfixed n g j
 
 -- one input more is fixed
 looked_fixed : (n : ℕ) (F : ℕ → Bool) (g : Left) (j : ℕ) (p : Partner) → Looked n F g j → p.value < 2
@@ -51,8 +46,8 @@ fix-g-requires c =
     record { n_le_most_inputs = (p.0, w.reduced.fixing, w.reduced.unfixed _ m, w.reduced.below); i_value = (m, c.loop-p-test.true) }
 
 -- after it is fixed
-module _ (c : lts.After-fix tie.the-claims reads.Pre reads.Post goal.the-invariant-loop-p goal.the-decreases-loop-p) where
-  abbrev g : lts.Start tie.the-claims reads.Pre reads.Post goal.the-invariant-loop-p goal.the-decreases-loop-p
+module _ (c : lts.After-fix tie.the-claims reads.Pre reads.Post goal.the-invariant-loop-p goal.the-decreases-loop-p tie.handed_clauses) where
+  abbrev g : lts.Start tie.the-claims reads.Pre reads.Post goal.the-invariant-loop-p goal.the-decreases-loop-p tie.handed_clauses
   g = c.before.before.before.before.before.before
 
   looked : Looked g.args.n (table_bit g.args.t.now) c.fix-g.result g.args.j

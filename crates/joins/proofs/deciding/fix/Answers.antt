@@ -10,9 +10,10 @@ use Rattle.joins.specs.declared.pairs.Left.{Left}
 use Rattle.joins.proofs.Leaving.{less_sum, value-shl, value-lt}
 use Rattle.joins.proofs.deciding.fix.Lts as lts
 use Rattle.joins.proofs.deciding.fix.Reads as reads
+use Rattle.joins.proofs.deciding.fix.Tie as tie
 use Rattle.joins.proofs.deciding.fix.Goals as goal
 
-module _ (c : lts.Start reads.Pre reads.Post) where
+module _ (c : lts.Start reads.Pre reads.Post tie.handed_clauses) where
   width : 2 ^ c.args.n ≤ 2 ^ 16
   width = pow_mono {i = c.args.n} {j = 16} c.requires.n_le_most_inputs.0
 

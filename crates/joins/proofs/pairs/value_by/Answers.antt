@@ -13,20 +13,20 @@ use Rattle.joins.proofs.pairs.value_by.Tie as tie
 use Rattle.joins.proofs.pairs.value_by.Goals as goal
 
 -- how columns are compared, and what is to be told of the four
-abbrev same : lts.Start tie.the-claims reads.Pre reads.Post → ℕ → ℕ → Bool
+abbrev same : lts.Start tie.the-claims reads.Pre reads.Post tie.handed_clauses → ℕ → ℕ → Bool
 same g = alike g.args.s.n (table_bit g.args.t.now) g.args.s.free
 
-abbrev told : lts.Start tie.the-claims reads.Pre reads.Post → ℕ
+abbrev told : lts.Start tie.the-claims reads.Pre reads.Post tie.handed_clauses → ℕ
 told g = value_by (same g) g.args.a g.args.b g.args.c g.args.d
 
 -- the first two columns are one: the others tell
-first : (c : lts.After-among tie.the-claims reads.Pre reads.Post) (t : Bool) → c.among.result ≡ t → cond t 1 2 ≡ told c.before.before.before.before
+first : (c : lts.After-among tie.the-claims reads.Pre reads.Post tie.handed_clauses) (t : Bool) → c.among.result ≡ t → cond t 1 2 ≡ told c.before.before.before.before
 first c t e =
     value_high (same c.before.before.before.before) c.args.a c.args.b c.args.c c.args.d c.same_column.ensures t
     c.if-same_column.true c.among.ensures e
 
 -- the fourth is one of the first two: the third tells
-last : (c : lts.After-among3 tie.the-claims reads.Pre reads.Post) (t : Bool) → c.among-3.result ≡ t → cond t 0 2
+last : (c : lts.After-among3 tie.the-claims reads.Pre reads.Post tie.handed_clauses) (t : Bool) → c.among-3.result ≡ t → cond t 0 2
     ≡ told c.before.before.before.before.before.before
 last c t e =
     value_low (same c.before.before.before.before.before.before) c.args.a c.args.b c.args.c c.args.d c.same_column.ensures t
