@@ -30,7 +30,7 @@ pub returns : goal.returns
 unfolding bound_outcome
 returns c =
     let a = c.args in
-    c.bound_in.ensures ∙ ap (λ (c.before.before.before.before.before : Edition). bound_in c.before.before.before.before.before a.n a.k a.t.now a.work.now)
+    c.bound_in.ensures ∙ ap (λ (e : Edition). bound_in e a.n a.k a.t.now a.work.now)
     c.numbered.ensures
     ∙ left_to (told_form a.w a.n) (find_form (edition_of a.w) a.n a.k a.t.now a.work.now)
     (bound_done a.n a.k a.t.now a.work.now)

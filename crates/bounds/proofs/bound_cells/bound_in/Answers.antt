@@ -27,7 +27,7 @@ module _ (c : lts.After-find_form tie.the-claims reads.Pre reads.Post) where
 
 pub returns-in_default : goal.returns-in_default
 returns-in_default c =
-    let a = (g c.before.before.before).args in
+    let a = (g c.before.before).args in
     form_refuses (find_form a.e a.n a.k a.t.now a.work.now) []
     (bound_done a.n a.k a.t.now a.work.now) (λ (v : Verdict) (l : List ℕ). record {
       answer = record { verdict = v; least = 0 };
@@ -37,17 +37,17 @@ returns-in_default c =
 
 pub overflow_cast-k : goal.overflow_cast-k
 overflow_cast-k c =
-    omega (arith, (through c.before.before.before c.in-Fine.is).gate.largest, (g c.before.before.before).requires.eight)
+    omega (arith, (through c.before.before c.in-Fine.is).gate.largest, (g c.before.before).requires.eight)
 
 pub cell_bound-least-requires : goal.cell_bound-least-requires
 cell_bound-least-requires c =
-    let r = through c.before.before.before.before c.in-Fine.is in
+    let r = through c.before.before.before c.in-Fine.is in
     let w = r.gate in
-    (w.some, w.most, w.two, omega (arith, w.largest, (g c.before.before.before.before).requires.eight), w.long, r.area)
+    (w.some, w.most, w.two, omega (arith, w.largest, (g c.before.before.before).requires.eight), w.long, r.area)
 
 pub returns : goal.returns
 returns c =
-    let a = (g c.before.before.before.before.before.before.before).args in
+    let a = (g c.before.before.before.before.before.before).args in
     let q = sym c.find_form-form.ensures ∙ c.in-Fine.is in
     ap₂ (λ (m : ℕ) (l : List ℕ). record { answer = record { verdict = Fine; least = m }; work = l })
     c.cell_bound-least.ensures.0 c.cell_bound-least.ensures.1
@@ -55,4 +55,4 @@ returns c =
     (sym q)
 
 pub overflow_cast-n : goal.overflow_cast-n
-overflow_cast-n c = omega (arith, (through c.before.before.before c.in-Fine.is).gate.most)
+overflow_cast-n c = omega (arith, (through c.before.before c.in-Fine.is).gate.most)

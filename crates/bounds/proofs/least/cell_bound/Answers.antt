@@ -29,7 +29,7 @@ returns-then-k-eq2 c =
     let a = c.args in
     let F = table_bit a.t.now in
     let is = c.counting_inputs-counting.ensures.count in (
-      c.by_tree.ensures ∙ ap (λ (c.before : ℕ). by_chain c.before (sheet_aside a.n 2 (number (2 ^ a.n) F))) is
+      c.by_tree.ensures ∙ ap (λ (i : ℕ). by_chain i (sheet_aside a.n 2 (number (2 ^ a.n) F))) is
           ∙ sym (least-chain a.n a.k F (omega (arith, is, c.if-counting-k.false)) c.if-k-eq2.true),
       c.clear-then-k-eq2.ensures,
     )
@@ -39,7 +39,7 @@ returns c =
     let a = c.args in
     let F = table_bit a.t.now in
     let is = c.counting_inputs-counting.ensures.count in (
-      c.by_split.ensures.0 ∙ ap (λ (c.before : ℕ). by_split a.n a.k c.before (best_counting a.n 1 F a.k)) is
+      c.by_split.ensures.0 ∙ ap (λ (i : ℕ). by_split a.n a.k i (best_counting a.n 1 F a.k)) is
           ∙ sym (least_split a.n a.k F (omega (arith, is, c.if-counting-k.false)) c.if-k-eq2.false),
       c.by_split.ensures.1,
     )
