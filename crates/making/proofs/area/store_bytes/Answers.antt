@@ -3,8 +3,7 @@ use mathlib.Core.Path.{◌≡◌, refl, sym, ap, ◌∙◌, subst}
 use mathlib.Core.List.{List}
 use Prim.Native.Nat.{ℕ, ◌^◌}
 use native.Mathlib.Omega.{arith}
-use lib.ListN.{length, take}
-use lib.Seq.{length-take-le}
+use lib.ListN.{take}
 use lib.Pow.{pow_mono}
 use Rattle.bits.specs.Numbers.{bit}
 use Rattle.tables.specs.Table.{table_bit, byte_of}
@@ -14,38 +13,28 @@ use Rattle.splits.specs.Pair.{bit_h, inputs_h}
 use Rattle.columns.specs.Reading.{Chart}
 use Rattle.tables.specs.Work.{half}
 use Rattle.charts.proofs.Charting.{power}
-use Rattle.making.proofs.area.store_bytes.Lts as lts
-use Rattle.making.proofs.area.store_bytes.Reads as reads
-use Rattle.making.proofs.area.store_bytes.Tie as tie
+use Rattle.making.proofs.Halves.{half_whole}
 use Rattle.making.proofs.area.store_bytes.Goals as goal
-
--- the first half is as it was
-module _ (c : lts.In-loop tie.the-claims reads.Pre reads.Post goal.the-invariant-loop-i goal.the-decreases-loop-i) where
-  same : take half c.loop-i.work ≡ take half c.args.work.now
-  same = filled_front c.loop-i.invariant
-
-  whole : length (take half c.loop-i.work) ≡ half
-  whole = length-take-le half c.loop-i.work
-      (omega (arith, c.requires.2, c.loop-i.invariant.long))
 
 pub slice_bounds-h_byte-end : goal.slice_bounds-h_byte-end
 slice_bounds-h_byte-end c = omega (arith, c.requires.2, c.loop-i.invariant.long)
 
 pub slice_bounds-h_byte-end-in-loop-i : goal.slice_bounds-h_byte-end-in-loop-i
-slice_bounds-h_byte-end-in-loop-i c = sym (whole c.before.before)
+slice_bounds-h_byte-end-in-loop-i c = sym (half_whole c.loop-i.work (omega (arith, c.requires.2, c.loop-i.invariant.long)))
 
 pub overflow_cast-i : goal.overflow_cast-i
 overflow_cast-i c = omega (arith, c.requires.1, c.loop-i-test.true)
 
 pub h_byte-b-requires : goal.h_byte-b-requires
 h_byte-b-requires c =
-    let e = power c.requires.4 in (
+    let e = power c.requires.4 in
+    let whole = half_whole c.loop-i.work (omega (arith, c.requires.2, c.loop-i.invariant.long)) in (
       c.requires.0,
-      omega (arith, whole c.before.before, pow_mono {c.before.before = c.args.s.n} {j = 16} c.requires.0.most),
+      omega (arith, whole, pow_mono {i = c.args.s.n} {j = 16} c.requires.0.most),
       subst (λ (m : ℕ). Chart c.args.s (table_bit (take half c.loop-i.work)) m c.args.seen.now) e
-          (subst (λ (l : List ℕ). Chart c.args.s (table_bit l) (2 ^ c.args.r) c.args.seen.now) (sym (same c.before.before))
+          (subst (λ (l : List ℕ). Chart c.args.s (table_bit l) (2 ^ c.args.r) c.args.seen.now) (sym (filled_front c.loop-i.invariant))
           c.requires.3),
-      omega (arith, e, pow_mono {c.before.before = c.args.r} {j = most_first} c.requires.4),
+      omega (arith, e, pow_mono {i = c.args.r} {j = most_first} c.requires.4),
       omega (arith, c.requires.1, c.loop-i-test.true),
     )
 
@@ -64,7 +53,7 @@ loop-i-preserved c =
     (c.h_byte-b.ensures r (sym (power c.requires.4))
     ∙ ap (λ (t : List ℕ). byte_of (inputs_h s.n (table_bit t) (bit s.own) (bit s.shared) r)
     (bit_h s.n (table_bit t) (bit s.own) (bit s.shared))
-    c.loop-i.i) (same c.before.before.before))
+    c.loop-i.i) (filled_front c.loop-i.invariant))
 
 pub returns : goal.returns
 returns c =

@@ -1,14 +1,12 @@
 -- The loop writes past the first half alone, so the table at hand stays as it was; within a word w is that word.
 -- Assumes nothing.
 use mathlib.Core.Path.{◌≡◌, refl, sym, ap, ◌∙◌, subst}
-use mathlib.Core.Logic.{⊎_elim}
 use mathlib.Core.Bool.{Bool, ◌&&◌}
 use mathlib.Core.List.{List}
 use Prim.Native.Nat.{ℕ, ◌+◌, ◌*◌, ◌/◌, ◌^◌}
 use native.Mathlib.Omega.{arith}
 use lib.Dec.{ltb}
-use lib.ListN.{length, take}
-use lib.Seq.{length-take-le}
+use lib.ListN.{take}
 use lib.Pow.{pow_mono}
 use Rattle.bits.specs.Numbers.{bit, number}
 use Rattle.tables.specs.Table.{table_bit}
@@ -20,52 +18,41 @@ use Rattle.columns.specs.Reading.{Chart}
 use Rattle.making.specs.Area.{next_bit, next_inputs}
 use Rattle.tables.specs.Work.{half}
 use Rattle.charts.proofs.Charting.{power}
-use Rattle.making.proofs.area.store_words.Lts as lts
-use Rattle.making.proofs.area.store_words.Reads as reads
-use Rattle.making.proofs.area.store_words.Tie as tie
+use Rattle.making.proofs.Halves.{half_whole}
 use Rattle.making.proofs.area.store_words.Goals as goal
+use Rattle.making.proofs.area.store_words.Goals.{then-i-eq0, else-i-eq0}
 
 -- H's bit, spare bits zero
 abbrev bits : Split → ℕ → List ℕ → ℕ → Bool
 bits s r work x = ltb x (2 ^ next_inputs s r work) && next_bit s work x
 
--- the first half is as it was
-module _ (c : lts.In-loop tie.the-claims reads.Pre reads.Post goal.the-invariant-loop-i goal.the-decreases-loop-i) where
-  abbrev g : lts.Start tie.the-claims reads.Pre reads.Post goal.the-invariant-loop-i goal.the-decreases-loop-i
-  g = c.before.before.before.before
-
-  same : take half c.loop-i.work ≡ take half g.args.work.now
-  same = filled_front c.loop-i.invariant.0
-
-  whole : length (take half c.loop-i.work) ≡ half
-  whole = length-take-le half c.loop-i.work (omega (arith, g.requires.held.2, c.loop-i.invariant.0.long))
-
 pub h_word-w-requires : goal.h_word-w-requires
 h_word-w-requires c =
-    let p = (g c.before.before.before).requires.held in
-    let s = (g c.before.before.before).args.s in
-    let seen = (g c.before.before.before).args.seen.now in (
+    let p = c.requires.held in
+    let s = c.args.s in
+    let seen = c.args.seen.now in (
       p.0,
-      omega (arith, whole c.before.before.before, pow_mono {c.before.before.before = s.n} {j = 16} p.0.most),
+      omega (arith, half_whole c.loop-i.work (omega (arith, c.requires.held.2, c.loop-i.invariant.0.long)), pow_mono {i = s.n} {j = 16} p.0.most),
       subst (λ (m : ℕ). Chart s (table_bit (take half c.loop-i.work)) m seen) (power p.4)
-          (subst (λ (l : List ℕ). Chart s (table_bit l) (2 ^ (g c.before.before.before).args.r) seen) (sym (same c.before.before.before)) p.3),
-      (g c.before.before.before).requires.shared_value.0,
-      (g c.before.before.before).requires.shared_value.1,
+          (subst (λ (l : List ℕ). Chart s (table_bit l) (2 ^ c.args.r) seen) (sym (filled_front c.loop-i.invariant.0)) p.3),
+      c.requires.shared_value.0,
+      c.requires.shared_value.1,
     )
 
 pub loop-i-preserved : goal.loop-i-preserved
 loop-i-preserved c =
     let q = c.loop-i in
-    let a = (g c.before.before.before).args in
+    let a = c.args in
     let i = q.i in
     let s = a.s in
     let F = bits s a.r a.work.now in
     let w : c.if-i-eq0.w ≡ number 64 (λ j. F (64 * (i / 8) + j)) =
-    ⊎_elim (λ u.
-    u.3 ∙ u.2.ensures a.r (sym (power (g c.before.before.before).requires.held.4))
-    ∙ ap (λ (t : List ℕ). gate_word (inputs_h s.n (table_bit t) (bit s.own) (bit s.shared) a.r)
-    (bit_h s.n (table_bit t) (bit s.own) (bit s.shared)) (i / 8)) (same c.before.before.before))
-    (λ u. u.1 ∙ q.invariant.1 u.0.left) c.if-i-eq0.branch in (
+    elim c.if-i-eq0.branch [
+      | then-i-eq0 u ↦ u.w-is ∙ u.h_word-w.ensures a.r (sym (power c.requires.held.4))
+          ∙ ap (λ (t : List ℕ). gate_word (inputs_h s.n (table_bit t) (bit s.own) (bit s.shared) a.r)
+          (bit_h s.n (table_bit t) (bit s.own) (bit s.shared)) (i / 8)) (filled_front q.invariant.0)
+      | else-i-eq0 u ↦ u.w-is ∙ q.invariant.1 u.if-i-eq0.false
+    ] in (
       filled_more q.invariant.0 c.loop-i-test.true refl (c.byte_in.ensures F w),
       λ h. let e : i / 8 ≡ (i + 1) / 8 = omega arith in w ∙ ap (λ (k : ℕ). number 64 (λ j. F (64 * k + j))) e,
     )
@@ -81,23 +68,23 @@ loop-i-init c =
 
 pub slice_bounds-h_word-end : goal.slice_bounds-h_word-end
 slice_bounds-h_word-end c =
-    omega (arith, (g c.before.before).requires.held.2, c.loop-i.invariant.0.long)
+    omega (arith, c.requires.held.2, c.loop-i.invariant.0.long)
 
 pub slice_bounds-h_word-end-then-i-eq0 : goal.slice_bounds-h_word-end-then-i-eq0
-slice_bounds-h_word-end-then-i-eq0 c = sym (whole c.before.before.before)
+slice_bounds-h_word-end-then-i-eq0 c = sym (half_whole c.loop-i.work (omega (arith, c.requires.held.2, c.loop-i.invariant.0.long)))
 
 pub overflow_cast-i : goal.overflow_cast-i
-overflow_cast-i c = omega (arith, (g c.before.before.before).requires.held.1, c.loop-i-test.true)
+overflow_cast-i c = omega (arith, c.requires.held.1, c.loop-i-test.true)
 
 pub overflow_add-at : goal.overflow_add-at
-overflow_add-at c = omega (arith, (g c.before.before).requires.held.1, c.loop-i-test.true)
+overflow_add-at c = omega (arith, c.requires.held.1, c.loop-i-test.true)
 
 pub bounds-work-at : goal.bounds-work-at
 bounds-work-at c =
     omega (
       arith,
-      (g c.before.before.before).requires.held.1,
-      (g c.before.before.before).requires.held.2,
+      c.requires.held.1,
+      c.requires.held.2,
       c.loop-i-test.true,
       c.loop-i.invariant.0.long,
     )

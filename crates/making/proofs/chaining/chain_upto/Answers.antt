@@ -8,13 +8,11 @@ use Rattle.bits.specs.Numbers.{bit}
 use Rattle.tables.specs.Table.{table_bit}
 use Rattle.tables.proofs.Keeping.{kept-lt}
 use Rattle.chains.specs.Chain.{pick, inputs}
+use Rattle.making.specs.declared.signals.Signals.{Signals}
 use Rattle.making.specs.Stage.{signals_of}
 use Rattle.making.specs.Chaining.{Tells}
 use Rattle.tables.proofs.Work.{half-holds}
 use Rattle.making.proofs.Loaded.{kept_few, kept_more, kept-chain}
-use Rattle.making.proofs.chaining.chain_upto.Lts as lts
-use Rattle.making.proofs.chaining.chain_upto.Reads as reads
-use Rattle.making.proofs.chaining.chain_upto.Tie as tie
 use Rattle.making.proofs.chaining.chain_upto.Goals as goal
 
 pub set_aside-requires : goal.set_aside-requires
@@ -28,42 +26,41 @@ set_aside-requires c =
     )
 
 -- the signals are those that are kept
-module _ (c : lts.After-pick tie.the-claims reads.Pre reads.Post) where
-  picked : signals_of c.pick-signals.result
-      ≡ pick c.args.n
-      (bit c.kept_of-kept.result)
-      (inputs c.args.n)
-  picked = let e = c.inputs.ensures in
-      let m = c.kept_of-kept.result in
-      c.pick-signals.ensures.1 ∙ ap₂ (λ (k : ℕ) (l : List ℕ). pick k (bit m) l) e.2 e.1
+picked : (n m : ℕ) (l : Signals) (q : Signals) → signals_of l ≡ inputs n → l.count ≡ n
+    → signals_of q ≡ pick l.count (bit m) (signals_of l) → signals_of q ≡ pick n (bit m) (inputs n)
+picked n m l q e g h = h ∙ ap₂ (λ (k : ℕ) (l : List ℕ). pick k (bit m) l) g e
 
 pub follow-end-requires : goal.follow-end-requires
 follow-end-requires c =
     let a = c.args in
+    let taken = picked c.args.n c.kept_of-kept.result c.inputs.result c.pick-signals.result c.inputs.ensures.1
+    c.inputs.ensures.2 c.pick-signals.ensures.1 in
     let F = table_bit a.t.now in record {
-      n_le_most_inputs = (c.requires.1, c.requires.2, c.requires.3, c.requires.4, omega (arith, c.set_aside.auto.1.1.1.0, c.requires.6));
+      n_le_most_inputs = (c.requires.1, c.requires.2, c.requires.3, c.requires.4, omega (arith, c.set_aside.auto.room, c.requires.6));
       listed = (
         c.pick-signals.ensures.0,
-        kept_more a.n F c.kept_of-kept.result c.kept_of-kept.ensures c.pick-signals.result (picked c.before.before) c.requires.0,
-        kept_few a.n F c.kept_of-kept.result c.kept_of-kept.ensures c.pick-signals.result (picked c.before.before),
+        kept_more a.n F c.kept_of-kept.result c.kept_of-kept.ensures c.pick-signals.result taken c.requires.0,
+        kept_few a.n F c.kept_of-kept.result c.kept_of-kept.ensures c.pick-signals.result taken,
       );
     }
 
 pub shape_of-work : goal.shape_of-work
 shape_of-work c =
-    c.clear.auto.0 ∙ c.follow-end.auto.1.1.1.1.0
-    ∙ c.set_aside.auto.1.1.1.0
+    c.clear.auto.area ∙ c.follow-end.auto.work
+    ∙ c.set_aside.auto.room
 
 pub returns : goal.returns
 returns c =
     let a = c.args in
+    let taken = picked c.args.n c.kept_of-kept.result c.inputs.result c.pick-signals.result c.inputs.ensures.1
+    c.inputs.ensures.2 c.pick-signals.ensures.1 in
     let F = table_bit a.t.now in
     record {
       told = subst (Tells c.follow-end.result)
-          (kept-chain a.n F c.kept_of-kept.result c.kept_of-kept.ensures c.pick-signals.result (picked c.before.before.before.before.before.before.before.before.before) a.most a.k
+          (kept-chain a.n F c.kept_of-kept.result c.kept_of-kept.ensures c.pick-signals.result taken a.most a.k
           c.set_aside.new.room
           c.requires.0 (omega (arith, c.requires.3)) c.requires.1 c.set_aside.ensures)
           c.follow-end.ensures;
       cleared = c.clear.ensures ∙ ap (λ (m : ℕ). replicate m 0)
-          (c.follow-end.auto.1.1.1.1.0 ∙ c.set_aside.auto.1.1.1.0);
+          (c.follow-end.auto.work ∙ c.set_aside.auto.room);
     }

@@ -1,13 +1,16 @@
 -- The loop keeps that behind the cells so far stands the chain of the table at hand. Assumes nothing.
 use mathlib.Core.Path.{◌≡◌, refl, sym, ap, ap₂, ◌∙◌, subst}
-use mathlib.Core.Bool.{true}
+use mathlib.Core.Bool.{Bool, true}
 use mathlib.Core.List.{[], ◌∷◌, ◌++◌}
-use Prim.Native.Nat.{◌^◌}
+use Prim.Native.Nat.{ℕ, ◌^◌}
 use native.Mathlib.Omega.{arith}
 use lib.Pow.{pow_mono}
 use Rattle.bits.specs.Numbers.{number}
 use Rattle.tables.specs.Cells.{cell_words, table_number}
 use Rattle.tables.proofs.CellTables.{words_joined}
+use Rattle.columns.specs.declared.split.Split.{Split}
+use Rattle.choices.specs.declared.over.Chosen.{Chosen}
+use Rattle.choices.specs.Chosen.{choice_of}
 use Rattle.choices.specs.Search.{choice, best_up_to}
 use Rattle.choices.proofs.Best.{upto_best}
 use Rattle.choices.proofs.Choosing.{is_nothing_lem, is_choice}
@@ -20,20 +23,16 @@ use Rattle.making.specs.Chaining.{Tells}
 use Rattle.making.proofs.Halves.{half_whole, half-bits}
 use Rattle.making.proofs.Piling.{grown_piled}
 use Rattle.making.proofs.Following.{following_starts, following_stops, following_shrinks}
-use Rattle.making.proofs.Following.{following_goes, following_ends, Sound, split_sound}
-use Rattle.making.proofs.chaining.follow.Lts as lts
-use Rattle.making.proofs.chaining.follow.Reads as reads
-use Rattle.making.proofs.chaining.follow.Tie as tie
+use Rattle.making.proofs.Following.{following_goes, following_ends, split_sound}
 use Rattle.making.proofs.chaining.follow.Goals as goal
 
 pub loop-signals-init : goal.loop-signals-init
-loop-signals-init c =
-    (
-      following_starts c.args.n c.args.most c.args.k c.empty-pile.result c.args.start
-          c.args.work.now c.requires.n_le_most_inputs.4 c.empty-pile.ensures
-          c.requires.listed.0 c.requires.listed.1 c.requires.listed.2,
-      refl,
-    )
+loop-signals-init c = (
+  following_starts c.args.n c.args.most c.args.k c.empty-pile.result c.args.start
+      c.args.work.now c.requires.n_le_most_inputs.4 c.empty-pile.ensures
+      c.requires.listed.0 c.requires.listed.1 c.requires.listed.2,
+  refl,
+)
 
 pub overflow_cast-m : goal.overflow_cast-m
 overflow_cast-m c = omega (arith, c.loop-signals.invariant.0.listed.few)
@@ -47,8 +46,7 @@ slice_bounds-find_upto-end-in-loop-signals c =
 
 pub find_upto-found-requires : goal.find_upto-found-requires
 find_upto-found-requires c =
-    let q = c.loop-signals in
-    (
+    let q = c.loop-signals in (
       q.invariant.0.listed.few,
       c.requires.n_le_most_inputs.1,
       half-bits q.work q.invariant.0.long q.signals.count q.invariant.0.listed.few,
@@ -65,41 +63,19 @@ returns-then-found-eq0 c =
     q.signals q.work q.invariant.0 c.loop-signals-test.true
     (sym c.find_upto-found.ensures.0 ∙ is_nothing_lem c.find_upto-found.result c.if-found-eq0.true))) c.no_end.ensures
 
--- the split that was found
-found_split : (c : lts.Else2 tie.the-claims reads.Pre reads.Post goal.the-invariant-loop-signals goal.the-decreases-loop-signals)
-    → best_up_to c.loop-signals.signals.count
-    (at_hand c.loop-signals.work)
-    c.args.k
-    c.args.most
-    ≡ choice c.find_upto-found.result.first c.find_upto-found.result.own
-    c.find_upto-found.result.shared
-found_split c = let f = c.find_upto-found in sym f.ensures.0 ∙ is_choice f.result c.if-found-eq0.false
-
 pub of-s-requires : goal.of-s-requires
 of-s-requires c =
     let f = c.find_upto-found.result in
     let q = c.loop-signals in
+    let found_split = sym c.find_upto-found.ensures.0 ∙ is_choice f c.if-found-eq0.false in
     let b = (upto_best q.signals.count c.args.k (at_hand q.work) c.args.most f.first f.own
-    f.shared).0 (found_split c) in
+    f.shared).0 found_split in
     (q.invariant.0.listed.few, b.works.candidate.below_a, b.works.candidate.below_b, b.works.candidate.apart)
 
--- the same, of the split that the code made of it
-module _ (c : lts.After-of tie.the-claims reads.Pre reads.Post goal.the-invariant-loop-signals goal.the-decreases-loop-signals) where
-  made_split : best_up_to c.loop-signals.signals.count
-      (at_hand c.loop-signals.work)
-      c.args.k
-      c.args.most
-      ≡ choice c.find_upto-found.result.first c.of-s.result.own c.of-s.result.shared
-  made_split = found_split c.before ∙ ap₂ (choice c.find_upto-found.result.first)
-      (sym c.of-s.ensures.2) (sym c.of-s.ensures.3)
-
-  made_sound : Sound c.args.most
-      (at_hand c.loop-signals.work) c.of-s.result
-      c.find_upto-found.result.first
-  made_sound = let q = c.loop-signals in
-      split_sound c.of-s.result q.signals.count c.args.most c.args.k
-      c.find_upto-found.result.first (at_hand q.work)
-      c.of-s.ensures.1 c.requires.n_le_most_inputs.3 c.requires.n_le_most_inputs.1 made_split
+-- what was found, of the split that the code made of it
+made_split : (n k most : ℕ) (F : ℕ → Bool) (f : Chosen) (s : Split) → choice_of f ≡ best_up_to n F k most
+    → (f.first ≡ 0 → ⊥) → s.own ≡ f.own → s.shared ≡ f.shared → best_up_to n F k most ≡ choice f.first s.own s.shared
+made_split n k most F f s e g own shared = sym e ∙ is_choice f g ∙ ap₂ (choice f.first) (sym own) (sym shared)
 
 pub overflow_add-next : goal.overflow_add-next
 overflow_add-next c =
@@ -115,28 +91,36 @@ pub step-stepped-requires : goal.step-stepped-requires
 step-stepped-requires c =
     let q = c.loop-signals in
     let e = c.of-s.ensures in
-    let w = made_sound c.before.before in
-    let u = q.invariant.0 in record { held = (e.0, u.listed, e.1, u.long, w.some, w.most, w.candidate); count_le_count = (
+    let w = split_sound c.of-s.result q.signals.count c.args.most c.args.k
+    c.find_upto-found.result.first (at_hand q.work)
+    c.of-s.ensures.1 c.requires.n_le_most_inputs.3 c.requires.n_le_most_inputs.1
+    (made_split c.loop-signals.signals.count c.args.k c.args.most (at_hand c.loop-signals.work) c.find_upto-found.result
+    c.of-s.result c.find_upto-found.ensures.0 c.if-found-eq0.false c.of-s.ensures.2 c.of-s.ensures.3) in
+    let u = q.invariant.0 in record {
+      held = (e.0, u.listed, e.1, u.long, w.some, w.most, w.candidate);
+      count_le_count = (
         u.piled.within,
         omega (arith, u.room, w.most, u.some, c.requires.n_le_most_inputs.0),
         omega (arith, u.room, w.most, u.some, c.requires.n_le_most_inputs.0),
         w.few,
-      ) }
+      );
+    }
 
 pub loop-signals-smaller : goal.loop-signals-smaller
 loop-signals-smaller c =
     let q = c.loop-signals in
     following_shrinks c.args.n c.args.most c.args.k _ q.pile q.signals q.work q.invariant.0
     c.of-s.result _ c.of-s.ensures.1 c.loop-signals-test.true
-    c.requires.n_le_most_inputs.1 (made_split c.before.before.before.before.before.before.before.before) c.step-stepped.result _ c.step-stepped.ensures
+    c.requires.n_le_most_inputs.1 (made_split c.loop-signals.signals.count c.args.k c.args.most (at_hand c.loop-signals.work) c.find_upto-found.result
+    c.of-s.result c.find_upto-found.ensures.0 c.if-found-eq0.false c.of-s.ensures.2 c.of-s.ensures.3) c.step-stepped.result _ c.step-stepped.ensures
 
 pub loop-signals-preserved : goal.loop-signals-preserved
 loop-signals-preserved c =
-    let q = c.loop-signals in
-    (
+    let q = c.loop-signals in (
       following_goes c.args.n c.args.most c.args.k _ q.pile q.signals q.work q.invariant.0
           c.of-s.result _ c.of-s.ensures.1 c.loop-signals-test.true
-          c.requires.n_le_most_inputs.1 (made_split c.before.before.before.before.before.before.before.before) c.step-stepped.result _ c.step-stepped.ensures,
+          c.requires.n_le_most_inputs.1 (made_split c.loop-signals.signals.count c.args.k c.args.most (at_hand c.loop-signals.work) c.find_upto-found.result
+          c.of-s.result c.find_upto-found.ensures.0 c.if-found-eq0.false c.of-s.ensures.2 c.of-s.ensures.3) c.step-stepped.result _ c.step-stepped.ensures,
       c.step-stepped.ensures.table.long ∙ q.invariant.1,
     )
 
@@ -172,7 +156,7 @@ returns c =
     let q = c.loop-signals in
     let u = q.invariant.0 in
     let held = words_joined cell_words q.signals.count (at_hand q.work)
-    (omega (arith, pow_mono {c.before.before.before.before.before.before = q.signals.count} {j = 8} (omega (arith, c.requires.n_le_most_inputs.3, c.loop-signals-test.false)))) in
+    (omega (arith, pow_mono {i = q.signals.count} {j = 8} (omega (arith, c.requires.n_le_most_inputs.3, c.loop-signals-test.false)))) in
     let cell : network_cell c.cell-last.result
     ≡ last_cell (signals_of q.signals) (number (2 ^ q.signals.count) (at_hand q.work)) =
     c.cell-last.ensures.0 ∙ ap (last_cell (signals_of q.signals)) (ap table_number c.first_of.ensures ∙ held)

@@ -13,14 +13,15 @@ use Rattle.splits.specs.Columns.{most_first, few_columns}
 use Rattle.splits.specs.Split.{reads_h}
 use Rattle.columns.proofs.Reading.{beside_mask}
 use Rattle.splits.proofs.Respect.{reads-H}
+use Rattle.columns.specs.declared.split.Split.{Split}
+use Rattle.columns.specs.Reading.{Held}
+use Rattle.chains.specs.Chain.{pick}
+use Rattle.making.specs.declared.signals.Signals.{Signals}
 use Rattle.making.specs.Stage.{signals_of}
 use Rattle.making.specs.Area.{at_hand}
 use Rattle.making.proofs.Halves.{half_whole, half-bits}
 use Rattle.making.proofs.Picking.{picked_set, picked_count}
 use Rattle.charts.proofs.Charting.{chart-room, power, charted}
-use Rattle.making.proofs.chaining.step.Lts as lts
-use Rattle.making.proofs.chaining.step.Reads as reads
-use Rattle.making.proofs.chaining.step.Tie as tie
 use Rattle.making.proofs.chaining.step.Goals as goal
 
 pub slice_bounds-chart-end-2 : goal.slice_bounds-chart-end-2
@@ -47,7 +48,7 @@ pub slice_bounds-pile_first-end-2 : goal.slice_bounds-pile_first-end-2
 slice_bounds-pile_first-end-2 c = sym (half_whole c.args.work.now c.requires.held.3)
 
 pub slice_bounds-pile_first-end-3 : goal.slice_bounds-pile_first-end-3
-slice_bounds-pile_first-end-3 c = sym (c.chart.auto.1.1.1.0 ∙ c.blank-seen.ensures.0)
+slice_bounds-pile_first-end-3 c = sym (c.chart.auto.seen ∙ c.blank-seen.ensures.0)
 
 pub pile_first-more-requires : goal.pile_first-more-requires
 pile_first-more-requires c =
@@ -67,42 +68,33 @@ pub pick-left-requires : goal.pick-left-requires
 pick-left-requires c = c.requires.held.1
 
 -- the signals that are left, and how many
-module _ (c : lts.After-pick tie.the-claims reads.Pre reads.Post) where
-  abbrev g : lts.Start tie.the-claims reads.Pre reads.Post
-  g = c.before.before.before.before.before.before.before.before.before.before.before
+module _ (s : Split) (h : Held s) (l q : Signals) (n : s.n ≡ l.count)
+    (e : signals_of q ≡ pick l.count (bit (s.shared + s.free)) (signals_of l)) where
+  left-count : q.count ≡ size s.n (reads_h (bit s.own) (bit s.shared))
+  left-count = picked_count s.n (s.shared + s.free) (reads_h (bit s.own) (bit s.shared)) (beside_mask s h) l.count
+      n (signals_of l) q e
 
-  left-count : c.pick-left.result.count ≡ size g.args.s.n (reads_h (bit g.args.s.own) (bit g.args.s.shared))
-  left-count = let s = g.args.s in
-      picked_count s.n (s.shared + s.free) (reads_h (bit s.own) (bit s.shared)) (beside_mask s g.requires.held.0)
-      g.args.stage.signals.count
-      g.requires.held.2 (signals_of g.args.stage.signals) c.pick-left.result c.pick-left.ensures.1
-
-  left_few : c.pick-left.result.count + size g.args.s.n (bit g.args.s.own) ≡ g.args.s.n
-  left_few = let s = g.args.s in omega (
-    arith,
-    left-count,
-    reads-H s.n (bit s.own) (bit s.shared)
-        g.requires.held.0.apart,
-  )
+  left_few : q.count + size s.n (bit s.own) ≡ s.n
+  left_few = omega (arith, left-count, reads-H s.n (bit s.own) (bit s.shared) h.apart)
 
 pub with_next-after-requires : goal.with_next-after-requires
 with_next-after-requires c =
-    let p = (g c).requires in
-    (c.pick-left.ensures.0, p.0.4, p.0.5, omega (arith, left_few c, p.0.6.more, p.0.0.most), p.1.2)
+    let p = c.requires.held in
+    (c.pick-left.ensures.0, p.4, p.5, omega (arith, left_few c.args.s c.requires.held.0 c.args.stage.signals c.pick-left.result c.requires.held.2 c.pick-left.ensures.1, p.6.more, p.0.most), c.requires.count_le_count.2)
 
 pub slice_bounds-next_table-end : goal.slice_bounds-next_table-end
-slice_bounds-next_table-end c = sym (c.chart.auto.1.1.1.0 ∙ c.blank-seen.ensures.0)
+slice_bounds-next_table-end c = sym (c.chart.auto.seen ∙ c.blank-seen.ensures.0)
 
 pub overflow_cast-after : goal.overflow_cast-after
 overflow_cast-after c = omega (arith, c.with_next-after.ensures.0.few)
 
 pub next_table-requires : goal.next_table-requires
 next_table-requires c =
-    let k = (g c.before.before.before.before).requires.held in (
+    let k = c.requires.held in (
       k.0,
       k.3,
       c.with_next-after.ensures.0.few,
-      c.with_next-after.ensures.2 ∙ ap (λ (m : ℕ). m + (g c.before.before.before.before).args.r) (left-count c.before.before.before.before),
+      c.with_next-after.ensures.2 ∙ ap (λ (m : ℕ). m + c.args.r) (left-count c.args.s c.requires.held.0 c.args.stage.signals c.pick-left.result c.requires.held.2 c.pick-left.ensures.1),
       charted k.5 c.chart.ensures,
       k.5,
     )
@@ -112,14 +104,14 @@ shape_of-work c = c.next_table.ensures.long
 
 pub returns : goal.returns
 returns c =
-    let s = (g c.before.before.before.before.before.before.before.before).args.s in
+    let s = c.args.s in
     record {
       cells = c.pile_first-more.ensures;
       listed = c.with_next-after.ensures.0;
-      signals = c.with_next-after.ensures.1 ∙ ap (λ (l : List ℕ). l ++ list_of (g c.before.before.before.before.before.before.before.before).args.r (λ c. (g c.before.before.before.before.before.before.before.before).args.next + c.before.before.before))
+      signals = c.with_next-after.ensures.1 ∙ ap (λ (l : List ℕ). l ++ list_of c.args.r (λ t. c.args.next + t))
           (picked_set s.n (s.shared + s.free) (reads_h (bit s.own) (bit s.shared))
-          (beside_mask s (g c.before.before.before.before.before.before.before.before).requires.held.0) (g c.before.before.before.before.before.before.before.before).args.stage.signals.count
-          (g c.before.before.before.before.before.before.before.before).requires.held.2 (signals_of (g c.before.before.before.before.before.before.before.before).args.stage.signals) c.pick-left.result c.pick-left.ensures.1);
+          (beside_mask s c.requires.held.0) c.args.stage.signals.count
+          c.requires.held.2 (signals_of c.args.stage.signals) c.pick-left.result c.pick-left.ensures.1);
       table = c.next_table.ensures;
     }
 

@@ -1,6 +1,5 @@
 -- The loop keeps that the first m places hold what is picked below j. Assumes nothing.
 use mathlib.Core.Path.{◌≡◌, refl, sym, ap, ap₂, ◌∙◌}
-use mathlib.Core.Logic.{⊎_elim}
 use mathlib.Core.Bool.{Bool, true, false, cond}
 use mathlib.Core.List.{List, [], ◌∷◌, ◌++◌}
 use Prim.Native.Nat.{ℕ, ◌+◌, ◌<◌}
@@ -14,6 +13,7 @@ use Rattle.bits.proofs.Lists.{list_set, list_at}
 use Rattle.chains.specs.Chain.{pick}
 use Rattle.making.proofs.signals.Signals.pick.Invariants.{first}
 use Rattle.making.proofs.signals.Signals.pick.Goals as goal
+use Rattle.making.proofs.signals.Signals.pick.Goals.{then-set-j-eq1, else-set-j-eq1}
 
 -- one position more, in or out of the set
 pick_more : (j : ℕ) (s : ℕ → Bool) (l : List ℕ) (t : Bool) → s j ≡ t → pick (j + 1) s l
@@ -45,29 +45,29 @@ loop-j-preserved c =
     let q = c.loop-j in
     let a = c.args in
     let l = c.loop-j-test.true in
-    ⊎_elim
-    (λ u. (
-      ap₂ first u.2 u.1
-          ∙ pick_takes q.j q.m (bit a.set) a.self.at q.at a.self.count l
-          (omega (arith, q.invariant.1, q.invariant.3, q.invariant.4))
-          (bit-set a.set q.j u.0.taken) q.invariant.0,
-      omega (arith, u.2, q.invariant.1),
-      omega (arith, l),
-      q.invariant.3,
-      ap length u.1 ∙ length-set q.at q.m _ ∙ q.invariant.4,
-      q.invariant.5,
-    ))
-    (λ u. (
-      ap₂ first u.2 u.1 ∙ q.invariant.0
-          ∙ sym (pick_more q.j (bit a.set) (first a.self.count a.self.at) false
-          (bit-clear a.set q.j u.0.left)),
-      omega (arith, u.2, q.invariant.1),
-      omega (arith, l),
-      q.invariant.3,
-      ap length u.1 ∙ q.invariant.4,
-      q.invariant.5,
-    ))
-    c.if-set-j-eq1.branch
+    elim c.if-set-j-eq1.branch [
+      | then-set-j-eq1 u ↦ (
+        ap₂ first u.m-is u.at-is
+            ∙ pick_takes q.j q.m (bit a.set) a.self.at q.at a.self.count l
+            (omega (arith, q.invariant.1, q.invariant.3, q.invariant.4))
+            (bit-set a.set q.j u.if-set-j-eq1.true) q.invariant.0,
+        omega (arith, u.m-is, q.invariant.1),
+        omega (arith, l),
+        q.invariant.3,
+        ap length u.at-is ∙ length-set q.at q.m _ ∙ q.invariant.4,
+        q.invariant.5,
+      )
+      | else-set-j-eq1 u ↦ (
+        ap₂ first u.m-is u.at-is ∙ q.invariant.0
+            ∙ sym (pick_more q.j (bit a.set) (first a.self.count a.self.at) false
+            (bit-clear a.set q.j u.if-set-j-eq1.false)),
+        omega (arith, u.m-is, q.invariant.1),
+        omega (arith, l),
+        q.invariant.3,
+        ap length u.at-is ∙ q.invariant.4,
+        q.invariant.5,
+      )
+    ]
 
 pub returns : goal.returns
 returns c =
