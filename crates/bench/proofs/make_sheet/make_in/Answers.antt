@@ -3,48 +3,38 @@ use mathlib.Core.Path.{◌≡◌, refl, sym, ◌∙◌}
 use mathlib.Core.List.{List, [], ◌∷◌}
 use Prim.Native.Nat.{ℕ}
 use native.Mathlib.Omega.{arith}
+use Rattle.sheets.specs.declared.kinds.Edition.{Edition}
 use Rattle.refusals.specs.declared.verdicts.Verdict.{Verdict}
 use Rattle.refusals.specs.declared.verdicts.Verdict.TheVariants.{Fine}
-use Rattle.refusals.specs.Lines.{Line}
+use Rattle.refusals.specs.Lines.{Line, verdict}
 use Rattle.bench.specs.Refusals.{chain_stuck}
 use Rattle.refusals.proofs.Lines.{in_order_lem, left_to}
 use Rattle.refusals.proofs.Refusing.{form_refuses}
 use Rattle.bench.specs.MakeSheet.{MakeOutcome, sheet_for, cells_in, make_form, make_done, make_not, make_outcome}
 use Rattle.bench.proofs.Ready.{Ready, ready}
 use Rattle.bench.proofs.Written.{one_written}
-use Rattle.bench.proofs.make_sheet.make_in.Lts as lts
-use Rattle.bench.proofs.make_sheet.make_in.Reads as reads
-use Rattle.bench.proofs.make_sheet.make_in.Tie as tie
 use Rattle.bench.proofs.make_sheet.make_in.Goals as goal
 
-module _ (c : lts.After-make_form tie.the-claims reads.Pre reads.Post) where
-  abbrev g : lts.Start tie.the-claims reads.Pre reads.Post
-  g = c.before.before.before.before
-
+module _ (e : Edition) (d n k : ℕ) (t sheet work : List ℕ) where
   -- form and room; the line of the chain; what is left where nothing is wrong
   abbrev ls : List Line
-  ls = make_form g.args.e g.args.d g.args.n g.args.k g.args.t.now g.args.sheet.now
-      g.args.work.now
+  ls = make_form e d n k t sheet work
 
   abbrev ms : List Line
-  ms = chain_stuck (sheet_for g.args.n g.args.k g.args.t.now) ∷ []
+  ms = chain_stuck (sheet_for n k t) ∷ []
 
   abbrev done : MakeOutcome
-  done = make_done g.args.e g.args.d (cells_in (sheet_for g.args.n g.args.k g.args.t.now))
-      g.args.sheet.now g.args.work.now
+  done = make_done e d (cells_in (sheet_for n k t)) sheet work
 
   -- both are in order
-  through : c.make_form-form.result ≡ Fine
-      → Ready g.args.e g.args.d g.args.n g.args.k g.args.t.now g.args.sheet.now
-      g.args.work.now
-  through fine = ready g.args.e g.args.d g.args.n g.args.k g.args.t.now g.args.sheet.now
-      g.args.work.now (in_order_lem ls (sym c.make_form-form.ensures ∙ fine))
+  through : (form : Verdict) → form ≡ verdict ls → form ≡ Fine → Ready e d n k t sheet work
+  through form is fine = ready e d n k t sheet work (in_order_lem ls (sym is ∙ fine))
 
 pub returns-in_default : goal.returns-in_default
 unfolding make_outcome
 returns-in_default c =
-    let a = (g c.before.before.before).args in
-    form_refuses (ls c.before.before.before) (ms c.before.before.before) (done c.before.before.before) (λ (v : Verdict) (l : List ℕ). record {
+    let a = c.args in
+    form_refuses (ls a.e a.d a.n a.k a.t.now a.sheet.now a.work.now) (ms a.e a.d a.n a.k a.t.now a.sheet.now a.work.now) (done a.e a.d a.n a.k a.t.now a.sheet.now a.work.now) (λ (v : Verdict) (l : List ℕ). record {
       answer = record { verdict = v; count = 0 };
       sheet = a.sheet.now;
       work = l;
@@ -53,25 +43,39 @@ returns-in_default c =
 
 pub write_chain-requires : goal.write_chain-requires
 write_chain-requires c =
-    let w = through c.before.before.before.before.before c.in-Fine.is in record { edition = ((g c.before.before.before.before.before).requires, w.gate.some, w.gate.most, omega arith, w.gate.two, w.gate.largest); t_len = (w.gate.long, w.records, w.area) }
+    let w = through c.args.e c.args.d c.args.n c.args.k c.args.t.now c.args.sheet.now c.args.work.now
+    c.make_form-form.result c.make_form-form.ensures c.in-Fine.is in record { edition = (c.requires, w.gate.some, w.gate.most, omega arith, w.gate.two, w.gate.largest); t_len = (w.gate.long, w.records, w.area) }
 
 pub returns : goal.returns
 unfolding make_outcome
 returns c =
-    let a = (g c.before.before.before.before.before.before.before.before.before.before).args in
+    let a = c.args in
     let fine = c.in-Fine.is in
     c.write_chain.ensures
-    ∙ one_written a.e a.d a.sheet.now a.work.now a.n a.k a.t.now (through c.before.before.before.before.before.before.before.before.before.before fine).gate
-    ∙ left_to (ls c.before.before.before.before.before.before.before.before.before.before) (ms c.before.before.before.before.before.before.before.before.before.before) (done c.before.before.before.before.before.before.before.before.before.before) (make_not a.sheet.now a.work.now) c.make_form-form.result
+    ∙ one_written a.e a.d a.sheet.now a.work.now a.n a.k a.t.now (through c.args.e c.args.d c.args.n c.args.k c.args.t.now c.args.sheet.now c.args.work.now
+    c.make_form-form.result c.make_form-form.ensures fine).gate
+    ∙ left_to (ls a.e a.d a.n a.k a.t.now a.sheet.now a.work.now) (ms a.e a.d a.n a.k a.t.now a.sheet.now a.work.now) (done a.e a.d a.n a.k a.t.now a.sheet.now a.work.now) (make_not a.sheet.now a.work.now) c.make_form-form.result
     c.make_form-form.ensures fine
 
 pub overflow_cast-d : goal.overflow_cast-d
-overflow_cast-d c = omega (arith, (through c.before.before.before c.in-Fine.is).desk)
+overflow_cast-d c = omega (
+  arith,
+  (through c.args.e c.args.d c.args.n c.args.k c.args.t.now c.args.sheet.now c.args.work.now
+      c.make_form-form.result c.make_form-form.ensures c.in-Fine.is).desk,
+)
 
 pub overflow_cast-n : goal.overflow_cast-n
-overflow_cast-n c = omega (arith, (through c.before.before.before c.in-Fine.is).gate.most)
+overflow_cast-n c = omega (
+  arith,
+  (through c.args.e c.args.d c.args.n c.args.k c.args.t.now c.args.sheet.now c.args.work.now
+      c.make_form-form.result c.make_form-form.ensures c.in-Fine.is).gate.most,
+)
 
 pub overflow_cast-k : goal.overflow_cast-k
 overflow_cast-k c =
-    omega
-    (arith, (through c.before.before.before c.in-Fine.is).gate.largest, (g c.before.before.before).requires.eight)
+    omega (
+      arith,
+      (through c.args.e c.args.d c.args.n c.args.k c.args.t.now c.args.sheet.now c.args.work.now
+          c.make_form-form.result c.make_form-form.ensures c.in-Fine.is).gate.largest,
+      c.requires.eight,
+    )

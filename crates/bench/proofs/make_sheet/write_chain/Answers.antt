@@ -13,10 +13,7 @@ use Rattle.chains.specs.Chain.{Made}
 use Rattle.chains.specs.Aside.{cells_aside}
 use Rattle.chains.proofs.Aside.{cells_few}
 use Rattle.refusals.specs.declared.verdicts.Verdict.TheVariants.{Fine}
-use Rattle.bench.proofs.Written.{stuck_written, long_written, Fits, fits}
-use Rattle.bench.proofs.make_sheet.write_chain.Lts as lts
-use Rattle.bench.proofs.make_sheet.write_chain.Reads as reads
-use Rattle.bench.proofs.make_sheet.write_chain.Tie as tie
+use Rattle.bench.proofs.Written.{stuck_written, long_written, fits}
 use Rattle.bench.proofs.make_sheet.write_chain.Goals as goal
 
 pub chain_upto-chain-requires : goal.chain_upto-chain-requires
@@ -25,50 +22,38 @@ chain_upto-chain-requires c =
     (p.1, p.2, p.3, p.4, omega (arith, p.5, p.0.eight), c.requires.t_len.0, c.requires.t_len.2)
 
 -- the chain of the table
-module _ (c : lts.After-chain_upto tie.the-claims reads.Pre reads.Post) where
-  abbrev g : lts.Start tie.the-claims reads.Pre reads.Post
-  g = c.before.before.before.before.before
-
-  abbrev chain : Made
-  chain = cells_aside g.args.most g.args.n g.args.k (number (2 ^ g.args.n) (table_bit g.args.t.now))
+abbrev chain : ℕ → ℕ → ℕ → List ℕ → Made
+chain n most k t = cells_aside most n k (number (2 ^ n) (table_bit t))
 
 pub returns-then-not-chain : goal.returns-then-not-chain
 returns-then-not-chain c =
-    let a = (g c.before.before.before.before.before.before).args in
+    let a = c.args in
     let r = c.chain_upto-chain.result in
     stuck_written a.e a.d a.sheet.now a.work.now r c.refuse.result
-    c.chain_upto-chain.new.work c.chain_upto-chain.ensures.cleared (chain c.before.before.before.before.before.before)
-    c.chain_upto-chain.ensures.told (c.if-not-chain.true) c.refuse.ensures
+    c.chain_upto-chain.new.work c.chain_upto-chain.ensures.cleared (chain c.args.n c.args.most c.args.k c.args.t.now)
+    c.chain_upto-chain.ensures.told (not-true _ c.if-not-chain.true) c.refuse.ensures
 
 pub returns-then-cells-gt-RECORDS : goal.returns-then-cells-gt-RECORDS
 returns-then-cells-gt-RECORDS c =
-    let a = (g c.before.before.before.before.before.before.before).args in
+    let a = c.args in
     let r = c.chain_upto-chain.result in
     long_written a.e a.d a.sheet.now a.work.now r c.refuse-then-cells-gt-RECORDS.result
-    c.chain_upto-chain.new.work c.chain_upto-chain.ensures.cleared (chain c.before.before.before.before.before.before.before)
-    c.chain_upto-chain.ensures.told (c.if-not-chain.false) (omega (arith, c.if-cells-gt-RECORDS.true))
+    c.chain_upto-chain.new.work c.chain_upto-chain.ensures.cleared (chain c.args.n c.args.most c.args.k c.args.t.now)
+    c.chain_upto-chain.ensures.told (not-false _ c.if-not-chain.false) (omega (arith, c.if-cells-gt-RECORDS.true))
     c.refuse-then-cells-gt-RECORDS.ensures
-
--- the cells are held
-kept : (c : lts.Else2 tie.the-claims reads.Pre reads.Post) →
-    let a = (g c.before.before.before.before.before).args in
-    Fits a.e a.d a.sheet.now a.work.now c.chain_upto-chain.result (chain c.before.before.before.before.before)
-kept c =
-    let a = (g c.before.before.before.before.before).args in
-    let r = c.chain_upto-chain.result in
-    fits a.e a.d a.sheet.now a.work.now r (chain c.before.before.before.before.before) c.chain_upto-chain.ensures.told
-    (c.if-not-chain.false) (omega (arith, c.if-cells-gt-RECORDS.false))
 
 pub put_all-requires : goal.put_all-requires
 put_all-requires c =
-    let a = (g c.before.before.before.before.before.before.before.before).args in
-    let p = (g c.before.before.before.before.before.before.before.before).requires.edition in
-    let k = kept c.before.before.before in (
+    let a = c.args in
+    let p = c.requires.edition in
+    let k = fits c.args.e c.args.d c.args.sheet.now c.args.work.now c.chain_upto-chain.result
+    (chain c.args.n c.args.most c.args.k c.args.t.now) c.chain_upto-chain.ensures.told
+    (not-false _ c.if-not-chain.false) (omega (arith, c.if-cells-gt-RECORDS.false)) in (
       p.0,
       k.few,
       cells_few a.most a.n a.k (table_bit a.t.now) p.1 (omega (arith, p.4))
           (cells_of c.chain_upto-chain.result.sheet) k.chain a.e.most p.5,
-      le_trans (mul-le-mul_left a.e.size k.few) (g c.before.before.before.before.before.before.before.before).requires.t_len.1,
+      le_trans (mul-le-mul_left a.e.size k.few) c.requires.t_len.1,
     )
 
 pub returns : goal.returns
@@ -76,4 +61,6 @@ returns c =
     let n = c.chain_upto-chain.result.count in
     ap₂ (λ (l w : List ℕ). record { answer = record { verdict = Fine; count = n }; sheet = l; work = w })
     c.put_all.ensures c.chain_upto-chain.ensures.cleared
-    ∙ (kept c.before.before.before.before.before.before).written
+    ∙ (fits c.args.e c.args.d c.args.sheet.now c.args.work.now c.chain_upto-chain.result
+    (chain c.args.n c.args.most c.args.k c.args.t.now) c.chain_upto-chain.ensures.told
+    (not-false _ c.if-not-chain.false) (omega (arith, c.if-cells-gt-RECORDS.false))).written

@@ -31,7 +31,7 @@ pub returns : goal.returns
 unfolding make_outcome
 returns c =
     let a = c.args in
-    c.make_in.ensures ∙ ap (λ (c.before.before.before.before.before.before.before.before : Edition). make_outcome c.before.before.before.before.before.before.before.before a.desk a.n a.k a.t.now a.sheet.now
+    c.make_in.ensures ∙ ap (λ (e : Edition). make_outcome e a.desk a.n a.k a.t.now a.sheet.now
     a.work.now) c.numbered.ensures
     ∙ left_to (told_form a.w a.n) (make_lines (edition_of a.w) a.desk a.n a.k a.t.now a.sheet.now
     a.work.now)
