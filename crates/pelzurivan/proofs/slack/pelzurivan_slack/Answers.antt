@@ -3,6 +3,7 @@ use mathlib.Core.Path.{◌≡◌, ap, ap₂, ◌∙◌}
 use Prim.Native.Nat.{ℕ}
 use lib.IntN.{ℤ}
 use mir.Facts.{to_z-of_z}
+use mir.Syntax.{w64}
 use Rattle.sheets.specs.Edition.{first_edition}
 use Rattle.refusals.specs.Lines.{number_of, place_of}
 use Rattle.settling.specs.declared.slack.SlackAnswer.{SlackAnswer}
@@ -18,6 +19,6 @@ pub returns : goal.returns
 returns c =
     let a = c.args in
     same c.slack-answer.result _ _ _ _ c.number_of.ensures c.place_of.ensures
-    (to_z-of_z (record { sfits = c.struct_told-1.given.1.0.1 }))
+    (to_z-of_z {w = w64} (record { sfits = c.struct_told-1.given.1.0.1 }))
     (c.slack-answer.ensures ∙ ap₂ (slack_own first_edition a.n a.s.now a.delay) c.input_times.ensures
     (to_z-of_z c.ranges.deadline))
