@@ -1,0 +1,17 @@
+-- `even_shape` meets its contract, sign by sign. Assumes nothing.
+use borrow.Author.Tests.{eq-eqb, ne_eqb}
+use Rattle.clauses.proofs.shapes.even_shape.Goals as goal
+
+pub returns-then-s-eq0 : goal.returns-then-s-eq0
+returns-then-s-eq0 c = λ z row. simp (eq-eqb _ _ c.if-s-eq0.true)
+
+pub returns-then-s-eq1 : goal.returns-then-s-eq1
+returns-then-s-eq1 c = λ z row. simp (ne_eqb _ _ c.if-s-eq0.false, eq-eqb _ _ c.if-s-eq1.true)
+
+pub returns-then-s-eq2 : goal.returns-then-s-eq2
+returns-then-s-eq2 c =
+    λ z row. simp (ne_eqb _ _ c.if-s-eq0.false, ne_eqb _ _ c.if-s-eq1.false, eq-eqb _ _ c.if-s-eq2.true)
+
+pub returns : goal.returns
+returns c =
+    λ z row. simp (ne_eqb _ _ c.if-s-eq0.false, ne_eqb _ _ c.if-s-eq1.false, ne_eqb _ _ c.if-s-eq2.false)

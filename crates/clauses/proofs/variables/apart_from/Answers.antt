@@ -1,0 +1,18 @@
+-- `apart_from` meets its contract: the products stay small. Assumes nothing.
+use native.Mathlib.Omega.{arith}
+use Rattle.clauses.specs.Variables.{differ_many}
+use Rattle.clauses.proofs.Sizes.{most, from}
+use Rattle.clauses.proofs.variables.apart_from.Goals as goal
+
+pub overflow_mul-result : goal.overflow_mul-result
+overflow_mul-result c = omega (arith, most c.args.z c.requires, from c.args.z c.requires)
+
+pub overflow_mul-result-2 : goal.overflow_mul-result-2
+overflow_mul-result-2 c = omega (arith, most c.args.z c.requires, from c.args.z c.requires)
+
+pub overflow_add-result : goal.overflow_add-result
+overflow_add-result c = omega (arith, most c.args.z c.requires, from c.args.z c.requires)
+
+pub returns : goal.returns
+unfolding differ_many
+returns c = omega arith

@@ -1,0 +1,2 @@
+// The sheet of cofactors, and the sheet for any gate. Theorems alone: nothing runs.
+#![tactic(auto)]

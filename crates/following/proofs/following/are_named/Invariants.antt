@@ -1,0 +1,13 @@
+use mathlib.Core.Path.{◌≡◌}
+use Prim.Native.Nat.{◌-◌, ◌/◌, ◌≤◌}
+use mathlib.Core.Bool.{true}
+use Rattle.bits.specs.Below.{every}
+use lib.Dec.{ltb}
+use Rattle.clauses.specs.Step.{literal_at}
+use Rattle.following.proofs.following.are_named.Given as goal
+
+abbrev pub invariant-loop-k : goal.invariant-loop-k
+invariant-loop-k l = (l.k ≤ l.many) × (every l.k (λ j. ltb (literal_at l.c l.at j / 2) l.all) ≡ true)
+
+abbrev pub decreases-loop-k : goal.decreases-loop-k
+decreases-loop-k l = l.many - l.k

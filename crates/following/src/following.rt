@@ -1,0 +1,244 @@
+// Whether a step of kind 0 is in order.
+ghost use Rattle.std.specs.Prelude.{◌≡◌, ℕ, ◌+◌, ◌*◌, ◌/◌, ◌<◌, ◌≤◌, List, ltb, length};
+ghost use Rattle.bits.specs.Below.{every};
+ghost use Rattle.tables.specs.Table.{table_length};
+ghost use Rattle.clauses.specs.Variables.{IsSize, variables};
+ghost use Rattle.clauses.specs.Step.{question_in, literals_at, literal_at, hints_at, hint_at, clause_at};
+ghost use Rattle.clauses.specs.Shapes.{HasRows};
+ghost use Rattle.following.specs.Following.{Following, going, denying, hinting, denied, used};
+ghost use Rattle.following.specs.Following.{follows, derived_in_order};
+ghost use Rattle.following.specs.Standing.{LiteralsIn, AllThere, Usable, Trailed, Stands, Kept, Clean, begun_in, Ready};
+
+use crate::open::{Open, open_at};
+use crate::trail::{Trail, forget, make};
+use clauses::numbers::{four_at, two_at};
+use clauses::variables::{Size, all_variables};
+
+// A literal of the step: it is made false, or there is a conflict.
+fn deny(work: &mut [u8], from: usize, set: usize, l: usize) -> Trail
+    requires { (l / 2 < from) × (from + 4 * set + 4 ≤ length work.old) × (l < 4294967296) }
+    ensures { (result.set ≤ set + 1)
+        × ((v : ℕ) (σ : ℕ → ℕ) → v ≤ from → l / 2 < v → Trailed v from σ set work.old
+        → Stands v from work.old (denying l (going σ)) work.new result) }
+{
+    let v = l / 2;
+    let value = work[v] as usize;
+    if value == 1 + l % 2 {
+        return Trail {
+            conflict: true,
+            set: set,
+        };
+    }
+    if value == 2 - l % 2 {
+        return Trail {
+            conflict: false,
+            set: set,
+        };
+    }
+    make(work, from, set, l + 1 - 2 * (l % 2));
+    Trail {
+        conflict: false,
+        set: set + 1,
+    }
+}
+
+// All literals of the step, up to a conflict.
+fn deny_all(c: &[u8], at: usize, many: usize, all: usize, work: &mut [u8]) -> Trail
+    requires { (many ≡ literals_at c.now at) × LiteralsIn all c.now at × Clean all work.old × (all < 67108864)
+        × (all + length c.now + length c.now ≤ length work.old) }
+    ensures { (result.set ≤ many)
+        × Stands all (all + length c.now) work.old (denied (literal_at c.now at) many)
+        work.new result }
+{
+    let from = all + c.len();
+    let mut r = Trail {
+        conflict: false,
+        set: 0,
+    };
+    let mut k: usize = 0;
+    while k < many {
+        if r.conflict {
+            return r;
+        }
+        r = deny(work, from, r.set, four_at(c, at + 3 + 4 * k));
+        k += 1;
+    }
+    r
+}
+
+// One hint: what is left open in its clause is made true, or there is a conflict.
+fn hint<'a>(
+    z: Size,
+    t: &'a [u8],
+    c: &'a [u8],
+    at: usize,
+    work: &mut [u8],
+    from: usize,
+    set: usize,
+) -> Trail
+    requires { IsSize z × HasRows z c.now × (length t.now ≡ table_length z.inputs) × Usable z t.now c.now at
+        × (variables z ≤ from) × (from + 4 * set + 4 ≤ length work.old) }
+    ensures { (result.set ≤ set + 1)
+        × ((σ : ℕ → ℕ) → Trailed (variables z) from σ set work.old
+        → Stands (variables z) from work.old
+        (hinting (clause_at (question_in z t.now c.now) c.now at) (going σ))
+        work.new result) }
+{
+    match open_at(z, t, c, at, work) {
+        Open::Nothing => {
+            return Trail {
+                conflict: true,
+                set: set,
+            };
+        }
+        Open::One(l) => {
+            let v = l / 2;
+            if work[v] == 0 {
+                make(work, from, set, l);
+                return Trail {
+                    conflict: false,
+                    set: set + 1,
+                };
+            }
+            return Trail {
+                conflict: false,
+                set: set,
+            };
+        }
+        Open::Several => {
+            return Trail {
+                conflict: false,
+                set: set,
+            };
+        }
+    }
+}
+
+// All hints of the step, up to a conflict.
+fn hint_all<'a>(
+    z: Size,
+    t: &'a [u8],
+    c: &'a [u8],
+    at: usize,
+    many: usize,
+    work: &mut [u8],
+    from: usize,
+    start: Trail,
+) -> Trail
+    requires { IsSize z × HasRows z c.now × (length t.now ≡ table_length z.inputs) × (variables z ≤ from)
+        × (many ≡ hints_at c.now at) × AllThere c.now at
+        × (from + 4 * start.set + 4 * many ≤ length work.old)
+        × ((k : ℕ) → k < many → Usable z t.now c.now (hint_at c.now at k)) }
+    ensures { (result.set ≤ start.set + many)
+        × ((before : List ℕ) (f : Following) → Stands (variables z) from before f work.old start
+        → Stands (variables z) from before
+        (used (λ k. clause_at (question_in z t.now c.now) c.now (hint_at c.now at k))
+        f many) work.new result) }
+{
+    let first = at + 7 + 4 * two_at(c, at + 1);
+    let mut r = start;
+    let mut k: usize = 0;
+    while k < many {
+        if r.conflict {
+            return r;
+        }
+        r = hint(z, t, c, four_at(c, first + 4 * k), work, from, r.set);
+        k += 1;
+    }
+    r
+}
+
+// Whether it follows; no variable stays set.
+fn does_follow<'a>(z: Size, t: &'a [u8], c: &'a [u8], at: usize, work: &mut [u8]) -> bool
+    requires { IsSize z × HasRows z c.now × (length t.now ≡ table_length z.inputs) × AllThere c.now at
+        × LiteralsIn (variables z) c.now at × Clean (variables z) work.old
+        × (variables z + length c.now + length c.now ≤ length work.old)
+        × ((k : ℕ) → k < hints_at c.now at → Usable z t.now c.now (hint_at c.now at k)) }
+    ensures { (result ≡ follows (question_in z t.now c.now) c.now at)
+        × Clean (variables z) work.new
+        × Kept (variables z) (variables z + length c.now) work.old work.new }
+{
+    let all = all_variables(z);
+    let literals = two_at(c, at + 1);
+    let hints = four_at(c, at + 3 + 4 * literals);
+    let from = all + c.len();
+    let denied = deny_all(c, at, literals, all, work);
+    let r = hint_all(z, t, c, at, hints, work, from, denied);
+    forget(work, from, r.set);
+    r.conflict
+}
+
+// Whether each literal's variable is one of them.
+fn are_named(c: &[u8], at: usize, many: usize, all: usize) -> bool
+    requires { (many ≡ literals_at c.now at) × AllThere c.now at }
+    ensures { result ≡ every many (λ k. ltb (literal_at c.now at k / 2) all) }
+{
+    let mut k: usize = 0;
+    while k < many {
+        if all <= four_at(c, at + 3 + 4 * k) / 2 {
+            return false;
+        }
+        k += 1;
+    }
+    true
+}
+
+// Whether an earlier step begins at a place: that is marked.
+fn is_marked(all: usize, many: usize, work: &[u8], h: usize) -> bool
+    requires { all + many ≤ length work.now }
+    ensures { result ≡ begun_in all many work.now h }
+{
+    if many <= h {
+        return false;
+    }
+    work[all + h] == 1
+}
+
+// Whether each hint is the place at which an earlier step begins.
+fn are_earlier<'a>(
+    c: &'a [u8],
+    at: usize,
+    literals: usize,
+    many: usize,
+    all: usize,
+    work: &'a [u8],
+) -> bool
+    requires { (literals ≡ literals_at c.now at) × (many ≡ hints_at c.now at) × AllThere c.now at
+        × (all + length c.now ≤ length work.now) }
+    ensures { result ≡ every many (λ k. begun_in all (length c.now) work.now (hint_at c.now at k)) }
+{
+    let mut k: usize = 0;
+    while k < many {
+        if !is_marked(
+            all,
+            c.len(),
+            work,
+            four_at(c, at + 7 + 4 * literals + 4 * k),
+        ) {
+            return false;
+        }
+        k += 1;
+    }
+    true
+}
+
+// Whether a step of kind 0, all of which is there, is in order. Marks stay, and no variable stays set.
+pub fn derived_in_order<'a>(z: Size, t: &'a [u8], c: &'a [u8], at: usize, work: &mut [u8]) -> bool
+    requires { IsSize z × HasRows z c.now × (length t.now ≡ table_length z.inputs) × AllThere c.now at
+        × Ready z t.now c.now work.old }
+    ensures { (result ≡ derived_in_order (question_in z t.now c.now) c.now at
+        (begun_in (variables z) (length c.now) work.old))
+        × Clean (variables z) work.new
+        × Kept (variables z) (variables z + length c.now) work.old work.new }
+{
+    let all = all_variables(z);
+    let literals = two_at(c, at + 1);
+    let hints = four_at(c, at + 3 + 4 * literals);
+    if !are_named(c, at, literals, all) {
+        return false;
+    }
+    if !are_earlier(c, at, literals, hints, all, work) {
+        return false;
+    }
+    does_follow(z, t, c, at, work)
+}

@@ -1,0 +1,6 @@
+// Whether a step follows from earlier ones.
+#![tactic(auto)]
+
+pub mod following;
+pub mod open;
+pub mod trail;

@@ -1,0 +1,109 @@
+// A certificate's steps, one after the other.
+ghost use Rattle.std.specs.Prelude.{◌≡◌, false, cond, ◌&&◌, ℕ, ◌+◌, ◌<◌, eqb, length};
+ghost use Rattle.tables.specs.Table.{table_bit, table_length};
+ghost use Rattle.clauses.specs.Variables.{IsSize, variables};
+ghost use Rattle.clauses.specs.Clause.{in_order};
+ghost use Rattle.clauses.specs.Step.{question_in, kind_at, literals_at, given_at};
+ghost use Rattle.clauses.specs.Shapes.{HasRows};
+ghost use Rattle.following.specs.Following.{derived_in_order};
+ghost use Rattle.following.specs.Standing.{Clean, Kept, begun_in, Ready};
+ghost use Rattle.refuting.specs.Steps.{all_steps};
+ghost use Rattle.refuting.specs.Looking.{length_there, AllOf, shown_as};
+
+use clauses::fields::{given_at, length_of};
+use clauses::given::in_order;
+use clauses::numbers::{four_at, two_at};
+use clauses::variables::{Size, all_variables};
+use following::following::derived_in_order;
+use refusals::verdicts::{Refusal, Verdict, refuse_at};
+
+// The length of a step of kind 0; 0 if not all of it is there.
+fn derived_length(c: &[u8], at: usize) -> usize
+    requires { (at < length c.now) × (kind_at c.now at ≡ 0) }
+    ensures { result ≡ length_there c.now at }
+{
+    let left = c.len() - at;
+    if left < 7 {
+        return 0;
+    }
+    let literals = two_at(c, at + 1);
+    if left - 7 < 4 * literals {
+        return 0;
+    }
+    let hints = four_at(c, at + 3 + 4 * literals);
+    if left - 7 - 4 * literals < 4 * hints {
+        return 0;
+    }
+    7 + 4 * literals + 4 * hints
+}
+
+// The length of the step at a place; 0 if there is no such kind, or not all of it is there.
+fn length_there(c: &[u8], at: usize) -> usize
+    requires { at < length c.now }
+    ensures { result ≡ length_there c.now at }
+{
+    let kind = c[at];
+    if kind == 0 {
+        return derived_length(c, at);
+    }
+    let many = length_of(kind);
+    if c.len() - at < many {
+        return 0;
+    }
+    many
+}
+
+// Whether the step at a place, all of which is there, is in order.
+fn is_in_order<'a>(z: Size, t: &'a [u8], c: &'a [u8], at: usize, work: &mut [u8]) -> bool
+    requires { IsSize z × HasRows z c.now × (length t.now ≡ table_length z.inputs) × AllOf c.now at
+        × Ready z t.now c.now work.old }
+    ensures { (result ≡ cond (eqb (kind_at c.now at) 0)
+        (derived_in_order (question_in z t.now c.now) c.now at
+        (begun_in (variables z) (length c.now) work.old))
+        (in_order z (table_bit t.now) (given_at c.now at)))
+        × Clean (variables z) work.new
+        × Kept (variables z) (variables z + length c.now) work.old work.new }
+{
+    if c[at] == 0 {
+        return derived_in_order(z, t, c, at, work);
+    }
+    in_order(z, t, given_at(c, at))
+}
+
+// Whether the step at a place, all of which is there, is an empty clause.
+fn is_empty(c: &[u8], at: usize) -> bool
+    requires { AllOf c.now at }
+    ensures { result ≡ (eqb (kind_at c.now at) 0 && eqb (literals_at c.now at) 0) }
+{
+    if c[at] != 0 {
+        return false;
+    }
+    two_at(c, at + 1) == 0
+}
+
+// All steps: fine if they show it, else where they don't. Where each begins is marked in the work area.
+pub fn look_through<'a>(z: Size, t: &'a [u8], c: &'a [u8], work: &mut [u8]) -> Verdict
+    requires { IsSize z × HasRows z c.now × (length t.now ≡ table_length z.inputs) × Ready z t.now c.now work.old
+        × ((j : ℕ) → begun_in (variables z) (length c.now) work.old j ≡ false) }
+    ensures { result ≡ shown_as (all_steps (question_in z t.now c.now) c.now) }
+{
+    let all = all_variables(z);
+    let mut at = 2 + 2 * z.rows;
+    let mut empty = false;
+    while at < c.len() {
+        let length = length_there(c, at);
+        if length == 0 {
+            return refuse_at(Refusal::SHOWN, at as u64);
+        }
+        if !is_in_order(z, t, c, at, work) {
+            return refuse_at(Refusal::SHOWN, at as u64);
+        }
+        work[all + at] = 1;
+        empty = is_empty(c, at);
+        at += length;
+    }
+    if empty {
+        return Verdict::Fine;
+    }
+    refuse_at(Refusal::SHOWN, c.len() as u64)
+}

@@ -1,0 +1,2 @@
+-- The sheet of cofactors as the code holds it.
+pub mod Standing

@@ -1,0 +1,91 @@
+// The sheet of cofactors: a cell for each cofactor, then level by level the cells that select.
+ghost use Rattle.std.specs.Prelude.{◌≡◌, ◌^◌, ◌<◌, ◌≤◌, length};
+ghost use Rattle.bits.specs.Numbers.{number};
+ghost use Rattle.tables.specs.Table.{most_inputs, table_bit};
+ghost use Rattle.tables.specs.Work.{half};
+ghost use Rattle.sheets.specs.Edition.{largest_cell};
+ghost use Rattle.sheets.specs.Held.{cells_of};
+ghost use Rattle.cofactors.specs.Cofactors.{cofactor_cells};
+ghost use Rattle.cofactors.specs.Chosen.{Near};
+ghost use Rattle.making.specs.Stage.{signals_of, Listed};
+ghost use Rattle.selectors.specs.Standing.{NextWidth, InRoom, OneLevel};
+
+use crate::cofactor::cofactor_cells;
+use crate::select::{cells_each, level};
+use making::signals::Signals;
+use sheets::kinds::Sheet;
+
+// The cells so far; so many signals are left to select, from the place `at` on; they select from those at base,
+// base + step, ..; the next cell gives signal `next`.
+#[derive(Clone, Copy)]
+pub struct Stand {
+    pub sheet: Sheet,
+    pub at: usize,
+    pub left: u32,
+    pub base: u8,
+    pub step: u8,
+    pub next: u8,
+}
+
+// How many signals select on the next level.
+fn width(k: u32, left: u32) -> u32
+    requires { (1 ≤ left) × (left ≤ 3) }
+    ensures { NextWidth k left result }
+{
+    if k < 6 {
+        return 1;
+    }
+    if left < 2 {
+        return 1;
+    }
+    2
+}
+
+// One level more.
+fn one_level(k: u32, l: Signals, s: Stand) -> Stand
+    requires { (2 ≤ k) × Listed l × InRoom k l s × (1 ≤ s.left) }
+    ensures { OneLevel k l s result }
+{
+    let left = s.left;
+    let w = width(k, left);
+    let many: u8 = 1 << (left - w);
+    let each = cells_each(k);
+    let held = s.sheet;
+    let next = s.next;
+    let at = s.at;
+    Stand {
+        sheet: level(held, k, w, next, l, at, s.base, s.step, many),
+        at: at + w as usize,
+        left: left - w,
+        base: next + each - 1,
+        step: each,
+        next: next + each * many,
+    }
+}
+
+// The sheet of cofactors of the table at hand over the signals l of a gate of n inputs.
+pub fn cofactor_sheet(t: &[u8], n: u32, l: Signals, k: u32) -> Sheet
+    requires { (n ≤ most_inputs) × (2 ≤ k) × (k ≤ largest_cell) × Listed l × Near k l.count × (length t.now ≡ half) }
+    ensures { cells_of result ≡ cofactor_cells k n (signals_of l) (number (2 ^ l.count) (table_bit t.now)) }
+{
+    let at = k as usize;
+    let left = l.count as u32 - k;
+    let many: u32 = 1 << left;
+    let places = l.at;
+    let read = Signals {
+        at: places,
+        count: at,
+    };
+    let mut stand = Stand {
+        sheet: cofactor_cells(t, k, read, many),
+        at: at,
+        left: left,
+        base: n as u8,
+        step: 1,
+        next: (n + many) as u8,
+    };
+    while 0 < stand.left {
+        stand = one_level(k, l, stand);
+    }
+    stand.sheet
+}

@@ -1,0 +1,2 @@
+-- What the variables of a certificate mean in a network.
+pub mod Meaning
