@@ -2,7 +2,7 @@
 -- the numbers. Assumes nothing.
 use mathlib.Core.Path.{◌≡◌, ap, ap₂, ◌∙◌}
 use mathlib.Core.Bool.{Bool, true, cond, not}
-use mathlib.Core.List.{List, ◌∷◌, map}
+use mathlib.Core.List.{List, [], ◌∷◌, map}
 use Prim.Native.Nat.{ℕ, ◌+◌, ◌-◌, ◌*◌, ◌/◌, ◌%◌, ◌<◌}
 use native.Mathlib.Nat.{mul-add-div_right, mul-add-mod_self_right, div-eq_of_lt, mod-eq_of_lt}
 use native.Mathlib.Nat.{mul-le-mul_right, suc-mul}
@@ -128,6 +128,7 @@ module _ (z : Size) where
         ap₂ (λ (r d : ℕ). flipped (eqb r 1) (numbered d)) a b ∙ ap (λ (x : Variable). not (h x)) (variable_back x e)
 
     pub one-says : (ls : List Literal) → OneTrue z h ls → some_true numbered (map (literal_of z) ls) ≡ true
+    one-says [] t = elim t [ ]
     one-says (l ∷ ls) (here e t) =
         or_left (says numbered (literal_of z l)) (some_true numbered (map (literal_of z) ls)) (says_is l e ∙ t)
     one-says (l ∷ ls) (next t) =

@@ -23,6 +23,7 @@ module _ (z : Size) (h : Variable → Bool) where
     next : {l : Literal} {ls : List Literal} → OneTrue ls → OneTrue (l ∷ ls)
 
   pub true_left : (ls ks : List Literal) → OneTrue ls → OneTrue (ls ++ ks)
+  true_left [] ks t = elim t [ ]
   true_left (l ∷ ls) ks (here a b) = here a b
   true_left (l ∷ ls) ks (next t) = next (true_left ls ks t)
 
