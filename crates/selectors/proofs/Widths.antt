@@ -15,15 +15,15 @@ use Rattle.selectors.specs.Standing.{NextWidth}
 by_twos_lem : (k s : ℕ) → 6 ≤ k → widths k s ≡ by_twos s
 by_twos_lem k s h = ap (λ (t : Bool). cond t (by_twos s) (by_ones s)) (le-leb 6 k h)
 
-by_ones : (k s : ℕ) → k < 6 → widths k s ≡ by_ones s
-by_ones k s h = ap (λ (t : Bool). cond t (by_twos s) (by_ones s)) (lt-leb 6 k h)
+by_ones_lem : (k s : ℕ) → k < 6 → widths k s ≡ by_ones s
+by_ones_lem k s h = ap (λ (t : Bool). cond t (by_twos s) (by_ones s)) (lt-leb 6 k h)
 
 pub ones-next : (k s : ℕ) → k < 6 → 1 ≤ s → NextWidth k s 1
 ones-next k zero h g = absurd (omega arith)
 ones-next k (suc s) h g =
     let e : suc s - 1 ≡ s = omega arith in
     record {
-      widths = by_ones k (suc s) h ∙ ap (λ (l : List ℕ). 1 ∷ l) (sym (ap (widths k) e ∙ by_ones k s h));
+      widths = by_ones_lem k (suc s) h ∙ ap (λ (l : List ℕ). 1 ∷ l) (sym (ap (widths k) e ∙ by_ones_lem k s h));
       fits = inl refl;
       within = omega arith;
     }

@@ -1,2 +1,3 @@
 -- The sheet of cofactors as the code holds it.
+pub mod Stage
 pub mod Standing

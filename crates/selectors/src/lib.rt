@@ -6,3 +6,4 @@ mod cofactor;
 mod levels;
 mod select;
 pub mod several;
+mod signals;

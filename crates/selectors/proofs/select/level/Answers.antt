@@ -9,11 +9,9 @@ use lib.Dec.{leb}
 use Rattle.sheets.specs.Network.{Cell}
 use Rattle.sheets.specs.Held.{cells_of}
 use Rattle.cofactors.specs.Cofactors.{selecting, cells_each, join_of}
-use Rattle.making.specs.Stage.{signals_of}
+use Rattle.selectors.specs.Stage.{signals_of}
 use Rattle.selectors.specs.Standing.{spaced, from}
 use Rattle.selectors.proofs.Widths.{few_width}
-use Rattle.selectors.proofs.select.level.Reads as reads
-use Rattle.selectors.proofs.select.level.Lts as lts
 use Rattle.selectors.proofs.select.level.Invariants.{group_of}
 use Rattle.selectors.proofs.select.level.Lts as lts
 use Rattle.selectors.proofs.select.level.Reads as reads
@@ -88,7 +86,7 @@ loop-g-preserved c =
       c.select-sheet.ensures.0
           ∙ ap₂ (λ (l m : List Cell). l ++ m) i.0
           (ap₂ (λ (n x : ℕ). selecting (leb 3 a.k) a.w (a.next + n) (from (signals_of a.l) a.at)
-          (λ c. spaced a.base a.step (x + c.before))) (product c.before) (shifted c.before))
+          (λ t. spaced a.base a.step (x + t))) (product c.before) (shifted c.before))
           ∙ append_assoc (cells_of a.held) (join_of (q c.before) h) (h (q c.before))
           ∙ ap (λ (l : List Cell). cells_of a.held ++ l) (sym (join_more (q c.before) h)),
       omega (arith, c.select-sheet.ensures.1, i.1, mul-suc (p c.before) (q c.before), ap (λ (m : ℕ). p c.before * m) (add-one (q c.before))),

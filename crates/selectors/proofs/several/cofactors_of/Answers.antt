@@ -10,12 +10,10 @@ use Rattle.tables.proofs.Keeping.{kept-lt}
 use Rattle.tables.proofs.Work.{half-holds}
 use Rattle.chains.specs.Chain.{pick, inputs}
 use Rattle.cofactors.specs.Chosen.{Near}
-use Rattle.making.specs.Stage.{signals_of}
+use Rattle.selectors.specs.declared.signals.Signals.{Signals}
+use Rattle.selectors.specs.Stage.{signals_of}
 use Rattle.making.proofs.Halves.{half_whole}
 use Rattle.selectors.proofs.Choosing.{count, kept_cells}
-use Rattle.selectors.proofs.several.cofactors_of.Lts as lts
-use Rattle.selectors.proofs.several.cofactors_of.Reads as reads
-use Rattle.selectors.proofs.several.cofactors_of.Tie as tie
 use Rattle.selectors.proofs.several.cofactors_of.Goals as goal
 
 pub set_aside-requires : goal.set_aside-requires
@@ -27,43 +25,36 @@ set_aside-requires c =
       omega (arith, c.requires.le_n.4, c.requires.le_n.5, half-holds a.n c.requires.le_n.1),
     )
 
--- the signals are those that are kept, and the work area is as long as before
-module _ (c : lts.After-pick tie.the-claims reads.Pre reads.Post) where
-  abbrev s : lts.After-set_aside tie.the-claims reads.Pre reads.Post
-  s = c.before.before.before.before
-
-  abbrev g : lts.Start tie.the-claims reads.Pre reads.Post
-  g = s.before.before.before.before
-
-  picked : signals_of c.pick-signals.result ≡ pick g.args.n (bit g.args.mask) (inputs g.args.n)
-  picked = let e = c.inputs.ensures in
-      c.pick-signals.ensures.1 ∙ ap₂ (λ (k : ℕ) (l : List ℕ). pick k (bit g.args.mask) l) e.2 e.1
-
-  long : 16384 ≤ length s.set_aside.last.1.1.1.0
-  long = omega (arith, s.set_aside.kept.1.1.1.0, g.requires.le_n.5)
+-- the signals are those that are kept
+picked : (n m : ℕ) (s r : Signals) → signals_of r ≡ pick s.count (bit m) (signals_of s) → signals_of s ≡ inputs n
+    → s.count ≡ n → signals_of r ≡ pick n (bit m) (inputs n)
+picked n m s r e f g = e ∙ ap₂ (λ (k : ℕ) (l : List ℕ). pick k (bit m) l) g f
 
 pub slice_bounds-cofactor_sheet-end-2 : goal.slice_bounds-cofactor_sheet-end-2
 slice_bounds-cofactor_sheet-end-2 c =
-    sym (half_whole (s c.before.before).set_aside.last.1.1.1.0 (long c.before.before))
+    sym (half_whole c.set_aside.new.room (omega (arith, c.set_aside.auto.room, c.requires.le_n.5)))
 
 pub cofactor_sheet-sheet-requires : goal.cofactor_sheet-sheet-requires
 cofactor_sheet-sheet-requires c =
-    let a = (g c.before.before).args in
-    let h = (g c.before.before).requires.le_n in (
+    let a = c.args in
+    let h = c.requires.le_n in
+    let r = c.pick-signals.result in
+    let signals = picked a.n a.mask c.inputs.result r c.pick-signals.ensures.1 c.inputs.ensures.1 c.inputs.ensures.2 in (
       h.1,
       h.2,
       h.3,
       c.pick-signals.ensures.0,
-      subst (Near a.k) (sym (count a.n a.k (table_bit a.t.now) a.mask c.pick-signals.result (picked c.before.before)))
-          (g c.before.before).requires.mask_value.1,
-      half_whole (s c.before.before).set_aside.new.room (long c.before.before),
+      subst (Near a.k) (sym (count a.n a.k (table_bit a.t.now) a.mask r signals)) c.requires.mask_value.1,
+      half_whole c.set_aside.new.room (omega (arith, c.set_aside.auto.room, h.5)),
     )
 
 pub returns : goal.returns
 returns c =
-    let a = (g c.before.before.before.before.before.before.before).args in
-    let w = (s c.before.before.before.before.before.before.before).set_aside.new.room in (
-      c.cofactor_sheet-sheet.ensures ∙ kept_cells a.n a.k (table_bit a.t.now) a.mask c.pick-signals.result (picked c.before.before.before.before.before.before.before)
-          w (g c.before.before.before.before.before.before.before).requires.le_n.1 (s c.before.before.before.before.before.before.before).set_aside.ensures,
-      c.clear.ensures ∙ ap (λ (m : ℕ). replicate m 0) (s c.before.before.before.before.before.before.before).set_aside.auto.1.1.1.0,
+    let a = c.args in
+    let r = c.pick-signals.result in
+    let signals = picked a.n a.mask c.inputs.result r c.pick-signals.ensures.1 c.inputs.ensures.1 c.inputs.ensures.2 in (
+      c.cofactor_sheet-sheet.ensures
+          ∙ kept_cells a.n a.k (table_bit a.t.now) a.mask r signals c.set_aside.new.room c.requires.le_n.1
+          c.set_aside.ensures,
+      c.clear.ensures ∙ ap (λ (m : ℕ). replicate m 0) c.set_aside.auto.room,
     )
