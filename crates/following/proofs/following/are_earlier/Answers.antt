@@ -6,7 +6,6 @@ use mathlib.Core.Bool.{true}
 use Rattle.bits.specs.Below.{every}
 use Rattle.bits.proofs.Below.{every_more, every_stop}
 use lib.ListN.{length}
-use borrow.Author.Tests.{not-true, not-false}
 use Rattle.clauses.specs.Step.{four, hint_at}
 use Rattle.following.specs.Standing.{begun_in}
 use Rattle.following.proofs.following.are_earlier.Goals as goal
@@ -37,7 +36,7 @@ is_marked-requires c = c.requires.3
 
 pub returns-then-not-is_marked : goal.returns-then-not-is_marked
 returns-then-not-is_marked c =
-    sym (every_stop c.args.many (λ k. begun_in c.args.all (length c.args.c.now) c.args.work.now (hint_at c.args.c.now c.args.at k)) c.loop-k.k (omega arith) (sym (ap (begun_in c.args.all (length c.args.c.now) c.args.work.now) (let z : c.four_at.result ≡ hint_at c.args.c.now c.args.at c.loop-k.k = c.four_at.ensures.0 ∙ ap (λ (i : ℕ). four c.args.c.now (c.args.at + 7 + 4 * i + 4 * c.loop-k.k)) c.requires.0 in z)) ∙ sym c.is_marked.ensures ∙ not-true _ c.if-not-is_marked.true))
+    sym (every_stop c.args.many (λ k. begun_in c.args.all (length c.args.c.now) c.args.work.now (hint_at c.args.c.now c.args.at k)) c.loop-k.k (omega arith) (sym (ap (begun_in c.args.all (length c.args.c.now) c.args.work.now) (let z : c.four_at.result ≡ hint_at c.args.c.now c.args.at c.loop-k.k = c.four_at.ensures.0 ∙ ap (λ (i : ℕ). four c.args.c.now (c.args.at + 7 + 4 * i + 4 * c.loop-k.k)) c.requires.0 in z)) ∙ sym c.is_marked.ensures ∙ c.if-not-is_marked.true))
 
 pub overflow_add-k : goal.overflow_add-k
 overflow_add-k c = omega arith
@@ -47,7 +46,7 @@ loop-k-smaller c = omega arith
 
 pub loop-k-preserved : goal.loop-k-preserved
 loop-k-preserved c =
-    (omega arith, every_more c.loop-k.k (λ k. begun_in c.args.all (length c.args.c.now) c.args.work.now (hint_at c.args.c.now c.args.at k)) c.loop-k.invariant.1 (sym (ap (begun_in c.args.all (length c.args.c.now) c.args.work.now) (let z : c.four_at.result ≡ hint_at c.args.c.now c.args.at c.loop-k.k = c.four_at.ensures.0 ∙ ap (λ (i : ℕ). four c.args.c.now (c.args.at + 7 + 4 * i + 4 * c.loop-k.k)) c.requires.0 in z)) ∙ sym c.is_marked.ensures ∙ not-false _ c.if-not-is_marked.false))
+    (omega arith, every_more c.loop-k.k (λ k. begun_in c.args.all (length c.args.c.now) c.args.work.now (hint_at c.args.c.now c.args.at k)) c.loop-k.invariant.1 (sym (ap (begun_in c.args.all (length c.args.c.now) c.args.work.now) (let z : c.four_at.result ≡ hint_at c.args.c.now c.args.at c.loop-k.k = c.four_at.ensures.0 ∙ ap (λ (i : ℕ). four c.args.c.now (c.args.at + 7 + 4 * i + 4 * c.loop-k.k)) c.requires.0 in z)) ∙ sym c.is_marked.ensures ∙ c.if-not-is_marked.false))
 
 pub returns : goal.returns
 returns c =

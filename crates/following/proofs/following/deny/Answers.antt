@@ -40,7 +40,7 @@ pub overflow_add-result : goal.overflow_add-result
 overflow_add-result c = omega (arith, c.requires.1)
 
 pub shape_of-work : goal.shape_of-work
-shape_of-work c = c.make.auto.0
+shape_of-work c = c.make.auto.work
 
 pub returns : goal.returns
 returns c =

@@ -2,7 +2,6 @@
 use native.Mathlib.Omega.{arith}
 use Prim.Native.Nat.{◌+◌}
 use lib.ListN.{length}
-use borrow.Author.Tests.{not-true, not-false}
 use Rattle.clauses.specs.Variables.{variables}
 use Rattle.following.proofs.Going.{kept_same}
 use Rattle.following.proofs.Deriving.{hints_are, not_named, not_earlier, by_following, literals_in_lem, all_usable}
@@ -31,7 +30,7 @@ are_named-requires c = (c.two_at-literals.ensures.0, c.requires.3)
 
 pub returns-then-not-are_named : goal.returns-then-not-are_named
 returns-then-not-are_named c =
-    (not_named c.args.z c.args.t.now c.args.c.now c.args.at c.two_at-literals.result c.four_at-hints.result c.all_variables-all.result c.all_variables-all.ensures.0 c.two_at-literals.ensures.0 c.four_at-hints.ensures.0 c.args.work.now c.requires.4 c.requires.3 c.are_named.ensures (not-true _ c.if-not-are_named.true), c.requires.4.clean, kept_same (variables c.args.z) (variables c.args.z + length c.args.c.now) c.args.work.now)
+    (not_named c.args.z c.args.t.now c.args.c.now c.args.at c.two_at-literals.result c.four_at-hints.result c.all_variables-all.result c.all_variables-all.ensures.0 c.two_at-literals.ensures.0 c.four_at-hints.ensures.0 c.args.work.now c.requires.4 c.requires.3 c.are_named.ensures c.if-not-are_named.true, c.requires.4.clean, kept_same (variables c.args.z) (variables c.args.z + length c.args.c.now) c.args.work.now)
 
 pub are_earlier-requires : goal.are_earlier-requires
 are_earlier-requires c =
@@ -39,15 +38,15 @@ are_earlier-requires c =
 
 pub returns-then-not-are_earlier : goal.returns-then-not-are_earlier
 returns-then-not-are_earlier c =
-    (not_earlier c.args.z c.args.t.now c.args.c.now c.args.at c.two_at-literals.result c.four_at-hints.result c.all_variables-all.result c.all_variables-all.ensures.0 c.two_at-literals.ensures.0 c.four_at-hints.ensures.0 c.args.work.now c.requires.4 c.requires.3 c.are_named.ensures (not-false _ c.if-not-are_named.false) c.are_earlier.ensures (not-true _ c.if-not-are_earlier.true), c.requires.4.clean, kept_same (variables c.args.z) (variables c.args.z + length c.args.c.now) c.args.work.now)
+    (not_earlier c.args.z c.args.t.now c.args.c.now c.args.at c.two_at-literals.result c.four_at-hints.result c.all_variables-all.result c.all_variables-all.ensures.0 c.two_at-literals.ensures.0 c.four_at-hints.ensures.0 c.args.work.now c.requires.4 c.requires.3 c.are_named.ensures c.if-not-are_named.false c.are_earlier.ensures c.if-not-are_earlier.true, c.requires.4.clean, kept_same (variables c.args.z) (variables c.args.z + length c.args.c.now) c.args.work.now)
 
 pub does_follow-requires : goal.does_follow-requires
 does_follow-requires c =
-    (c.requires.0, c.requires.1, c.requires.2, c.requires.3, literals_in_lem c.args.z c.args.t.now c.args.c.now c.args.at c.two_at-literals.result c.four_at-hints.result c.all_variables-all.result c.all_variables-all.ensures.0 c.two_at-literals.ensures.0 c.four_at-hints.ensures.0 c.args.work.now c.requires.4 c.requires.3 c.are_named.ensures (not-false _ c.if-not-are_named.false), c.requires.4.clean, c.requires.4.room, all_usable c.args.z c.args.t.now c.args.c.now c.args.at c.two_at-literals.result c.four_at-hints.result c.all_variables-all.result c.all_variables-all.ensures.0 c.two_at-literals.ensures.0 c.four_at-hints.ensures.0 c.args.work.now c.requires.4 c.requires.3 c.are_earlier.ensures (not-false _ c.if-not-are_earlier.false))
+    (c.requires.0, c.requires.1, c.requires.2, c.requires.3, literals_in_lem c.args.z c.args.t.now c.args.c.now c.args.at c.two_at-literals.result c.four_at-hints.result c.all_variables-all.result c.all_variables-all.ensures.0 c.two_at-literals.ensures.0 c.four_at-hints.ensures.0 c.args.work.now c.requires.4 c.requires.3 c.are_named.ensures c.if-not-are_named.false, c.requires.4.clean, c.requires.4.room, all_usable c.args.z c.args.t.now c.args.c.now c.args.at c.two_at-literals.result c.four_at-hints.result c.all_variables-all.result c.all_variables-all.ensures.0 c.two_at-literals.ensures.0 c.four_at-hints.ensures.0 c.args.work.now c.requires.4 c.requires.3 c.are_earlier.ensures c.if-not-are_earlier.false)
 
 pub shape_of-work : goal.shape_of-work
-shape_of-work c = c.does_follow.auto.1.1.1.1.0
+shape_of-work c = c.does_follow.auto.work
 
 pub returns : goal.returns
 returns c =
-    (by_following c.args.z c.args.t.now c.args.c.now c.args.at c.two_at-literals.result c.four_at-hints.result c.all_variables-all.result c.all_variables-all.ensures.0 c.two_at-literals.ensures.0 c.four_at-hints.ensures.0 c.args.work.now c.requires.4 c.requires.3 c.are_named.ensures (not-false _ c.if-not-are_named.false) c.are_earlier.ensures (not-false _ c.if-not-are_earlier.false) c.does_follow.ensures.0, c.does_follow.ensures.1, c.does_follow.ensures.2)
+    (by_following c.args.z c.args.t.now c.args.c.now c.args.at c.two_at-literals.result c.four_at-hints.result c.all_variables-all.result c.all_variables-all.ensures.0 c.two_at-literals.ensures.0 c.four_at-hints.ensures.0 c.args.work.now c.requires.4 c.requires.3 c.are_named.ensures c.if-not-are_named.false c.are_earlier.ensures c.if-not-are_earlier.false c.does_follow.ensures.0, c.does_follow.ensures.1, c.does_follow.ensures.2)

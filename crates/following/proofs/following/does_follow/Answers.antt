@@ -33,14 +33,14 @@ deny_all-denied-requires c =
 
 pub hint_all-r-requires : goal.hint_all-r-requires
 hint_all-r-requires c =
-    (c.requires.0, c.requires.1, c.requires.2, omega (arith, c.all_variables-all.ensures.0), hints_are c.args.z c.args.t.now c.args.c.now c.args.at c.two_at-literals.result c.four_at-hints.result c.all_variables-all.result c.all_variables-all.ensures.0 c.two_at-literals.ensures.0 c.four_at-hints.ensures.0, c.requires.3, omega (arith, c.all_variables-all.ensures.0, c.requires.3, c.requires.6, c.deny_all-denied.ensures.0, c.deny_all-denied.auto.1.1.1.1.0, c.two_at-literals.ensures.0, hints_are c.args.z c.args.t.now c.args.c.now c.args.at c.two_at-literals.result c.four_at-hints.result c.all_variables-all.result c.all_variables-all.ensures.0 c.two_at-literals.ensures.0 c.four_at-hints.ensures.0), λ k l. c.requires.7 k (omega (arith, hints_are c.args.z c.args.t.now c.args.c.now c.args.at c.two_at-literals.result c.four_at-hints.result c.all_variables-all.result c.all_variables-all.ensures.0 c.two_at-literals.ensures.0 c.four_at-hints.ensures.0)))
+    (c.requires.0, c.requires.1, c.requires.2, omega (arith, c.all_variables-all.ensures.0), hints_are c.args.z c.args.t.now c.args.c.now c.args.at c.two_at-literals.result c.four_at-hints.result c.all_variables-all.result c.all_variables-all.ensures.0 c.two_at-literals.ensures.0 c.four_at-hints.ensures.0, c.requires.3, omega (arith, c.all_variables-all.ensures.0, c.requires.3, c.requires.6, c.deny_all-denied.ensures.0, c.deny_all-denied.auto.work, c.two_at-literals.ensures.0, hints_are c.args.z c.args.t.now c.args.c.now c.args.at c.two_at-literals.result c.four_at-hints.result c.all_variables-all.result c.all_variables-all.ensures.0 c.two_at-literals.ensures.0 c.four_at-hints.ensures.0), λ k l. c.requires.7 k (omega (arith, hints_are c.args.z c.args.t.now c.args.c.now c.args.at c.two_at-literals.result c.four_at-hints.result c.all_variables-all.result c.all_variables-all.ensures.0 c.two_at-literals.ensures.0 c.four_at-hints.ensures.0)))
 
 pub forget-requires : goal.forget-requires
 forget-requires c =
-    (omega (arith, c.all_variables-all.ensures.0, c.requires.3, c.requires.6, c.deny_all-denied.ensures.0, c.hint_all-r.ensures.0, c.deny_all-denied.auto.1.1.1.1.0, c.hint_all-r.auto.1.1.1.1.1.0, c.two_at-literals.ensures.0, hints_are c.args.z c.args.t.now c.args.c.now c.args.at c.two_at-literals.result c.four_at-hints.result c.all_variables-all.result c.all_variables-all.ensures.0 c.two_at-literals.ensures.0 c.four_at-hints.ensures.0), in_front c.args.z c.args.t.now c.args.c.now c.args.at c.two_at-literals.result c.four_at-hints.result c.all_variables-all.result c.all_variables-all.ensures.0 c.two_at-literals.ensures.0 c.four_at-hints.ensures.0 (both_go c.args.z c.args.t.now c.args.c.now c.args.at c.two_at-literals.result c.four_at-hints.result c.all_variables-all.result c.all_variables-all.ensures.0 c.two_at-literals.ensures.0 c.four_at-hints.ensures.0 c.deny_all-denied.ensures.1 c.hint_all-r.ensures.1))
+    (omega (arith, c.all_variables-all.ensures.0, c.requires.3, c.requires.6, c.deny_all-denied.ensures.0, c.hint_all-r.ensures.0, c.deny_all-denied.auto.work, c.hint_all-r.auto.work, c.two_at-literals.ensures.0, hints_are c.args.z c.args.t.now c.args.c.now c.args.at c.two_at-literals.result c.four_at-hints.result c.all_variables-all.result c.all_variables-all.ensures.0 c.two_at-literals.ensures.0 c.four_at-hints.ensures.0), in_front c.args.z c.args.t.now c.args.c.now c.args.at c.two_at-literals.result c.four_at-hints.result c.all_variables-all.result c.all_variables-all.ensures.0 c.two_at-literals.ensures.0 c.four_at-hints.ensures.0 (both_go c.args.z c.args.t.now c.args.c.now c.args.at c.two_at-literals.result c.four_at-hints.result c.all_variables-all.result c.all_variables-all.ensures.0 c.two_at-literals.ensures.0 c.four_at-hints.ensures.0 c.deny_all-denied.ensures.1 c.hint_all-r.ensures.1))
 
 pub shape_of-work : goal.shape_of-work
-shape_of-work c = c.forget.auto.0 ∙ c.hint_all-r.auto.1.1.1.1.1.0 ∙ c.deny_all-denied.auto.1.1.1.1.0
+shape_of-work c = c.forget.auto.work ∙ c.hint_all-r.auto.work ∙ c.deny_all-denied.auto.work
 
 pub returns : goal.returns
 returns c =

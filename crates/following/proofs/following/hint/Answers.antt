@@ -1,5 +1,5 @@
 -- `hint` meets its contract: by what is open in the clause. Assumes nothing.
-use mathlib.Core.Path.{sym, ◌∙◌}
+use mathlib.Core.Path.{◌≡◌, sym, ◌∙◌}
 use native.Mathlib.Omega.{arith}
 use Prim.Native.Nat.{ℕ}
 use Rattle.bits.specs.Lists.{byte_at}
@@ -31,7 +31,7 @@ pub overflow_add-result : goal.overflow_add-result
 overflow_add-result c = omega (arith, c.requires.5)
 
 pub shape_of-work-then-work-v-eq0 : goal.shape_of-work-then-work-v-eq0
-shape_of-work-then-work-v-eq0 c = c.make.auto.0
+shape_of-work-then-work-v-eq0 c = c.make.auto.work
 
 pub returns-then-work-v-eq0 : goal.returns-then-work-v-eq0
 returns-then-work-v-eq0 c =

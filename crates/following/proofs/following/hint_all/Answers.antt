@@ -56,7 +56,7 @@ loop-k-smaller c = omega arith
 
 pub loop-k-preserved : goal.loop-k-preserved
 loop-k-preserved c =
-    (omega arith, omega (arith, c.hint-r.ensures.0, c.loop-k.invariant.1), c.hint-r.auto.1.1.1.1.0 ∙ c.loop-k.invariant.2, λ before f s. let w = c.loop-k.invariant.3 before f s in used_step (λ k. clause_at (question_in c.args.z c.args.t.now c.args.c.now) c.args.c.now (hint_at c.args.c.now c.args.at k)) f c.loop-k.k w c.if-r.false (ap (clause_at (question_in c.args.z c.args.t.now c.args.c.now) c.args.c.now) (let z : c.four_at.result ≡ hint_at c.args.c.now c.args.at c.loop-k.k = c.four_at.ensures.0 ∙ ap (λ (i : ℕ). four c.args.c.now (c.args.at + 7 + 4 * i + 4 * c.loop-k.k)) c.two_at.ensures.0 in z)) (c.hint-r.ensures.1 w.values w.trailed))
+    (omega arith, omega (arith, c.hint-r.ensures.0, c.loop-k.invariant.1), c.hint-r.auto.work ∙ c.loop-k.invariant.2, λ before f s. let w = c.loop-k.invariant.3 before f s in used_step (λ k. clause_at (question_in c.args.z c.args.t.now c.args.c.now) c.args.c.now (hint_at c.args.c.now c.args.at k)) f c.loop-k.k w c.if-r.false (ap (clause_at (question_in c.args.z c.args.t.now c.args.c.now) c.args.c.now) (let z : c.four_at.result ≡ hint_at c.args.c.now c.args.at c.loop-k.k = c.four_at.ensures.0 ∙ ap (λ (i : ℕ). four c.args.c.now (c.args.at + 7 + 4 * i + 4 * c.loop-k.k)) c.two_at.ensures.0 in z)) (c.hint-r.ensures.1 w.values w.trailed))
 
 pub shape_of-work : goal.shape_of-work
 shape_of-work c = c.loop-k.invariant.2

@@ -22,11 +22,11 @@ pub overflow_cast-work : goal.overflow_cast-work
 overflow_cast-work c = omega arith
 
 pub bounds-work-v : goal.bounds-work-v
-bounds-work-v c = omega (arith, c.put_four.auto.0, c.requires)
+bounds-work-v c = omega (arith, c.put_four.auto.area, c.requires)
 
 pub shape_of-work : goal.shape_of-work
 shape_of-work c =
-    length-set c.put_four.new.area (c.args.l / 2) (1 + c.args.l % 2) ∙ c.put_four.auto.0
+    length-set c.put_four.new.area (c.args.l / 2) (1 + c.args.l % 2) ∙ c.put_four.auto.area
 
 pub returns : goal.returns
 returns c =
