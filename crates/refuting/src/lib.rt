@@ -2,5 +2,6 @@
 #![tactic(auto)]
 
 mod header;
+mod numbers;
 mod steps;
 pub mod too_few;

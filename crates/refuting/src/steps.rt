@@ -10,12 +10,13 @@ ghost use Rattle.following.specs.Standing.{Clean, Kept, begun_in, Ready};
 ghost use Rattle.refuting.specs.Steps.{all_steps};
 ghost use Rattle.refuting.specs.Looking.{length_there, AllOf, shown_as};
 
+use crate::numbers::SHOWN;
 use clauses::fields::{given_at, length_of};
 use clauses::given::in_order;
 use clauses::numbers::{four_at, two_at};
 use clauses::variables::{Size, all_variables};
 use following::following::derived_in_order;
-use refusals::verdicts::{Refusal, Verdict, refuse_at};
+use refusals::verdicts::{Verdict, refuse_at};
 
 // The length of a step of kind 0; 0 if not all of it is there.
 fn derived_length(c: &[u8], at: usize) -> usize
@@ -93,10 +94,10 @@ pub fn look_through<'a>(z: Size, t: &'a [u8], c: &'a [u8], work: &mut [u8]) -> V
     while at < c.len() {
         let length = length_there(c, at);
         if length == 0 {
-            return refuse_at(Refusal::SHOWN, at as u64);
+            return refuse_at(SHOWN, at as u64);
         }
         if !is_in_order(z, t, c, at, work) {
-            return refuse_at(Refusal::SHOWN, at as u64);
+            return refuse_at(SHOWN, at as u64);
         }
         work[all + at] = 1;
         empty = is_empty(c, at);
@@ -105,5 +106,5 @@ pub fn look_through<'a>(z: Size, t: &'a [u8], c: &'a [u8], work: &mut [u8]) -> V
     if empty {
         return Verdict::Fine;
     }
-    refuse_at(Refusal::SHOWN, c.len() as u64)
+    refuse_at(SHOWN, c.len() as u64)
 }

@@ -6,6 +6,7 @@ ghost use Rattle.refusals.specs.Lines.{verdict};
 ghost use Rattle.refuting.specs.TooFew.{few_form, certificate_lines, few_in, few_after, too_few_outcome};
 
 use crate::header::header_in_order;
+use crate::numbers::{CELLS, SHOWN};
 use crate::steps::look_through;
 use clauses::numbers::two_at;
 use clauses::variables::{Size, all_variables};
@@ -23,7 +24,7 @@ fn few_form(e: Edition, n: u64, k: u64, m: u64, t: &[u8]) -> Verdict
         return gate;
     };
     if form::outside(1, m, Sheet::RECORDS as u64) {
-        return refuse(Refusal::CELLS);
+        return refuse(CELLS);
     }
     Verdict::Fine
 }
@@ -46,7 +47,7 @@ fn look_at<'a>(n: u64, k: u64, m: u64, t: &'a [u8], c: &'a [u8], work: &mut [u8]
 {
     if !header_in_order(n as u32, c) {
         clear(work);
-        return refuse_at(Refusal::SHOWN, 0);
+        return refuse_at(SHOWN, 0);
     }
     let z = Size {
         inputs: n as usize,

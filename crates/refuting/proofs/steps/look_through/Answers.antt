@@ -4,7 +4,6 @@ use Prim.Native.Nat.{ℕ, ◌+◌, ◌*◌}
 use native.Mathlib.Omega.{arith}
 use mathlib.Core.Bool.{Bool, true, false, cond}
 use lib.ListN.{length, set, length-set}
-use borrow.Author.Tests.{not-true, not-false}
 use Rattle.clauses.specs.Variables.{variables}
 use Rattle.clauses.specs.Step.{rows_in, question_in, step_length}
 use Rattle.following.specs.Standing.{begun_in, Ready}
@@ -40,11 +39,11 @@ is_in_order-requires c =
     (c.requires.0, c.requires.1, c.requires.2, all_of c.args.c.now c.loop-at.at (there_by c.args.c.now c.loop-at.at c.length_there-length.ensures c.if-length-eq0.false), c.loop-at.invariant.0)
 
 pub shape_of-work-then-not-is_in_order : goal.shape_of-work-then-not-is_in_order
-shape_of-work-then-not-is_in_order c = c.is_in_order.auto.1.1.1.1.0 ∙ c.loop-at.invariant.1
+shape_of-work-then-not-is_in_order c = c.is_in_order.auto.work ∙ c.loop-at.invariant.1
 
 pub returns-then-not-is_in_order : goal.returns-then-not-is_in_order
 returns-then-not-is_in_order c =
-    c.refuse_at-then-not-is_in_order.ensures ∙ ap shown_as (from-bad (question_in c.args.z c.args.t.now c.args.c.now) c.args.c.now c.loop-at.at (begun_in (variables c.args.z) (length c.args.c.now) c.loop-at.work) c.loop-at.empty c.loop-at.invariant.2 (omega arith) (sym (order_is c.args.c.now c.loop-at.at (question_in c.args.z c.args.t.now c.args.c.now) (begun_in (variables c.args.z) (length c.args.c.now) c.loop-at.work) (there_by c.args.c.now c.loop-at.at c.length_there-length.ensures c.if-length-eq0.false)) ∙ sym c.is_in_order.ensures.0 ∙ not-true _ c.if-not-is_in_order.true))
+    c.refuse_at-then-not-is_in_order.ensures ∙ ap shown_as (from-bad (question_in c.args.z c.args.t.now c.args.c.now) c.args.c.now c.loop-at.at (begun_in (variables c.args.z) (length c.args.c.now) c.loop-at.work) c.loop-at.empty c.loop-at.invariant.2 (omega arith) (sym (order_is c.args.c.now c.loop-at.at (question_in c.args.z c.args.t.now c.args.c.now) (begun_in (variables c.args.z) (length c.args.c.now) c.loop-at.work) (there_by c.args.c.now c.loop-at.at c.length_there-length.ensures c.if-length-eq0.false)) ∙ sym c.is_in_order.ensures.0 ∙ c.if-not-is_in_order.true))
 
 pub overflow_add-work : goal.overflow_add-work
 overflow_add-work c =
@@ -52,7 +51,7 @@ overflow_add-work c =
 
 pub bounds-work-all : goal.bounds-work-all
 bounds-work-all c =
-    omega (arith, c.all_variables-all.ensures.0, c.loop-at.invariant.0.room, c.is_in_order.auto.1.1.1.1.0)
+    omega (arith, c.all_variables-all.ensures.0, c.loop-at.invariant.0.room, c.is_in_order.auto.work)
 
 pub is_empty-empty-requires : goal.is_empty-empty-requires
 is_empty-empty-requires c =
@@ -68,7 +67,7 @@ loop-at-smaller c =
 
 pub loop-at-preserved : goal.loop-at-preserved
 loop-at-preserved c =
-    (subst (λ (i : ℕ). Ready c.args.z c.args.t.now c.args.c.now (set c.is_in_order.new.work (i + c.loop-at.at) 1)) (sym c.all_variables-all.ensures.0) (ready_next c.args.z c.args.t.now c.args.c.now c.loop-at.work c.is_in_order.new.work c.loop-at.at c.is_in_order.ensures.2 c.is_in_order.ensures.1 c.loop-at.invariant.0 (all_of c.args.c.now c.loop-at.at (there_by c.args.c.now c.loop-at.at c.length_there-length.ensures c.if-length-eq0.false)) (sym c.is_in_order.ensures.0 ∙ not-false _ c.if-not-is_in_order.false)), length-set c.is_in_order.new.work (c.all_variables-all.result + c.loop-at.at) 1 ∙ c.is_in_order.auto.1.1.1.1.0 ∙ c.loop-at.invariant.1, subst (λ (i : ℕ). From (question_in c.args.z c.args.t.now c.args.c.now) c.args.c.now (c.loop-at.at + i) (begun_in (variables c.args.z) (length c.args.c.now) (set c.is_in_order.new.work (c.all_variables-all.result + c.loop-at.at) 1)) c.is_empty-empty.result) (sym (length_by c.args.c.now c.loop-at.at c.length_there-length.ensures c.if-length-eq0.false)) (subst (λ (b : Bool). From (question_in c.args.z c.args.t.now c.args.c.now) c.args.c.now (c.loop-at.at + step_length c.args.c.now c.loop-at.at) (begun_in (variables c.args.z) (length c.args.c.now) (set c.is_in_order.new.work (c.all_variables-all.result + c.loop-at.at) 1)) b) (sym c.is_empty-empty.ensures) (subst (λ (i : ℕ). From (question_in c.args.z c.args.t.now c.args.c.now) c.args.c.now (c.loop-at.at + step_length c.args.c.now c.loop-at.at) (begun_in (variables c.args.z) (length c.args.c.now) (set c.is_in_order.new.work (i + c.loop-at.at) 1)) (is_empty (question_in c.args.z c.args.t.now c.args.c.now) c.args.c.now c.loop-at.at)) (sym c.all_variables-all.ensures.0) (subst (λ (b : ℕ → Bool). From (question_in c.args.z c.args.t.now c.args.c.now) c.args.c.now (c.loop-at.at + step_length c.args.c.now c.loop-at.at) b (is_empty (question_in c.args.z c.args.t.now c.args.c.now) c.args.c.now c.loop-at.at)) (sym (marked c.args.z c.args.t.now c.args.c.now c.loop-at.work c.is_in_order.new.work c.loop-at.at c.is_in_order.ensures.2 c.is_in_order.ensures.1 c.loop-at.invariant.0 (all_of c.args.c.now c.loop-at.at (there_by c.args.c.now c.loop-at.at c.length_there-length.ensures c.if-length-eq0.false)))) (from_next (question_in c.args.z c.args.t.now c.args.c.now) c.args.c.now c.loop-at.at (begun_in (variables c.args.z) (length c.args.c.now) c.loop-at.work) c.loop-at.empty c.loop-at.invariant.2 (omega arith) (sym (order_is c.args.c.now c.loop-at.at (question_in c.args.z c.args.t.now c.args.c.now) (begun_in (variables c.args.z) (length c.args.c.now) c.loop-at.work) (there_by c.args.c.now c.loop-at.at c.length_there-length.ensures c.if-length-eq0.false)) ∙ (sym c.is_in_order.ensures.0 ∙ not-false _ c.if-not-is_in_order.false)))))))
+    (subst (λ (i : ℕ). Ready c.args.z c.args.t.now c.args.c.now (set c.is_in_order.new.work (i + c.loop-at.at) 1)) (sym c.all_variables-all.ensures.0) (ready_next c.args.z c.args.t.now c.args.c.now c.loop-at.work c.is_in_order.new.work c.loop-at.at c.is_in_order.ensures.2 c.is_in_order.ensures.1 c.loop-at.invariant.0 (all_of c.args.c.now c.loop-at.at (there_by c.args.c.now c.loop-at.at c.length_there-length.ensures c.if-length-eq0.false)) (sym c.is_in_order.ensures.0 ∙ c.if-not-is_in_order.false)), length-set c.is_in_order.new.work (c.all_variables-all.result + c.loop-at.at) 1 ∙ c.is_in_order.auto.work ∙ c.loop-at.invariant.1, subst (λ (i : ℕ). From (question_in c.args.z c.args.t.now c.args.c.now) c.args.c.now (c.loop-at.at + i) (begun_in (variables c.args.z) (length c.args.c.now) (set c.is_in_order.new.work (c.all_variables-all.result + c.loop-at.at) 1)) c.is_empty-empty.result) (sym (length_by c.args.c.now c.loop-at.at c.length_there-length.ensures c.if-length-eq0.false)) (subst (λ (b : Bool). From (question_in c.args.z c.args.t.now c.args.c.now) c.args.c.now (c.loop-at.at + step_length c.args.c.now c.loop-at.at) (begun_in (variables c.args.z) (length c.args.c.now) (set c.is_in_order.new.work (c.all_variables-all.result + c.loop-at.at) 1)) b) (sym c.is_empty-empty.ensures) (subst (λ (i : ℕ). From (question_in c.args.z c.args.t.now c.args.c.now) c.args.c.now (c.loop-at.at + step_length c.args.c.now c.loop-at.at) (begun_in (variables c.args.z) (length c.args.c.now) (set c.is_in_order.new.work (i + c.loop-at.at) 1)) (is_empty (question_in c.args.z c.args.t.now c.args.c.now) c.args.c.now c.loop-at.at)) (sym c.all_variables-all.ensures.0) (subst (λ (b : ℕ → Bool). From (question_in c.args.z c.args.t.now c.args.c.now) c.args.c.now (c.loop-at.at + step_length c.args.c.now c.loop-at.at) b (is_empty (question_in c.args.z c.args.t.now c.args.c.now) c.args.c.now c.loop-at.at)) (sym (marked c.args.z c.args.t.now c.args.c.now c.loop-at.work c.is_in_order.new.work c.loop-at.at c.is_in_order.ensures.2 c.is_in_order.ensures.1 c.loop-at.invariant.0 (all_of c.args.c.now c.loop-at.at (there_by c.args.c.now c.loop-at.at c.length_there-length.ensures c.if-length-eq0.false)))) (from_next (question_in c.args.z c.args.t.now c.args.c.now) c.args.c.now c.loop-at.at (begun_in (variables c.args.z) (length c.args.c.now) c.loop-at.work) c.loop-at.empty c.loop-at.invariant.2 (omega arith) (sym (order_is c.args.c.now c.loop-at.at (question_in c.args.z c.args.t.now c.args.c.now) (begun_in (variables c.args.z) (length c.args.c.now) c.loop-at.work) (there_by c.args.c.now c.loop-at.at c.length_there-length.ensures c.if-length-eq0.false)) ∙ (sym c.is_in_order.ensures.0 ∙ c.if-not-is_in_order.false)))))))
 
 pub shape_of-work-then-empty : goal.shape_of-work-then-empty
 shape_of-work-then-empty c = c.loop-at.invariant.1

@@ -14,7 +14,7 @@ look_at-requires c =
     let w = within c.args.e c.requires c.args.n c.args.k c.args.m c.args.t.now c.few_form-form.result c.few_form-form.ensures c.in-Fine.is in (w.inputs, w.cell, w.some, w.most, w.long)
 
 pub shape_of-work : goal.shape_of-work
-shape_of-work c = c.look_at.auto.1.1.1.1.1.0
+shape_of-work c = c.look_at.auto.work
 
 pub returns : goal.returns
 returns c =
