@@ -1,5 +1,5 @@
 -- A step of kind 0 as a whole. Assumes nothing.
-use mathlib.Core.Path.{◌≡◌, refl, sym, ap, ap₂, subst, ◌∙◌}
+use mathlib.Core.Path.{◌≡◌, sym, ap, ap₂, subst, ◌∙◌}
 use mathlib.Core.Bool.{Bool, true, false, ◌&&◌}
 use mathlib.Core.List.{List}
 use Prim.Native.Nat.{ℕ, ◌+◌, ◌*◌, ◌/◌, ◌<◌, ◌≤◌}
@@ -16,7 +16,7 @@ use Rattle.following.specs.declared.trail.Trail.{Trail}
 use Rattle.following.specs.Following.{Following, denied, used, is_conflict, follows, literals_named, hints_earlier}
 use Rattle.following.specs.Following.{derived_in_order}
 use Rattle.following.specs.Standing.{LiteralsIn, AllThere, Usable, InFront, Trailed, Kept, Stands, Clean, begun_in, Ready}
-use Rattle.following.proofs.Going.{kept_same, kept_then, conflict_is}
+use Rattle.following.proofs.Going.{kept_then, conflict_is}
 
 -- the literals of a step that are named
 pub named_literals : (z : Size) (t c : List ℕ) (at : ℕ) → AllThere c at → literals_named (question_in z t c) c at ≡ true

@@ -1,20 +1,18 @@
 -- A step's literals and hints, one after the other. Assumes nothing.
-use mathlib.Core.Path.{◌≡◌, refl, sym, ap, ap₂, subst, ◌∙◌}
-use mathlib.Core.Logic.{◌⊎◌, inl, inr}
+use mathlib.Core.Path.{◌≡◌, refl, sym, ap, ap₂, ◌∙◌}
+use mathlib.Core.Logic.{inl}
 use mathlib.Core.Bool.{Bool, true, false, cond}
 use mathlib.Core.List.{List}
-use Prim.Native.Nat.{ℕ, zero, suc, ◌+◌, ◌-◌, ◌*◌, ◌/◌, ◌%◌, ◌<◌, ◌≤◌}
+use Prim.Native.Nat.{ℕ, zero, suc, ◌+◌, ◌-◌, ◌/◌, ◌%◌, ◌<◌, ◌≤◌}
 use native.Mathlib.Decide.{dec_lt}
 use native.Mathlib.Numerals.{add-one}
 use native.Mathlib.Omega.{arith}
-use lib.Dec.{eqb}
-use lib.ListN.{length}
 use borrow.Author.Tests.{eq-eqb, ne_eqb}
 use Rattle.bits.specs.Lists.{byte_at}
 use Rattle.following.specs.declared.open.Open.{Open}
 use Rattle.following.specs.declared.open.Open.TheVariants.{Nothing, One, Several}
 use Rattle.following.specs.declared.trail.Trail.{Trail}
-use Rattle.following.specs.Values.{is_true, is_false, is_open, opposite, made, not_set, open_in}
+use Rattle.following.specs.Values.{is_false, opposite, made, not_set, open_in}
 use Rattle.following.specs.Following.{Following, conflict, going, denying, by_open, hinting, denied, used, is_conflict}
 use Rattle.following.specs.Standing.{Trailed, Kept, Stands, Clean}
 use Rattle.following.proofs.Reading.{AllBelow, open_agree}

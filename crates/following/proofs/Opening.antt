@@ -2,10 +2,9 @@
 use mathlib.Core.Path.{◌≡◌, refl, sym, ap, ap₂, ◌∙◌}
 use mathlib.Core.Bool.{Bool, true, false, cond, not, beq}
 use mathlib.Core.List.{List, [], ◌∷◌, ◌++◌, map, map-append}
-use Prim.Native.Nat.{ℕ, zero, suc, ◌+◌, ◌-◌, ◌*◌, ◌/◌, ◌%◌, ◌^◌, ◌<◌, ◌≤◌}
+use Prim.Native.Nat.{ℕ, ◌+◌, ◌-◌, ◌/◌, ◌%◌, ◌^◌}
 use lib.Bits.{bit_and}
 use native.Mathlib.Numerals.{add-one}
-use native.Mathlib.Omega.{arith}
 use lib.Dec.{eqb}
 use borrow.Author.Tests.{eq-eqb, ne_eqb}
 use Rattle.bits.specs.Numbers.{bit, val}
@@ -18,7 +17,7 @@ use Rattle.clauses.specs.declared.variables.Literal.TheVariants.{Said, Denied}
 use Rattle.clauses.specs.Variables.{literal_of}
 use Rattle.clauses.specs.Clause.{those, rows_differ, causes}
 use Rattle.following.specs.declared.open.Open.{Open}
-use Rattle.following.specs.declared.open.Open.TheVariants.{Nothing, One, Several}
+use Rattle.following.specs.declared.open.Open.TheVariants.{Nothing}
 use Rattle.following.specs.Values.{one_more, seen, open_after}
 
 module _ (σ : ℕ → ℕ) where

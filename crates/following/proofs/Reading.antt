@@ -2,25 +2,23 @@
 use mathlib.Core.Path.{◌≡◌, refl, sym, ap, subst, ◌∙◌}
 use mathlib.Core.Bool.{Bool, true, false, cond}
 use mathlib.Core.List.{List, [], ◌∷◌, ◌++◌, map}
-use Prim.Native.Nat.{ℕ, zero, suc, ◌+◌, ◌*◌, ◌-◌, ◌/◌, ◌%◌, ◌<◌, ◌≤◌}
+use Prim.Native.Nat.{ℕ, zero, suc, ◌-◌, ◌/◌, ◌%◌, ◌<◌}
 use native.Mathlib.Decide.{ℕ_discrete}
 use native.Mathlib.Omega.{arith}
 use lib.Dec.{eqb}
-use lib.ListN.{length}
 use borrow.Author.Tests.{eq-eqb, ne_eqb}
 use Rattle.bits.specs.Lists.{list_of}
-use Rattle.tables.specs.Table.{table_bit}
 use Rattle.clauses.specs.declared.variables.Size.{Size}
 use Rattle.clauses.specs.declared.variables.Literal.{Literal}
 use Rattle.clauses.specs.Variables.{IsSize, literal_of, variables}
-use Rattle.clauses.specs.Clause.{Question, clause, in_order}
+use Rattle.clauses.specs.Clause.{Question, clause}
 use Rattle.clauses.specs.Step.{kind_at, given_at, literals_at, literal_at, question_in, clause_at}
 use Rattle.clauses.specs.Shapes.{AllNamed}
 use Rattle.clauses.proofs.Naming.{named, literal_below}
 use Rattle.following.specs.declared.open.Open.{Open}
 use Rattle.following.specs.declared.open.Open.TheVariants.{Nothing, One, Several}
-use Rattle.following.specs.Values.{is_false, one_more, seen, open_after, open_in}
-use Rattle.following.specs.Standing.{LiteralsIn, Usable}
+use Rattle.following.specs.Values.{is_false, one_more, seen, open_after}
+use Rattle.following.specs.Standing.{Usable}
 
 module _ (q : Question) (c : List ℕ) (at : ℕ) where
   pub clause_derived : kind_at c at ≡ 0 → clause_at q c at ≡ list_of (literals_at c at) (literal_at c at)

@@ -1,19 +1,18 @@
 -- Variables that are set, noted, and forgotten. Assumes nothing.
-use mathlib.Core.Path.{◌≡◌, refl, sym, ap, ap₂, subst, ◌∙◌}
+use mathlib.Core.Path.{◌≡◌, refl, sym, ap, ◌∙◌}
 use mathlib.Core.Logic.{◌⊎◌, inl, inr, ⊎_elim}
-use mathlib.Core.Bool.{Bool, true, false, cond}
+use mathlib.Core.Bool.{Bool, cond}
 use mathlib.Core.List.{List}
-use Prim.Native.Nat.{ℕ, ◌+◌, ◌-◌, ◌*◌, ◌/◌, ◌%◌, ◌<◌, ◌≤◌}
+use Prim.Native.Nat.{ℕ, ◌+◌, ◌*◌, ◌/◌, ◌%◌, ◌<◌, ◌≤◌}
 use native.Mathlib.Decide.{ℕ_discrete, dec_lt}
 use native.Mathlib.Omega.{arith}
-use lib.Dec.{eqb}
 use lib.ListN.{length, set, length-set}
 use lib.Seq.{get_or-set_same, get_or-set_other}
 use borrow.Author.Tests.{eq-eqb, ne_eqb}
 use Rattle.bits.specs.Lists.{byte_at}
 use Rattle.clauses.specs.Step.{four}
 use Rattle.following.specs.Values.{made}
-use Rattle.following.specs.Standing.{Wrote, InFront, Among, Trailed, Kept, Clean}
+use Rattle.following.specs.Standing.{Wrote, InFront, Trailed, Kept, Clean}
 
 -- four bytes are those of another list
 pub four_same : (l m : List ℕ) (p : ℕ) → ((j : ℕ) → p ≤ j → j < p + 4 → byte_at l j ≡ byte_at m j) → four l p ≡ four m p

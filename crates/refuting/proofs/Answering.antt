@@ -1,8 +1,8 @@
 -- The lines of the call, and the work area afterwards. Assumes nothing.
-use mathlib.Core.Path.{◌≡◌, refl, sym, ap, ap₂, subst, ◌∙◌}
+use mathlib.Core.Path.{◌≡◌, refl, sym, ap, ap₂, ◌∙◌}
 use mathlib.Core.Bool.{Bool, true, false, cond, ◌&&◌}
 use mathlib.Core.List.{List, [], ◌∷◌, ◌++◌}
-use Prim.Native.Nat.{ℕ, ◌+◌, ◌-◌, ◌*◌, ◌/◌, ◌<◌, ◌≤◌}
+use Prim.Native.Nat.{ℕ, ◌+◌, ◌-◌, ◌*◌, ◌/◌, ◌≤◌}
 use native.Mathlib.Decide.{dec_lt}
 use native.Mathlib.Omega.{arith}
 use lib.Dec.{leb, ltb}
@@ -28,7 +28,7 @@ use Rattle.clauses.specs.Shapes.{HasRows}
 use Rattle.following.specs.Standing.{begun_in, Ready}
 use Rattle.refuting.specs.Steps.{Shown, shown, not_shown, header_in_order, all_steps, outcome_of}
 use Rattle.refuting.specs.Looking.{shown_as}
-use Rattle.refuting.specs.TooFew.{bad_cells, few_form, short_area, does_not_show, place_in, is_not_shown, certificate_lines, FewOutcome, few_after}
+use Rattle.refuting.specs.TooFew.{bad_cells, few_form, short_area, place_in, is_not_shown, certificate_lines, FewOutcome, few_after}
 use Rattle.refuting.proofs.Rows.{few_rows, rows_there, rows_below}
 use Rattle.refuting.proofs.Marking.{none_marked}
 

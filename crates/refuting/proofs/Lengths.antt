@@ -9,7 +9,7 @@ use lib.ListN.{length}
 use borrow.Author.Tests.{le-leb, lt-leb, leb-true}
 use Rattle.bits.proofs.Bools.{and_left, and_right}
 use Rattle.clauses.specs.Clause.{Question, in_order}
-use Rattle.clauses.specs.Step.{kind_at, literals_at, hints_at, given_at, lengths, length_of, step_length}
+use Rattle.clauses.specs.Step.{kind_at, literals_at, hints_at, given_at, length_of, step_length}
 use Rattle.following.specs.Following.{derived_in_order}
 use Rattle.refuting.specs.Steps.{step_in_order}
 use Rattle.refuting.specs.Looking.{is_there, AllOf, length_there}

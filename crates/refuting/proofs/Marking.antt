@@ -2,7 +2,7 @@
 use mathlib.Core.Path.{◌≡◌, refl, sym, ap, ap₂, subst, fun_ext, ◌∙◌}
 use mathlib.Core.Bool.{Bool, true, false, cond, ◌&&◌, ◌||◌}
 use mathlib.Core.List.{List}
-use Prim.Native.Nat.{ℕ, ◌+◌, ◌*◌, ◌<◌, ◌≤◌}
+use Prim.Native.Nat.{ℕ, ◌+◌, ◌<◌}
 use native.Mathlib.Decide.{ℕ_discrete, dec_lt}
 use native.Mathlib.Omega.{arith}
 use lib.Dec.{eqb, ltb}
@@ -10,14 +10,14 @@ use lib.ListN.{length, set, length-set}
 use lib.Seq.{get_or-set_same, get_or-set_other}
 use borrow.Author.Tests.{eq-eqb, ne_eqb, lt-ltb, le-ltb, eqb-true}
 use Rattle.bits.specs.Lists.{byte_at}
-use Rattle.bits.proofs.Bools.{and_left, and_right, clash}
+use Rattle.bits.proofs.Bools.{and_left}
 use Rattle.tables.specs.Table.{table_bit}
 use Rattle.clauses.specs.declared.variables.Size.{Size}
 use Rattle.clauses.specs.Variables.{variables}
 use Rattle.clauses.specs.Clause.{in_order}
-use Rattle.clauses.specs.Step.{kind_at, given_at, literals_at, hints_at, literal_at, question_in}
+use Rattle.clauses.specs.Step.{kind_at, given_at, question_in}
 use Rattle.following.specs.Following.{literals_named, hints_earlier, follows, derived_in_order}
-use Rattle.following.specs.Standing.{AllThere, LiteralsIn, Usable, Kept, Clean, begun_in, Ready}
+use Rattle.following.specs.Standing.{Usable, Kept, Clean, begun_in, Ready}
 use Rattle.following.proofs.Deriving.{named_literals}
 use Rattle.refuting.specs.Steps.{also_at}
 use Rattle.refuting.specs.Looking.{AllOf}

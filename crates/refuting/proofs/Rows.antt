@@ -10,9 +10,7 @@ use borrow.Author.Tests.{le-leb, lt-leb, leb-true, ltb-true}
 use Rattle.bits.specs.Below.{every}
 use Rattle.bits.proofs.Below.{every_at}
 use Rattle.bits.proofs.Bools.{and_left, and_right}
-use Rattle.clauses.specs.declared.variables.Size.{Size}
 use Rattle.clauses.specs.Step.{rows_in, row_at}
-use Rattle.clauses.specs.Shapes.{HasRows}
 use Rattle.refuting.specs.Steps.{most_rows, header_in_order}
 
 module _ (n : ℕ) (c : List ℕ) where

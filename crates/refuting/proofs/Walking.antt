@@ -1,5 +1,5 @@
 -- The steps from a place on. Assumes nothing.
-use mathlib.Core.Path.{◌≡◌, refl, sym, ap, ap₂, subst, ◌∙◌}
+use mathlib.Core.Path.{◌≡◌, refl, sym, ap, ap₂, ◌∙◌}
 use mathlib.Core.Bool.{Bool, true, false, cond, ◌&&◌}
 use mathlib.Core.List.{List}
 use Prim.Native.Nat.{ℕ, zero, suc, ◌+◌, ◌*◌, ◌<◌, ◌≤◌}
@@ -11,7 +11,7 @@ use Rattle.bits.proofs.Bools.{and_left}
 use Rattle.clauses.specs.Clause.{Question, in_order}
 use Rattle.clauses.specs.Step.{rows_in, kind_at, given_at, step_length}
 use Rattle.following.specs.Following.{derived_in_order}
-use Rattle.refuting.specs.Steps.{Shown, shown, not_shown, step_in_order, also_at, is_empty, ended, steps, all_steps}
+use Rattle.refuting.specs.Steps.{Shown, not_shown, step_in_order, also_at, is_empty, ended, steps, all_steps}
 
 module _ (q : Question) (c : List ℕ) where
   -- one turn: what comes after it, and whether the end is reached and the step in order

@@ -1,5 +1,5 @@
 -- What the code looks at: a step that is all there, and what steps come to as a verdict.
-use Rattle.std.specs.Prelude.{Bool, cond, ◌&&◌, List, ℕ, ◌+◌, ◌<◌, ◌≤◌, leb, length}
+use Rattle.std.specs.Prelude.{Bool, cond, ◌&&◌, List, ℕ, ◌+◌, ◌≤◌, leb, length}
 use Rattle.clauses.specs.Step.{step_length}
 use Rattle.refusals.specs.declared.verdicts.Verdict.{Verdict}
 use Rattle.refusals.specs.declared.verdicts.Verdict.TheVariants.{Fine, Refused}

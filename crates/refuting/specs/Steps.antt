@@ -1,5 +1,5 @@
 -- A certificate: the header, and the steps one after the other.
-use Rattle.std.specs.Prelude.{Bool, true, false, cond, ◌&&◌, ◌||◌, List, ℕ, zero, suc, ◌+◌, ◌*◌, ◌^◌, eqb, leb, ltb, length}
+use Rattle.std.specs.Prelude.{Bool, false, cond, ◌&&◌, ◌||◌, List, ℕ, zero, suc, ◌+◌, ◌*◌, ◌^◌, eqb, leb, ltb, length}
 use Rattle.bits.specs.Below.{every}
 use Rattle.clauses.specs.Clause.{Question, in_order}
 use Rattle.clauses.specs.Step.{rows_in, row_at, kind_at, literals_at, given_at, step_length}

@@ -2,7 +2,6 @@
 use mathlib.Core.Path.{◌≡◌, refl, sym, ap, ◌∙◌}
 use native.Mathlib.Omega.{arith}
 use Prim.Native.Nat.{ℕ, ◌+◌, ◌*◌}
-use mathlib.Core.Bool.{true}
 use Rattle.bits.specs.Below.{every}
 use Rattle.bits.proofs.Below.{every_more, every_stop}
 use lib.ListN.{length}
