@@ -37,12 +37,12 @@ abbrev pub none_any : Any → Line
 none_any a = line of_split (is_unsplit a)
 
 -- 17: make gives 8, that chain takes more records than a sheet has, and there is no sheet of cofactors
-abbrev pub too_long_lem : Any → Line
-too_long_lem a = line of_length (is_overlong a)
+abbrev pub too_long : Any → Line
+too_long a = line of_length (is_overlong a)
 
 -- what the table says: 8 and 17
 abbrev pub any_says : Any → List Line
-any_says a = none_any a ∷ too_long_lem a ∷ []
+any_says a = none_any a ∷ too_long a ∷ []
 
 -- all lines: make's form and room, and these
 abbrev pub any_lines : Edition → ℕ → ℕ → ℕ → List ℕ → List ℕ → List ℕ → List Line

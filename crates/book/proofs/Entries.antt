@@ -11,7 +11,7 @@ use Rattle.bits.specs.Below.{least, IsLeast}
 use Rattle.bits.proofs.Bools.{clash}
 use Rattle.bits.proofs.Least.{is_least}
 use Rattle.turning.specs.Ways.{Reachable, way_count}
-use Rattle.turning.specs.Listing.{first_way_lem}
+use Rattle.turning.specs.Listing.{first_way}
 use Rattle.book.specs.Book.{table_count, LeastReachable, entry}
 use Rattle.turning.specs.Reach.{reaches}
 use Rattle.turning.proofs.Listed.{some_way, reachable_by}
@@ -19,8 +19,8 @@ use Rattle.turning.proofs.Group.{reach_same, reach_back, reach_on}
 
 pub reaches_exactly : (f g : ℕ) → (reaches f g ≡ true) ↔ Reachable f g
 reaches_exactly f g = (
-  λ h. reachable_by f g (ltb-true (first_way_lem f g) way_count h),
-  λ r. lt-ltb (first_way_lem f g) way_count (some_way f g r),
+  λ h. reachable_by f g (ltb-true (first_way f g) way_count h),
+  λ r. lt-ltb (first_way f g) way_count (some_way f g r),
 )
 
 pub entry-least : (f : ℕ) → f < table_count → LeastReachable f (entry f)

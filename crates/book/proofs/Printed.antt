@@ -17,7 +17,7 @@ use Rattle.bits.proofs.Lists.{list-of}
 use Rattle.bits.proofs.Numbers.{number_ext, number_bit}
 use Rattle.turning.specs.declared.ways.Way.{Way}
 use Rattle.turning.specs.Ways.{flipped, moved, Turns, Reachable, way_count}
-use Rattle.turning.specs.Listing.{way_at_lem, turns, first_way_lem}
+use Rattle.turning.specs.Listing.{way_at, turns, first_way}
 use Rattle.book.specs.Book.{table_count, LeastReachable, entry, different}
 use Rattle.turning.specs.Reach.{reaches}
 use Rattle.turning.proofs.Listed.{rank, rank_lt, listed}
@@ -57,7 +57,7 @@ is_entry e = ltb e table_count && eqb (printed_at e) e
 
 -- whether no way turns it into a smaller one
 abbrev lowest : ℕ → Bool
-lowest e = every way_count (λ i. leb e (turned (way_at_lem i) e))
+lowest e = every way_count (λ i. leb e (turned (way_at i) e))
 
 abbrev reached_at : ℕ → Bool
 reached_at f = is_entry (printed_at f) && reaches f (printed_at f)
@@ -68,7 +68,7 @@ abbrev low_at : ℕ → Bool
 low_at e = cond (is_entry e) (lowest e) true
 
 rule : (every table_count reached_at && every table_count low_at) ≡ true
-unfolding book first_way_lem least turns turned way_at_lem moved number
+unfolding book first_way least turns turned way_at moved number
 rule = refl
 
 turned_is : (w : Way) (f g : ℕ) → g < table_count → Turns w f g → turned w f ≡ g
@@ -86,8 +86,8 @@ least-of : (e g : ℕ) → is_entry e ≡ true → g < table_count → Reachable
 least-of e g p l r =
     let w = r.way in
     let t = subst (λ (v : Way). Turns v e g) (sym (listed w r.is)) r.turns in
-    subst (λ (m : ℕ). e ≤ m) (turned_is (way_at_lem (rank w)) e g l t)
-    (leb-true _ _ (every_at way_count (λ i. leb e (turned (way_at_lem i) e)) (low_at_lem e p) (rank w) (rank_lt w r.is)))
+    subst (λ (m : ℕ). e ≤ m) (turned_is (way_at (rank w)) e g l t)
+    (leb-true _ _ (every_at way_count (λ i. leb e (turned (way_at i) e)) (low_at_lem e p) (rank w) (rank_lt w r.is)))
 
 module _ (f : ℕ) (h : f < table_count) where
   here : reached_at f ≡ true

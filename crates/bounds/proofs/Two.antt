@@ -19,7 +19,7 @@ use Rattle.best.specs.Counting.{spread_answer, best_counting}
 use Rattle.best.proofs.Best.{best_split}
 use Rattle.best.proofs.Counting.{counting_split, counting_none}
 use Rattle.sheets.specs.Network.{Cell, Gives, Carries}
-use Rattle.chains.specs.Chain.{pick, first_cell_lem, next_signals, next_table, last_cell, made, inputs}
+use Rattle.chains.specs.Chain.{pick, first_cell, next_signals, next_table, last_cell, made, inputs}
 use Rattle.chains.specs.Aside.{sheet_aside}
 use Rattle.chains.specs.Words.{Makes, ends, goes}
 use Rattle.chains.proofs.Lists.{pick-length}
@@ -108,7 +108,7 @@ module _ (n K : ℕ) (F : ℕ → Bool) (p : 1 ≤ n) (q : 1 ≤ K) where
     split_made : (A B : ℕ) → Best (length l) K 1 (bit U) A B → length l + 1 ≤ K + size (length l) (bit A)
         → (c : Cell) × (d : Cell) × (sheet_aside n K (number (2 ^ n) F) ≡ made (c ∷ d ∷ []))
     split_made A B b h =
-        let c = first_cell_lem l U A B in
+        let c = first_cell l U A B in
         let d = last_cell (next_signals l A B n) (next_table l U A B) in
         let longer : K < length l = omega (arith, length_is) in
         let short : length (next_signals l A B n) ≤ K = omega (arith, next-length l n b) in (

@@ -19,7 +19,7 @@ use Rattle.bits.proofs.Sums.{spread-two}
 use Rattle.columns.specs.declared.split.Split.{Split}
 use Rattle.splits.specs.Columns.{index, member, columns, few_columns}
 use Rattle.splits.specs.Pair.{code, code_at}
-use Rattle.columns.specs.Reading.{Held, Within, read_from, first_reads_lem, own_part, shared_part, column_of, column_at}
+use Rattle.columns.specs.Reading.{Held, Within, read_from, first_reads, own_part, shared_part, column_of, column_at}
 use Rattle.columns.specs.Reading.{columns_of, Chart}
 use Rattle.splits.proofs.Firsts.{index-lt, get_d_index, firsts_has}
 use Rattle.splits.proofs.Stored.{index_is, rep_at, reps_len}
@@ -59,13 +59,13 @@ module _ (s : Split) (h : Held s) (F : ℕ → Bool) (x base : ℕ) (at : x ≡ 
     (low : base ≡ bit_and x s.shared) where
   base_is : base ≡ spread s.n (bit s.shared) (shared_part s x)
   base_is = low ∙ and-spread s.n x s.shared
-      (omega (arith, at, spread-lt s.n (first_reads_lem s) (gather s.n (first_reads_lem s) x)))
+      (omega (arith, at, spread-lt s.n (first_reads s) (gather s.n (first_reads s) x)))
 
   x_parts : x ≡ base + spread s.n (bit s.own) (own_part s x)
   x_parts =
       subst (λ (y : ℕ). y ≡ spread s.n (bit s.own) (own_part s y)
       + spread s.n (bit s.shared) (shared_part s y)) (sym at)
-      (spread-two s.n (bit s.own) (bit s.shared) h.apart (gather s.n (first_reads_lem s) x))
+      (spread-two s.n (bit s.own) (bit s.shared) h.apart (gather s.n (first_reads s) x))
       ∙ omega (arith, base_is)
 
   pub base-le : base ≤ x
@@ -120,7 +120,7 @@ module _ (s : Split) (h : Held s) (F : ℕ → Bool) (x base : ℕ) (at : x ≡ 
     pub code_found : few_columns s.n F (bit s.own) (bit s.shared) limit ≡ true → (r : ℕ)
         → r ≡ index (column_at s F (shared_part s base) (x - base))
         (map (column_at s F (shared_part s base)) (take limit (take m (drop from seen))))
-        → r ≡ code_at s.n F (bit s.own) (bit s.shared) (gather s.n (first_reads_lem s) x)
+        → r ≡ code_at s.n F (bit s.own) (bit s.shared) (gather s.n (first_reads s) x)
     unfolding code columns
     code_found few r e =
         e ∙ ap (λ (b : ℕ). index (column_at s F b (x - base)) (stands b)) b_is

@@ -4,7 +4,7 @@ use Rattle.charts.specs.declared.pair.FirstCells.{FirstCells}
 use Rattle.bits.specs.Numbers.{bit}
 use Rattle.bits.specs.Sets.{size}
 use Rattle.tables.specs.declared.cell.CellTable.{CellTable}
-use Rattle.tables.specs.Cells.{held_table, no_table_lem, table_number}
+use Rattle.tables.specs.Cells.{held_table, no_table, table_number}
 use Rattle.splits.specs.Split.{reads_d}
 use Rattle.splits.specs.Pair.{code_at}
 
@@ -18,7 +18,7 @@ held_d n F A B t = held_table (size n (reads_d A B)) (bit_d n F A B t)
 
 -- the table of first cell t, of r: those from r up are 0
 abbrev pub first_table : ℕ → (ℕ → Bool) → (ℕ → Bool) → (ℕ → Bool) → ℕ → ℕ → CellTable
-first_table n F A B r t = cond (ltb t r) (held_d n F A B t) no_table_lem
+first_table n F A B r t = cond (ltb t r) (held_d n F A B t) no_table
 
 -- all of them
 abbrev pub first_cells : ℕ → (ℕ → Bool) → (ℕ → Bool) → (ℕ → Bool) → ℕ → FirstCells
@@ -30,7 +30,7 @@ first_cells n F A B r = record {
 
 -- none is there
 abbrev pub no_cells : FirstCells
-no_cells = record { first = no_table_lem; second = no_table_lem; third = no_table_lem }
+no_cells = record { first = no_table; second = no_table; third = no_table }
 
 -- the table of first cell t among those handed back, as a number
 abbrev pub table_in : FirstCells → ℕ → ℕ

@@ -28,7 +28,7 @@ over_antisym n r A B r' A' B' p q =
 
 -- what has the larger |A| - r comes before
 pub smaller : (n : ℕ) {r A B r' A' B' : ℕ} → size n (bit A') + r < size n (bit A) + r' → AheadOver n r A B r' A' B'
-smaller n h = record { largest = omega arith; least = λ e. absurd (omega arith); in_order_lem = λ e q. absurd (omega arith) }
+smaller n h = record { largest = omega arith; least = λ e. absurd (omega arith); in_order = λ e q. absurd (omega arith) }
 
 -- only one is first
 pub first_unique : (n : ℕ) (Work : ℕ → ℕ → ℕ → Type 0) (r A B r' A' B' : ℕ) → FirstOf n Work r A B
@@ -74,7 +74,7 @@ module _ (n : ℕ) (Work : ℕ → ℕ → ℕ → ℕ → Type 0) (Right : ℕ 
 
     -- r's own best comes before all of its r
     same_r : {A B A' B' : ℕ} → Ahead n A B A' B' → AheadOver n (suc m) A B (suc m) A' B'
-    same_r h = record { largest = omega (arith, h.largest_a); least = λ e. omega arith; in_order_lem = λ e q. h }
+    same_r h = record { largest = omega (arith, h.largest_a); least = λ e. omega arith; in_order = λ e q. h }
 
     next : (c : Choice) (a : Answer) → Tells m c → Says n Right (suc m) a → Tells (suc m) (better n (suc m) c a)
     next nothing none t s = by (λ r A B. ⊥) t s
@@ -107,7 +107,7 @@ module _ (n : ℕ) (Work : ℕ → ℕ → ℕ → ℕ → Type 0) (Right : ℕ 
               ahead = by (AheadOver n r C D) t.ahead (λ A' B' k. record {
                 largest = omega (arith, (s.1 A' B' k).largest_a);
                 least = λ q. omega (arith, up.most t.works);
-                in_order_lem = λ q h. absurd (omega (arith, up.most t.works));
+                in_order = λ q h. absurd (omega (arith, up.most t.works));
               });
             }
 

@@ -25,7 +25,7 @@ pub record Works (n K m : ℕ) (F : ℕ → Bool) (r A B : ℕ) : Type 0 where
 pub record AheadOver (n r A B r' A' B' : ℕ) : Type 0 where
   pub largest : size n (bit A') + r ≤ size n (bit A) + r'
   pub least : size n (bit A') + r ≡ size n (bit A) + r' → r ≤ r'
-  pub in_order_lem : size n (bit A') + r ≡ size n (bit A) + r' → r' ≡ r → Ahead n A B A' B'
+  pub in_order : size n (bit A') + r ≡ size n (bit A) + r' → r' ≡ r → Ahead n A B A' B'
 
 -- of all that work, the one that comes before all others
 pub record FirstOf (n : ℕ) (Work : ℕ → ℕ → ℕ → Type 0) (r A B : ℕ) : Type 0 where

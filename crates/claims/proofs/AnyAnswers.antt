@@ -30,7 +30,7 @@ use Rattle.refusals.proofs.Lines.{passes, passed, held}
 use Rattle.refusals.proofs.Tests.{Sound}
 use Rattle.making.specs.MakeSheet.{MakeOutcome, make_form, make_done, make_not}
 use Rattle.making.proofs.Ready.{ready}
-use Rattle.any_gate.specs.MakeAny.{any_for, cells_any, is_unsplit, none_any, too_long_lem, any_says, any_lines, any_outcome}
+use Rattle.any_gate.specs.MakeAny.{any_for, cells_any, is_unsplit, none_any, too_long, any_says, any_lines, any_outcome}
 use Rattle.claims.specs.Words.{network_of}
 use Rattle.claims.specs.Before.{any_before_for, any_before}
 use Rattle.claims.proofs.MakeReply.{reply_done}
@@ -58,7 +58,7 @@ module _ (e : Edition) (d n K : ℕ) (t s work : List ℕ) where
       let q = ap number_of (sym (any_says_lem e d n K t s work)) ∙ h in
       let g = (ready e d n K t s work (passed (make_form e d n K t s work) (any_says (any_for n K t)) 8 refl q).0).gate in
       (any_unsplit n K (table_bit t) g.some g.two).0
-      (go (any_for n K t) (held (make_form e d n K t s work) (none_any (any_for n K t)) (too_long_lem (any_for n K t) ∷ []) 8 refl
+      (go (any_for n K t) (held (make_form e d n K t s work) (none_any (any_for n K t)) (too_long (any_for n K t) ∷ []) 8 refl
       refl (λ z. omega arith) q).0)
     where
       go : (a : Any) → is_unsplit a ≡ true → a ≡ unsplit

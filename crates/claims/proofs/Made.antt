@@ -17,7 +17,7 @@ use Rattle.chains.proofs.Aside.{table_gives, table_fits, table_read, table-recor
 use Rattle.refusals.specs.declared.verdicts.Verdict.{Verdict}
 use Rattle.refusals.specs.declared.verdicts.Verdict.TheVariants.{Fine}
 use Rattle.refusals.specs.Lines.{InOrder, verdict, reply}
-use Rattle.making.specs.Refusals.{chain_stuck, is_stuck_lem}
+use Rattle.making.specs.Refusals.{chain_stuck, is_stuck}
 use Rattle.refusals.proofs.Lines.{in_order_lem, passes}
 use Rattle.refusals.proofs.Tests.{Sound}
 use Rattle.making.specs.MakeSheet.{sheet_for, cells_in, make_form, make_lines, make_done, make_not, make_outcome}
@@ -51,7 +51,7 @@ module _ (e : Edition) (d n K : ℕ) (t sheet work : List ℕ) where
       r = ready e d n K t sheet work
           (order_before (make_form e d n K t sheet work) (chain_stuck (sheet_for n K t) ∷ []) w)
 
-      go : (c : Made) → sheet_for n K t ≡ c → is_stuck_lem c ≡ false → IsMade
+      go : (c : Made) → sheet_for n K t ≡ c → is_stuck c ≡ false → IsMade
       go stuck q g = absurd (clash refl g)
       go (made cs) q g = record {
         gate = r.gate;

@@ -27,7 +27,7 @@ use Rattle.chains.proofs.FirstReads.{first_reads_lem, sheet_constant}
 use Rattle.refusals.specs.declared.verdicts.Refusal.{Refusal}
 use Rattle.refusals.specs.declared.verdicts.Verdict.TheVariants.{Fine, Refused}
 use Rattle.refusals.specs.Lines.{InOrder, verdict, number_of, reply}
-use Rattle.making.specs.Refusals.{chain_stuck, is_stuck_lem}
+use Rattle.making.specs.Refusals.{chain_stuck, is_stuck}
 use Rattle.refusals.specs.Lent.{work_after}
 use Rattle.refusals.proofs.Lines.{passed, passes, held}
 use Rattle.refusals.proofs.Lent.{work_found}
@@ -141,7 +141,7 @@ module _ (e : Edition) (d n K : ℕ) (t sheet work : List ℕ) where
       (is_stuck_lem (sheet_for n K t) (held (make_form e d n K t sheet work) (chain_stuck (sheet_for n K t)) [] 8 refl refl
       (λ z. omega arith) q).0)
     where
-      is_stuck_lem : (c : Made) → is_stuck_lem c ≡ true → c ≡ stuck
+      is_stuck_lem : (c : Made) → is_stuck c ≡ true → c ≡ stuck
       is_stuck_lem stuck g = refl
       is_stuck_lem (made cs) g = absurd (clash g refl)
 

@@ -20,7 +20,7 @@ use Rattle.bits.proofs.Below.{every_at}
 use Rattle.bits.proofs.Lists.{list_at}
 use Rattle.tables.specs.Table.{table_length, table_bit, spare_clear, table_of, bytes_of}
 use Rattle.tables.specs.Words.{gate_word}
-use Rattle.tables.specs.Cells.{cell_words, joined, table_number, no_table_lem}
+use Rattle.tables.specs.Cells.{cell_words, joined, table_number, no_table}
 use Rattle.tables.proofs.Digits.{short_word, past_words}
 use Rattle.tables.proofs.Bytes.{table_bytes, byte_at, length_bytes, length-holds, length-table, table-of}
 use Rattle.splits.specs.Split.{reads_d, reads_h, input_h}
@@ -83,7 +83,7 @@ spare_zero n f x h l =
 -- ---- the tables of a possible split, as try returns them: H in the first bytes of a room, the first cells' as numbers
 
 -- no bit set is the number 0
-no_table_lem : table_number no_table_lem ≡ 0
+no_table_lem : table_number no_table ≡ 0
 unfolding joined
 no_table_lem =
     number_ext (64 * cell_words) (λ x. bit (get_or no_table.words (x / 64) 0) (x % 64)) (λ x. false) (λ x h.
@@ -96,7 +96,7 @@ module _ (n : ℕ) (F : ℕ → Bool) (A B : ℕ → Bool) (r : ℕ) (small : si
   first-number : (t : ℕ) → table_number (first_table n F A B r t) ≡ cond (ltb t r) (table_d n F A B t) 0
   first-number t = go (ltb t r)
     where
-      go : (b : Bool) → table_number (cond b (held_d n F A B t) no_table_lem) ≡ cond b (table_d n F A B t) 0
+      go : (b : Bool) → table_number (cond b (held_d n F A B t) no_table) ≡ cond b (table_d n F A B t) 0
       go true = table-D n F A B t small
       go false = no_table_lem
 
@@ -117,7 +117,7 @@ module _ (n : ℕ) (F : ℕ → Bool) (A B : ℕ → Bool) (r t : ℕ) (small : 
   unfolding table_d
   table-word = go (ltb t r)
     where
-      go : (b : Bool) → get_or (cond b (held_d n F A B t) no_table_lem).words 0 0 ≡ cond b (number (2 ^ k) (bit_d n F A B t)) 0
+      go : (b : Bool) → get_or (cond b (held_d n F A B t) no_table).words 0 0 ≡ cond b (number (2 ^ k) (bit_d n F A B t)) 0
       go true = list_at cell_words (gate_word k (bit_d n F A B t)) 0 0 (lit< tt)
           ∙ sym (short_word k (bit_d n F A B t) small)
       go false = refl
@@ -125,7 +125,7 @@ module _ (n : ℕ) (F : ℕ → Bool) (A B : ℕ → Bool) (r t : ℕ) (small : 
   pub table-rest : (i : ℕ) → 1 ≤ i → i < cell_words → get_or (first_table n F A B r t).words i 0 ≡ 0
   table-rest i p l = go (ltb t r)
     where
-      go : (b : Bool) → get_or (cond b (held_d n F A B t) no_table_lem).words i 0 ≡ 0
+      go : (b : Bool) → get_or (cond b (held_d n F A B t) no_table).words i 0 ≡ 0
       go true =
           list_at cell_words (gate_word k (bit_d n F A B t)) i 0 l
           ∙ past_words k i (bit_d n F A B t) (omega (arith, pow_mono {i = k - 6} {j = 0} (omega arith)))

@@ -29,7 +29,7 @@ use Rattle.making.specs.MakeSheet.{make_outcome}
 use Rattle.any_gate.specs.MakeAny.{any_outcome}
 use Rattle.inspection.specs.CheckSheet.{check_outcome}
 use Rattle.clauses.specs.Variables.{reads_many, many_many, differ_many, apart_many, same_many, number_of as variable_number}
-use Rattle.clauses.specs.Clause.{those, clause, in_order_lem}
+use Rattle.clauses.specs.Clause.{those, clause, in_order}
 use Rattle.clauses.specs.Step.{two, four, asked, kinds_of, length_of, clause_at}
 use Rattle.following.specs.Values.{open_after}
 use Rattle.following.specs.Following.{denied, used, follows, literals_named, hints_earlier}
@@ -171,7 +171,7 @@ certificate = header ++ different ++ reading ++ counting ++ empty
 
 pub three_answer : (work : List ℕ) → 294 ≤ length work → (too_few_outcome 1 3 2 1 three certificate work).verdict ≡ Fine
 unfolding too_few_outcome edition_of spare_clear header_in_order steps step_in_order two four kinds_of length_of clause_at clause
-    in_order_lem variable_number reads_many many_many differ_many apart_many same_many those list_of follows literals_named
+    in_order variable_number reads_many many_many differ_many apart_many same_many those list_of follows literals_named
     hints_earlier denied used open_after
 three_answer work h = rw (le-ltb (length work) 294 h)
 

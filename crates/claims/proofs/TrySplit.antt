@@ -15,7 +15,7 @@ use Rattle.bits.specs.Numbers.{bit, val, number}
 use Rattle.bits.specs.Sets.{size, gather}
 use Rattle.bits.proofs.Bools.{clash, false_of}
 use Rattle.tables.specs.Table.{table_length, table_bit}
-use Rattle.tables.specs.Cells.{cell_words, table_number, no_table_lem}
+use Rattle.tables.specs.Cells.{cell_words, table_number, no_table}
 use Rattle.tables.proofs.Bytes.{length-table}
 use Rattle.splits.specs.Split.{Possible, reads_d, input_h}
 use Rattle.splits.specs.Columns.{most_first, column, columns, few_columns, first_broken}
@@ -236,7 +236,7 @@ module _ (e : Edition) (n K A B : ℕ) (t room : List ℕ) (done : (try_outcome 
   where
     -- D is document 01's, and there is no other table; H is document 01's, before the bytes that stay
     pub tried_one : ((try_outcome e n K 1 A B t room).answer.d
-        ≡ record { first = held_d n (table_bit t) (bit A) (bit B) 0; second = no_table_lem; third = no_table_lem })
+        ≡ record { first = held_d n (table_bit t) (bit A) (bit B) 0; second = no_table; third = no_table })
         × ((try_outcome e n K 1 A B t room).room ≡ into (bytes_h n (table_bit t) (bit A) (bit B) 1) room)
     tried_one = (ap (λ o. o.answer.d) (is e n K 1 A B t room done), ap (λ o. o.room) (is e n K 1 A B t room done))
 

@@ -14,7 +14,7 @@ use Rattle.refusals.proofs.Lines.{not_fine}
 use Rattle.turning.specs.declared.ways.Way.{Way}
 use Rattle.turning.specs.declared.turn.TurnAnswer.{TurnAnswer}
 use Rattle.turning.specs.Ways.{IsWay, Reachable, FirstWay, way_count}
-use Rattle.turning.specs.Listing.{way_at_lem, first_way_lem}
+use Rattle.turning.specs.Listing.{way_at, first_way}
 use Rattle.book.specs.Book.{table_count, entry}
 use Rattle.turning.specs.Reach.{reaches}
 use Rattle.turning.specs.Turn.{turn_lines, turn_done, turn_not, turn_outcome}
@@ -73,7 +73,7 @@ module _ (f g : ℕ) where
       go : (t : Bool) → reaches f g ≡ t → FirstWay f g (turn_outcome f g).way
       go true h =
           subst (λ (a : TurnAnswer). FirstWay f g a.way) (sym (by_test h))
-          (first_way_lem f g (ltb-true (first_way_lem f g) way_count h))
+          (first_way_lem f g (ltb-true (first_way f g) way_count h))
       go false h = absurd (not_fine (refusal 21 0) (sym done ∙ ap (λ (a : TurnAnswer). a.verdict) (by_test h)))
 
   -- and there is one exactly when the book has the same entry for both
@@ -87,8 +87,8 @@ module _ (f g : ℕ) where
       reached w = record { way = (turn_outcome f g).way; is = w.is; turns = w.turns }
 
 -- there are 96 ways in all: each has its place in the listing, and at each place stands one
-pub all_listed : (w : Way) → IsWay w → (rank w < way_count) × (way_at_lem (rank w) ≡ w)
+pub all_listed : (w : Way) → IsWay w → (rank w < way_count) × (way_at (rank w) ≡ w)
 all_listed w k = (rank_lt w k, listed w k)
 
-pub only_ways : (i : ℕ) → i < way_count → IsWay (way_at_lem i)
+pub only_ways : (i : ℕ) → i < way_count → IsWay (way_at i)
 only_ways = way_at_lem

@@ -19,7 +19,7 @@ use Rattle.clauses.specs.declared.given.Given.TheVariants.{Even, Table, Used, Sw
 use Rattle.clauses.specs.Variables.{IsSize, Named, variable_of, literal_of, variables}
 use Rattle.clauses.specs.Swapping.{swappable}
 use Rattle.clauses.specs.Clause.{Question, those, rows_differ, evenly, as_table, clause, is_cell, are_rows, are_inputs}
-use Rattle.clauses.specs.Clause.{in_order_lem}
+use Rattle.clauses.specs.Clause.{in_order}
 use Rattle.clauses.specs.Shapes.{AllNamed}
 use Rattle.clauses.proofs.Sizes.{number_below}
 
@@ -100,8 +100,8 @@ module _ (q : Question) (w : IsSize q.size) where
   abbrev z : Size
   z = q.size
 
-  pub named : (g : Given) → in_order_lem q.size q.table g ≡ true → AllNamed q.size (clause q g)
-  unfolding in_order_lem clause
+  pub named : (g : Given) → in_order q.size q.table g ≡ true → AllNamed q.size (clause q g)
+  unfolding in_order clause
   named (OneMore i p t) h =
       let k = count_true z i p t z.cell h in
       ((k.0, omega arith), ((k.0, omega arith, omega arith), ((k.0, omega arith, omega arith), tt)))

@@ -78,18 +78,18 @@ abbrev pub are_inputs : Size → ℕ → ℕ → Bool
 are_inputs z p r = ltb p r && ltb r z.inputs
 
 -- in order: what the fields name exists, and of kind 11 the two inputs of the table F are swappable
-unfoldable pub in_order_lem : Size → (ℕ → Bool) → Given → Bool
-in_order_lem z F (OneMore i p t) = is_cell z i && (ltb p (z.inputs + i) && leb t z.cell)
-in_order_lem z F (AsMany i p t) = is_cell z i && (ltb p (z.inputs + i) && leb t (z.cell + 1))
-in_order_lem z F (None i) = is_cell z i
-in_order_lem z F (Most i) = is_cell z i
-in_order_lem z F (Cause i a b) = is_cell z i && are_rows z a b
-in_order_lem z F (Read i j a b) = is_cell z i && (ltb j i && are_rows z a b)
-in_order_lem z F (Differs i j a b) = is_cell z i && (ltb j i && are_rows z a b)
-in_order_lem z F (Even i a b s) = is_cell z i && (are_rows z a b && leb s 3)
-in_order_lem z F (Table a b) = are_rows z a b
-in_order_lem z F (Used i) = ltb (i + 1) z.cells
-in_order_lem z F (Swap p r) = are_inputs z p r && swappable z.inputs F p r
-in_order_lem z F (Sorted p r i) = are_inputs z p r && is_cell z i
-in_order_lem z F (Both p r i) = are_inputs z p r && is_cell z i
-in_order_lem z F (Neither p r i) = are_inputs z p r && is_cell z i
+unfoldable pub in_order : Size → (ℕ → Bool) → Given → Bool
+in_order z F (OneMore i p t) = is_cell z i && (ltb p (z.inputs + i) && leb t z.cell)
+in_order z F (AsMany i p t) = is_cell z i && (ltb p (z.inputs + i) && leb t (z.cell + 1))
+in_order z F (None i) = is_cell z i
+in_order z F (Most i) = is_cell z i
+in_order z F (Cause i a b) = is_cell z i && are_rows z a b
+in_order z F (Read i j a b) = is_cell z i && (ltb j i && are_rows z a b)
+in_order z F (Differs i j a b) = is_cell z i && (ltb j i && are_rows z a b)
+in_order z F (Even i a b s) = is_cell z i && (are_rows z a b && leb s 3)
+in_order z F (Table a b) = are_rows z a b
+in_order z F (Used i) = ltb (i + 1) z.cells
+in_order z F (Swap p r) = are_inputs z p r && swappable z.inputs F p r
+in_order z F (Sorted p r i) = are_inputs z p r && is_cell z i
+in_order z F (Both p r i) = are_inputs z p r && is_cell z i
+in_order z F (Neither p r i) = are_inputs z p r && is_cell z i

@@ -41,8 +41,8 @@ abbrev pub Within : ℕ → ℕ → ℕ → Type 0
 Within n m x = x ≡ spread n (bit m) (gather n (bit m) x)
 
 -- what the first cells of a split of masks read
-abbrev pub first_reads_lem : Split → ℕ → Bool
-first_reads_lem s = reads_d (bit s.own) (bit s.shared)
+abbrev pub first_reads : Split → ℕ → Bool
+first_reads s = reads_d (bit s.own) (bit s.shared)
 
 -- what H reads besides their outputs
 abbrev pub last_reads : Split → ℕ → Bool
@@ -58,7 +58,7 @@ shared_part s x = gather s.n (bit s.shared) x
 
 -- the bits of x at own and shared inputs
 abbrev pub read_from : Split → ℕ → ℕ
-read_from s x = spread s.n (first_reads_lem s) (gather s.n (first_reads_lem s) x)
+read_from s x = spread s.n (first_reads s) (gather s.n (first_reads s) x)
 
 -- the column of (a,b)
 abbrev pub column_of : Split → (ℕ → Bool) → ℕ → ℕ → ℕ

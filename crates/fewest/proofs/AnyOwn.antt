@@ -32,7 +32,7 @@ use Rattle.best.specs.Search.{split, best}
 use Rattle.best.proofs.Best.{best_split, best_some}
 use Rattle.sheets.specs.Network.{Cell}
 use Rattle.bits.proofs.Lists.{default}
-use Rattle.chains.specs.Chain.{first_cell_lem, next_signals, next_table, last_cell}
+use Rattle.chains.specs.Chain.{first_cell, next_signals, next_table, last_cell}
 use Rattle.chains.specs.Words.{Makes, ends, goes}
 use Rattle.fewest.specs.Joining.{AnyOwn}
 use Rattle.chains.proofs.One.{next-inputs, next-length}
@@ -241,7 +241,7 @@ any_made (suc f) K i l T two h some any = elim (dec_lt K (length l)) [
         (omega (arith, next, t.full))
         (any_table l T t.A t.B i t.alone any) in
         record {
-          cells = first_cell_lem l T t.A t.B ∷ w.cells;
+          cells = first_cell l T t.A t.B ∷ w.cells;
           makes = goes g t.is_best w.makes;
           p = suc w.p;
           count = ap suc w.count;

@@ -21,7 +21,7 @@ use Rattle.best.specs.Search.{split, best}
 use Rattle.best.proofs.Best.{best_split, best_some}
 use Rattle.best.proofs.Counting.{gather-size, gather_candidate, gather_possible}
 use Rattle.sheets.specs.Network.{Cell, Gives, Carries}
-use Rattle.chains.specs.Chain.{pick, first_cell_lem, next_signals, next_table, last_cell, made, inputs}
+use Rattle.chains.specs.Chain.{pick, first_cell, next_signals, next_table, last_cell, made, inputs}
 use Rattle.chains.specs.Aside.{sheet_aside}
 use Rattle.chains.specs.Words.{Makes, ends, goes}
 use Rattle.cofactors.specs.Any.{sheet, any_aside}
@@ -113,7 +113,7 @@ module _ (n K : ℕ) (F : ℕ → Bool) where
                       counting more,
                 ) in
                 let longer : K < length l = omega (arith, size_is) in (
-                  first_cell_lem l U A' B' ∷ last_cell (next_signals l A' B' n) (next_table l U A' B') ∷ [],
+                  first_cell l U A' B' ∷ last_cell (next_signals l A' B' n) (next_table l U A' B') ∷ [],
                   goes longer b
                       (ends short),
                   never_one,

@@ -13,7 +13,7 @@ use Rattle.tables.specs.Table.{table_bit}
 use Rattle.clauses.specs.declared.variables.Size.{Size}
 use Rattle.clauses.specs.declared.variables.Literal.{Literal}
 use Rattle.clauses.specs.Variables.{IsSize, literal_of, variables}
-use Rattle.clauses.specs.Clause.{Question, clause, in_order_lem}
+use Rattle.clauses.specs.Clause.{Question, clause, in_order}
 use Rattle.clauses.specs.Step.{kind_at, given_at, literals_at, literal_at, question_in, clause_at}
 use Rattle.clauses.specs.Shapes.{AllNamed}
 use Rattle.clauses.proofs.Naming.{named, literal_below}

@@ -5,7 +5,7 @@ use Rattle.bits.specs.Lists.{byte_at}
 use Rattle.tables.specs.Table.{table_bit}
 use Rattle.clauses.specs.declared.variables.Size.{Size}
 use Rattle.clauses.specs.Variables.{variables}
-use Rattle.clauses.specs.Clause.{in_order_lem}
+use Rattle.clauses.specs.Clause.{in_order}
 use Rattle.clauses.specs.Step.{four, kind_at, given_at, literals_at, literal_at, hints_at}
 use Rattle.following.specs.declared.trail.Trail.{Trail}
 use Rattle.following.specs.Following.{Following, conflict, going}
@@ -23,7 +23,7 @@ AllThere c at = at + 7 + 4 * literals_at c at + 4 * hints_at c at ≤ length c
 pub record Usable (z : Size) (t c : List ℕ) (at : ℕ) : Type 0 where
   pub inside : at < length c
   pub derived : kind_at c at ≡ 0 → LiteralsIn (variables z) c at
-  pub given : (kind_at c at ≡ 0 → ⊥) → in_order_lem z (table_bit t) (given_at c at) ≡ true
+  pub given : (kind_at c at ≡ 0 → ⊥) → in_order z (table_bit t) (given_at c at) ≡ true
 
 -- x was written at a place, in four bytes, and nothing else
 pub record Wrote (before : List ℕ) (at x : ℕ) (after : List ℕ) : Type 0 where

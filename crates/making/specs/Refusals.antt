@@ -5,10 +5,10 @@ use Rattle.refusals.specs.Numbers.{of_split}
 use Rattle.refusals.specs.Lines.{Line, line}
 
 -- whether the chain is stuck
-abbrev pub is_stuck_lem : Made → Bool
-is_stuck_lem stuck = true
-is_stuck_lem (made cs) = false
+abbrev pub is_stuck : Made → Bool
+is_stuck stuck = true
+is_stuck (made cs) = false
 
 -- 8: a table in the chain with more than K inputs has none
 abbrev pub chain_stuck : Made → Line
-chain_stuck c = line of_split (is_stuck_lem c)
+chain_stuck c = line of_split (is_stuck c)

@@ -19,7 +19,7 @@ use Rattle.sheets.specs.Record.{cell_bit, cell_of}
 use Rattle.sheets.specs.Sheet.{record_at, cells_from, sheet_cells}
 use Rattle.sheets.specs.Reading.{times}
 use Rattle.printing.specs.Forms.{mark_of}
-use Rattle.printing.specs.Printable.{Plain, AllPlain, plain_cell, all_plain_lem}
+use Rattle.printing.specs.Printable.{Plain, AllPlain, plain_cell, all_plain}
 
 module _ (e : Edition) (b : ℕ → ℕ) where
   pub signals_length : length (cell_of e b).signals ≡ b 0
@@ -130,18 +130,18 @@ module _ (e : Edition) (s : List ℕ) where
 
   -- ---- whether all are plain, from record i on
 
-  module _ (i m : ℕ) (X : Bool) (so : all_plain_lem (cells_from e s i (m - i)) ≡ X) where
+  module _ (i m : ℕ) (X : Bool) (so : all_plain (cells_from e s i (m - i)) ≡ X) where
     pub plain_stops : i < m → plain_cell (cell_of e (record_at e s i)) ≡ false → false ≡ X
-    plain_stops h q = sym (ap (λ (t : Bool). t && all_plain_lem (cells_from e s (i + 1) (m - (i + 1)))) q)
-        ∙ sym (ap all_plain_lem (cells_next i m h)) ∙ so
+    plain_stops h q = sym (ap (λ (t : Bool). t && all_plain (cells_from e s (i + 1) (m - (i + 1)))) q)
+        ∙ sym (ap all_plain (cells_next i m h)) ∙ so
 
     pub plain_goes : i < m → plain_cell (cell_of e (record_at e s i)) ≡ true
-        → all_plain_lem (cells_from e s (i + 1) (m - (i + 1))) ≡ X
-    plain_goes h q = sym (ap (λ (t : Bool). t && all_plain_lem (cells_from e s (i + 1) (m - (i + 1)))) q)
-        ∙ sym (ap all_plain_lem (cells_next i m h)) ∙ so
+        → all_plain (cells_from e s (i + 1) (m - (i + 1))) ≡ X
+    plain_goes h q = sym (ap (λ (t : Bool). t && all_plain (cells_from e s (i + 1) (m - (i + 1)))) q)
+        ∙ sym (ap all_plain (cells_next i m h)) ∙ so
 
     pub plain_ends : m ≤ i → true ≡ X
-    plain_ends h = sym (ap all_plain_lem (cells_end i m h)) ∙ so
+    plain_ends h = sym (ap all_plain (cells_end i m h)) ∙ so
 
 -- ---- a pair
 

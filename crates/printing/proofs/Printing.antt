@@ -27,7 +27,7 @@ use Rattle.values.specs.Formula.{value}
 use Rattle.formulas.specs.Text.{most_text, ReadAs}
 use Rattle.printing.specs.Forms.{mark_of}
 use Rattle.printing.specs.Print.{printed, sheet_text, formula_of}
-use Rattle.printing.specs.Printable.{Plain, AllPlain, Printable, plain_cell, all_plain_lem, once_read, not_printed}
+use Rattle.printing.specs.Printable.{Plain, AllPlain, Printable, plain_cell, all_plain, once_read, not_printed}
 use Rattle.printing.specs.Put.{Put, Room}
 use Rattle.printing.specs.WriteFormula.{write_lines, write_done}
 use Rattle.printing.proofs.Cells.{table-lt}
@@ -69,16 +69,16 @@ module _ (c : Cell) (fits : c.table < 2 ^ (2 ^ length c.signals)) where
           (lt-ltb 0 (mark_of c.table) (depends_mark c.table (small e) (p.both e)))
 
 module _ (e : Edition) (s : List ℕ) where
-  pub plain_all : (m i : ℕ) → all_plain_lem (cells_from e s i m) ≡ true → AllPlain (cells_from e s i m)
+  pub plain_all : (m i : ℕ) → all_plain (cells_from e s i m) ≡ true → AllPlain (cells_from e s i m)
   unfolding cells_from
   plain_all zero i h = tt
   plain_all (suc m) i h =
       let c = cell_of e (record_at e s i) in (
-        plain_is c (table-lt e (record_at e s i)) (and_left (plain_cell c) (all_plain_lem (cells_from e s (suc i) m)) h),
-        plain_all m (suc i) (and_right (plain_cell c) (all_plain_lem (cells_from e s (suc i) m)) h),
+        plain_is c (table-lt e (record_at e s i)) (and_left (plain_cell c) (all_plain (cells_from e s (suc i) m)) h),
+        plain_all m (suc i) (and_right (plain_cell c) (all_plain (cells_from e s (suc i) m)) h),
       )
 
-  all_plain_lem : (m i : ℕ) → AllPlain (cells_from e s i m) → all_plain_lem (cells_from e s i m) ≡ true
+  all_plain_lem : (m i : ℕ) → AllPlain (cells_from e s i m) → all_plain (cells_from e s i m) ≡ true
   unfolding cells_from
   all_plain_lem zero i p = refl
   all_plain_lem (suc m) i p = ap₂ (λ (a b : Bool). a && b)
@@ -104,10 +104,10 @@ module _ (e : Edition) (n : ℕ) (s : List ℕ) where
   -- line 16 lets through exactly the sheets that are printed
   pub printed_exactly : ((not_printed e n s).holds ≡ false) ↔ Printable n cells
   printed_exactly = (
-    λ h. let b = not-false (all_plain_lem cells && once_read n cells) h in
+    λ h. let b = not-false (all_plain cells && once_read n cells) h in
         record {
-          plain = plain_all e s (records e s) 0 (and_left (all_plain_lem cells) (once_read n cells) b);
-          once = once_is n cells (and_right (all_plain_lem cells) (once_read n cells) b);
+          plain = plain_all e s (records e s) 0 (and_left (all_plain cells) (once_read n cells) b);
+          once = once_is n cells (and_right (all_plain cells) (once_read n cells) b);
         },
     λ p. ap₂ (λ (a b : Bool). not (a && b)) (all_plain_lem e s (records e s) 0 p.plain) (is_once n cells p.once),
   )

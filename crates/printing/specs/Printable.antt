@@ -35,9 +35,9 @@ abbrev pub plain_cell : Cell → Bool
 plain_cell c = eqb (length c.signals) 1 || (eqb (length c.signals) 2 && ltb 0 (mark_of c.table))
 
 -- whether all are
-abbrev pub all_plain_lem : List Cell → Bool
-all_plain_lem [] = true
-all_plain_lem (c ∷ cs) = plain_cell c && all_plain_lem cs
+abbrev pub all_plain : List Cell → Bool
+all_plain [] = true
+all_plain (c ∷ cs) = plain_cell c && all_plain cs
 
 -- each cell but the last is read once
 abbrev pub once_read : ℕ → List Cell → Bool
@@ -47,4 +47,4 @@ once_read n cs = every (length cs - 1) (λ i. eqb (reads (n + i) cs) 1)
 abbrev pub not_printed : Edition → ℕ → List ℕ → Line
 not_printed e n s =
     let cs = sheet_cells e s (records e s) in
-    line of_text (not (all_plain_lem cs && once_read n cs))
+    line of_text (not (all_plain cs && once_read n cs))

@@ -8,7 +8,7 @@ use lib.Dec.{eqb, leb}
 use lib.ListN.{length}
 use borrow.Author.Tests.{le-leb, lt-leb, leb-true}
 use Rattle.bits.proofs.Bools.{and_left, and_right}
-use Rattle.clauses.specs.Clause.{Question, in_order_lem}
+use Rattle.clauses.specs.Clause.{Question, in_order}
 use Rattle.clauses.specs.Step.{kind_at, literals_at, hints_at, given_at, lengths, length_of, step_length}
 use Rattle.following.specs.Following.{derived_in_order}
 use Rattle.refuting.specs.Steps.{step_in_order}
@@ -77,7 +77,7 @@ module _ (c : List ℕ) (at : ℕ) where
   -- whether it is in order
   module _ (q : Question) (begun : ℕ → Bool) where
     abbrev rest : Bool
-    rest = cond (eqb (kind_at c at) 0) (derived_in_order q c at begun) (in_order_lem q.size q.table (given_at c at))
+    rest = cond (eqb (kind_at c at) 0) (derived_in_order q c at begun) (in_order q.size q.table (given_at c at))
 
     regroup : (a b d : Bool) → (a && (b && d)) ≡ ((a && b) && d)
     regroup true b d = refl

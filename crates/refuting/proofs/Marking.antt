@@ -14,7 +14,7 @@ use Rattle.bits.proofs.Bools.{and_left, and_right, clash}
 use Rattle.tables.specs.Table.{table_bit}
 use Rattle.clauses.specs.declared.variables.Size.{Size}
 use Rattle.clauses.specs.Variables.{variables}
-use Rattle.clauses.specs.Clause.{in_order_lem}
+use Rattle.clauses.specs.Clause.{in_order}
 use Rattle.clauses.specs.Step.{kind_at, given_at, literals_at, hints_at, literal_at, question_in}
 use Rattle.following.specs.Following.{literals_named, hints_earlier, follows, derived_in_order}
 use Rattle.following.specs.Standing.{AllThere, LiteralsIn, Usable, Kept, Clean, begun_in, Ready}
@@ -62,20 +62,20 @@ module _ (z : Size) (t c work mid : List ℕ) (at : ℕ) (k : Kept (variables z)
 
   -- the step's clause can be read
   usable_here : cond (eqb (kind_at c at) 0) (derived_in_order (question_in z t c) c at (begun_in V' (length c) work))
-      (in_order_lem z (table_bit t) (given_at c at)) ≡ true → Usable z t c at
+      (in_order z (table_bit t) (given_at c at)) ≡ true → Usable z t c at
   usable_here h = record {
     inside = inside;
     derived = λ e. named_literals z t c at (omega (arith, derived_length c at e, all.there))
         (and_left (literals_named (question_in z t c) c at) (hints_earlier (question_in z t c) c at (begun_in V' (length c) work)
         && follows (question_in z t c) c at)
         (sym (ap (λ (b : Bool). cond b (derived_in_order (question_in z t c) c at (begun_in V' (length c) work))
-        (in_order_lem z (table_bit t) (given_at c at))) (eq-eqb (kind_at c at) 0 e)) ∙ h));
+        (in_order z (table_bit t) (given_at c at))) (eq-eqb (kind_at c at) 0 e)) ∙ h));
     given = λ e. sym (ap (λ (b : Bool). cond b (derived_in_order (question_in z t c) c at (begun_in V' (length c) work))
-        (in_order_lem z (table_bit t) (given_at c at))) (ne_eqb (kind_at c at) 0 e)) ∙ h;
+        (in_order z (table_bit t) (given_at c at))) (ne_eqb (kind_at c at) 0 e)) ∙ h;
   }
 
   pub ready_next : cond (eqb (kind_at c at) 0) (derived_in_order (question_in z t c) c at (begun_in V' (length c) work))
-      (in_order_lem z (table_bit t) (given_at c at)) ≡ true → Ready z t c end
+      (in_order z (table_bit t) (given_at c at)) ≡ true → Ready z t c end
   ready_next h = record {
     room = omega (arith, r.room, k.long, length-set mid (V' + at) 1);
     clean = λ v l. there v (λ e. omega arith) ∙ clean v l;

@@ -8,7 +8,7 @@ use lib.Dec.{eqb, leb, ltb}
 use lib.ListN.{length}
 use borrow.Author.Tests.{le-ltb, lt-ltb, leb-true}
 use Rattle.bits.proofs.Bools.{and_left}
-use Rattle.clauses.specs.Clause.{Question, in_order_lem}
+use Rattle.clauses.specs.Clause.{Question, in_order}
 use Rattle.clauses.specs.Step.{rows_in, kind_at, given_at, step_length}
 use Rattle.following.specs.Following.{derived_in_order}
 use Rattle.refuting.specs.Steps.{Shown, shown, not_shown, step_in_order, also_at, is_empty, ended, steps, all_steps}
@@ -23,7 +23,7 @@ module _ (q : Question) (c : List ℕ) where
   unfolding step_in_order
   moves begun at h =
       leb-true 1 (step_length c at) (and_left (leb 1 (step_length c at)) (leb (at + step_length c at) (length c)
-      && cond (eqb (kind_at c at) 0) (derived_in_order q c at begun) (in_order_lem q.size q.table (given_at c at))) h)
+      && cond (eqb (kind_at c at) 0) (derived_in_order q c at begun) (in_order q.size q.table (given_at c at))) h)
 
   -- as many turns as there are bytes left are enough
   enough : (k m at : ℕ) (begun : ℕ → Bool) (empty : Bool) → length c ≤ at + k → length c ≤ at + m

@@ -1,7 +1,7 @@
 -- A certificate: the header, and the steps one after the other.
 use Rattle.std.specs.Prelude.{Bool, true, false, cond, ◌&&◌, ◌||◌, List, ℕ, zero, suc, ◌+◌, ◌*◌, ◌^◌, eqb, leb, ltb, length}
 use Rattle.bits.specs.Below.{every}
-use Rattle.clauses.specs.Clause.{Question, in_order_lem}
+use Rattle.clauses.specs.Clause.{Question, in_order}
 use Rattle.clauses.specs.Step.{rows_in, row_at, kind_at, literals_at, given_at, step_length}
 use Rattle.following.specs.Following.{derived_in_order}
 
@@ -25,7 +25,7 @@ module _ (q : Question) (c : List ℕ) where
   unfoldable pub step_in_order : (ℕ → Bool) → ℕ → Bool
   step_in_order begun at =
       leb 1 (step_length c at) && (leb (at + step_length c at) (length c)
-      && cond (eqb (kind_at c at) 0) (derived_in_order q c at begun) (in_order_lem q.size q.table (given_at c at)))
+      && cond (eqb (kind_at c at) 0) (derived_in_order q c at begun) (in_order q.size q.table (given_at c at)))
 
   -- a place more at which a step begins
   abbrev pub also_at : ℕ → (ℕ → Bool) → ℕ → Bool

@@ -26,5 +26,5 @@ abbrev pub table_number : CellTable → ℕ
 table_number c = joined cell_words c.words
 
 -- no bit is set
-abbrev pub no_table_lem : CellTable
-no_table_lem = record { words = replicate cell_words 0 }
+abbrev pub no_table : CellTable
+no_table = record { words = replicate cell_words 0 }

@@ -23,7 +23,7 @@ use Rattle.best.specs.Search.{Answer, none, split, best}
 use Rattle.best.proofs.Best.{best_split}
 use Rattle.best.proofs.Next.{next-counts}
 use Rattle.sheets.specs.Network.{Cell}
-use Rattle.chains.specs.Chain.{pick, first_cell_lem, next_signals, next_table, last_cell, Made, stuck, made, inputs}
+use Rattle.chains.specs.Chain.{pick, first_cell, next_signals, next_table, last_cell, Made, stuck, made, inputs}
 use Rattle.chains.specs.Aside.{sheet_aside}
 use Rattle.chains.specs.Words.{Makes, ends, goes}
 use Rattle.chains.proofs.Lists.{pick-length}
@@ -90,7 +90,7 @@ tree_makes (suc k) i l T all w h = elim (dec_lt 2 (length l)) [
             (λ _. subst (λ (m : ℕ). AllCount m (bit (next_table l T A B))) q (next-counts n 2 (bit T) A B b (all g)))
             (u.0, subst (λ (m : ℕ). Computes m (bit (next_table l T A B)) u.0) q u.1)
             (omega (arith, next-shorter l i b)) in
-            (first_cell_lem l T A B ∷ r.0, goes g b r.1)
+            (first_cell l T A B ∷ r.0, goes g b r.1)
 
 -- ---- the sheet of the gate's table F
 module _ (n : ℕ) (F : ℕ → Bool) (p : 1 ≤ n) where

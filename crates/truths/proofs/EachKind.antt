@@ -14,7 +14,7 @@ use Rattle.clauses.specs.declared.variables.Variable.{Variable}
 use Rattle.clauses.specs.declared.given.Given.{Given}
 use Rattle.clauses.specs.declared.given.Given.TheVariants.{OneMore, AsMany, None, Most, Cause, Read, Differs}
 use Rattle.clauses.specs.declared.given.Given.TheVariants.{Even, Table, Used, Swap, Sorted, Both, Neither}
-use Rattle.clauses.specs.Clause.{Question, clause, is_cell, are_rows, are_inputs, in_order_lem}
+use Rattle.clauses.specs.Clause.{Question, clause, is_cell, are_rows, are_inputs, in_order}
 use Rattle.truths.specs.Meaning.{means}
 use Rattle.truths.proofs.OneTrue.{OneTrue}
 use Rattle.truths.proofs.Counts.{one_more, as_many, at_least-none, at_most}
@@ -54,8 +54,8 @@ module _ (q : Question)
   abbrev h : Variable → Bool
   h = means q.size.inputs q.table q.row S.used.cells
 
-  pub kind_true : (g : Given) → in_order_lem q.size q.table g ≡ true → OneTrue q.size h (clause q g)
-  unfolding in_order_lem clause
+  pub kind_true : (g : Given) → in_order q.size q.table g ≡ true → OneTrue q.size h (clause q g)
+  unfolding in_order clause
   kind_true (OneMore i p t) e =
       let (a, b, c) = three (is_cell z i) (ltb p (z.inputs + i)) (leb t z.cell) e in
       one_more z F row cs i (ltb-true i z.cells a) p t (ltb-true p (z.inputs + i) b) (leb-true t z.cell c)

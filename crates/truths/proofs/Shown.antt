@@ -18,7 +18,7 @@ use Rattle.networks.specs.Sorted.{Sorted}
 use Rattle.networks.proofs.Sorting.{all_sorted}
 use Rattle.clauses.specs.declared.given.Given.{Given}
 use Rattle.clauses.specs.Variables.{literal_of}
-use Rattle.clauses.specs.Clause.{Question, clause, in_order_lem}
+use Rattle.clauses.specs.Clause.{Question, clause, in_order}
 use Rattle.clauses.specs.Step.{rows_in, row_at, asked, kind_at, literals_at, literal_at, hints_at, hint_at, given_at}
 use Rattle.clauses.specs.Step.{step_length, clause_at}
 use Rattle.following.specs.Following.{follows, literals_named, hints_earlier, derived_in_order}
@@ -34,7 +34,7 @@ not-shown e = let z : ◌≡◌ {A = ℕ} 0 1 = cc in omega arith
 
 -- ---- where the clauses of kinds 1 to 14 are true
 module _ (q : Question) (c : List ℕ) (τ : ℕ → Bool)
-    (given : (g : Given) → in_order_lem q.size q.table g ≡ true
+    (given : (g : Given) → in_order q.size q.table g ≡ true
     → some_true τ (map (literal_of q.size) (clause q g)) ≡ true) where
   -- the steps that begin at the places so marked are true
   abbrev Held : (ℕ → Bool) → Type 0
@@ -49,9 +49,9 @@ module _ (q : Question) (c : List ℕ) (τ : ℕ → Bool)
       (and_right (leb 1 (step_length c at)) (leb (at + step_length c at) (length c) && order) e))
     where
       order : Bool
-      order = cond (eqb (kind_at c at) 0) (derived_in_order q c at begun) (in_order_lem q.size q.table (given_at c at))
+      order = cond (eqb (kind_at c at) 0) (derived_in_order q c at begun) (in_order q.size q.table (given_at c at))
 
-      go : (t : Bool) → cond t (derived_in_order q c at begun) (in_order_lem q.size q.table (given_at c at)) ≡ true
+      go : (t : Bool) → cond t (derived_in_order q c at begun) (in_order q.size q.table (given_at c at)) ≡ true
           → some_true τ (cond t (list_of (literals_at c at) (literal_at c at))
           (map (literal_of q.size) (clause q (given_at c at)))) ≡ true
       go true e =

@@ -12,7 +12,7 @@ use Rattle.bits.proofs.Below.{every_at}
 use Rattle.bits.proofs.Numbers.{number_lt, bit-number, number_ext}
 use Rattle.turning.specs.declared.ways.Way.{Way}
 use Rattle.turning.specs.Ways.{flipped, place, moved, IsWay, Turns, Reachable, way_count}
-use Rattle.turning.specs.Listing.{way_at_lem}
+use Rattle.turning.specs.Listing.{way_at}
 use Rattle.turning.proofs.Listed.{is_way, way_holds, way_at_lem, rank, rank_lt, listed}
 
 flipped-both : (a b c : Bool) → flipped (flipped a b) c ≡ flipped a (flipped b c)
@@ -101,15 +101,15 @@ same v w x = eqb (moved w (moved v x)) x
 undoes : Way → Way → Bool
 undoes v w = is_way v && every 8 (same v w)
 
-all_back : every way_count (λ i. undoes (back (way_at_lem i)) (way_at_lem i)) ≡ true
-unfolding undoes is_way back back_place least way_at_lem moved number
+all_back : every way_count (λ i. undoes (back (way_at i)) (way_at i)) ≡ true
+unfolding undoes is_way back back_place least way_at moved number
 all_back = refl
 
 module _ (w : Way) (k : IsWay w) where
   undone : undoes (back w) w ≡ true
   undone =
       subst (λ (v : Way). undoes (back v) v ≡ true) (listed w k)
-      (every_at way_count (λ i. undoes (back (way_at_lem i)) (way_at_lem i)) all_back (rank w) (rank_lt w k))
+      (every_at way_count (λ i. undoes (back (way_at i)) (way_at i)) all_back (rank w) (rank_lt w k))
 
   back_way : IsWay (back w)
   unfolding undoes
@@ -125,16 +125,16 @@ module _ (w : Way) (k : IsWay w) where
 
 -- ---- classes
 
-stays : every 8 (λ x. eqb (moved (way_at_lem 0) x) x) ≡ true
-unfolding way_at_lem moved number
+stays : every 8 (λ x. eqb (moved (way_at 0) x) x) ≡ true
+unfolding way_at moved number
 stays = refl
 
 pub reach_same : (f : ℕ) → Reachable f f
-unfolding way_at_lem
+unfolding way_at
 reach_same f = record {
-  way = way_at_lem 0;
+  way = way_at 0;
   is = way_at_lem 0 (omega arith);
-  turns = λ x l. ap (bit f) (sym (eqb-true _ x (every_at 8 (λ x. eqb (moved (way_at_lem 0) x) x) stays x l)));
+  turns = λ x l. ap (bit f) (sym (eqb-true _ x (every_at 8 (λ x. eqb (moved (way_at 0) x) x) stays x l)));
 }
 
 pub reach_back : {f g : ℕ} → Reachable f g → Reachable g f

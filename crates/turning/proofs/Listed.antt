@@ -16,7 +16,7 @@ use Rattle.bits.proofs.Least.{is_least}
 use Rattle.bits.proofs.Numbers.{val-lt}
 use Rattle.turning.specs.declared.ways.Way.{Way}
 use Rattle.turning.specs.Ways.{place, IsWay, Turns, Reachable, before, FirstWay, way_count}
-use Rattle.turning.specs.Listing.{way_at_lem, agrees, turns, first_way_lem}
+use Rattle.turning.specs.Listing.{way_at, agrees, turns, first_way}
 
 -- the second of two tests, where the first fails
 second : (s t : Bool) → (s || t) ≡ true → s ≡ false → t ≡ true
@@ -47,12 +47,12 @@ way_holds w h =
           (ap not (eq-eqb (place w i) (place w j) e)));
     }
 
-all_ways : every way_count (λ i. is_way (way_at_lem i)) ≡ true
-unfolding is_way way_at_lem
+all_ways : every way_count (λ i. is_way (way_at i)) ≡ true
+unfolding is_way way_at
 all_ways = refl
 
-pub way_at_lem : (i : ℕ) → i < way_count → IsWay (way_at_lem i)
-way_at_lem i h = way_holds (way_at_lem i) (every_at way_count (λ i. is_way (way_at_lem i)) all_ways i h)
+pub way_at_lem : (i : ℕ) → i < way_count → IsWay (way_at i)
+way_at_lem i h = way_holds (way_at i) (every_at way_count (λ i. is_way (way_at i)) all_ways i h)
 
 -- ---- every way is listed
 
@@ -81,27 +81,27 @@ alike_same v w h =
     ∙ ap (make w.flip w.mask w.p0 w.p1) (eqb-true _ _ (and_right (eqb v.p1 w.p1) _ h₃))
 
 filed : Bool → ℕ → ℕ → ℕ → ℕ → Bool
-filed s m a b c = eqb a b || (eqb a c || (eqb b c || alike (way_at_lem (rank (make s m a b c))) (make s m a b c)))
+filed s m a b c = eqb a b || (eqb a c || (eqb b c || alike (way_at (rank (make s m a b c))) (make s m a b c)))
 
 abbrev filing : Bool → ℕ → ℕ → Bool
 filing s m a = every 3 (λ b. every 3 (filed s m a b))
 
 all_filed : (s : Bool) → every 8 (λ m. every 3 (filing s m)) ≡ true
-unfolding filed alike rank way_at_lem
+unfolding filed alike rank way_at
 all_filed true = refl
 all_filed false = refl
 
 unlike : (w : Way) → IsWay w → (i j : ℕ) → i < j → j < 3 → eqb (place w i) (place w j) ≡ false
 unlike w k i j l h = ne_eqb (place w i) (place w j) (λ e. let z = k.apart i j (omega arith) h e in omega arith)
 
-pub listed : (w : Way) → IsWay w → way_at_lem (rank w) ≡ w
+pub listed : (w : Way) → IsWay w → way_at (rank w) ≡ w
 unfolding filed
 listed w k =
     let h = every_at 8 (λ m. every 3 (filing w.flip m)) (all_filed w.flip) w.mask k.mask in
     let h₀ = every_at 3 (filing w.flip w.mask) h w.p0 (k.within 0 (omega arith)) in
     let h₁ = every_at 3 (λ b. every 3 (filed w.flip w.mask w.p0 b)) h₀ w.p1 (k.within 1 (omega arith)) in
     let h₂ = every_at 3 (filed w.flip w.mask w.p0 w.p1) h₁ w.p2 (k.within 2 (omega arith)) in
-    alike_same (way_at_lem (rank w)) w
+    alike_same (way_at (rank w)) w
     (second _ _ (second _ _ (second _ _ h₂
     (unlike w k 0 1 (omega arith) (omega arith))) (unlike w k 0 2 (omega arith) (omega arith)))
     (unlike w k 1 2 (omega arith) (omega arith)))
@@ -113,14 +113,14 @@ rank_lt w k = omega (arith, val-lt w.flip, val-lt (ltb w.p2 w.p1), k.mask, k.wit
 -- ---- in their order
 
 abbrev all_before : ℕ → Bool
-all_before j = every j (λ i. before (way_at_lem i) (way_at_lem j))
+all_before j = every j (λ i. before (way_at i) (way_at j))
 
 in_order_lem : every way_count all_before ≡ true
-unfolding way_at_lem
+unfolding way_at
 in_order_lem = refl
 
-pub earlier : (i j : ℕ) → i < j → j < way_count → before (way_at_lem i) (way_at_lem j) ≡ true
-earlier i j l h = every_at j (λ i. before (way_at_lem i) (way_at_lem j)) (every_at way_count all_before in_order_lem j h) i l
+pub earlier : (i j : ℕ) → i < j → j < way_count → before (way_at i) (way_at j) ≡ true
+earlier i j l h = every_at j (λ i. before (way_at i) (way_at j)) (every_at way_count all_before in_order_lem j h) i l
 
 -- ---- the first that turns f into g
 
@@ -134,41 +134,41 @@ turns_test w f g h = every_all 8 (agrees w f g) (λ x l. same-beq _ _ (h x l))
 
 module _ (f g : ℕ) where
   test : ℕ → Bool
-  test i = turns (way_at_lem i) f g
+  test i = turns (way_at i) f g
 
-  lies : IsLeast way_count test (first_way_lem f g)
-  unfolding first_way_lem test
-  lies = is_least way_count (λ i. turns (way_at_lem i) f g)
+  lies : IsLeast way_count test (first_way f g)
+  unfolding first_way test
+  lies = is_least way_count (λ i. turns (way_at i) f g)
 
-  pub not_after : (v : Way) → IsWay v → Turns v f g → first_way_lem f g ≤ rank v
+  pub not_after : (v : Way) → IsWay v → Turns v f g → first_way f g ≤ rank v
   unfolding test
   not_after v k t =
-      elim (dec_lt (rank v) (first_way_lem f g)) [
+      elim (dec_lt (rank v) (first_way f g)) [
         | yes l ↦ absurd (clash holds (lies.before (rank v) l))
         | no l ↦ omega arith
       ]
     where
       holds : test (rank v) ≡ true
-      holds = turns_test (way_at_lem (rank v)) f g (subst (λ (w : Way). Turns w f g) (sym (listed v k)) t)
+      holds = turns_test (way_at (rank v)) f g (subst (λ (w : Way). Turns w f g) (sym (listed v k)) t)
 
-  pub some_way : Reachable f g → first_way_lem f g < way_count
+  pub some_way : Reachable f g → first_way f g < way_count
   some_way r = omega (arith, not_after r.way r.is r.turns, rank_lt r.way r.is)
 
-  pub first_way_lem : first_way_lem f g < way_count → FirstWay f g (way_at_lem (first_way_lem f g))
+  pub first_way_lem : first_way f g < way_count → FirstWay f g (way_at (first_way f g))
   unfolding test
   first_way_lem h = record {
-    is = way_at_lem (first_way_lem f g) h;
-    turns = turns-holds (way_at_lem (first_way_lem f g)) f g (lies.here h);
+    is = way_at_lem (first_way f g) h;
+    turns = turns-holds (way_at (first_way f g)) f g (lies.here h);
     first = λ v k t. go v k (not_after v k t);
   }
     where
-      go : (v : Way) → IsWay v → first_way_lem f g ≤ rank v
-          → (v ≡ way_at_lem (first_way_lem f g)) ⊎ (before (way_at_lem (first_way_lem f g)) v ≡ true)
-      go v k l = elim (dec_lt (first_way_lem f g) (rank v)) [
-        | yes b ↦ inr (subst (λ (w : Way). before (way_at_lem (first_way_lem f g)) w ≡ true) (listed v k)
-            (earlier (first_way_lem f g) (rank v) b (rank_lt v k)))
-        | no b ↦ let e : rank v ≡ first_way_lem f g = omega arith in inl (sym (listed v k) ∙ ap way_at_lem e)
+      go : (v : Way) → IsWay v → first_way f g ≤ rank v
+          → (v ≡ way_at (first_way f g)) ⊎ (before (way_at (first_way f g)) v ≡ true)
+      go v k l = elim (dec_lt (first_way f g) (rank v)) [
+        | yes b ↦ inr (subst (λ (w : Way). before (way_at (first_way f g)) w ≡ true) (listed v k)
+            (earlier (first_way f g) (rank v) b (rank_lt v k)))
+        | no b ↦ let e : rank v ≡ first_way f g = omega arith in inl (sym (listed v k) ∙ ap way_at e)
       ]
 
-  pub reachable_by : first_way_lem f g < way_count → Reachable f g
-  reachable_by h = let w = first_way_lem h in record { way = way_at_lem (first_way_lem f g); is = w.is; turns = w.turns }
+  pub reachable_by : first_way f g < way_count → Reachable f g
+  reachable_by h = let w = first_way_lem h in record { way = way_at (first_way f g); is = w.is; turns = w.turns }

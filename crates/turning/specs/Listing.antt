@@ -15,8 +15,8 @@ abbrev pub ordered : Bool → ℕ → ℕ → Way
 ordered flip mask o = record { flip = flip; mask = mask; p0 = o / 100; p1 = o / 10 % 10; p2 = o % 10 }
 
 -- way i
-unfoldable pub way_at_lem : ℕ → Way
-way_at_lem i = ordered (eqb (i / 48) 1) (i / 6 % 8) (get_or orders (i % 6) 0)
+unfoldable pub way_at : ℕ → Way
+way_at i = ordered (eqb (i / 48) 1) (i / 6 % 8) (get_or orders (i % 6) 0)
 
 -- whether g at x is f at y, flipped if so said
 abbrev pub agrees : Way → ℕ → ℕ → ℕ → Bool
@@ -27,5 +27,5 @@ unfoldable pub turns : Way → ℕ → ℕ → Bool
 turns w f g = every 8 (agrees w f g)
 
 -- the least i whose way does, and how many ways there are if none does
-unfoldable pub first_way_lem : ℕ → ℕ → ℕ
-first_way_lem f g = least way_count (λ i. turns (way_at_lem i) f g)
+unfoldable pub first_way : ℕ → ℕ → ℕ
+first_way f g = least way_count (λ i. turns (way_at i) f g)

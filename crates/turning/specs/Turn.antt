@@ -5,7 +5,7 @@ use Rattle.refusals.specs.declared.verdicts.Verdict.TheVariants.{Fine, Refused}
 use Rattle.refusals.specs.Numbers.{of_turn}
 use Rattle.refusals.specs.Lines.{Line, line, verdict, reply}
 use Rattle.turning.specs.declared.turn.TurnAnswer.{TurnAnswer}
-use Rattle.turning.specs.Listing.{way_at_lem, first_way_lem}
+use Rattle.turning.specs.Listing.{way_at, first_way}
 use Rattle.turning.specs.Reach.{reaches}
 
 -- 21: no swap and flips turn the first table into the second
@@ -18,7 +18,7 @@ turn_lines f g = no_way f g ∷ []
 
 -- done: the first way
 abbrev pub turn_done : ℕ → ℕ → TurnAnswer
-turn_done f g = record { verdict = Fine; way = way_at_lem (first_way_lem f g) }
+turn_done f g = record { verdict = Fine; way = way_at (first_way f g) }
 
 -- refused: zeros
 abbrev pub turn_not : Refusal → TurnAnswer

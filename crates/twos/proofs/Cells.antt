@@ -26,7 +26,7 @@ use Rattle.best.specs.Best.{Candidate}
 use Rattle.best.proofs.Next.{next-counts}
 use Rattle.sheets.specs.Network.{Cell}
 use Rattle.sheets.specs.Reading.{times, reads}
-use Rattle.chains.specs.Chain.{pick, first_cell_lem, next_signals, next_table}
+use Rattle.chains.specs.Chain.{pick, first_cell, next_signals, next_table}
 use Rattle.chains.specs.Words.{Makes, ends, goes}
 use Rattle.chains.proofs.Lists.{AllBelow, pick-length}
 use Rattle.chains.proofs.Right.{first_count}
@@ -180,7 +180,7 @@ makes_once (goes {i = i} {l = l} {T = T} {A = A} {B = B} {cs = cs} h b m) low x 
     next : times x (next_signals l A B i) ≡ times x (pick (length l) (reads_h (bit A) (bit B)) l) + val (eqb x i)
     next = times_snoc x (pick (length l) (reads_h (bit A) (bit B)) l) i
 
-    step : ReadOnce (suc i) (next_signals l A B i) cs x → ReadOnce i l (first_cell_lem l T A B ∷ cs) x
+    step : ReadOnce (suc i) (next_signals l A B i) cs x → ReadOnce i l (first_cell l T A B ∷ cs) x
     step r = record {
       listed = λ g. omega (arith, r.listed (omega arith), next, among, ap val (ne_eqb x i (λ q. omega arith)));
       given = λ g. elim (dec_lt i x) [

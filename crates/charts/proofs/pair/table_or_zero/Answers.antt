@@ -10,7 +10,7 @@ use Rattle.bits.proofs.Machine.{shl_one}
 use Rattle.tables.specs.Table.{table_bit}
 use Rattle.splits.specs.Columns.{most_first, few_columns}
 use Rattle.tables.specs.declared.cell.CellTable.{CellTable}
-use Rattle.tables.specs.Cells.{no_table_lem}
+use Rattle.tables.specs.Cells.{no_table}
 use Rattle.charts.specs.Cells.{held_d}
 use Rattle.columns.specs.Reading.{Chart}
 use Rattle.charts.proofs.pair.table_or_zero.Lts as lts
@@ -22,7 +22,7 @@ use Rattle.charts.proofs.pair.table_or_zero.Goals as goal
 module _ (c : lts.Start tie.the-claims reads.Pre reads.Post) where
   abbrev by : Bool → CellTable
   by b = cond b (held_d c.args.s.n (table_bit c.args.t.now) (bit c.args.s.own) (bit c.args.s.shared)
-      c.args.which) no_table_lem
+      c.args.which) no_table
 
 pub returns-then-r-which : goal.returns-then-r-which
 returns-then-r-which c =

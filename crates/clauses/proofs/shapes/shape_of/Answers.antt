@@ -3,7 +3,7 @@ use mathlib.Core.Path.{ap, ◌∙◌}
 use mathlib.Core.Bool.{Bool}
 use Prim.Native.Nat.{◌-◌}
 use Rattle.clauses.specs.declared.variables.Variable.TheVariants.{Differ}
-use Rattle.clauses.specs.Clause.{clause, in_order_lem, as_table}
+use Rattle.clauses.specs.Clause.{clause, in_order, as_table}
 use Rattle.clauses.specs.Step.{row_at}
 use Rattle.clauses.proofs.Rows.{rows_two}
 use Rattle.clauses.proofs.shapes.shape_of.Goals as goal
@@ -41,7 +41,7 @@ unfolding clause
 returns-in-Even c = rw c.in-Even.is (c.even_shape.ensures c.args.z (row_at c.args.c.now))
 
 pub same_bits-requires : goal.same_bits-requires
-unfolding in_order_lem
+unfolding in_order
 same_bits-requires c =
     let h = rows_two c.args.z c.in-Table.a c.in-Table.b (rw c.in-Table.is at c.requires.3) in (c.requires.0, c.requires.1, c.requires.2, h.0, h.1)
 

@@ -6,7 +6,7 @@ use Rattle.bits.specs.Lists.{byte_at}
 use Rattle.tables.specs.Table.{table_bit}
 use Rattle.clauses.specs.declared.variables.Literal.{Literal}
 use Rattle.clauses.specs.Variables.{literal_of}
-use Rattle.clauses.specs.Clause.{clause, in_order_lem}
+use Rattle.clauses.specs.Clause.{clause, in_order}
 use Rattle.clauses.specs.Step.{question_in}
 use Rattle.clauses.specs.Shapes.{AllNamed}
 use Rattle.clauses.proofs.Naming.{named}
@@ -27,11 +27,11 @@ returns-then-c-at-eq0 c =
 
 pub shape_of-requires : goal.shape_of-requires
 shape_of-requires c =
-    (c.requires.0, c.requires.1, c.requires.2, ap (in_order_lem c.args.z (table_bit c.args.t.now)) c.given_at.ensures ∙ c.requires.4.given c.if-c-at-eq0.false)
+    (c.requires.0, c.requires.1, c.requires.2, ap (in_order c.args.z (table_bit c.args.t.now)) c.given_at.ensures ∙ c.requires.4.given c.if-c-at-eq0.false)
 
 pub open_shape-requires : goal.open_shape-requires
 open_shape-requires c =
-    (c.requires.0, c.requires.1, c.requires.3, subst (AllNamed c.args.z) (sym c.shape_of.ensures) (named (question_in c.args.z c.args.t.now c.args.c.now) c.requires.0 c.given_at.result (ap (in_order_lem c.args.z (table_bit c.args.t.now)) c.given_at.ensures ∙ c.requires.4.given c.if-c-at-eq0.false)))
+    (c.requires.0, c.requires.1, c.requires.3, subst (AllNamed c.args.z) (sym c.shape_of.ensures) (named (question_in c.args.z c.args.t.now c.args.c.now) c.requires.0 c.given_at.result (ap (in_order c.args.z (table_bit c.args.t.now)) c.given_at.ensures ∙ c.requires.4.given c.if-c-at-eq0.false)))
 
 pub returns : goal.returns
 returns c =

@@ -1,4 +1,4 @@
--- `all_plain_lem` meets its contract. The loop's invariant: the records from i on decide. Assumes nothing.
+-- `all_plain` meets its contract. The loop's invariant: the records from i on decide. Assumes nothing.
 use mathlib.Core.Path.{◌≡◌, sym, ap, ◌∙◌}
 use mathlib.Core.Bool.{true, false}
 use mathlib.Core.List.{List}
@@ -8,21 +8,19 @@ use lib.ListN.{length}
 use borrow.Author.Tests.{not-true, not-false}
 use Rattle.sheets.specs.Record.{byte_at, cell_of}
 use Rattle.sheets.proofs.Places.{record_within, record_length}
-use Rattle.printing.specs.Printable.{plain_cell, all_plain_lem}
+use Rattle.printing.specs.Printable.{plain_cell, all_plain}
 use Rattle.printing.proofs.Cells.{cells_all, plain_stops, plain_goes, plain_ends}
 use Rattle.printing.proofs.printed.all_plain.Goals as goal
 
 pub loop-i-init : goal.loop-i-init
-loop-i-init c = let a = c.args in (omega arith, ap all_plain_lem (cells_all a.e a.s.now a.m))
+loop-i-init c = let a = c.args in (omega arith, ap all_plain (cells_all a.e a.s.now a.m))
 
 pub record_of-requires : goal.record_of-requires
-record_of-requires c κs =
-    let t = c.before.before.before in
-    let a = t.args in (
-      t.requires.0,
-      omega (arith, t.requires.1),
-      record_within a.e.size c.before.loop.i a.m (length a.s.now)
-          (omega arith) t.requires.2,
+record_of-requires c =
+    let a = c.args in (
+      c.requires.0,
+      omega (arith, c.requires.1),
+      record_within a.e.size c.loop-i.i a.m (length a.s.now) (omega arith) c.requires.2,
     )
 
 pub plain-requires : goal.plain-requires
@@ -38,7 +36,7 @@ plain-requires c =
 pub returns-then-not-plain : goal.returns-then-not-plain
 returns-then-not-plain c =
     let a = c.args in
-    let bad : c.plain.result ≡ false = not-true _ c.if-not-plain.true in
+    let bad : c.plain.result ≡ false = c.if-not-plain.true in
     plain_stops a.e a.s.now c.loop-i.i a.m _ c.loop-i.invariant.1 (omega arith)
     (sym (c.plain.ensures ∙ ap (λ (r : List ℕ). plain_cell (cell_of a.e (byte_at r))) c.record_of.ensures)
     ∙ bad)
@@ -46,7 +44,7 @@ returns-then-not-plain c =
 pub loop-i-preserved : goal.loop-i-preserved
 loop-i-preserved c =
     let a = c.args in
-    let is : c.plain.result ≡ true = not-false _ c.if-not-plain.false in (
+    let is : c.plain.result ≡ true = c.if-not-plain.false in (
       omega arith,
       plain_goes a.e a.s.now c.loop-i.i a.m _ c.loop-i.invariant.1 (omega arith)
           (sym (c.plain.ensures ∙ ap (λ (r : List ℕ). plain_cell (cell_of a.e (byte_at r)))

@@ -13,7 +13,7 @@ use Rattle.bits.specs.Sets.{size}
 use Rattle.bits.proofs.Lists.{list_ext}
 use Rattle.bits.proofs.Masks.{mask_lt}
 use Rattle.tables.specs.Table.{table_bit}
-use Rattle.tables.specs.Cells.{table_number, no_table_lem}
+use Rattle.tables.specs.Cells.{table_number, no_table}
 use Rattle.charts.specs.declared.pair.FirstCells.{FirstCells}
 use Rattle.splits.specs.Columns.{most_first}
 use Rattle.splits.specs.Split.{reads_d}
@@ -59,8 +59,8 @@ with_first-requires c =
 
 -- table t of r that were handed back
 module _ (n : ℕ) (F : ℕ → Bool) (A B : ℕ → Bool) (r : ℕ) (small : size n (reads_d A B) ≤ 8) (most : r ≤ most_first) where
-  at : (t : ℕ) → t < r → table_number (cond (ltb t r) (held_d n F A B t) no_table_lem) ≡ table_d n F A B t
-  at t h = ap (λ (b : Bool). table_number (cond b (held_d n F A B t) no_table_lem)) (lt-ltb t r h) ∙ table-D n F A B t small
+  at : (t : ℕ) → t < r → table_number (cond (ltb t r) (held_d n F A B t) no_table) ≡ table_d n F A B t
+  at t h = ap (λ (b : Bool). table_number (cond b (held_d n F A B t) no_table)) (lt-ltb t r h) ∙ table-D n F A B t small
 
   table_is : (t : ℕ) → t < r → table_in (first_cells n F A B r) t ≡ table_d n F A B t
   table_is zero h = at 0 h

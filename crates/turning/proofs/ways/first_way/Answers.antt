@@ -6,7 +6,7 @@ use Rattle.bits.specs.Below.{least}
 use Rattle.bits.proofs.Least.{least_more, least_stop}
 use Rattle.turning.specs.declared.ways.Way.{Way}
 use Rattle.turning.specs.Ways.{IsWay, way_count}
-use Rattle.turning.specs.Listing.{way_at_lem, turns, first_way_lem}
+use Rattle.turning.specs.Listing.{way_at, turns, first_way}
 use Rattle.turning.proofs.Listed.{way_at_lem}
 use Rattle.turning.proofs.ways.first_way.Invariants.{test}
 use Rattle.turning.proofs.ways.first_way.Lts as lts
@@ -29,7 +29,7 @@ looked c =
     c.does_turn.ensures ∙ ap (λ (w : Way). turns w a.f a.g) c.way_at.ensures
 
 pub returns-then-does_turn : goal.returns-then-does_turn
-unfolding first_way_lem
+unfolding first_way
 returns-then-does_turn c =
     let a = c.args in
     sym (least_stop c.loop-i.i way_count (test a.f a.g) c.loop-i.invariant.1
@@ -42,7 +42,7 @@ loop-i-preserved c =
     (omega arith, m (sym (looked c.before) ∙ c.if-does_turn.false))
 
 pub returns : goal.returns
-unfolding first_way_lem
+unfolding first_way
 returns c =
     let a = c.args in
     let z : c.loop-i.i ≡ way_count = omega arith in
