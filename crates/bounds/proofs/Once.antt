@@ -20,7 +20,8 @@ use Rattle.tables.specs.Counting.{support}
 use Rattle.tables.proofs.Depending.{support_counting}
 use Rattle.splits.specs.Columns.{member}
 use Rattle.sheets.specs.Network.{Cell, packed, output, run, Wired, Gives, Carries}
-use Rattle.fewest.proofs.Reach.{size-member, needed, needed_most, counted-needed}
+use Rattle.networks.proofs.Values.{size-member}
+use Rattle.fewest.proofs.Reach.{needed, needed_most, counted-needed}
 use Rattle.trees.specs.Tree.{Tree, input, node, value, uses, TreeOf}
 use Rattle.trees.proofs.Graft.{graft, value_graft, uses_graft, uses-none}
 use Rattle.trees.proofs.Prune.{computes_tree}

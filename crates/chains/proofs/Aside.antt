@@ -43,11 +43,11 @@ module _ (n : ℕ) (F : ℕ → Bool) where
   kept_is : kept (length (inputs n)) (bit (number (2 ^ n) F)) ≡ kept n F
   kept_is = ap (λ (m : ℕ). kept m (bit (number (2 ^ n) F))) (inputs-length n) ∙ kept_ext n (bit (number (2 ^ n) F)) F is
 
-  signals_are : kept_signals (inputs n) (number (2 ^ n) F) ≡ pick n (bit (kept n F)) (inputs n)
+  pub signals_are : kept_signals (inputs n) (number (2 ^ n) F) ≡ pick n (bit (kept n F)) (inputs n)
   unfolding kept_signals
   signals_are = ap₂ (λ (m s : ℕ). pick m (bit s) (inputs n)) (inputs-length n) kept_is
 
-  table_is : kept_table (inputs n) (number (2 ^ n) F) ≡ table_over n (bit (kept n F)) F
+  pub table_is : kept_table (inputs n) (number (2 ^ n) F) ≡ table_over n (bit (kept n F)) F
   unfolding kept_table
   table_is =
       ap₂ (λ (m s : ℕ). table_over m (bit s) (bit (number (2 ^ n) F))) (inputs-length n) kept_is

@@ -29,7 +29,7 @@ use Rattle.chains.proofs.Right.{over_wired}
 
 -- ---- counting reads
 
-reads-append : (s : ℕ) (cs ds : List Cell) → reads s (cs ++ ds) ≡ reads s cs + reads s ds
+pub reads-append : (s : ℕ) (cs ds : List Cell) → reads s (cs ++ ds) ≡ reads s cs + reads s ds
 reads-append s [] ds = omega arith
 reads-append s (c ∷ cs) ds = omega (arith, reads-append s cs ds)
 
@@ -130,7 +130,7 @@ times_none (x ∷ l) i s low h =
     let b : x < i = low 0 (omega arith) in
     omega (arith, ap val (ne_eqb s x (omega arith)), times_none l i s (λ j g. low (suc j) (omega arith)) h)
 
-later_reads : (K i : ℕ) (cs : List Cell) → Wired K i cs → (j s : ℕ) → i + j ≤ s + 1 → reads s (drop j cs) ≡ reads s cs
+pub later_reads : (K i : ℕ) (cs : List Cell) → Wired K i cs → (j s : ℕ) → i + j ≤ s + 1 → reads s (drop j cs) ≡ reads s cs
 later_reads K i cs w zero s h = refl
 later_reads K i [] w (suc j) s h = refl
 later_reads K i (c ∷ cs) w (suc j) s h =

@@ -15,48 +15,34 @@ use Rattle.bits.specs.Lists.{list_of}
 use Rattle.bits.proofs.Below.{below_suc}
 use Rattle.bits.proofs.Lists.{length-list}
 use Rattle.bits.proofs.Numbers.{number_ext}
-use Rattle.sheets.specs.Network.{Cell, output, run}
+use Rattle.sheets.specs.Network.{Cell, output}
+use Rattle.networks.specs.Signals.{values}
 use Rattle.chains.proofs.Lists.{AllBelow}
 
--- the signals after the cells, the first of them giving signal i
-unfoldable pub after : ℕ → List Cell → (ℕ → Bool) → ℕ → Bool
-after i [] v = v
-after i (c ∷ cs) v = after (suc i) cs (λ s. cond (eqb s i) (output c v) (v s))
-
 -- some cells, then others
-pub run-append : (o : Bool) (i : ℕ) (cs ds : List Cell) (v : ℕ → Bool) → run o i (cs ++ ds) v
-    ≡ run (run o i cs v) (i + length cs) ds (after i cs v)
-unfolding run after
-run-append o i [] ds v = ap (λ (j : ℕ). run o j ds v) (sym (add-zero i))
-run-append o i (c ∷ cs) ds v =
+pub values-append : (i : ℕ) (cs ds : List Cell) (v : ℕ → Bool) → values i (cs ++ ds) v
+    ≡ values (i + length cs) ds (values i cs v)
+unfolding values
+values-append i [] ds v = ap (λ (j : ℕ). values j ds v) (sym (add-zero i))
+values-append i (c ∷ cs) ds v =
     let w : ℕ → Bool = λ s. cond (eqb s i) (output c v) (v s) in
     let e : suc i + length cs ≡ i + suc (length cs) = omega arith in
-    run-append (output c v) (suc i) cs ds w ∙ ap (λ (j : ℕ). run (run (output c v) (suc i) cs w) j ds
-    (after (suc i) cs w)) e
-
-after-append : (i : ℕ) (cs ds : List Cell) (v : ℕ → Bool) → after i (cs ++ ds) v
-    ≡ after (i + length cs) ds (after i cs v)
-unfolding after
-after-append i [] ds v = ap (λ (j : ℕ). after j ds v) (sym (add-zero i))
-after-append i (c ∷ cs) ds v =
-    let w : ℕ → Bool = λ s. cond (eqb s i) (output c v) (v s) in
-    let e : suc i + length cs ≡ i + suc (length cs) = omega arith in
-    after-append (suc i) cs ds w ∙ ap (λ (j : ℕ). after j ds (after (suc i) cs w)) e
+    values-append (suc i) cs ds w ∙ ap (λ (j : ℕ). values j ds (values (suc i) cs w)) e
 
 -- ---- cells f 0, f 1, .. that read only signals below i
 module _ (i : ℕ) (f : ℕ → Cell) (v : ℕ → Bool) (low : (t : ℕ) → AllBelow i (f t).signals) where
-  -- the signals after the first r of them
+  -- the signals' values after the first r of them
   abbrev w : ℕ → ℕ → Bool
-  w r = after i (list_of r f) v
+  w r = values i (list_of r f) v
 
   one_more : (r s : ℕ) → w (suc r) s ≡ cond (eqb s (i + r)) (output (f r) (w r)) (w r s)
-  unfolding list_of after
+  unfolding list_of values
   one_more r s =
-      ap (λ (g : ℕ → Bool). g s) (after-append i (list_of r f) (f r ∷ []) v)
+      ap (λ (g : ℕ → Bool). g s) (values-append i (list_of r f) (f r ∷ []) v)
       ∙ ap (λ (n : ℕ). cond (eqb s (i + n)) (output (f r) (w r)) (w r s)) (length-list r f)
 
   pub after_old : (r s : ℕ) → s < i → w r s ≡ v s
-  unfolding list_of after
+  unfolding list_of values
   after_old zero s h = refl
   after_old (suc r) s h =
       one_more r s ∙ ap (λ (t : Bool). cond t (output (f r) (w r)) (w r s)) (ne_eqb s (i + r) (omega arith))

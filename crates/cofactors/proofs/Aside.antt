@@ -25,7 +25,7 @@ use Rattle.sheets.specs.Reading.{AllRead}
 use Rattle.chains.specs.Chain.{pick, Made, stuck, made, inputs}
 use Rattle.chains.proofs.Lists.{AllBelow, Rising, pick-length, pick_below, pick-rising, packed-pick, inputs-length}
 use Rattle.chains.proofs.Lists.{inputs_at, inputs_below, inputs-rising}
-use Rattle.cofactors.proofs.Chains.{signals_are, table_is}
+use Rattle.chains.proofs.Aside.{signals_are, table_is}
 use Rattle.cofactors.specs.Cofactors.{cofactor_cells, cofactor_count, most_selecting, has_cofactors, cofactors_of}
 use Rattle.cofactors.specs.Cofactors.{cofactors_aside}
 use Rattle.cofactors.specs.Chosen.{Near}

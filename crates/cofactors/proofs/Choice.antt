@@ -21,7 +21,7 @@ use Rattle.chains.specs.Words.{Blocked}
 use Rattle.chains.specs.Over.{MakesOver}
 use Rattle.chains.proofs.Aside.{cells_made, cells_stuck, sheet_stuck}
 use Rattle.cofactors.specs.Cofactors.{cofactor_cells, cofactors_aside}
-use Rattle.cofactors.specs.Chosen.{Chosen, chain-kept, chain_longer, chain-alone, cofactors_alone}
+use Rattle.cofactors.specs.Chosen.{Chosen, chain_kept, chain_longer, chain_alone, cofactors_alone}
 use Rattle.cofactors.specs.Any.{sheet, overlong, severally, any_aside}
 use Rattle.cofactors.proofs.Shorter.{no_answer}
 use Rattle.cofactors.proofs.Aside.{near-made, made-near, far_stuck, stuck_far, aside_count, aside_few}
@@ -68,7 +68,7 @@ module _ (n K : ℕ) (F : ℕ → Bool) (p : 1 ≤ n) (two : 2 ≤ K) where
           let l = leb-true (length xs) (length ys) q in
           let d : xs ≡ cs = cc (room xs (omega arith)) in
           subst (Chosen K n (pick n (bit (kept n F)) (inputs n)) U c) d
-          (chain-kept xs (makes xs f) (made-near n K F two ys g).0 (omega (arith, aside_count n K F two p ys g)))
+          (chain_kept xs (makes xs f) (made-near n K F two ys g).0 (omega (arith, aside_count n K F two p ys g)))
       both xs ys f g false q e =
           let few = aside_few n K F two p ys g in
           let near = made-near n K F two ys g in
@@ -84,7 +84,7 @@ module _ (n K : ℕ) (F : ℕ → Bool) (p : 1 ≤ n) (two : 2 ≤ K) where
       alone xs f g true q e =
           let d : xs ≡ cs = cc in
           subst (Chosen K n l U c) d
-          (chain-alone xs (makes xs f) (stuck_far n K F two g (stuck_more n K F p two none)) (leb-true (length xs) most_records q))
+          (chain_alone xs (makes xs f) (stuck_far n K F two g (stuck_more n K F p two none)) (leb-true (length xs) most_records q))
       alone xs f g false q e = (no_answer e).1 refl
 
       forth : (x : Made) → cells_aside most_first n K (number (2 ^ n) F) ≡ x → (y : Made)
@@ -108,7 +108,7 @@ module _ (n K : ℕ) (F : ℕ → Bool) (p : 1 ≤ n) (two : 2 ≤ K) where
       made_by xs m = (cells_made most_first n K F p one xs).1 m
 
       back : (cs : List Cell) → Chosen K n l U c cs → any_aside n K (number (2 ^ n) F) ≡ sheet cs
-      back cs (chain-kept xs m w h) =
+      back cs (chain_kept xs m w h) =
           let g = near-made n K F two w in
           let few = aside_few n K F two p ms g in
           let count = aside_count n K F two p ms g in
@@ -121,7 +121,7 @@ module _ (n K : ℕ) (F : ℕ → Bool) (p : 1 ≤ n) (two : 2 ≤ K) where
           any_more n K T (made xs) (made ms) none (made_by xs m) g
           ∙ ap (λ (t : Bool). severally (made (cond t xs ms))) (lt-leb (length xs) (length ms) (omega arith))
           ∙ room ms (aside_few n K F two p ms g).1
-      back cs (chain-alone xs m w h) =
+      back cs (chain_alone xs m w h) =
           any_more n K T (made xs) stuck none (made_by xs m) (far_stuck n K F two w) ∙ room xs h
       back cs (cofactors_alone m w) =
           let g = near-made n K F two w in

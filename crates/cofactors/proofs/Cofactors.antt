@@ -21,12 +21,12 @@ use Rattle.sheets.specs.declared.kinds.Edition.{Edition}
 use Rattle.sheets.specs.Network.{Cell, packed, output, run, Wired}
 use Rattle.sheets.specs.Writing.{Fits, FitsFrom}
 use Rattle.sheets.specs.Reading.{reads, AllRead}
+use Rattle.networks.specs.Signals.{values}
 use Rattle.chains.proofs.Lists.{AllBelow, Rising, packed-list}
 use Rattle.chains.proofs.Each.{Each, each_append, each_list}
-use Rattle.cofactors.proofs.Chains.{each_fits}
-use Rattle.cofactors.proofs.Chains.{reads-append, later_reads}
-use Rattle.networks.specs.Signals.{values}
-use Rattle.cofactors.proofs.Chains.{values-append, after_old, after_new}
+use Rattle.chains.proofs.Running.{values-append, after_old, after_new}
+use Rattle.chains.proofs.Rules.{each_fits}
+use Rattle.chains.proofs.Read.{reads-append, later_reads}
 use Rattle.cofactors.specs.Cofactors.{cofactor, total, levels, by_ones, by_twos, widths, cofactor_cells}
 use Rattle.cofactors.proofs.Groups.{run_last}
 use Rattle.cofactors.proofs.Selecting.{Ordered}

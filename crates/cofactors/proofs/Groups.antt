@@ -13,11 +13,11 @@ use borrow.Author.Tests.{eq-eqb, ne_eqb}
 use Rattle.bits.proofs.Below.{below_suc}
 use Rattle.sheets.specs.Network.{Cell, output, run}
 use Rattle.sheets.specs.Reading.{reads}
-use Rattle.chains.proofs.Each.{Each, each_append}
-use Rattle.cofactors.proofs.Chains.{reads-append}
 use Rattle.networks.specs.Signals.{values}
 use Rattle.networks.proofs.Values.{values_below}
-use Rattle.cofactors.proofs.Chains.{values-append}
+use Rattle.chains.proofs.Each.{Each, each_append}
+use Rattle.chains.proofs.Read.{reads-append}
+use Rattle.chains.proofs.Running.{values-append}
 use Rattle.cofactors.specs.Cofactors.{join_of}
 
 -- the answer of a network is its last cell's signal

@@ -16,11 +16,11 @@ use Rattle.sheets.specs.declared.kinds.Edition.{Edition}
 use Rattle.sheets.specs.Network.{Cell}
 use Rattle.sheets.specs.Writing.{Fits}
 use Rattle.sheets.specs.Reading.{reads}
-use Rattle.chains.proofs.Each.{Each, each_append}
-use Rattle.cofactors.proofs.Chains.{reads-append}
 use Rattle.networks.specs.Signals.{values}
 use Rattle.networks.proofs.Values.{values_below}
-use Rattle.cofactors.proofs.Chains.{values-append}
+use Rattle.chains.proofs.Each.{Each, each_append}
+use Rattle.chains.proofs.Read.{reads-append}
+use Rattle.chains.proofs.Running.{values-append}
 use Rattle.cofactors.specs.Cofactors.{selecting, cells_each, join_of, total, levels}
 use Rattle.cofactors.proofs.Groups.{length-join, each_join, values_join, reads-join}
 use Rattle.cofactors.proofs.Selecting.{Suits, Ordered, selecting-length, selects, selecting_fits}

@@ -31,12 +31,12 @@ use Rattle.best.specs.Best.{Candidate, Best}
 use Rattle.best.specs.Search.{split, best}
 use Rattle.best.proofs.Best.{best_split, best_some}
 use Rattle.sheets.specs.Network.{Cell}
+use Rattle.networks.proofs.Values.{member_at}
 use Rattle.bits.proofs.Lists.{default}
 use Rattle.chains.specs.Chain.{first_cell, next_signals, next_table, last_cell}
 use Rattle.chains.specs.Words.{Makes, ends, goes}
 use Rattle.fewest.specs.Joining.{AnyOwn}
 use Rattle.chains.proofs.One.{next-inputs, next-length}
-use Rattle.fewest.proofs.Reach.{member_at}
 
 high_bit : (i k : ℕ) → i < 2 ^ (k + 1) → i / 2 ^ k ≡ val (bit i k)
 high_bit i k h =

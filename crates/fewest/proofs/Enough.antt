@@ -17,6 +17,7 @@ use Rattle.bits.proofs.Counting.{size_all}
 use Rattle.tables.specs.Counting.{Counting, AllCount}
 use Rattle.sheets.specs.Network.{Cell, Wired, Gives, Carries}
 use Rattle.sheets.specs.Reading.{times, reads}
+use Rattle.networks.proofs.Sums.{sum}
 use Rattle.fewest.specs.Fewest.{Fewest, Filled}
 use Rattle.chains.proofs.Lists.{AllBelow}
 use Rattle.fewest.proofs.Reach.{reach}
@@ -39,11 +40,6 @@ pub enough_all : (n K : ℕ) (F : ℕ → Bool) (cs : List Cell) → AllCount n 
 enough_all n K F cs all N h = enough-inputs n K F cs (λ j. true) (λ j l _. all j l) N (omega (arith, size_all n))
 
 -- ---- full cells that read no signal twice: there are as many reads as cells times K, and no more than signals
-
--- f 0 + .. + f (n - 1)
-sum : ℕ → (ℕ → ℕ) → ℕ
-sum zero f = 0
-sum (suc n) f = sum n f + f n
 
 sum-add : (n : ℕ) (f g : ℕ → ℕ) → sum n (λ s. f s + g s) ≡ sum n f + sum n g
 unfolding sum

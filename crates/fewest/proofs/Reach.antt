@@ -8,44 +8,18 @@ use Prim.Native.Nat.{ℕ, zero, suc, ◌+◌, ◌-◌, ◌*◌, ◌<◌, ◌≤�
 use native.Mathlib.Nat.{not-suc-le-zero, suc-mul}
 use native.Mathlib.Omega.{arith}
 use lib.Dec.{eqb}
-use lib.ListN.{length, get_or}
+use lib.ListN.{length}
 use borrow.Author.Tests.{eq-eqb, ne_eqb, eqb-true, eqb-false}
 use Rattle.bits.specs.Numbers.{bit, val}
 use Rattle.bits.specs.Sets.{size}
+use Rattle.bits.specs.Lists.{member}
 use Rattle.bits.proofs.Bools.{clash, or_left, or_right}
-use Rattle.bits.proofs.Numbers.{number_ext}
 use Rattle.bits.proofs.Sizes.{size_ext}
-use Rattle.bits.proofs.Counting.{size_none, size-one, size-or, size-part}
+use Rattle.bits.proofs.Counting.{size-one, size-or, size-part}
 use Rattle.tables.specs.Depends.{DependsOn}
 use Rattle.tables.specs.Counting.{Counting}
-use Rattle.splits.specs.Columns.{member, index}
-use Rattle.splits.proofs.Firsts.{index-lt, get_d_index}
 use Rattle.sheets.specs.Network.{Cell, output, run, Wired, Gives, Carries}
-
--- ---- what a cell reads
-
-pub member_at : (l : List ℕ) (j : ℕ) → j < length l → member (get_or l j 0) l ≡ true
-member_at [] j h = absurd (not-suc-le-zero h)
-member_at (x ∷ l) zero h = or_left (eqb x x) (member x l) (eq-eqb x x refl)
-member_at (x ∷ l) (suc j) h = or_right (eqb (get_or l j 0) x) (member (get_or l j 0) l) (member_at l j (omega arith))
-
-pub member_below : (i : ℕ) (l : List ℕ) → ((j : ℕ) → j < length l → get_or l j 0 < i) → (s : ℕ) → member s l ≡ true → s
-    < i
-member_below i l low s m = omega (arith, low (index s l) (index-lt s l m), get_d_index s l 0 m)
-
--- a list has no more members than places
-pub size-member : (n : ℕ) (l : List ℕ) → size n (λ s. member s l) ≤ length l
-size-member n [] = omega (arith, size_none n)
-size-member n (x ∷ l) = omega (arith, size-or n (λ s. eqb s x) (λ s. member s l), size-one n x, size-member n l)
-
--- a cell sees the signals that it reads, and no other
-pub output_ext : (c : Cell) (v w : ℕ → Bool) → ((s : ℕ) → member s c.signals ≡ true → v s ≡ w s) → output c v
-    ≡ output c w
-unfolding output
-output_ext c v w h =
-    ap (bit c.table)
-    (number_ext (length c.signals) (λ j. v (get_or c.signals j 0)) (λ j. w (get_or c.signals j 0))
-    (λ j l. h (get_or c.signals j 0) (member_at c.signals j l)))
+use Rattle.networks.proofs.Values.{member_below, size-member, output_ext}
 
 -- ---- the signals that the output can depend on
 

@@ -22,7 +22,8 @@ use Rattle.splits.specs.Columns.{member}
 use Rattle.splits.proofs.Respect.{possible_of}
 use Rattle.best.specs.Best.{Candidate}
 use Rattle.sheets.specs.Network.{Cell, output, run, Gives}
-use Rattle.fewest.proofs.Reach.{member_below, size-member, output_ext, needed, counted-needed}
+use Rattle.networks.proofs.Values.{member_below, size-member, output_ext}
+use Rattle.fewest.proofs.Reach.{needed, counted-needed}
 
 module _ (n K : ℕ) (F : ℕ → Bool) (c d : Cell) (N : Gives n K F (c ∷ d ∷ [])) (S : ℕ → Bool) (sees : Sees n F S) where
   -- what the first and the second cell read

@@ -4,4 +4,4 @@
 pub mod area;
 pub mod chaining;
 mod pile;
-mod signals;
+pub mod signals;

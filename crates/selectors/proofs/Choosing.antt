@@ -25,9 +25,9 @@ use Rattle.cofactors.specs.Cofactors.{cofactor_cells, most_selecting, cofactors_
 use Rattle.cofactors.specs.Any.{shorter, otherwise}
 use Rattle.cofactors.specs.Chosen.{Near}
 use Rattle.cofactors.proofs.Aside.{aside_few}
-use Rattle.selectors.specs.declared.signals.Signals.{Signals}
+use Rattle.making.specs.declared.signals.Signals.{Signals}
 use Rattle.making.specs.declared.chaining.ChainEnd.{ChainEnd}
-use Rattle.selectors.specs.Stage.{signals_of}
+use Rattle.making.specs.Stage.{signals_of}
 use Rattle.making.specs.Area.{at_hand}
 use Rattle.making.specs.Chaining.{Tells}
 use Rattle.making.proofs.Halves.{at_hand_lem}

@@ -13,8 +13,8 @@ use Rattle.sheets.specs.Held.{cells_of}
 use Rattle.cofactors.specs.Cofactors.{selecting, cells_each, join_of, total, levels, widths}
 use Rattle.cofactors.proofs.Levels.{group, level-length}
 use Rattle.cofactors.proofs.Cofactors.{widths-total}
-use Rattle.selectors.specs.declared.signals.Signals.{Signals}
-use Rattle.selectors.specs.Stage.{signals_of}
+use Rattle.making.specs.declared.signals.Signals.{Signals}
+use Rattle.making.specs.Stage.{signals_of}
 use Rattle.selectors.specs.declared.levels.Stand.{Stand}
 use Rattle.selectors.specs.Standing.{spaced, from, ahead, InRoom, OneLevel, NextWidth}
 use Rattle.selectors.proofs.Widths.{some_width, few_each}

@@ -20,8 +20,8 @@ use Rattle.cofactors.specs.Cofactors.{cofactor, levels, by_ones, by_twos, widths
 use Rattle.cofactors.specs.Cofactors.{cofactor_count, most_selecting}
 use Rattle.cofactors.specs.Chosen.{Near}
 use Rattle.cofactors.proofs.Count.{cofactors_count, count_most}
-use Rattle.selectors.specs.declared.signals.Signals.{Signals}
-use Rattle.selectors.specs.Stage.{signals_of}
+use Rattle.making.specs.declared.signals.Signals.{Signals}
+use Rattle.making.specs.Stage.{signals_of}
 use Rattle.selectors.specs.declared.levels.Stand.{Stand}
 use Rattle.selectors.specs.Standing.{part_bit, part_cell, spaced, from, ahead, InRoom}
 

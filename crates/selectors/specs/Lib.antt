@@ -1,3 +1,2 @@
 -- The sheet of cofactors as the code holds it.
-pub mod Stage
 pub mod Standing

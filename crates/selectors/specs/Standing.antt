@@ -8,8 +8,8 @@ use Rattle.sheets.specs.Held.{cells_of}
 use Rattle.sheets.specs.Network.{Cell}
 use Rattle.chains.specs.Chain.{last_cell}
 use Rattle.cofactors.specs.Cofactors.{levels, widths}
-use Rattle.selectors.specs.declared.signals.Signals.{Signals}
-use Rattle.selectors.specs.Stage.{signals_of}
+use Rattle.making.specs.declared.signals.Signals.{Signals}
+use Rattle.making.specs.Stage.{signals_of}
 use Rattle.selectors.specs.declared.levels.Stand.{Stand}
 
 -- bit y of part v of a table, 2 ^ k bits a part

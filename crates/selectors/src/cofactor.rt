@@ -7,10 +7,10 @@ ghost use Rattle.tables.specs.Cells.{held_table};
 ghost use Rattle.tables.specs.Work.{half};
 ghost use Rattle.sheets.specs.Edition.{largest_cell, most_records};
 ghost use Rattle.sheets.specs.Held.{cells_of};
-ghost use Rattle.selectors.specs.Stage.{signals_of, Listed};
+ghost use Rattle.making.specs.Stage.{signals_of, Listed};
 ghost use Rattle.selectors.specs.Standing.{part_bit, part_cell};
 
-use crate::signals::Signals;
+use making::signals::Signals;
 use sheets::kinds::Sheet;
 use tables::cell::CellTable;
 use tables::words::bits_from;

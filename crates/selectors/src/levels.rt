@@ -7,12 +7,12 @@ ghost use Rattle.sheets.specs.Edition.{largest_cell};
 ghost use Rattle.sheets.specs.Held.{cells_of};
 ghost use Rattle.cofactors.specs.Cofactors.{cofactor_cells};
 ghost use Rattle.cofactors.specs.Chosen.{Near};
-ghost use Rattle.selectors.specs.Stage.{signals_of, Listed};
+ghost use Rattle.making.specs.Stage.{signals_of, Listed};
 ghost use Rattle.selectors.specs.Standing.{NextWidth, InRoom, OneLevel};
 
 use crate::cofactor::cofactor_cells;
 use crate::select::{cells_each, level};
-use crate::signals::Signals;
+use making::signals::Signals;
 use sheets::kinds::Sheet;
 
 // The cells so far; so many signals are left to select, from the place `at` on; they select from those at base,

@@ -6,4 +6,3 @@ mod cofactor;
 mod levels;
 mod select;
 pub mod several;
-mod signals;

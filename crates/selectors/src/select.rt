@@ -3,10 +3,10 @@ ghost use Rattle.std.specs.Prelude.{◌≡◌, ◌⊎◌, [], ◌∷◌, ◌++�
 ghost use Rattle.sheets.specs.Edition.{most_records};
 ghost use Rattle.sheets.specs.Held.{network_cell, cells_of};
 ghost use Rattle.cofactors.specs.Cofactors.{selecting, cells_each, join_of};
-ghost use Rattle.selectors.specs.Stage.{signals_of, Listed};
+ghost use Rattle.making.specs.Stage.{signals_of, Listed};
 ghost use Rattle.selectors.specs.Standing.{word_cell, spaced, from, Small};
 
-use crate::signals::Signals;
+use making::signals::Signals;
 use sheets::kinds::{HeldCell, Sheet};
 use tables::cell::CellTable;
 

@@ -15,10 +15,10 @@ ghost use Rattle.cofactors.specs.Chosen.{Near};
 ghost use Rattle.making.specs.Chaining.{Tells};
 
 use crate::levels::cofactor_sheet;
-use crate::signals::Signals;
 use bits::sets::members;
 use columns::split::Split;
 use making::chaining::{ChainEnd, chain_upto};
+use making::signals::Signals;
 use sheets::kinds::Sheet;
 use tables::aside::set_aside;
 use tables::counting::kept_of;

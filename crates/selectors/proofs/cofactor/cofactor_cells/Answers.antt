@@ -9,7 +9,7 @@ use Rattle.bits.proofs.Lists.{list_more}
 use Rattle.tables.specs.Cells.{table_number}
 use Rattle.tables.proofs.CellTables.{words_joined}
 use Rattle.chains.specs.Chain.{last_cell}
-use Rattle.selectors.specs.Stage.{signals_of}
+use Rattle.making.specs.Stage.{signals_of}
 use Rattle.selectors.specs.Standing.{part_bit, part_cell}
 use Rattle.selectors.proofs.Piles.{one_more}
 use Rattle.selectors.proofs.cofactor.cofactor_cells.Goals as goal

@@ -2,7 +2,7 @@ use mathlib.Core.Path.{◌≡◌}
 use Prim.Native.Nat.{◌-◌, ◌≤◌}
 use Rattle.bits.specs.Lists.{list_of}
 use Rattle.sheets.specs.Held.{cells_of}
-use Rattle.selectors.specs.Stage.{signals_of}
+use Rattle.making.specs.Stage.{signals_of}
 use Rattle.selectors.specs.Standing.{part_cell}
 use Rattle.selectors.proofs.cofactor.cofactor_cells.Given as goal
 

@@ -5,7 +5,7 @@ use Rattle.bits.specs.Numbers.{number}
 use Rattle.tables.specs.Table.{table_bit}
 use Rattle.sheets.specs.Held.{cells_of}
 use Rattle.cofactors.specs.Cofactors.{cofactor_cells}
-use Rattle.selectors.specs.Stage.{signals_of}
+use Rattle.making.specs.Stage.{signals_of}
 use Rattle.selectors.specs.Standing.{ahead, InRoom}
 use Rattle.selectors.proofs.levels.cofactor_sheet.Given as goal
 

@@ -9,7 +9,7 @@ use Rattle.bits.proofs.Machine.{shl_one}
 use Rattle.sheets.specs.Held.{cells_of}
 use Rattle.cofactors.specs.Cofactors.{cells_each, join_of}
 use Rattle.cofactors.proofs.Levels.{group}
-use Rattle.selectors.specs.Stage.{signals_of}
+use Rattle.making.specs.Stage.{signals_of}
 use Rattle.selectors.specs.Standing.{spaced, from, OneLevel}
 use Rattle.selectors.proofs.Standing.{level-room, level_few, level_places, one-level}
 use Rattle.selectors.proofs.levels.one_level.Lts as lts

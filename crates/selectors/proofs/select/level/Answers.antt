@@ -9,7 +9,7 @@ use lib.Dec.{leb}
 use Rattle.sheets.specs.Network.{Cell}
 use Rattle.sheets.specs.Held.{cells_of}
 use Rattle.cofactors.specs.Cofactors.{selecting, cells_each, join_of}
-use Rattle.selectors.specs.Stage.{signals_of}
+use Rattle.making.specs.Stage.{signals_of}
 use Rattle.selectors.specs.Standing.{spaced, from}
 use Rattle.selectors.proofs.Widths.{few_width}
 use Rattle.selectors.proofs.select.level.Invariants.{group_of}

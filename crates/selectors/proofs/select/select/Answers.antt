@@ -12,7 +12,7 @@ use Rattle.sheets.specs.Network.{Cell}
 use Rattle.sheets.specs.Edition.{unused_place}
 use Rattle.sheets.specs.Held.{cells_of}
 use Rattle.cofactors.specs.Cofactors.{selecting}
-use Rattle.selectors.specs.Stage.{signals_of}
+use Rattle.making.specs.Stage.{signals_of}
 use Rattle.selectors.specs.Standing.{spaced, from}
 use Rattle.selectors.proofs.Piles.{one_more}
 use Rattle.selectors.proofs.Cells.{three_cells_lem, of_two, of_four}

@@ -10,8 +10,8 @@ use Rattle.tables.proofs.Keeping.{kept-lt}
 use Rattle.tables.proofs.Work.{half-holds}
 use Rattle.chains.specs.Chain.{pick, inputs}
 use Rattle.cofactors.specs.Chosen.{Near}
-use Rattle.selectors.specs.declared.signals.Signals.{Signals}
-use Rattle.selectors.specs.Stage.{signals_of}
+use Rattle.making.specs.declared.signals.Signals.{Signals}
+use Rattle.making.specs.Stage.{signals_of}
 use Rattle.making.proofs.Halves.{half_whole}
 use Rattle.selectors.proofs.Choosing.{count, kept_cells}
 use Rattle.selectors.proofs.several.cofactors_of.Goals as goal
