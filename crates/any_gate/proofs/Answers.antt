@@ -14,9 +14,7 @@ use Rattle.sheets.specs.Edition.{most_records}
 use Rattle.chains.specs.Chain.{Made, stuck, made}
 use Rattle.chains.specs.Aside.{cells_aside}
 use Rattle.chains.specs.Any.{Any, sheet, overlong, severally, either, any_aside}
-use Rattle.refusals.specs.declared.verdicts.Refusal.{Refusal}
-use Rattle.refusals.specs.declared.verdicts.Verdict.{Verdict}
-use Rattle.refusals.specs.declared.verdicts.Verdict.TheVariants.{Fine, Refused}
+use Rattle.refusals.specs.Verdicts.{Refusal, Verdict, Fine, Refused}
 use Rattle.refusals.specs.Lines.{Line, InOrder, refusal, verdict, number_of, reply}
 use Rattle.bench.specs.Refusals.{chain_stuck}
 use Rattle.refusals.proofs.Lines.{passes, stops, in_order_lem, passed}

@@ -20,8 +20,7 @@ use Rattle.chains.proofs.Aside.{table-records}
 use Rattle.making.specs.declared.chaining.ChainEnd.{ChainEnd}
 use Rattle.making.specs.Chaining.{Tells}
 use Rattle.making.proofs.Piling.{cells_count}
-use Rattle.refusals.specs.declared.verdicts.Verdict.{Verdict}
-use Rattle.refusals.specs.declared.verdicts.Verdict.TheVariants.{Fine, Refused}
+use Rattle.refusals.specs.Verdicts.{Verdict, Fine, Refused}
 use Rattle.refusals.specs.Lines.{refusal, verdict, reply}
 use Rattle.refusals.proofs.Tests.{Sound}
 use Rattle.bench.specs.Refusals.{chain_stuck}

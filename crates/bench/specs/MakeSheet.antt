@@ -1,5 +1,5 @@
 -- Make a sheet for a desk: how many cells, and their records in a lent sheet.
-use Rattle.std.specs.Prelude.{cond, List, [], ◌∷◌, ◌++◌, ℕ, ◌^◌, leb, length}
+use Rattle.std.specs.Prelude.{cond, List, [], ◌∷◌, ◌++◌, ℕ, ◌^◌, leb, length, Result, Ok, Err}
 use Rattle.bits.specs.Numbers.{number}
 use Rattle.tables.specs.Table.{table_bit}
 use Rattle.sheets.specs.declared.kinds.Edition.{Edition}
@@ -8,13 +8,12 @@ use Rattle.sheets.specs.Network.{Cell}
 use Rattle.sheets.specs.Writing.{sheet_bytes}
 use Rattle.chains.specs.Chain.{Made, stuck, made}
 use Rattle.chains.specs.Aside.{sheet_aside}
-use Rattle.refusals.specs.declared.verdicts.Refusal.{Refusal}
-use Rattle.refusals.specs.declared.verdicts.Verdict.TheVariants.{Fine, Refused}
+use Rattle.refusals.specs.Verdicts.{Refusal, Verdict, Fine, Refused}
+use Rattle.refusals.specs.Results.{Why, refusal_of}
 use Rattle.refusals.specs.Lines.{Line, refusal, verdict, reply}
 use Rattle.refusals.specs.Refusals.{gate_lines, bad_desk, short_sheet}
 use Rattle.bench.specs.Refusals.{chain_stuck}
 use Rattle.refusals.specs.Lent.{into, work_after}
-use Rattle.bench.specs.declared.make_sheet.MakeAnswer.{MakeAnswer}
 
 -- the chain of a gate's table, as a number, with what does not count set aside
 abbrev pub sheet_for : ℕ → ℕ → List ℕ → Made
@@ -32,6 +31,11 @@ make_form e d n K t sheet work = gate_lines e n K t ++ (bad_desk d ∷ short_she
 -- and 8
 abbrev pub make_lines : Edition → ℕ → ℕ → ℕ → List ℕ → List ℕ → List ℕ → List Line
 make_lines e d n K t sheet work = make_form e d n K t sheet work ++ (chain_stuck (sheet_for n K t) ∷ [])
+
+-- the verdict, and how many cells
+pub record MakeAnswer : Type 0 where
+  pub verdict : Verdict
+  pub count : ℕ
 
 -- the answer; the lent sheet and the work area afterwards
 pub record MakeOutcome : Type 0 where
@@ -60,6 +64,11 @@ abbrev pub chain_written : Edition → ℕ → Made → List ℕ → List ℕ �
 chain_written e d stuck sheet work = make_not sheet work (refusal 8 0)
 chain_written e d (made cs) sheet work =
     cond (leb (length cs) most_records) (make_done e d cs sheet work) (make_not sheet work (refusal 17 0))
+
+-- what a result says
+abbrev pub make_answer : Result ℕ Why → MakeAnswer
+make_answer (Ok count) = record { verdict = Fine; count = count }
+make_answer (Err why) = record { verdict = Refused (refusal_of why); count = 0 }
 
 -- what make is to return and leave for the desk d, whatever is handed over
 unfoldable pub make_outcome : Edition → ℕ → ℕ → ℕ → List ℕ → List ℕ → List ℕ → MakeOutcome

@@ -8,9 +8,7 @@ use native.Mathlib.Omega.{arith}
 use lib.Dec.{eqb}
 use lib.ListN.{length, set, take}
 use lib.Seq.{drop-cons, take-suc}
-use Rattle.refusals.specs.declared.verdicts.Refusal.{Refusal}
-use Rattle.refusals.specs.declared.verdicts.Verdict.{Verdict}
-use Rattle.refusals.specs.declared.verdicts.Verdict.TheVariants.{Fine, Refused}
+use Rattle.refusals.specs.Verdicts.{Refusal, Verdict, Fine, Refused}
 use Rattle.refusals.specs.Lines.{line, verdict, reply}
 use Rattle.refusals.proofs.Lines.{in_order_lem}
 use Rattle.cards.specs.declared.stores.Store.{Store}

@@ -16,15 +16,13 @@ use Rattle.sheets.specs.Edition.{IsEdition, record_size, most_records, first_edi
 use Rattle.sheets.specs.Sheet.{records, bad_length, Good, AllReadable}
 use Rattle.sheets.proofs.Keeping.{first_edition_lem}
 use Rattle.sheets.proofs.Looks.{right_length}
-use Rattle.refusals.specs.declared.verdicts.Verdict.{Verdict}
-use Rattle.refusals.specs.declared.verdicts.Verdict.TheVariants.{Fine, Refused}
+use Rattle.refusals.specs.Verdicts.{Verdict, Fine, Refused}
 use Rattle.refusals.specs.Lines.{Line, line, refusal, InOrder, verdict, reply}
 use Rattle.refusals.specs.Refusals.{bad_inputs, bad_sheet, bad_record, sheet_lines, unread_record, bad_assignment}
 use Rattle.refusals.proofs.Lines.{here, later, decides, passes, lapses, in_order_lem}
 use Rattle.refusals.proofs.Tests.{inside}
 use Rattle.refusals.proofs.Sheets.{good_sheet, runnable}
-use Rattle.running.specs.declared.run_sheet.RunAnswer.{RunAnswer}
-use Rattle.running.specs.RunSheet.{run_done, run_not, run_outcome}
+use Rattle.running.specs.RunSheet.{RunAnswer, run_done, run_not, run_outcome}
 use Rattle.cards.specs.declared.stores.Store.{Store}
 use Rattle.cards.specs.Card.{desks, desk_bytes, card_bytes, own_bytes, open_mark, inputs_on, count_on, sheet_on}
 use Rattle.cards.specs.Stores.{stored, load_stores, store_count, cut_load, onto, Holds}

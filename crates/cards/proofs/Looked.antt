@@ -12,8 +12,7 @@ use borrow.Author.Tests.{lt-leb}
 use Rattle.sheets.specs.Edition.{record_size, most_records, first_edition}
 use Rattle.refusals.specs.Lines.{line, verdict, reply}
 use Rattle.refusals.specs.Refusals.{bad_inputs, bad_record, unread_record, bad_assignment}
-use Rattle.running.specs.declared.run_sheet.RunAnswer.{RunAnswer}
-use Rattle.running.specs.RunSheet.{run_done, run_not}
+use Rattle.running.specs.RunSheet.{RunAnswer, run_done, run_not}
 use Rattle.cards.specs.Card.{open_mark, inputs_on, count_on, sheet_on, SameUse}
 use Rattle.cards.specs.Refusals.{no_desk}
 use Rattle.cards.specs.RunDesk.{desk_outcome}

@@ -1,8 +1,6 @@
 -- Load a sheet onto a desk of a card.
 use Rattle.std.specs.Prelude.{List, ◌∷◌, ℕ}
-use Rattle.refusals.specs.declared.verdicts.Refusal.{Refusal}
-use Rattle.refusals.specs.declared.verdicts.Verdict.{Verdict}
-use Rattle.refusals.specs.declared.verdicts.Verdict.TheVariants.{Fine, Refused}
+use Rattle.refusals.specs.Verdicts.{Refusal, Verdict, Fine, Refused}
 use Rattle.refusals.specs.Lines.{Line, verdict, reply}
 use Rattle.cards.specs.declared.stores.Store.{Store}
 use Rattle.cards.specs.Stores.{stored, load_stores}

@@ -1,10 +1,9 @@
 -- Run a desk of a card at an assignment: one bit.
 use Rattle.std.specs.Prelude.{List, [], ◌∷◌, ℕ}
 use Rattle.sheets.specs.Edition.{first_edition}
-use Rattle.running.specs.declared.run_sheet.RunAnswer.{RunAnswer}
 use Rattle.refusals.specs.Lines.{Line, verdict, reply}
 use Rattle.refusals.specs.Refusals.{bad_inputs, bad_record, unread_record, bad_assignment}
-use Rattle.running.specs.RunSheet.{run_done, run_not}
+use Rattle.running.specs.RunSheet.{RunAnswer, run_done, run_not}
 use Rattle.cards.specs.Card.{own_bytes, inputs_on, sheet_on}
 use Rattle.cards.specs.Refusals.{bad_card, missing_desk, closed_desk, bad_count}
 

@@ -14,7 +14,7 @@ use Rattle.sheets.specs.Edition.{record_size, most_records, first_edition}
 use Rattle.sheets.specs.Network.{Carries}
 use Rattle.sheets.proofs.Keeping.{first_edition_lem}
 use Rattle.tables.specs.Work.{work_length}
-use Rattle.refusals.specs.declared.verdicts.Verdict.TheVariants.{Fine}
+use Rattle.refusals.specs.Verdicts.{Fine}
 use Rattle.refusals.specs.Lines.{InOrder, verdict, number_of}
 use Rattle.refusals.specs.Refusals.{bad_inputs, bad_cell, bad_desk, gate_lines, short_sheet}
 use Rattle.bench.specs.Refusals.{chain_stuck}

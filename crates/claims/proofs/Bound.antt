@@ -29,16 +29,14 @@ use Rattle.chains.specs.Chain.{pick, step, stuck, made}
 use Rattle.chains.specs.Aside.{kept_signals, kept_table, chain_aside, cells_aside}
 use Rattle.fewest.specs.Fewest.{Fewest}
 use Rattle.chains.proofs.Aside.{sheet_stuck}
-use Rattle.refusals.specs.declared.verdicts.Refusal.{Refusal}
-use Rattle.refusals.specs.declared.verdicts.Verdict.TheVariants.{Fine, Refused}
+use Rattle.refusals.specs.Verdicts.{Refusal, Fine, Refused}
 use Rattle.refusals.specs.Lines.{InOrder, verdict, number_of}
 use Rattle.refusals.proofs.Lines.{in_order_lem}
 use Rattle.refusals.proofs.Lent.{form_leaves}
 use Rattle.refusals.proofs.Tests.{Sound, sound}
-use Rattle.bounds.specs.declared.bound_cells.BoundAnswer.{BoundAnswer}
 use Rattle.bounds.specs.Bound.{counted, Bound}
 use Rattle.bounds.specs.Least.{cell_bound}
-use Rattle.bounds.specs.BoundCells.{BoundOutcome, bound_done, bound_not, bound_lines, bound_outcome}
+use Rattle.bounds.specs.BoundCells.{BoundAnswer, BoundOutcome, bound_done, bound_not, bound_lines, bound_outcome}
 use Rattle.bounds.proofs.Bound.{least_bound}
 use Rattle.bounds.proofs.Sound.{bound_sound, bound_once, bound_reaches, bound_asks, bound_fewest, bound_made}
 use Rattle.bounds.proofs.Sound.{bound_carried, bound_three, fewest_bound, three_bound, enough_bound, pairs_bound}

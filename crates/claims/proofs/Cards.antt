@@ -10,7 +10,7 @@ use Rattle.sheets.specs.Edition.{first_edition}
 use Rattle.sheets.specs.Sheet.{records}
 use Rattle.sheets.proofs.Keeping.{first_edition_lem}
 use Rattle.sheets.proofs.Desks.{good_desk}
-use Rattle.refusals.specs.declared.verdicts.Verdict.TheVariants.{Fine}
+use Rattle.refusals.specs.Verdicts.{Fine}
 use Rattle.refusals.specs.Lines.{refusal}
 use Rattle.running.specs.RunSheet.{run_not, run_outcome, run_own}
 use Rattle.cards.specs.declared.stores.Store.{Store}

@@ -10,9 +10,7 @@ use Rattle.sheets.specs.Edition.{first_edition}
 use Rattle.sheets.specs.Sheet.{records}
 use Rattle.sheets.specs.Reading.{IsFirstUnread}
 use Rattle.sheets.proofs.Keeping.{first_edition_lem}
-use Rattle.refusals.specs.declared.verdicts.Refusal.{Refusal}
-use Rattle.refusals.specs.declared.verdicts.Verdict.{Verdict}
-use Rattle.refusals.specs.declared.verdicts.Verdict.TheVariants.{Fine, Refused}
+use Rattle.refusals.specs.Verdicts.{Refusal, Verdict, Fine, Refused}
 use Rattle.refusals.specs.Lines.{refusal, InOrder, verdict, number_of, place_of}
 use Rattle.refusals.specs.Refusals.{bad_inputs, bad_sheet, sheet_lines, unread_record}
 use Rattle.refusals.proofs.Lines.{in_order_lem}

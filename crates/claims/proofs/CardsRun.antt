@@ -9,14 +9,12 @@ use Rattle.sheets.specs.Edition.{first_edition}
 use Rattle.sheets.specs.Sheet.{records, sheet_bit}
 use Rattle.sheets.specs.Reading.{IsFirstUnread}
 use Rattle.sheets.proofs.Keeping.{first_edition_lem}
-use Rattle.refusals.specs.declared.verdicts.Refusal.{Refusal}
-use Rattle.refusals.specs.declared.verdicts.Verdict.TheVariants.{Fine, Refused}
+use Rattle.refusals.specs.Verdicts.{Refusal, Fine, Refused}
 use Rattle.refusals.specs.Lines.{verdict, number_of, place_of}
 use Rattle.refusals.specs.Refusals.{bad_inputs, bad_record, unread_record, bad_assignment}
 use Rattle.refusals.proofs.Lines.{held}
 use Rattle.refusals.proofs.Sheets.{unread_named}
-use Rattle.running.specs.declared.run_sheet.RunAnswer.{RunAnswer}
-use Rattle.running.specs.RunSheet.{run_done, run_not}
+use Rattle.running.specs.RunSheet.{RunAnswer, run_done, run_not}
 use Rattle.cards.specs.Card.{own_bytes, inputs_on, sheet_on}
 use Rattle.cards.specs.Refusals.{bad_card, missing_desk, closed_desk, bad_count}
 use Rattle.cards.specs.RunDesk.{run_desk_lines, run_desk_outcome}

@@ -22,14 +22,13 @@ use Rattle.sheets.proofs.Unread.{not_read}
 use Rattle.sheets.proofs.Without.{sheet-without}
 use Rattle.sheets.proofs.Wiring.{cells_length, good_wired}
 use Rattle.runs.specs.Checking.{differs, first_difference}
-use Rattle.refusals.specs.declared.verdicts.Verdict.{Verdict}
-use Rattle.refusals.specs.declared.verdicts.Verdict.TheVariants.{Fine, Refused}
+use Rattle.refusals.specs.Verdicts.{Verdict, Fine, Refused}
 use Rattle.refusals.specs.Lines.{refusal, InOrder, verdict, number_of, place_of}
 use Rattle.refusals.specs.Refusals.{bad_sheet, sheet_lines, table_differs, unread_record}
 use Rattle.refusals.proofs.Lines.{lapses, in_order_lem, passes, held, names_nothing}
 use Rattle.refusals.proofs.Tests.{Sound, inside, right_table, spare_line}
 use Rattle.refusals.proofs.Sheets.{good_sheet, sheet_fine, counted, all_read, read_fine}
-use Rattle.running.specs.declared.run_sheet.RunAnswer.{RunAnswer}
+use Rattle.running.specs.RunSheet.{RunAnswer}
 use Rattle.rebuilding.specs.RebuildTable.{RebuildOutcome, rebuild_outcome}
 use Rattle.bench.specs.MakeSheet.{MakeOutcome, make_outcome}
 use Rattle.inspection.specs.CheckSheet.{table_lines, against_lines, check_lines, check_outcome, Accepted, FirstDifferent}

@@ -9,7 +9,7 @@ use Rattle.sheets.specs.declared.kinds.Edition.{Edition}
 use Rattle.sheets.specs.Edition.{first_edition, edition_of}
 use Rattle.sheets.specs.Desk.{desk_of}
 use Rattle.sheets.proofs.Keeping.{edition_one}
-use Rattle.refusals.specs.declared.verdicts.Verdict.{Verdict}
+use Rattle.refusals.specs.Verdicts.{Verdict}
 use Rattle.refusals.specs.Refusals.{bad_edition}
 use Rattle.refusals.proofs.Told.{told_known}
 use Rattle.inspection.specs.CheckSheet.{check_lines, check_outcome, check_own}

@@ -20,8 +20,7 @@ use Rattle.sheets.specs.Desk.{desk_at, FirstAmiss, OneDesk, desk_of}
 use Rattle.sheets.proofs.Wholes.{length-sheet}
 use Rattle.sheets.proofs.Desks.{desk_said, good_one_desk, good_desk, desk_alone}
 use Rattle.times.specs.declared.input_time.InputTime.{InputTime}
-use Rattle.refusals.specs.declared.verdicts.Verdict.{Verdict}
-use Rattle.refusals.specs.declared.verdicts.Verdict.TheVariants.{Fine, Refused}
+use Rattle.refusals.specs.Verdicts.{Verdict, Fine, Refused}
 use Rattle.refusals.specs.Lines.{Line, InOrder, line, refusal, verdict, number_of, reply}
 use Rattle.refusals.specs.Refusals.{bad_inputs, bad_table, bad_desk, bad_sheet, bad_assignment, table_differs, unread_record}
 use Rattle.refusals.specs.Refusals.{gate_lines, sheet_lines, short_sheet}

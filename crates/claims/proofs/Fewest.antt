@@ -23,7 +23,7 @@ use Rattle.fewest.proofs.Reach.{reach}
 use Rattle.fewest.proofs.Enough.{filled_fewest}
 use Rattle.fewest.proofs.Fewest.{table_three, table-enough, pairs_fewest}
 use Rattle.fewest.proofs.Joining.{joining_fewest}
-use Rattle.refusals.specs.declared.verdicts.Verdict.TheVariants.{Fine}
+use Rattle.refusals.specs.Verdicts.{Fine}
 use Rattle.refusals.specs.Lines.{InOrder}
 use Rattle.bench.specs.MakeSheet.{sheet_for, make_form, make_outcome}
 use Rattle.bench.proofs.Ready.{ready}

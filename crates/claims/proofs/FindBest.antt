@@ -22,15 +22,13 @@ use Rattle.best.specs.Search.{Answer, none, split}
 use Rattle.best.specs.Counting.{BestCounting}
 use Rattle.best.proofs.Counting.{counting_split, counting_none, counting_plain}
 use Rattle.sheets.specs.declared.kinds.Edition.{Edition}
-use Rattle.refusals.specs.declared.verdicts.Refusal.{Refusal}
-use Rattle.refusals.specs.declared.verdicts.Verdict.TheVariants.{Fine, Refused}
+use Rattle.refusals.specs.Verdicts.{Refusal, Fine, Refused}
 use Rattle.refusals.specs.Lines.{line, InOrder, verdict, number_of, reply}
 use Rattle.refusals.specs.Refusals.{nothing_to_split, none_best, is_none}
 use Rattle.refusals.specs.Lent.{work_after}
 use Rattle.refusals.proofs.Lines.{in_order_lem, passes, held}
 use Rattle.refusals.proofs.Lent.{work_found}
-use Rattle.finding.specs.declared.find_best.FindAnswer.{FindAnswer}
-use Rattle.finding.specs.FindBest.{FindOutcome, best_for, own_of, shared_of, find_form, find_says, find_lines, find_done}
+use Rattle.finding.specs.FindBest.{FindAnswer, FindOutcome, best_for, own_of, shared_of, find_form, find_says, find_lines, find_done}
 use Rattle.finding.specs.FindBest.{find_not, find_outcome}
 use Rattle.claims.specs.Words.{ByLines}
 use Rattle.claims.specs.Before.{find_before}

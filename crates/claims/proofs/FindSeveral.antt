@@ -16,18 +16,16 @@ use Rattle.splits.specs.Columns.{most_first}
 use Rattle.best.specs.Search.{split}
 use Rattle.best.specs.Counting.{best_counting}
 use Rattle.sheets.specs.declared.kinds.Edition.{Edition}
-use Rattle.refusals.specs.declared.verdicts.Refusal.{Refusal}
-use Rattle.refusals.specs.declared.verdicts.Verdict.TheVariants.{Fine, Refused}
+use Rattle.refusals.specs.Verdicts.{Refusal, Fine, Refused}
 use Rattle.refusals.specs.Lines.{line, InOrder, verdict, number_of}
 use Rattle.refusals.specs.Refusals.{nothing_to_split}
 use Rattle.refusals.specs.Lent.{work_after}
 use Rattle.finding.specs.FindBest.{best_for, find_form}
 use Rattle.refusals.proofs.Lines.{in_order_lem, passes, held}
 use Rattle.refusals.proofs.Lent.{work_found}
-use Rattle.several.specs.declared.find_several.FindSeveralAnswer.{FindSeveralAnswer}
 use Rattle.choices.specs.Best.{Works, BestOver}
 use Rattle.choices.specs.Search.{Choice, nothing, choice}
-use Rattle.several.specs.FindSeveral.{FindSeveralOutcome, best_several, is_nothing, none_several, first_of, own_of}
+use Rattle.several.specs.FindSeveral.{FindSeveralAnswer, FindSeveralOutcome, best_several, is_nothing, none_several, first_of, own_of}
 use Rattle.several.specs.FindSeveral.{shared_of, several_says, several_lines, several_done, several_not}
 use Rattle.several.specs.FindSeveral.{find_several_outcome}
 use Rattle.choices.proofs.Best.{over_best, over_none, over_own, over_unique}

@@ -15,17 +15,14 @@ use Rattle.best.specs.Counting.{BestCounting}
 use Rattle.sheets.specs.declared.kinds.Edition.{Edition}
 use Rattle.sheets.specs.Edition.{first_edition, edition_of}
 use Rattle.sheets.proofs.Keeping.{edition_one}
-use Rattle.refusals.specs.declared.verdicts.Refusal.{Refusal}
-use Rattle.refusals.specs.declared.verdicts.Verdict.{Verdict}
-use Rattle.refusals.specs.declared.verdicts.Verdict.TheVariants.{Fine, Refused}
+use Rattle.refusals.specs.Verdicts.{Refusal, Verdict, Fine, Refused}
 use Rattle.refusals.specs.Lines.{verdict, number_of, reply}
 use Rattle.refusals.specs.Refusals.{bad_edition, told_form}
 use Rattle.refusals.specs.Lent.{work_after}
 use Rattle.refusals.proofs.Lines.{in_order_lem, passed}
 use Rattle.refusals.proofs.Lent.{work_found}
 use Rattle.refusals.proofs.Told.{told_known}
-use Rattle.finding.specs.declared.find_best.FindAnswer.{FindAnswer}
-use Rattle.finding.specs.FindBest.{FindOutcome, best_for, find_lines, find_done, find_not, find_outcome}
+use Rattle.finding.specs.FindBest.{FindAnswer, FindOutcome, best_for, find_lines, find_done, find_not, find_outcome}
 use Rattle.finding.specs.FindTold.{find_told_lines, find_told}
 use Rattle.claims.specs.Words.{ByLines}
 use Rattle.claims.proofs.Verdicts.{says_verdict, is_refused_lem, area_left, by_lines, work_cleared}

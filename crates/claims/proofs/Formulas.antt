@@ -13,7 +13,7 @@ use Rattle.sheets.specs.Network.{Cell}
 use Rattle.sheets.specs.Sheet.{records, sheet_cells, sheet_bit, rebuilt, Good}
 use Rattle.sheets.specs.Writing.{sheet_bytes}
 use Rattle.sheets.proofs.Wholes.{cells_back, runs_cells, rebuilt-bit}
-use Rattle.refusals.specs.declared.verdicts.Verdict.TheVariants.{Fine}
+use Rattle.refusals.specs.Verdicts.{Fine}
 use Rattle.refusals.specs.Lines.{InOrder}
 use Rattle.refusals.specs.Refusals.{bad_inputs, bad_table}
 use Rattle.refusals.proofs.Sheets.{counted, sheet_fine}

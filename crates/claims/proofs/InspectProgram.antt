@@ -11,7 +11,7 @@ use Rattle.bits.proofs.Bools.{or_right}
 use Rattle.tables.specs.Table.{table_length}
 use Rattle.sheets.specs.Edition.{record_size, most_records, first_edition}
 use Rattle.sheets.specs.Desk.{desk_of}
-use Rattle.refusals.specs.declared.verdicts.Verdict.TheVariants.{Refused}
+use Rattle.refusals.specs.Verdicts.{Refused}
 use Rattle.refusals.specs.Lines.{InOrder, refusal}
 use Rattle.refusals.specs.Refusals.{bad_sheet}
 use Rattle.refusals.proofs.Lines.{decides, here, later}

@@ -16,7 +16,7 @@ use borrow.Author.Tests.{leb-true}
 use Rattle.bits.proofs.Bools.{clash, and_left, and_right}
 use Rattle.sheets.specs.declared.kinds.Edition.{Edition}
 use Rattle.times.specs.declared.input_time.InputTime.{InputTime}
-use Rattle.refusals.specs.declared.verdicts.Verdict.{Verdict}
+use Rattle.refusals.specs.Verdicts.{Verdict}
 use Rattle.refusals.specs.Lines.{Line, number_of, line_at, Given}
 use Rattle.splitting.specs.TrySplit.{try_lines}
 use Rattle.finding.specs.FindBest.{find_lines}

@@ -14,8 +14,7 @@ use Rattle.sheets.specs.Sheet.{Good}
 use Rattle.sheets.specs.Writing.{FitsFrom, sheet_bytes}
 use Rattle.chains.specs.Chain.{Made, stuck, made}
 use Rattle.chains.proofs.Aside.{table_gives, table_fits, table_read, table-records}
-use Rattle.refusals.specs.declared.verdicts.Verdict.{Verdict}
-use Rattle.refusals.specs.declared.verdicts.Verdict.TheVariants.{Fine}
+use Rattle.refusals.specs.Verdicts.{Verdict, Fine}
 use Rattle.refusals.specs.Lines.{InOrder, verdict, reply}
 use Rattle.bench.specs.Refusals.{chain_stuck, is_stuck}
 use Rattle.refusals.proofs.Lines.{in_order_lem, passes}

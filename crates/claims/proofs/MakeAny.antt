@@ -24,8 +24,7 @@ use Rattle.chains.specs.Any.{Any, sheet, unsplit, overlong}
 use Rattle.chains.proofs.Any.{any_gives, any_fits, any_read, any_records, any_unsplit, any_overlong}
 use Rattle.fewest.specs.Fewest.{Fewest}
 use Rattle.fewest.proofs.Fewest.{any_three}
-use Rattle.refusals.specs.declared.verdicts.Refusal.{Refusal}
-use Rattle.refusals.specs.declared.verdicts.Verdict.TheVariants.{Fine, Refused}
+use Rattle.refusals.specs.Verdicts.{Refusal, Fine, Refused}
 use Rattle.refusals.specs.Lines.{InOrder, verdict, number_of}
 use Rattle.refusals.specs.Lent.{work_after}
 use Rattle.refusals.proofs.Lines.{in_order_lem, passes, passed, held}
@@ -34,8 +33,7 @@ use Rattle.refusals.proofs.Tests.{Sound}
 use Rattle.running.specs.RunSheet.{run_outcome, run_own}
 use Rattle.rebuilding.specs.RebuildTable.{rebuild_outcome, rebuild_own}
 use Rattle.inspection.specs.CheckSheet.{check_outcome, check_own}
-use Rattle.bench.specs.declared.make_sheet.MakeAnswer.{MakeAnswer}
-use Rattle.bench.specs.MakeSheet.{MakeOutcome, make_form, make_done, make_outcome}
+use Rattle.bench.specs.MakeSheet.{MakeAnswer, MakeOutcome, make_form, make_done, make_outcome}
 use Rattle.bench.proofs.Ready.{Ready, ready}
 use Rattle.any_gate.specs.MakeAny.{any_for, cells_any, is_unsplit, is_overlong, none_any, too_long, any_says, any_lines}
 use Rattle.any_gate.specs.MakeAny.{any_outcome}

@@ -5,13 +5,10 @@ use mathlib.Core.List.{List}
 use Prim.Native.Nat.{ℕ}
 use Rattle.sheets.specs.declared.kinds.Edition.{Edition}
 use Rattle.sheets.specs.Network.{Cell}
-use Rattle.refusals.specs.declared.verdicts.Refusal.{Refusal}
-use Rattle.refusals.specs.declared.verdicts.Verdict.{Verdict}
-use Rattle.refusals.specs.declared.verdicts.Verdict.TheVariants.{Fine, Refused}
+use Rattle.refusals.specs.Verdicts.{Refusal, Verdict, Fine, Refused}
 use Rattle.refusals.specs.Lines.{reply}
 use Rattle.refusals.specs.Lent.{work_after}
-use Rattle.bench.specs.declared.make_sheet.MakeAnswer.{MakeAnswer}
-use Rattle.bench.specs.MakeSheet.{MakeOutcome, make_done, make_not}
+use Rattle.bench.specs.MakeSheet.{MakeAnswer, MakeOutcome, make_done, make_not}
 use Rattle.claims.proofs.Verdicts.{says_verdict, is_done, is_refused_lem, area_left}
 
 module _ (e : Edition) (d : ℕ) (cs : List Cell) (sheet work : List ℕ) (v : Verdict) where

@@ -24,8 +24,7 @@ use Rattle.fewest.specs.Fewest.{Fewest}
 use Rattle.chains.proofs.Aside.{sheet_stuck, sheet-plain}
 use Rattle.fewest.proofs.Fewest.{table_fewest}
 use Rattle.chains.proofs.FirstReads.{first_reads_lem, sheet_constant}
-use Rattle.refusals.specs.declared.verdicts.Refusal.{Refusal}
-use Rattle.refusals.specs.declared.verdicts.Verdict.TheVariants.{Fine, Refused}
+use Rattle.refusals.specs.Verdicts.{Refusal, Fine, Refused}
 use Rattle.refusals.specs.Lines.{InOrder, verdict, number_of, reply}
 use Rattle.bench.specs.Refusals.{chain_stuck, is_stuck}
 use Rattle.refusals.specs.Lent.{work_after}
@@ -34,8 +33,7 @@ use Rattle.refusals.proofs.Lent.{work_found}
 use Rattle.finding.specs.FindBest.{find_outcome}
 use Rattle.running.specs.RunSheet.{run_outcome}
 use Rattle.rebuilding.specs.RebuildTable.{rebuild_outcome}
-use Rattle.bench.specs.declared.make_sheet.MakeAnswer.{MakeAnswer}
-use Rattle.bench.specs.MakeSheet.{MakeOutcome, sheet_for, cells_in, make_form, make_lines, make_done, make_not, make_outcome}
+use Rattle.bench.specs.MakeSheet.{MakeAnswer, MakeOutcome, sheet_for, cells_in, make_form, make_lines, make_done, make_not, make_outcome}
 use Rattle.bench.proofs.Ready.{ready}
 use Rattle.claims.specs.Words.{ByLines, AllBytes, records_of, network_of}
 use Rattle.claims.specs.Before.{make_before}

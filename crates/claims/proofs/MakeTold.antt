@@ -12,9 +12,7 @@ use Rattle.sheets.specs.Edition.{first_edition, edition_of}
 use Rattle.sheets.specs.Network.{Gives, Carries}
 use Rattle.sheets.proofs.Keeping.{is_edition, edition_one}
 use Rattle.fewest.specs.Fewest.{Fewest}
-use Rattle.refusals.specs.declared.verdicts.Refusal.{Refusal}
-use Rattle.refusals.specs.declared.verdicts.Verdict.{Verdict}
-use Rattle.refusals.specs.declared.verdicts.Verdict.TheVariants.{Fine, Refused}
+use Rattle.refusals.specs.Verdicts.{Refusal, Verdict, Fine, Refused}
 use Rattle.refusals.specs.Lines.{InOrder, verdict, number_of, reply}
 use Rattle.refusals.specs.Refusals.{bad_edition}
 use Rattle.refusals.specs.Lent.{work_after}
@@ -24,8 +22,7 @@ use Rattle.refusals.proofs.Told.{told_known}
 use Rattle.running.specs.RunTold.{run_told}
 use Rattle.rebuilding.specs.RebuildTold.{rebuild_told}
 use Rattle.inspection.specs.CheckTold.{check_told}
-use Rattle.bench.specs.declared.make_sheet.MakeAnswer.{MakeAnswer}
-use Rattle.bench.specs.MakeSheet.{MakeOutcome, sheet_for, cells_in, make_form, make_lines, make_done, make_not, make_outcome}
+use Rattle.bench.specs.MakeSheet.{MakeAnswer, MakeOutcome, sheet_for, cells_in, make_form, make_lines, make_done, make_not, make_outcome}
 use Rattle.bench.specs.MakeTold.{make_told_lines, make_told}
 use Rattle.claims.specs.Words.{ByLines, AllBytes, records_of, network_of}
 use Rattle.claims.proofs.Verdicts.{by_lines, work_cleared}

@@ -8,9 +8,7 @@ use lib.Dec.{eqb}
 use lib.ListN.{length}
 use Rattle.tables.specs.Table.{table_length, table_bit, table_of}
 use Rattle.tables.proofs.Bytes.{length-table, table-of}
-use Rattle.refusals.specs.declared.verdicts.Refusal.{Refusal}
-use Rattle.refusals.specs.declared.verdicts.Verdict.{Verdict}
-use Rattle.refusals.specs.declared.verdicts.Verdict.TheVariants.{Fine, Refused}
+use Rattle.refusals.specs.Verdicts.{Refusal, Verdict, Fine, Refused}
 use Rattle.refusals.specs.Lines.{refusal, naming, InOrder, verdict, number_of, place_of}
 use Rattle.refusals.specs.Refusals.{bad_inputs, bad_table}
 use Rattle.refusals.proofs.Lines.{passes, not_fine}

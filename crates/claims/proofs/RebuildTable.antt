@@ -13,9 +13,7 @@ use Rattle.sheets.specs.Edition.{IsEdition}
 use Rattle.sheets.specs.Sheet.{records, sheet_bit, rebuilt, Good}
 use Rattle.sheets.specs.Reading.{EachRead, IsFirstUnread}
 use Rattle.sheets.proofs.Wholes.{rebuilt-bit}
-use Rattle.refusals.specs.declared.verdicts.Refusal.{Refusal}
-use Rattle.refusals.specs.declared.verdicts.Verdict.{Verdict}
-use Rattle.refusals.specs.declared.verdicts.Verdict.TheVariants.{Fine, Refused}
+use Rattle.refusals.specs.Verdicts.{Refusal, Verdict, Fine, Refused}
 use Rattle.refusals.specs.Lines.{refusal, InOrder, verdict, number_of, place_of, reply}
 use Rattle.refusals.specs.Refusals.{bad_inputs, bad_table, bad_sheet, unread_record}
 use Rattle.refusals.proofs.Lines.{lapses, in_order_lem}

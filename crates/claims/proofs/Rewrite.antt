@@ -17,17 +17,14 @@ use Rattle.sheets.specs.Reading.{EachRead, IsFirstUnread}
 use Rattle.sheets.proofs.Keeping.{first_edition_lem, second_edition_lem, edition_two}
 use Rattle.sheets.proofs.Wiring.{cells_length}
 use Rattle.sheets.proofs.Wholes.{length-sheet}
-use Rattle.refusals.specs.declared.verdicts.Refusal.{Refusal}
-use Rattle.refusals.specs.declared.verdicts.Verdict.{Verdict}
-use Rattle.refusals.specs.declared.verdicts.Verdict.TheVariants.{Fine, Refused}
+use Rattle.refusals.specs.Verdicts.{Refusal, Verdict, Fine, Refused}
 use Rattle.refusals.specs.Lines.{refusal, InOrder, verdict, number_of, place_of, reply}
 use Rattle.refusals.specs.Refusals.{bad_inputs, bad_table, bad_sheet, short_records, unread_record, read_sheet_lines}
 use Rattle.refusals.proofs.Lines.{passes, lapses, in_order_lem}
 use Rattle.refusals.proofs.Sheets.{good_sheet, sheet_fine, counted, all_read, read_fine}
 use Rattle.rebuilding.specs.RebuildTable.{rebuild_done, rebuild_not, rebuild_outcome, rebuild_own}
 use Rattle.rebuilding.specs.RebuildTold.{rebuild_told}
-use Rattle.rewriting.specs.declared.rewrite.RewriteAnswer.{RewriteAnswer}
-use Rattle.rewriting.specs.Rewrite.{SaysTheSame, RewriteOutcome, new_records, rewritten, rewrite_form, rewrite_lines}
+use Rattle.rewriting.specs.Rewrite.{RewriteAnswer, SaysTheSame, RewriteOutcome, new_records, rewritten, rewrite_form, rewrite_lines}
 use Rattle.rewriting.specs.Rewrite.{rewrite_done, rewrite_not, rewrite_outcome, rewrite_own}
 use Rattle.rewriting.proofs.Widened.{widened}
 use Rattle.claims.specs.Words.{ByLines, FirstBad}

@@ -13,15 +13,12 @@ use Rattle.sheets.specs.Sheet.{records, sheet_bit, sheet_cells}
 use Rattle.sheets.specs.Reading.{EachRead, IsFirstUnread, without}
 use Rattle.sheets.proofs.Unread.{not_read}
 use Rattle.sheets.proofs.Without.{sheet-without}
-use Rattle.refusals.specs.declared.verdicts.Refusal.{Refusal}
-use Rattle.refusals.specs.declared.verdicts.Verdict.{Verdict}
-use Rattle.refusals.specs.declared.verdicts.Verdict.TheVariants.{Refused}
+use Rattle.refusals.specs.Verdicts.{Refusal, Verdict, Refused}
 use Rattle.refusals.specs.Lines.{refusal, InOrder, verdict, number_of, place_of, reply}
 use Rattle.refusals.specs.Refusals.{bad_inputs, bad_sheet, bad_assignment, unread_record}
 use Rattle.refusals.proofs.Lines.{lapses}
 use Rattle.refusals.proofs.Sheets.{good_sheet, read_fine}
-use Rattle.running.specs.declared.run_sheet.RunAnswer.{RunAnswer}
-use Rattle.running.specs.RunSheet.{run_form, run_lines, run_done, run_not, run_outcome}
+use Rattle.running.specs.RunSheet.{RunAnswer, run_form, run_lines, run_done, run_not, run_outcome}
 use Rattle.claims.specs.Words.{ByLines, FirstBad}
 use Rattle.claims.specs.Before.{run_before}
 use Rattle.claims.proofs.Verdicts.{says_verdict, is_refused_lem, by_lines, no_place}

@@ -9,14 +9,11 @@ use Rattle.sheets.specs.declared.kinds.Edition.{Edition}
 use Rattle.sheets.specs.Edition.{first_edition, edition_of}
 use Rattle.sheets.specs.Desk.{desk_of}
 use Rattle.sheets.proofs.Keeping.{edition_one}
-use Rattle.refusals.specs.declared.verdicts.Refusal.{Refusal}
-use Rattle.refusals.specs.declared.verdicts.Verdict.{Verdict}
-use Rattle.refusals.specs.declared.verdicts.Verdict.TheVariants.{Refused}
+use Rattle.refusals.specs.Verdicts.{Refusal, Verdict, Refused}
 use Rattle.refusals.specs.Lines.{verdict, reply}
 use Rattle.refusals.specs.Refusals.{bad_edition}
 use Rattle.refusals.proofs.Told.{told_known}
-use Rattle.running.specs.declared.run_sheet.RunAnswer.{RunAnswer}
-use Rattle.running.specs.RunSheet.{run_lines, run_done, run_not, run_outcome, run_own}
+use Rattle.running.specs.RunSheet.{RunAnswer, run_lines, run_done, run_not, run_outcome, run_own}
 use Rattle.running.specs.RunTold.{run_told_lines, run_told}
 use Rattle.claims.specs.Words.{ByLines}
 use Rattle.claims.proofs.Verdicts.{says_verdict, is_refused_lem, by_lines}

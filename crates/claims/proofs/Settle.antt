@@ -21,14 +21,12 @@ use Rattle.times.specs.InputTimes.{zero_time, plain_zero, in_range, sound_time, 
 use Rattle.times.specs.Signals.{keeping, delayed, output_time, settled}
 use Rattle.times.specs.Sixteenths.{sixteenths_of, time_in_sixteenths}
 use Rattle.times.specs.Whole.{settled_whole}
-use Rattle.refusals.specs.declared.verdicts.Refusal.{Refusal}
-use Rattle.refusals.specs.declared.verdicts.Verdict.TheVariants.{Fine, Refused}
+use Rattle.refusals.specs.Verdicts.{Refusal, Fine, Refused}
 use Rattle.refusals.specs.Lines.{InOrder, line, verdict, number_of, place_of, reply}
 use Rattle.refusals.specs.Refusals.{bad_inputs, bad_sheet, sheet_lines}
 use Rattle.refusals.proofs.Lines.{in_order_lem, passes}
-use Rattle.settling.specs.declared.settle.SettleAnswer.{SettleAnswer}
 use Rattle.settling.specs.Refusals.{input_sound, bad_times}
-use Rattle.settling.specs.Settle.{settle_lines, settle_done, settle_not, settle_outcome}
+use Rattle.settling.specs.Settle.{SettleAnswer, settle_lines, settle_done, settle_not, settle_outcome}
 use Rattle.settling.proofs.Kept.{Leaves, leaves}
 use Rattle.settling.proofs.Slacking.{settled_exact}
 use Rattle.paths.specs.Paths.{Beyond, BeyondTime, BestPath}

@@ -20,8 +20,7 @@ use Rattle.sheets.specs.Reading.{EachRead, IsFirstUnread, first_unread}
 use Rattle.sheets.proofs.Keeping.{rules, rules_kept}
 use Rattle.sheets.proofs.Desks.{bad_amiss, amiss_bad}
 use Rattle.sheets.proofs.Unread.{unread-first}
-use Rattle.refusals.specs.declared.verdicts.Verdict.{Verdict}
-use Rattle.refusals.specs.declared.verdicts.Verdict.TheVariants.{Fine, Refused}
+use Rattle.refusals.specs.Verdicts.{Verdict, Fine, Refused}
 use Rattle.refusals.specs.Lines.{Line, refusal, InOrder, verdict, number_of, place_of, reply}
 use Rattle.refusals.specs.Refusals.{bad_inputs, bad_record, unread_record}
 use Rattle.refusals.proofs.Lines.{others, passes, passed, held}

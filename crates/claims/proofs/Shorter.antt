@@ -11,14 +11,11 @@ use borrow.Author.Tests.{leb-true, leb-false}
 use Rattle.sheets.specs.declared.kinds.Edition.{Edition}
 use Rattle.sheets.specs.Sheet.{records}
 use Rattle.sheets.specs.Desk.{desk_of}
-use Rattle.refusals.specs.declared.verdicts.Refusal.{Refusal}
-use Rattle.refusals.specs.declared.verdicts.Verdict.{Verdict}
-use Rattle.refusals.specs.declared.verdicts.Verdict.TheVariants.{Fine, Refused}
+use Rattle.refusals.specs.Verdicts.{Refusal, Verdict, Fine, Refused}
 use Rattle.refusals.specs.Lines.{number_of}
 use Rattle.refusals.proofs.Lines.{not_fine, another}
-use Rattle.comparing.specs.declared.shorter.Kept.{Kept}
 use Rattle.inspection.specs.CheckSheet.{check_lines, check_outcome, check_own}
-use Rattle.comparing.specs.Shorter.{which_kept, kept_outcome, part_of, shorter_outcome, Shortest}
+use Rattle.comparing.specs.Shorter.{Kept, which_kept, kept_outcome, part_of, shorter_outcome, Shortest}
 
 -- the three ways it can go, by the verdicts a and b and the numbers of records i and j: which is kept, and what the
 -- call beside says

@@ -14,14 +14,12 @@ use Rattle.times.specs.declared.input_time.InputTime.{InputTime}
 use Rattle.times.specs.InputTimes.{input_times}
 use Rattle.times.specs.Sixteenths.{sixteenths_of}
 use Rattle.times.specs.Whole.{settled_whole}
-use Rattle.refusals.specs.declared.verdicts.Refusal.{Refusal}
-use Rattle.refusals.specs.declared.verdicts.Verdict.TheVariants.{Fine, Refused}
+use Rattle.refusals.specs.Verdicts.{Refusal, Fine, Refused}
 use Rattle.refusals.specs.Lines.{InOrder, verdict, number_of, place_of}
 use Rattle.refusals.specs.Refusals.{bad_inputs, bad_sheet}
 use Rattle.refusals.proofs.Lines.{in_order_lem}
-use Rattle.settling.specs.declared.slack.SlackAnswer.{SlackAnswer}
 use Rattle.settling.specs.Refusals.{bad_times, bad_slack}
-use Rattle.settling.specs.Slack.{slack_lines, slack_done, slack_not, slack_outcome}
+use Rattle.settling.specs.Slack.{SlackAnswer, slack_lines, slack_done, slack_not, slack_outcome}
 use Rattle.settling.proofs.Kept.{Leaves, leaves}
 use Rattle.settling.proofs.Slacking.{counted, InWhole, in_whole}
 use Rattle.paths.specs.Paths.{Beyond, BestPath}

@@ -17,7 +17,7 @@ use Rattle.trees.specs.Tree.{Tree, constant, input, flipped, value, uses, TreeOf
 use Rattle.trees.proofs.Prune.{pruned}
 use Rattle.trees.proofs.Small.{constant_tree, input_tree}
 use Rattle.trees.proofs.Trees.{made_tree, tree_made, stuck_treeless}
-use Rattle.refusals.specs.declared.verdicts.Verdict.TheVariants.{Fine}
+use Rattle.refusals.specs.Verdicts.{Fine}
 use Rattle.refusals.specs.Lines.{InOrder, number_of}
 use Rattle.bench.specs.MakeSheet.{sheet_for, make_form, make_outcome}
 use Rattle.bench.proofs.Ready.{ready}

@@ -24,8 +24,7 @@ use Rattle.chains.specs.Chain.{made, pick, inputs, last_cell}
 use Rattle.chains.specs.Words.{Makes, ends}
 use Rattle.chains.proofs.Lists.{pick-length}
 use Rattle.chains.proofs.Aside.{sheet_made, table_most}
-use Rattle.refusals.specs.declared.verdicts.Refusal.{Refusal}
-use Rattle.refusals.specs.declared.verdicts.Verdict.TheVariants.{Fine, Refused}
+use Rattle.refusals.specs.Verdicts.{Refusal, Fine, Refused}
 use Rattle.refusals.specs.Lines.{InOrder}
 use Rattle.refusals.specs.Lent.{into}
 use Rattle.refusals.proofs.Lines.{not_fine}

@@ -28,13 +28,10 @@ use Rattle.splits.proofs.Respect.{reads-D}
 use Rattle.columns.proofs.Breaking.{broken_before, broken_there, broken_within, columns_several}
 use Rattle.sheets.specs.declared.kinds.Edition.{Edition}
 use Rattle.sheets.specs.Edition.{IsEdition, first_most}
-use Rattle.refusals.specs.declared.verdicts.Refusal.{Refusal}
-use Rattle.refusals.specs.declared.verdicts.Verdict.{Verdict}
-use Rattle.refusals.specs.declared.verdicts.Verdict.TheVariants.{Fine, Refused}
-use Rattle.splitting.specs.declared.try_split.TryAnswer.{TryAnswer}
+use Rattle.refusals.specs.Verdicts.{Refusal, Verdict, Fine, Refused}
 use Rattle.refusals.specs.Lines.{InOrder, naming, verdict, number_of, place_of, reply}
 use Rattle.refusals.specs.Refusals.{not_possible}
-use Rattle.splitting.specs.TrySplit.{TryOutcome, try_form, try_lines, try_done, try_not, try_outcome}
+use Rattle.splitting.specs.TrySplit.{TryAnswer, TryOutcome, try_form, try_lines, try_done, try_not, try_outcome}
 use Rattle.refusals.specs.Lent.{into}
 use Rattle.refusals.proofs.Lines.{in_order_lem, passes, held}
 use Rattle.refusals.proofs.Tests.{sound}

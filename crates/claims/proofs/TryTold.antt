@@ -17,15 +17,12 @@ use Rattle.charts.specs.Cells.{no_cells}
 use Rattle.sheets.specs.declared.kinds.Edition.{Edition}
 use Rattle.sheets.specs.Edition.{first_edition, edition_of}
 use Rattle.sheets.proofs.Keeping.{is_edition, edition_one}
-use Rattle.refusals.specs.declared.verdicts.Refusal.{Refusal}
-use Rattle.refusals.specs.declared.verdicts.Verdict.{Verdict}
-use Rattle.refusals.specs.declared.verdicts.Verdict.TheVariants.{Fine, Refused}
+use Rattle.refusals.specs.Verdicts.{Refusal, Verdict, Fine, Refused}
 use Rattle.refusals.specs.Lines.{InOrder, verdict, number_of, reply}
 use Rattle.refusals.specs.Refusals.{bad_edition}
 use Rattle.refusals.proofs.Lines.{in_order_lem}
 use Rattle.refusals.proofs.Told.{told_known}
-use Rattle.splitting.specs.declared.try_split.TryAnswer.{TryAnswer}
-use Rattle.splitting.specs.TrySplit.{TryOutcome, try_form, try_lines, try_done, try_not, try_outcome}
+use Rattle.splitting.specs.TrySplit.{TryAnswer, TryOutcome, try_form, try_lines, try_done, try_not, try_outcome}
 use Rattle.splitting.specs.TryTold.{try_told_lines, try_told}
 use Rattle.claims.specs.Words.{ByLines}
 use Rattle.claims.proofs.Verdicts.{says_verdict, is_refused_lem, by_lines}

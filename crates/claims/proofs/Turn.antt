@@ -7,17 +7,15 @@ use Prim.Native.Nat.{ℕ, ◌<◌}
 use native.Mathlib.Omega.{arith}
 use borrow.Author.Tests.{ltb-true}
 use Rattle.bits.proofs.Bools.{false_of}
-use Rattle.refusals.specs.declared.verdicts.Refusal.{Refusal}
-use Rattle.refusals.specs.declared.verdicts.Verdict.TheVariants.{Fine, Refused}
+use Rattle.refusals.specs.Verdicts.{Refusal, Fine, Refused}
 use Rattle.refusals.specs.Lines.{refusal, line, verdict, number_of, place_of, reply}
 use Rattle.refusals.proofs.Lines.{not_fine}
 use Rattle.turning.specs.declared.ways.Way.{Way}
-use Rattle.turning.specs.declared.turn.TurnAnswer.{TurnAnswer}
 use Rattle.turning.specs.Ways.{IsWay, Reachable, FirstWay, way_count}
 use Rattle.turning.specs.Listing.{way_at, first_way}
 use Rattle.book.specs.Book.{table_count, entry}
 use Rattle.turning.specs.Reach.{reaches}
-use Rattle.turning.specs.Turn.{turn_lines, turn_done, turn_not, turn_outcome}
+use Rattle.turning.specs.Turn.{TurnAnswer, turn_lines, turn_done, turn_not, turn_outcome}
 use Rattle.turning.proofs.Listed.{rank, rank_lt, listed, way_at_lem, first_way_lem}
 use Rattle.book.proofs.Entries.{reaches_exactly, same-entry}
 use Rattle.claims.specs.Words.{ByLines}

@@ -9,8 +9,7 @@ use lib.ListN.{length, drop}
 use Rattle.sheets.specs.declared.kinds.Edition.{Edition}
 use Rattle.sheets.specs.Edition.{IsEdition}
 use Rattle.sheets.specs.Sheet.{records, sheet_cells, sheet_bit}
-use Rattle.refusals.specs.declared.verdicts.Refusal.{Refusal}
-use Rattle.refusals.specs.declared.verdicts.Verdict.TheVariants.{Fine, Refused}
+use Rattle.refusals.specs.Verdicts.{Refusal, Fine, Refused}
 use Rattle.refusals.specs.Lines.{refusal, InOrder, verdict, number_of, place_of}
 use Rattle.refusals.proofs.Lines.{in_order_lem, passes, not_fine}
 use Rattle.values.specs.Formula.{Formula, value}

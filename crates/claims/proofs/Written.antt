@@ -16,7 +16,7 @@ use Rattle.sheets.specs.Reading.{AllRead, EachRead}
 use Rattle.sheets.proofs.Wholes.{length-sheet, cells_back}
 use Rattle.sheets.proofs.Unread.{written_read}
 use Rattle.chains.proofs.Written.{written-bit, written-table, written_good}
-use Rattle.refusals.specs.declared.verdicts.Verdict.TheVariants.{Fine}
+use Rattle.refusals.specs.Verdicts.{Fine}
 use Rattle.refusals.specs.Lines.{number_of}
 use Rattle.refusals.proofs.Tests.{Sound}
 use Rattle.refusals.proofs.Sheets.{counted}

@@ -10,7 +10,7 @@ use Rattle.sheets.specs.Edition.{IsEdition}
 use Rattle.sheets.specs.Sheet.{records, Good}
 use Rattle.sheets.specs.Desk.{OneDesk, desk_of}
 use Rattle.sheets.proofs.Desks.{good_one_desk, good_desk}
-use Rattle.refusals.specs.declared.verdicts.Verdict.TheVariants.{Fine}
+use Rattle.refusals.specs.Verdicts.{Fine}
 use Rattle.running.specs.RunSheet.{run_outcome, run_own}
 use Rattle.rebuilding.specs.RebuildTable.{rebuild_outcome, rebuild_own}
 use Rattle.bench.specs.MakeSheet.{MakeOutcome}

@@ -11,15 +11,13 @@ use Rattle.chains.specs.Chain.{sheet_of}
 use Rattle.refusals.specs.Lines.{line, verdict, reply}
 use Rattle.refusals.specs.Refusals.{gate_lines, short_sheet, none_best}
 use Rattle.bench.specs.Refusals.{chain_stuck}
-use Rattle.refusals.specs.declared.verdicts.Verdict.{Verdict}
+use Rattle.refusals.specs.Verdicts.{Verdict}
 use Rattle.finding.specs.FindBest.{FindOutcome, find_form, find_done, find_not}
-use Rattle.running.specs.declared.run_sheet.RunAnswer.{RunAnswer}
-use Rattle.running.specs.RunSheet.{run_form, run_done, run_not}
+use Rattle.running.specs.RunSheet.{RunAnswer, run_form, run_done, run_not}
 use Rattle.rebuilding.specs.RebuildTable.{RebuildOutcome, rebuild_form, rebuild_done, rebuild_not}
 use Rattle.bench.specs.MakeSheet.{MakeOutcome, sheet_for, cells_in, make_form, make_done, make_not}
-use Rattle.comparing.specs.declared.shorter.Kept.{Kept}
 use Rattle.inspection.specs.CheckSheet.{table_lines, against_lines, check_outcome}
-use Rattle.comparing.specs.Shorter.{which_kept}
+use Rattle.comparing.specs.Shorter.{Kept, which_kept}
 
 -- 7 where n is at most K, and the best split of the whole table
 abbrev pub find_before : Edition → ℕ → ℕ → List ℕ → List ℕ → FindOutcome

@@ -8,8 +8,7 @@ use Rattle.tables.specs.Work.{work_length}
 use Rattle.refusals.specs.Lines.{number_of, place_of}
 use Rattle.splitting.specs.TrySplit.{TryOutcome, try_outcome}
 use Rattle.finding.specs.FindBest.{FindOutcome, find_outcome}
-use Rattle.running.specs.declared.run_sheet.RunAnswer.{RunAnswer}
-use Rattle.running.specs.RunSheet.{run_own}
+use Rattle.running.specs.RunSheet.{RunAnswer, run_own}
 use Rattle.rebuilding.specs.RebuildTable.{RebuildOutcome, rebuild_own}
 use Rattle.bench.specs.MakeSheet.{MakeOutcome, make_outcome}
 use Rattle.programs.specs.BenchProgram.{written}

@@ -6,8 +6,7 @@ use Rattle.sheets.specs.declared.kinds.Edition.{Edition}
 use Rattle.sheets.specs.Network.{Cell}
 use Rattle.sheets.specs.Record.{Keeps}
 use Rattle.sheets.specs.Sheet.{record_at, records, sheet_cells}
-use Rattle.refusals.specs.declared.verdicts.Verdict.{Verdict}
-use Rattle.refusals.specs.declared.verdicts.Verdict.TheVariants.{Fine}
+use Rattle.refusals.specs.Verdicts.{Verdict, Fine}
 use Rattle.refusals.specs.Lines.{Line, InOrder, Given, number_of}
 use Rattle.bench.specs.MakeSheet.{MakeOutcome}
 

@@ -1,15 +1,15 @@
 -- Find the best split: two masks.
-use Rattle.std.specs.Prelude.{List, [], ◌∷◌, ◌++◌, ℕ}
+use Rattle.std.specs.Prelude.{List, [], ◌∷◌, ◌++◌, ℕ, Result, Ok, Err}
 use Rattle.tables.specs.Table.{table_bit}
+use Rattle.best.specs.declared.Masks.{Masks}
 use Rattle.best.specs.Search.{Answer, none, split}
 use Rattle.best.specs.Counting.{best_counting}
 use Rattle.sheets.specs.declared.kinds.Edition.{Edition}
-use Rattle.refusals.specs.declared.verdicts.Refusal.{Refusal}
-use Rattle.refusals.specs.declared.verdicts.Verdict.TheVariants.{Fine, Refused}
+use Rattle.refusals.specs.Verdicts.{Refusal, Verdict, Fine, Refused}
+use Rattle.refusals.specs.Results.{Why, refusal_of}
 use Rattle.refusals.specs.Lines.{Line, verdict, reply}
 use Rattle.refusals.specs.Refusals.{gate_lines, short_work, nothing_to_split, none_best}
 use Rattle.refusals.specs.Lent.{work_after}
-use Rattle.finding.specs.declared.find_best.FindAnswer.{FindAnswer}
 
 -- the best split of a gate's table, over the inputs that count
 abbrev pub best_for : ℕ → ℕ → List ℕ → Answer
@@ -26,6 +26,12 @@ find_says n K t = nothing_to_split n K t ∷ none_best (best_for n K t) ∷ []
 -- all of them
 abbrev pub find_lines : Edition → ℕ → ℕ → List ℕ → List ℕ → List Line
 find_lines e n K t work = find_form e n K t work ++ find_says n K t
+
+-- the verdict, the own and the shared mask
+pub record FindAnswer : Type 0 where
+  pub verdict : Verdict
+  pub own : ℕ
+  pub shared : ℕ
 
 -- the answer, and the work area afterwards
 pub record FindOutcome : Type 0 where
@@ -55,6 +61,11 @@ find_not work r = record {
   answer = record { verdict = Refused r; own = 0; shared = 0 };
   work = work_after (Refused r) work;
 }
+
+-- what a result says
+abbrev pub find_answer : Result Masks Why → FindAnswer
+find_answer (Ok masks) = record { verdict = Fine; own = masks.own; shared = masks.shared }
+find_answer (Err why) = record { verdict = Refused (refusal_of why); own = 0; shared = 0 }
 
 -- what find is to return and leave, whatever is handed over
 unfoldable pub find_outcome : Edition → ℕ → ℕ → List ℕ → List ℕ → FindOutcome

@@ -6,7 +6,7 @@ use Prim.Native.Nat.{ℕ, ◌<◌, ◌≤◌}
 use native.Mathlib.Omega.{arith}
 use lib.ListN.{length}
 use borrow.Author.Tests.{eq-eqb, ne_eqb}
-use Rattle.refusals.specs.declared.verdicts.Verdict.TheVariants.{Fine, Refused}
+use Rattle.refusals.specs.Verdicts.{Fine, Refused}
 use Rattle.refusals.specs.Lines.{refusal, naming, verdict}
 use Rattle.values.specs.declared.stretches.Stretch.{Stretch}
 use Rattle.formulas.specs.declared.reading.TextRead.{TextRead}

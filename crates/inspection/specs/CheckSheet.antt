@@ -5,7 +5,7 @@ use Rattle.sheets.specs.declared.kinds.Edition.{Edition}
 use Rattle.sheets.specs.Desk.{desk_of}
 use Rattle.sheets.specs.Sheet.{records, sheet_bit, Good}
 use Rattle.sheets.specs.Reading.{EachRead}
-use Rattle.refusals.specs.declared.verdicts.Verdict.{Verdict}
+use Rattle.refusals.specs.Verdicts.{Verdict}
 use Rattle.refusals.specs.Lines.{Line, verdict}
 use Rattle.refusals.specs.Refusals.{sheet_lines, table_differs, unread_record}
 pub use Rattle.refusals.specs.Refusals.{table_lines}

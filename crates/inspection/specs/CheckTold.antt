@@ -2,7 +2,7 @@
 use Rattle.std.specs.Prelude.{List, ℕ}
 use Rattle.sheets.specs.Edition.{edition_of}
 use Rattle.sheets.specs.Desk.{desk_of}
-use Rattle.refusals.specs.declared.verdicts.Verdict.{Verdict}
+use Rattle.refusals.specs.Verdicts.{Verdict}
 use Rattle.refusals.specs.Lines.{Line, verdict}
 use Rattle.refusals.specs.Refusals.{told_lines}
 use Rattle.inspection.specs.CheckSheet.{check_lines}

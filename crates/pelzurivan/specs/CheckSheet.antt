@@ -1,5 +1,5 @@
 -- A sheet checked, for C.
-use Rattle.refusals.specs.declared.verdicts.Verdict.{Verdict}
+use Rattle.refusals.specs.Verdicts.{Verdict}
 use Rattle.refusals.specs.Lines.{number_of, place_of}
 use Rattle.pelzurivan.specs.declared.check_sheet.CheckedC.{CheckedC}
 

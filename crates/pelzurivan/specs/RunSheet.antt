@@ -1,7 +1,7 @@
 -- A sheet run, for C.
 use Rattle.bits.specs.Numbers.{val}
 use Rattle.refusals.specs.Lines.{number_of, place_of}
-use Rattle.running.specs.declared.run_sheet.RunAnswer.{RunAnswer}
+use Rattle.running.specs.RunSheet.{RunAnswer}
 use Rattle.pelzurivan.specs.declared.run_sheet.RanC.{RanC}
 
 -- the number, the bit, and the first bad or unread record

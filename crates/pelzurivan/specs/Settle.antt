@@ -1,6 +1,6 @@
 -- When the output settles, for C.
 use Rattle.refusals.specs.Lines.{number_of, place_of}
-use Rattle.settling.specs.declared.settle.SettleAnswer.{SettleAnswer}
+use Rattle.settling.specs.Settle.{SettleAnswer}
 use Rattle.pelzurivan.specs.declared.settle.SettledC.{SettledC}
 
 -- the number, the first bad record, and both times

@@ -1,8 +1,7 @@
 -- The shorter of two sheets, for C.
 use Rattle.std.specs.Prelude.{List, ℕ, length}
 use Rattle.refusals.specs.Lines.{number_of}
-use Rattle.comparing.specs.declared.shorter.Kept.{Kept}
-use Rattle.comparing.specs.Shorter.{part_of}
+use Rattle.comparing.specs.Shorter.{Kept, part_of}
 use Rattle.pelzurivan.specs.declared.shorter.ShorterC.{ShorterC}
 
 -- which of x and y, how many bytes it has, and the number of the call beside

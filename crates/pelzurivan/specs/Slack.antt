@@ -1,6 +1,6 @@
 -- The slack, for C.
 use Rattle.refusals.specs.Lines.{number_of, place_of}
-use Rattle.settling.specs.declared.slack.SlackAnswer.{SlackAnswer}
+use Rattle.settling.specs.Slack.{SlackAnswer}
 use Rattle.pelzurivan.specs.declared.slack.SlackC.{SlackC}
 
 -- the number, the first bad record, and the slack

@@ -1,7 +1,7 @@
 -- A three-input table turned into another, for C.
 use Rattle.bits.specs.Numbers.{val}
 use Rattle.refusals.specs.Lines.{number_of}
-use Rattle.turning.specs.declared.turn.TurnAnswer.{TurnAnswer}
+use Rattle.turning.specs.Turn.{TurnAnswer}
 use Rattle.pelzurivan.specs.declared.turn.TurnedC.{TurnedC}
 
 -- the number, and the way

@@ -19,7 +19,7 @@ use Rattle.sheets.specs.Record.{cell_of}
 use Rattle.sheets.specs.Sheet.{record_at, records, cells_from, sheet_cells, sheet_bit, Good}
 use Rattle.sheets.specs.Reading.{reads}
 use Rattle.sheets.proofs.Wiring.{cells_length, good_wired}
-use Rattle.refusals.specs.declared.verdicts.Verdict.TheVariants.{Fine}
+use Rattle.refusals.specs.Verdicts.{Fine}
 use Rattle.refusals.specs.Lines.{InOrder}
 use Rattle.refusals.proofs.Tests.{inside}
 use Rattle.refusals.proofs.Sheets.{good_sheet}

@@ -1,14 +1,13 @@
 -- Write a sheet as a formula into a lent room.
-use Rattle.std.specs.Prelude.{List, [], ◌∷◌, ◌++◌, ℕ, ltb, length}
+use Rattle.std.specs.Prelude.{List, [], ◌∷◌, ◌++◌, ℕ, ltb, length, Result, Ok, Err}
 use Rattle.sheets.specs.declared.kinds.Edition.{Edition}
 use Rattle.sheets.specs.Desk.{desk_of}
-use Rattle.refusals.specs.declared.verdicts.Refusal.{Refusal}
-use Rattle.refusals.specs.declared.verdicts.Verdict.TheVariants.{Fine, Refused}
+use Rattle.refusals.specs.Verdicts.{Refusal, Verdict, Fine, Refused}
+use Rattle.refusals.specs.Results.{Why, refusal_of}
 use Rattle.refusals.specs.Lines.{Line, line, verdict, reply}
 use Rattle.refusals.specs.Refusals.{bad_inputs, sheet_lines}
 use Rattle.refusals.specs.Lent.{into}
 use Rattle.formulas.specs.Text.{most_text}
-use Rattle.printing.specs.declared.write_formula.WriteAnswer.{WriteAnswer}
 use Rattle.printing.specs.Print.{sheet_text}
 use Rattle.printing.specs.Printable.{not_printed}
 
@@ -23,6 +22,11 @@ write_form e d n s room = bad_inputs n ∷ short_text room ∷ sheet_lines e d n
 -- and 16
 abbrev pub write_lines : Edition → ℕ → ℕ → List ℕ → List ℕ → List Line
 write_lines e d n s room = write_form e d n s room ++ (not_printed e n s ∷ [])
+
+-- the verdict, and the text's length
+pub record WriteAnswer : Type 0 where
+  pub verdict : Verdict
+  pub length : ℕ
 
 -- the answer, and the room afterwards
 pub record WriteOutcome : Type 0 where
@@ -39,6 +43,11 @@ write_done e n s room = record {
 -- refused: the length is 0, and the room is as it was lent
 abbrev pub write_not : List ℕ → Refusal → WriteOutcome
 write_not room r = record { answer = record { verdict = Refused r; length = 0 }; room = room }
+
+-- what a result says
+abbrev pub write_answer : Result ℕ Why → WriteAnswer
+write_answer (Ok length) = record { verdict = Fine; length = length }
+write_answer (Err why) = record { verdict = Refused (refusal_of why); length = 0 }
 
 -- what the writer is to return and leave where the sheet is to be the desk d's, whatever is handed over
 unfoldable pub write_outcome : Edition → ℕ → ℕ → List ℕ → List ℕ → WriteOutcome

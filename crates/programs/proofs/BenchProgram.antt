@@ -13,12 +13,10 @@ use Rattle.sheets.specs.Network.{Cell}
 use Rattle.sheets.specs.Writing.{sheet_bytes}
 use Rattle.sheets.proofs.Wholes.{length-sheet}
 use Rattle.tables.specs.Work.{work_length}
-use Rattle.refusals.specs.declared.verdicts.Verdict.{Verdict}
-use Rattle.refusals.specs.declared.verdicts.Verdict.TheVariants.{Fine, Refused}
+use Rattle.refusals.specs.Verdicts.{Verdict, Fine, Refused}
 use Rattle.refusals.specs.Lent.{into}
 use Rattle.refusals.specs.Lines.{verdict, number_of, reply}
-use Rattle.bench.specs.declared.make_sheet.MakeAnswer.{MakeAnswer}
-use Rattle.bench.specs.MakeSheet.{MakeOutcome, sheet_for, cells_in, make_lines, make_done, make_not, make_outcome}
+use Rattle.bench.specs.MakeSheet.{MakeAnswer, MakeOutcome, sheet_for, cells_in, make_lines, make_done, make_not, make_outcome}
 use Rattle.programs.specs.BenchProgram.{most_written, asked, ProgramOutcome, shown, program_outcome}
 
 -- ---- the records made stand in the room for the sheet, so what is to be written stands in the room handed over

@@ -15,8 +15,7 @@ use borrow.Rule.Slice.PartMut.{put_mid, mid_of}
 use Rattle.tables.specs.Table.{most_inputs, table_length}
 use Rattle.sheets.specs.Edition.{first_edition}
 use Rattle.sheets.specs.Desk.{desk_of}
-use Rattle.refusals.specs.declared.verdicts.Verdict.{Verdict}
-use Rattle.refusals.specs.declared.verdicts.Verdict.TheVariants.{Refused}
+use Rattle.refusals.specs.Verdicts.{Verdict, Refused}
 use Rattle.refusals.specs.Lent.{into}
 use Rattle.refusals.specs.Lines.{refusal, number_of, place_of}
 use Rattle.refusals.proofs.Lines.{here, decides}

@@ -2,7 +2,7 @@
 use Rattle.std.specs.Prelude.{cond, List, [], ◌∷◌, ◌++◌, ℕ, zero, suc, ◌+◌, ◌*◌, ◌/◌, ◌%◌, ltb, length, get_or, take, drop, replicate}
 use Rattle.tables.specs.Table.{most_inputs, table_length}
 use Rattle.sheets.specs.Edition.{record_size, most_records, first_edition}
-use Rattle.refusals.specs.declared.verdicts.Verdict.{Verdict}
+use Rattle.refusals.specs.Verdicts.{Verdict}
 use Rattle.refusals.specs.Lent.{into}
 use Rattle.refusals.specs.Lines.{number_of, place_of}
 use Rattle.inspection.specs.CheckSheet.{check_own}

@@ -1,5 +1,6 @@
 // The record rules, and a sheet looked over by them.
 ghost use Rattle.std.specs.Prelude.{◌≡◌, ◌+◌, ◌-◌, ◌*◌, ◌<◌, ◌≤◌, length};
+ghost use Rattle.bits.specs.Places.{found_below};
 ghost use Rattle.tables.specs.Table.{most_inputs};
 ghost use Rattle.sheets.specs.Edition.{IsEdition, most_records};
 ghost use Rattle.sheets.specs.Record.{spare_ok, byte_ok, byte_at, keeps};
@@ -65,7 +66,6 @@ pub fn record_ok(e: Edition, d: u8, top: usize, b: &[u8]) -> bool
     requires { IsEdition e × (length b.now ≡ e.size) }
     ensures { result ≡ keeps e d top (byte_at b.now) }
 {
-    let end = e.size - 1;
     let k = b[0] as usize;
     if k < 1 {
         return false;
@@ -73,59 +73,52 @@ pub fn record_ok(e: Edition, d: u8, top: usize, b: &[u8]) -> bool
     if e.most < k {
         return false;
     }
-    let mut j = 0;
-    while j < end {
-        let next = j + 1;
-        if !byte_ok(e, d, top, k, j, b[j], b[next]) {
+    for j in 0..e.size - 1 {
+        if !byte_ok(e, d, top, k, j, b[j], b[j + 1]) {
             return false;
         }
-        j += 1;
     }
     true
 }
 
-// The first of m records that breaks the rules, and m where none does.
-pub fn first_bad(e: Edition, d: u8, n: u32, s: &[u8], m: usize) -> usize
+// The first of m records that breaks the rules.
+pub fn first_bad(e: Edition, d: u8, n: u32, s: &[u8], m: usize) -> Option<usize>
     requires { IsEdition e × (m ≤ most_records) × (n ≤ most_inputs) × (e.size * m ≤ length s.now) }
-    ensures { result ≡ first_bad e d n s.now m }
+    ensures { result ≡ found_below m (first_bad e d n s.now m) }
 {
-    let inputs = n as usize;
-    let mut i = 0;
-    while i < m {
-        if !record_ok(e, d, inputs + i, record_of(e, s, i)) {
-            return i;
+    for i in 0..m {
+        if !record_ok(e, d, n as usize + i, record_of(e, s, i)) {
+            return Some(i);
         }
-        i += 1;
     }
-    i
+    None
 }
 
-// What looking a sheet over finds: a wrong length, the first bad record, or how many records there are.
-#[derive(Clone, Copy)]
-pub enum Looked {
+// What is wrong with a sheet: its length, or its first record that breaks the rules.
+#[derive(Clone, Copy, Debug, PartialEq, Eq)]
+pub enum BadSheet {
     Length,
-    BadAt(usize),
-    Fine(usize),
+    Record(usize),
 }
 
-pub fn look(e: Edition, d: u8, n: u32, s: &[u8]) -> Looked
+// A sheet looked over: how many records it has, if nothing is wrong.
+pub fn look(e: Edition, d: u8, n: u32, s: &[u8]) -> Result<usize, BadSheet>
     requires { IsEdition e × (n ≤ most_inputs) }
     ensures { Saw e d n s.now result }
 {
     let len = s.len();
     if len == 0 {
-        return Looked::Length;
+        return Err(BadSheet::Length);
     }
     if len % e.size != 0 {
-        return Looked::Length;
+        return Err(BadSheet::Length);
     }
     if e.size * Sheet::RECORDS < len {
-        return Looked::Length;
+        return Err(BadSheet::Length);
     }
     let m = len / e.size;
-    let bad = first_bad(e, d, n, s, m);
-    if bad < m {
-        return Looked::BadAt(bad);
+    match first_bad(e, d, n, s, m) {
+        Some(i) => Err(BadSheet::Record(i)),
+        None => Ok(m),
     }
-    Looked::Fine(m)
 }

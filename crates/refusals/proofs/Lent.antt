@@ -10,9 +10,7 @@ use Rattle.bits.proofs.Bools.{or-none}
 use Rattle.sheets.specs.declared.kinds.Edition.{Edition}
 use Rattle.sheets.specs.Edition.{most_records}
 use Rattle.tables.specs.Work.{work_length}
-use Rattle.refusals.specs.declared.verdicts.Refusal.{Refusal}
-use Rattle.refusals.specs.declared.verdicts.Verdict.{Verdict}
-use Rattle.refusals.specs.declared.verdicts.Verdict.TheVariants.{Refused}
+use Rattle.refusals.specs.Verdicts.{Refusal, Verdict, Refused}
 use Rattle.refusals.specs.Lines.{Line, verdict, number_of}
 use Rattle.refusals.specs.Refusals.{short_sheet}
 use Rattle.refusals.specs.Lent.{work_after}

@@ -5,3 +5,4 @@ pub mod Tests
 pub mod Sheets
 pub mod Told
 pub mod Refusing
+pub mod Results

@@ -4,9 +4,7 @@ use mathlib.Core.Bool.{true, ◌&&◌}
 use mathlib.Core.List.{List, ◌++◌}
 use Prim.Native.Nat.{ℕ}
 use lib.Dec.{leb}
-use Rattle.refusals.specs.declared.verdicts.Refusal.{Refusal}
-use Rattle.refusals.specs.declared.verdicts.Verdict.{Verdict}
-use Rattle.refusals.specs.declared.verdicts.Verdict.TheVariants.{Refused}
+use Rattle.refusals.specs.Verdicts.{Refusal, Verdict, Refused}
 use Rattle.refusals.specs.Lines.{Line, verdict, reply}
 use Rattle.refusals.specs.Lent.{work_after}
 use Rattle.refusals.proofs.Lines.{all_numbers, refused_by}

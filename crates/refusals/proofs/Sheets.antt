@@ -1,4 +1,5 @@
 -- Lines 9, 10 and 15: what a look at a sheet says of it. Assumes nothing.
+use Rattle.std.proofs.Common.{Ok, Err}
 use mathlib.Core.Path.{◌≡◌, sym, ap, ◌∙◌, subst}
 use mathlib.Core.Bool.{true, false}
 use mathlib.Core.List.{List}
@@ -10,23 +11,34 @@ use borrow.Author.Tests.{lt-ltb, le-ltb, ltb-true, ltb-false}
 use Rattle.bits.proofs.Least.{is_least}
 use Rattle.tables.specs.Table.{most_inputs}
 use Rattle.sheets.specs.declared.kinds.Edition.{Edition}
-use Rattle.records.specs.declared.rules.Looked.TheVariants.{Fine, BadAt}
+use Rattle.records.specs.declared.rules.BadSheet.{BadSheet}
+use Rattle.records.specs.declared.rules.BadSheet.TheVariants.{Length, Record}
 use Rattle.sheets.specs.Edition.{IsEdition, most_records}
 use Rattle.sheets.specs.Sheet.{bad, first_bad, records, Good, AllReadable}
 use Rattle.records.specs.Look.{Saw}
 use Rattle.sheets.specs.Reading.{unread, first_unread, EachRead, IsFirstUnread}
 use Rattle.sheets.proofs.Looks.{good, all_readable, right_length}
 use Rattle.sheets.proofs.Unread.{each_read, none-unread, first-unread, unread-first}
-use Rattle.refusals.specs.Lines.{InOrder}
+use Rattle.refusals.specs.Verdicts.{Refused}
+use Rattle.refusals.specs.Lines.{InOrder, refusal, verdict}
+use Rattle.refusals.specs.Results.{refusal_of}
+use Rattle.refusals.specs.Looks.{why_bad}
+use Rattle.refusals.proofs.Lines.{here, later, decides}
 use Rattle.refusals.specs.Refusals.{bad_record, sheet_lines, unread_record}
 
 module _ (e : Edition) (d n : ℕ) (s : List ℕ) where
-  pub record_bad : (i : ℕ) → Saw e d n s (BadAt i) → (bad_record e d n s).holds ≡ true
+  pub record_bad : (i : ℕ) → Saw e d n s (Err (Record i)) → (bad_record e d n s).holds ≡ true
   record_bad i w = lt-ltb (first_bad e d n s (records e s)) (records e s)
       (subst (λ (j : ℕ). j < records e s) (sym w.1) w.2)
 
-  pub records_fine : (m : ℕ) → Saw e d n s (Fine m) → (bad_record e d n s).holds ≡ false
+  pub records_fine : (m : ℕ) → Saw e d n s (Ok m) → (bad_record e d n s).holds ≡ false
   records_fine m w = le-ltb (first_bad e d n s (records e s)) (records e s) (omega (arith, w.1, w.2))
+
+  -- what was seen of a sheet that can't be read is what lines 9 and 10 say
+  pub said_bad : (bad : BadSheet) → Saw e d n s (Err bad) → Refused (refusal_of (why_bad bad)) ≡ verdict (sheet_lines e d n s)
+  said_bad Length w = decides (sheet_lines e d n s) (here w)
+  said_bad (Record i) w = ap (λ (j : ℕ). Refused (refusal 10 j)) (sym w.1)
+      ∙ decides (sheet_lines e d n s) (later w.0 (here (record_bad i w)))
 
   module _ (ok : IsEdition e) where
     -- lines 9 and 10 let through exactly the good sheets

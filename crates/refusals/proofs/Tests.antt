@@ -12,8 +12,7 @@ use Rattle.bits.proofs.Bools.{and_left, and_right}
 use Rattle.tables.specs.Table.{most_inputs, table_length, spare_clear}
 use Rattle.tables.proofs.Spare.{spare_none}
 use Rattle.sheets.specs.declared.kinds.Edition.{Edition}
-use Rattle.refusals.specs.declared.verdicts.Verdict.{Verdict}
-use Rattle.refusals.specs.declared.verdicts.Verdict.TheVariants.{Fine}
+use Rattle.refusals.specs.Verdicts.{Verdict, Fine}
 use Rattle.refusals.specs.Lines.{Line, InOrder, verdict}
 use Rattle.refusals.specs.Refusals.{bad_inputs, bad_table, sized_lines, gate_lines, sheet_lines}
 use Rattle.refusals.proofs.Lines.{in_order_lem}

@@ -1,6 +1,6 @@
 -- Lent bytes afterwards.
 use Rattle.std.specs.Prelude.{cond, ◌&&◌, List, ◌++◌, ℕ, leb, length, drop, replicate}
-use Rattle.refusals.specs.declared.verdicts.Verdict.{Verdict}
+use Rattle.refusals.specs.Verdicts.{Verdict}
 use Rattle.refusals.specs.Lines.{number_of}
 
 -- the first bytes of a room replaced, the rest as they were

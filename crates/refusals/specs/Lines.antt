@@ -1,8 +1,6 @@
 -- A call's lines of the table of refusals, in the order of their numbers, and the first of them that holds.
 use Rattle.std.specs.Prelude.{◌≡◌, Bool, false, true, cond, List, [], ◌∷◌, ℕ, ◌<◌, length, get_or}
-use Rattle.refusals.specs.declared.verdicts.Refusal.{Refusal}
-use Rattle.refusals.specs.declared.verdicts.Verdict.{Verdict}
-use Rattle.refusals.specs.declared.verdicts.Verdict.TheVariants.{Fine, Refused}
+use Rattle.refusals.specs.Verdicts.{Refusal, Verdict, Fine, Refused}
 
 -- the refusal with number k that names p
 abbrev pub refusal : ℕ → ℕ → Refusal

@@ -3,14 +3,14 @@ ghost use Rattle.std.specs.Prelude.{◌≡◌, not, ◌&&◌, [], ◌∷◌, ◌
 ghost use Rattle.tables.specs.Table.{most_inputs};
 ghost use Rattle.sheets.specs.Edition.{IsEdition};
 ghost use Rattle.refusals.specs.Lines.{verdict, InOrder};
+ghost use Rattle.refusals.specs.Results.{verdict_of};
 ghost use Rattle.refusals.specs.Refusals.{bad_inputs, bad_cell, bad_edition, bad_table};
 ghost use Rattle.refusals.specs.Refusals.{sized_lines, table_lines, gate_lines};
 ghost use Rattle.refusals.specs.Refusals.{sheet_lines, unread_record, read_sheet_lines};
 ghost use Rattle.refusals.specs.Refusals.{told_form};
 
-use crate::verdicts::{Refusal, Verdict, refuse, refuse_at};
+use crate::verdicts::Refusal;
 use records::rules;
-use records::rules::Looked;
 use sheets::kinds::Edition;
 use unread::reading::who_reads;
 
@@ -18,10 +18,7 @@ use unread::reading::who_reads;
 pub fn outside(low: u64, x: u64, high: u64) -> bool
     ensures { result ≡ not (leb low x && leb x high) }
 {
-    if x < low {
-        return true;
-    }
-    high < x
+    x < low || high < x
 }
 
 // Line 1: n outside 1 to 16.
@@ -47,41 +44,38 @@ fn bad_table(n: u32, t: &[u8]) -> bool
 }
 
 // Lines 1 and 3.
-pub fn sized(n: u64, t: &[u8]) -> Verdict
-    ensures { result ≡ verdict (sized_lines n t.now) }
+pub fn sized(n: u64, t: &[u8]) -> Result<(), Refusal>
+    ensures { verdict_of result ≡ verdict (sized_lines n t.now) }
 {
     if bad_inputs(n) {
-        return refuse(Refusal::INPUTS);
+        return Err(Refusal::Inputs);
     }
     if bad_table(n as u32, t) {
-        return refuse(Refusal::TABLE);
+        return Err(Refusal::Table);
     }
-    Verdict::Fine
+    Ok(())
 }
 
 // Lines 1, 3 and 4; a table of three inputs or more has no spare bits.
-pub fn table(n: u64, t: &[u8]) -> Verdict
-    ensures { result ≡ verdict (table_lines n t.now) }
+pub fn table(n: u64, t: &[u8]) -> Result<(), Refusal>
+    ensures { verdict_of result ≡ verdict (table_lines n t.now) }
 {
-    let seen = sized(n, t);
-    let Verdict::Fine = seen else {
-        return seen;
-    };
+    sized(n, t)?;
     if !tables::spare_clear(n as u32, t) {
-        return refuse(Refusal::SPARE);
+        return Err(Refusal::Spare);
     }
-    Verdict::Fine
+    Ok(())
 }
 
 // Lines 1 to 4.
-pub fn gate(e: Edition, n: u64, k: u64, t: &[u8]) -> Verdict
-    ensures { result ≡ verdict (gate_lines e n k t.now) }
+pub fn gate(e: Edition, n: u64, k: u64, t: &[u8]) -> Result<(), Refusal>
+    ensures { verdict_of result ≡ verdict (gate_lines e n k t.now) }
 {
     if bad_inputs(n) {
-        return refuse(Refusal::INPUTS);
+        return Err(Refusal::Inputs);
     }
     if bad_cell(e, k) {
-        return refuse(Refusal::CELL);
+        return Err(Refusal::Cell);
     }
     table(n, t)
 }
@@ -94,63 +88,55 @@ fn bad_edition(w: u64) -> bool
 }
 
 // Lines 1 and 2 of a call that is told the edition.
-pub fn told(w: u64, n: u64) -> Verdict
-    ensures { result ≡ verdict (told_form w n) }
+pub fn told(w: u64, n: u64) -> Result<(), Refusal>
+    ensures { verdict_of result ≡ verdict (told_form w n) }
 {
     if bad_inputs(n) {
-        return refuse(Refusal::INPUTS);
+        return Err(Refusal::Inputs);
     }
     if bad_edition(w) {
-        return refuse(Refusal::EDITION);
+        return Err(Refusal::Edition);
     }
-    Verdict::Fine
+    Ok(())
 }
 
 // Lines 9 and 10.
-pub fn sheet(e: Edition, d: u8, n: u32, s: &[u8]) -> Verdict
+pub fn sheet(e: Edition, d: u8, n: u32, s: &[u8]) -> Result<(), Refusal>
     requires { IsEdition e × (n ≤ most_inputs) }
-    ensures { result ≡ verdict (sheet_lines e d n s.now) }
+    ensures { verdict_of result ≡ verdict (sheet_lines e d n s.now) }
 {
-    let seen = rules::look(e, d, n, s);
-    match seen {
-        Looked::Length => refuse(Refusal::SHEET),
-        Looked::BadAt(i) => refuse_at(Refusal::RECORD, i as u64),
-        Looked::Fine(_) => Verdict::Fine,
-    }
+    rules::look(e, d, n, s)?;
+    Ok(())
 }
 
 // Lines 1, 9 and 10.
-pub fn sheet_for(e: Edition, d: u8, n: u64, s: &[u8]) -> Verdict
+pub fn sheet_for(e: Edition, d: u8, n: u64, s: &[u8]) -> Result<(), Refusal>
     requires { IsEdition e }
-    ensures { result ≡ verdict (bad_inputs n ∷ sheet_lines e d n s.now) }
+    ensures { verdict_of result ≡ verdict (bad_inputs n ∷ sheet_lines e d n s.now) }
 {
     if bad_inputs(n) {
-        return refuse(Refusal::INPUTS);
+        return Err(Refusal::Inputs);
     }
     sheet(e, d, n as u32, s)
 }
 
 // Line 15, of a sheet that lines 9 and 10 let through.
-pub fn all_read(e: Edition, d: u8, n: u32, s: &[u8]) -> Verdict
+pub fn all_read(e: Edition, d: u8, n: u32, s: &[u8]) -> Result<(), Refusal>
     requires { IsEdition e × (n ≤ most_inputs) × InOrder (sheet_lines e d n s.now) }
-    ensures { result ≡ verdict (unread_record e n s.now ∷ []) }
+    ensures { verdict_of result ≡ verdict (unread_record e n s.now ∷ []) }
 {
     let m = s.len() / e.size;
-    let i = who_reads(e, n, s, m).first;
-    if i < m - 1 {
-        return refuse_at(Refusal::UNREAD, i as u64);
+    match who_reads(e, n, s, m).first {
+        Some(i) => Err(Refusal::Unread(i)),
+        None => Ok(()),
     }
-    Verdict::Fine
 }
 
 // Lines 9, 10 and 15.
-pub fn read_sheet(e: Edition, d: u8, n: u32, s: &[u8]) -> Verdict
+pub fn read_sheet(e: Edition, d: u8, n: u32, s: &[u8]) -> Result<(), Refusal>
     requires { IsEdition e × (n ≤ most_inputs) }
-    ensures { result ≡ verdict (read_sheet_lines e d n s.now) }
+    ensures { verdict_of result ≡ verdict (read_sheet_lines e d n s.now) }
 {
-    let seen = sheet(e, d, n, s);
-    let Verdict::Fine = seen else {
-        return seen;
-    };
+    sheet(e, d, n, s)?;
     all_read(e, d, n, s)
 }

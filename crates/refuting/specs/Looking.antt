@@ -1,8 +1,7 @@
 -- What the code looks at: a step that is all there, and what steps come to as a verdict.
 use Rattle.std.specs.Prelude.{Bool, cond, ◌&&◌, List, ℕ, ◌+◌, ◌≤◌, leb, length}
 use Rattle.clauses.specs.Step.{step_length}
-use Rattle.refusals.specs.declared.verdicts.Verdict.{Verdict}
-use Rattle.refusals.specs.declared.verdicts.Verdict.TheVariants.{Fine, Refused}
+use Rattle.refusals.specs.Verdicts.{Verdict, Fine, Refused}
 use Rattle.refusals.specs.Lines.{refusal}
 use Rattle.refuting.specs.Steps.{Shown, shown, not_shown}
 

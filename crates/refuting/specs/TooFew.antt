@@ -2,7 +2,7 @@
 use Rattle.std.specs.Prelude.{Bool, true, false, not, ◌&&◌, List, [], ◌∷◌, ◌++◌, ℕ, ◌+◌, ◌*◌, leb, ltb, length}
 use Rattle.sheets.specs.declared.kinds.Edition.{Edition}
 use Rattle.sheets.specs.Edition.{most_records, edition_of}
-use Rattle.refusals.specs.declared.verdicts.Verdict.{Verdict}
+use Rattle.refusals.specs.Verdicts.{Verdict}
 use Rattle.refuting.specs.Numbers.{of_cells, of_room, of_shown}
 use Rattle.refusals.specs.Lines.{Line, line, naming, verdict}
 use Rattle.refusals.specs.Refusals.{gate_lines, told_lines}

@@ -1,16 +1,15 @@
 -- Write a sheet of the edition e in the edition f.
-use Rattle.std.specs.Prelude.{◌≡◌, List, [], ◌∷◌, ◌++◌, ℕ, ◌*◌, take}
+use Rattle.std.specs.Prelude.{◌≡◌, List, [], ◌∷◌, ◌++◌, ℕ, ◌*◌, take, Result, Ok, Err}
 use Rattle.sheets.specs.declared.kinds.Edition.{Edition}
 use Rattle.sheets.specs.Desk.{desk_of}
 use Rattle.sheets.specs.Sheet.{sheet_cells, records, rebuilt, Good}
 use Rattle.sheets.specs.Reading.{EachRead}
 use Rattle.sheets.specs.Writing.{sheet_bytes}
-use Rattle.refusals.specs.declared.verdicts.Refusal.{Refusal}
-use Rattle.refusals.specs.declared.verdicts.Verdict.TheVariants.{Fine, Refused}
+use Rattle.refusals.specs.Verdicts.{Refusal, Verdict, Fine, Refused}
+use Rattle.refusals.specs.Results.{Why, refusal_of}
 use Rattle.refusals.specs.Lines.{Line, verdict, reply}
 use Rattle.refusals.specs.Refusals.{bad_inputs, short_records, sheet_lines, unread_record}
 use Rattle.refusals.specs.Lent.{into}
-use Rattle.rewriting.specs.declared.rewrite.RewriteAnswer.{RewriteAnswer}
 
 -- ---- meaning
 
@@ -36,6 +35,11 @@ rewrite_form e f d n s room = bad_inputs n ∷ short_records f room ∷ sheet_li
 abbrev pub rewrite_lines : Edition → Edition → ℕ → ℕ → List ℕ → List ℕ → List Line
 rewrite_lines e f d n s room = rewrite_form e f d n s room ++ (unread_record e n s ∷ [])
 
+-- the verdict, and how many records
+pub record RewriteAnswer : Type 0 where
+  pub verdict : Verdict
+  pub count : ℕ
+
 -- the answer, and the lent room afterwards
 pub record RewriteOutcome : Type 0 where
   pub answer : RewriteAnswer
@@ -55,6 +59,11 @@ rewrite_done e f d s room = record {
 -- refused: the count is 0, and the room is as it was lent
 abbrev pub rewrite_not : List ℕ → Refusal → RewriteOutcome
 rewrite_not room r = record { answer = record { verdict = Refused r; count = 0 }; room = room }
+
+-- what a result says
+abbrev pub rewrite_answer : Result ℕ Why → RewriteAnswer
+rewrite_answer (Ok count) = record { verdict = Fine; count = count }
+rewrite_answer (Err why) = record { verdict = Refused (refusal_of why); count = 0 }
 
 -- what rewrite is to return and leave where the sheet is to be the desk d's, whatever is handed over
 unfoldable pub rewrite_outcome : Edition → Edition → ℕ → ℕ → List ℕ → List ℕ → RewriteOutcome

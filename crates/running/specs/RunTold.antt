@@ -4,8 +4,7 @@ use Rattle.sheets.specs.Edition.{edition_of}
 use Rattle.sheets.specs.Desk.{desk_of}
 use Rattle.refusals.specs.Lines.{Line, verdict, reply}
 use Rattle.refusals.specs.Refusals.{told_lines}
-use Rattle.running.specs.declared.run_sheet.RunAnswer.{RunAnswer}
-use Rattle.running.specs.RunSheet.{run_lines, run_done, run_not}
+use Rattle.running.specs.RunSheet.{RunAnswer, run_lines, run_done, run_not}
 
 -- 1, 2 of the edition, and run's own in that edition, for the sheet's own desk
 abbrev pub run_told_lines : ℕ → ℕ → List ℕ → ℕ → List Line

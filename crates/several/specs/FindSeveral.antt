@@ -1,15 +1,15 @@
 -- Find the best split with 1, 2 or 3 first cells: how many, and two masks.
-use Rattle.std.specs.Prelude.{Bool, true, false, List, [], ◌∷◌, ◌++◌, ℕ}
+use Rattle.std.specs.Prelude.{Bool, true, false, List, [], ◌∷◌, ◌++◌, ℕ, Result, Ok, Err}
 use Rattle.tables.specs.Table.{table_bit}
 use Rattle.splits.specs.Columns.{most_first}
 use Rattle.sheets.specs.declared.kinds.Edition.{Edition}
-use Rattle.refusals.specs.declared.verdicts.Refusal.{Refusal}
-use Rattle.refusals.specs.declared.verdicts.Verdict.TheVariants.{Fine, Refused}
+use Rattle.choices.specs.declared.over.Chosen.{Chosen}
+use Rattle.refusals.specs.Verdicts.{Refusal, Verdict, Fine, Refused}
+use Rattle.refusals.specs.Results.{Why, refusal_of}
 use Rattle.refusals.specs.Lines.{Line, line, verdict, reply}
 use Rattle.refusals.specs.Refusals.{nothing_to_split}
 use Rattle.refusals.specs.Lent.{work_after}
 use Rattle.finding.specs.FindBest.{find_form}
-use Rattle.several.specs.declared.find_several.FindSeveralAnswer.{FindSeveralAnswer}
 use Rattle.choices.specs.Search.{Choice, nothing, choice, best_over}
 
 -- the best split of a gate's table with 1 to 3 first cells
@@ -32,6 +32,13 @@ several_says n K t = nothing_to_split n K t ∷ none_several (best_several n K t
 -- all lines: find's form and room, and these
 abbrev pub several_lines : Edition → ℕ → ℕ → List ℕ → List ℕ → List Line
 several_lines e n K t work = find_form e n K t work ++ several_says n K t
+
+-- the verdict, how many first cells, the own and the shared mask
+pub record FindSeveralAnswer : Type 0 where
+  pub verdict : Verdict
+  pub first : ℕ
+  pub own : ℕ
+  pub shared : ℕ
 
 -- the answer, and the work area afterwards
 pub record FindSeveralOutcome : Type 0 where
@@ -66,6 +73,11 @@ several_not work why = record {
   answer = record { verdict = Refused why; first = 0; own = 0; shared = 0 };
   work = work_after (Refused why) work;
 }
+
+-- what a result says
+abbrev pub several_answer : Result Chosen Why → FindSeveralAnswer
+several_answer (Ok found) = record { verdict = Fine; first = found.first; own = found.own; shared = found.shared }
+several_answer (Err why) = record { verdict = Refused (refusal_of why); first = 0; own = 0; shared = 0 }
 
 -- what find is to return and leave, whatever is handed over
 unfoldable pub find_several_outcome : Edition → ℕ → ℕ → List ℕ → List ℕ → FindSeveralOutcome

@@ -19,9 +19,7 @@ use Rattle.splits.proofs.Respect.{inputs-H}
 use Rattle.charts.specs.declared.pair.FirstCells.{FirstCells}
 use Rattle.charts.specs.Cells.{no_cells}
 use Rattle.best.specs.Best.{Candidate}
-use Rattle.refusals.specs.declared.verdicts.Refusal.{Refusal}
-use Rattle.refusals.specs.declared.verdicts.Verdict.{Verdict}
-use Rattle.refusals.specs.declared.verdicts.Verdict.TheVariants.{Refused}
+use Rattle.refusals.specs.Verdicts.{Refusal, Verdict, Refused}
 use Rattle.refusals.specs.Lines.{Line, verdict, reply}
 use Rattle.refusals.specs.Refusals.{bad_sets}
 use Rattle.refusals.proofs.Lines.{others, another, refused_by}

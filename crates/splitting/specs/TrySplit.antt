@@ -1,17 +1,18 @@
 -- Try a named split with r first cells: their tables as numbers, H into a lent room. Document 01's call has one.
-use Rattle.std.specs.Prelude.{cond, List, [], ◌∷◌, ◌++◌, ℕ, eqb, length}
+use Rattle.std.specs.Prelude.{cond, List, [], ◌∷◌, ◌++◌, ℕ, eqb, length, Result, Ok, Err}
 use Rattle.bits.specs.Numbers.{bit}
 use Rattle.tables.specs.Table.{table_bit}
 use Rattle.splits.specs.Columns.{columns}
 use Rattle.splits.specs.Pair.{bytes_h}
 use Rattle.charts.specs.Cells.{first_cells, no_cells}
+use Rattle.charts.specs.declared.pair.FirstCells.{FirstCells}
 use Rattle.sheets.specs.declared.kinds.Edition.{Edition}
-use Rattle.refusals.specs.declared.verdicts.Refusal.{Refusal}
-use Rattle.refusals.specs.declared.verdicts.Verdict.TheVariants.{Fine, Refused}
+use Rattle.refusals.specs.Verdicts.{Refusal, Verdict, Fine, Refused}
+use Rattle.refusals.specs.Results.{Why, refusal_of}
+use Rattle.refusals.specs.declared.verdicts.Refusal.TheVariants.{Broken}
 use Rattle.refusals.specs.Lines.{Line, verdict, reply}
 use Rattle.refusals.specs.Refusals.{gate_lines, bad_sets, short_room, not_possible}
 use Rattle.refusals.specs.Lent.{into}
-use Rattle.splitting.specs.declared.try_split.TryAnswer.{TryAnswer}
 
 -- form and room: 1 to 6
 abbrev pub try_form : Edition → ℕ → ℕ → ℕ → ℕ → ℕ → List ℕ → List ℕ → List Line
@@ -20,6 +21,12 @@ try_form e n K r A B t room = gate_lines e n K t ++ (bad_sets n K r A B ∷ shor
 -- and 8
 abbrev pub try_lines : Edition → ℕ → ℕ → ℕ → ℕ → ℕ → List ℕ → List ℕ → List Line
 try_lines e n K r A B t room = try_form e n K r A B t room ++ (not_possible n r A B t ∷ [])
+
+-- the verdict, the first cells' tables, and after 8, which names where the split breaks, how many different columns there are
+pub record TryAnswer : Type 0 where
+  pub verdict : Verdict
+  pub d : FirstCells
+  pub columns : ℕ
 
 -- the answer, and the room for H afterwards
 pub record TryOutcome : Type 0 where
@@ -44,6 +51,16 @@ try_not n A B t room why = record {
   answer = record { verdict = Refused why; d = no_cells; columns = columns_named n A B t why };
   room = room;
 }
+
+-- how many columns a refusal counts
+abbrev pub columns_of : Why → ℕ
+columns_of (Broken b columns) = columns
+columns_of _ = 0
+
+-- what a result says
+abbrev pub try_answer : Result FirstCells Why → TryAnswer
+try_answer (Ok d) = record { verdict = Fine; d = d; columns = 0 }
+try_answer (Err why) = record { verdict = Refused (refusal_of why); d = no_cells; columns = columns_of why }
 
 -- what try is to return and leave, whatever is handed over
 unfoldable pub try_outcome : Edition → ℕ → ℕ → ℕ → ℕ → ℕ → List ℕ → List ℕ → TryOutcome

@@ -1,5 +1,6 @@
 // Which records of a sheet are read by a later one.
-ghost use Rattle.std.specs.Prelude.{◌≡◌, ℕ, ◌+◌, ◌*◌, ◌<◌, ◌≤◌, length};
+ghost use Rattle.std.specs.Prelude.{◌≡◌, ℕ, ◌+◌, ◌-◌, ◌*◌, ◌<◌, ◌≤◌, length};
+ghost use Rattle.bits.specs.Places.{found_below};
 ghost use Rattle.tables.specs.Table.{most_inputs};
 ghost use Rattle.sheets.specs.Edition.{IsEdition, most_records};
 ghost use Rattle.sheets.specs.Record.{byte_at};
@@ -17,19 +18,17 @@ fn also_read(b: &[u8], w: u32) -> u32
 {
     let k = b[0] as usize;
     let mut read = w;
-    let mut j = 0;
-    while j < k {
-        j += 1;
-        read = read | 1 << b[j];
+    for j in 0..k {
+        read |= 1 << b[j + 1];
     }
     read
 }
 
-// What a look back over the records sees: the first of them but the last that no later one reads, and the last where
-// each of them is read; and a mask of the signals that they read.
-#[derive(Clone, Copy)]
+// What a look back over the records sees: the first of them but the last that no later one reads, if there is one, and a
+// mask of the signals that they read.
+#[derive(Clone, Copy, Debug, PartialEq, Eq)]
 pub struct Readers {
-    pub first: usize,
+    pub first: Option<usize>,
     pub read: u32,
 }
 
@@ -39,22 +38,18 @@ pub fn who_reads(e: Edition, n: u32, s: &[u8], m: usize) -> Readers
         × AllReadable e s.now m }
     requires le_m { 1 ≤ m }
     ensures { result ≡ record {
-      first = first_unread e n s.now m;
+      first = found_below (m - 1) (first_unread e n s.now m);
       read = read_mask (sheet_cells e s.now m);
     } }
 {
-    let mut i = m - 1;
-    let mut first = i;
-    let mut read = also_read(record_of(e, s, i), 0);
-    while 0 < i {
-        i -= 1;
+    let last = m - 1;
+    let mut first = None;
+    let mut read = also_read(record_of(e, s, last), 0);
+    for i in (0..last).rev() {
         if (read >> (n + i as u32)) & 1 == 0 {
-            first = i;
+            first = Some(i);
         }
         read = also_read(record_of(e, s, i), read);
     }
-    Readers {
-        first: first,
-        read: read,
-    }
+    Readers { first, read }
 }

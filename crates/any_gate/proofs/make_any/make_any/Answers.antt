@@ -12,8 +12,7 @@ use Rattle.sheets.specs.Edition.{IsEdition, most_records, first_edition}
 use Rattle.sheets.proofs.Keeping.{first_edition_lem}
 use Rattle.chains.specs.Aside.{cells_aside}
 use Rattle.refusals.specs.Lines.{number_of}
-use Rattle.bench.specs.declared.make_sheet.MakeAnswer.{MakeAnswer}
-use Rattle.bench.specs.MakeSheet.{MakeOutcome, chain_written, make_outcome}
+use Rattle.bench.specs.MakeSheet.{MakeAnswer, MakeOutcome, chain_written, make_outcome}
 use Rattle.bench.proofs.Ready.{Ready, ready}
 use Rattle.any_gate.proofs.Answers.{as_make, eight_form, eight_sheet, by_several}
 use Rattle.any_gate.proofs.make_any.make_any.Goals as goal

@@ -4,8 +4,7 @@ use mathlib.Core.List.{List, [], ◌∷◌}
 use Prim.Native.Nat.{ℕ}
 use native.Mathlib.Omega.{arith}
 use Rattle.sheets.specs.declared.kinds.Edition.{Edition}
-use Rattle.refusals.specs.declared.verdicts.Verdict.{Verdict}
-use Rattle.refusals.specs.declared.verdicts.Verdict.TheVariants.{Fine}
+use Rattle.refusals.specs.Verdicts.{Verdict, Fine}
 use Rattle.refusals.specs.Lines.{Line, verdict}
 use Rattle.bench.specs.Refusals.{chain_stuck}
 use Rattle.refusals.proofs.Lines.{in_order_lem, left_to}

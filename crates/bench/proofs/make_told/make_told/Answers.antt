@@ -5,7 +5,7 @@ use Prim.Native.Nat.{ℕ}
 use Rattle.sheets.specs.declared.kinds.Edition.{Edition}
 use Rattle.sheets.specs.Edition.{IsEdition, edition_of}
 use Rattle.sheets.proofs.Keeping.{is_edition}
-use Rattle.refusals.specs.declared.verdicts.Verdict.{Verdict}
+use Rattle.refusals.specs.Verdicts.{Verdict}
 use Rattle.refusals.specs.Refusals.{told_form}
 use Rattle.refusals.proofs.Lines.{left_to}
 use Rattle.refusals.proofs.Refusing.{form_refuses}

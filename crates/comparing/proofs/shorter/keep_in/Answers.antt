@@ -2,7 +2,7 @@
 -- nothing.
 use mathlib.Core.Path.{ap₂, ◌∙◌}
 use Rattle.sheets.specs.Sheet.{records}
-use Rattle.refusals.specs.declared.verdicts.Verdict.{Verdict}
+use Rattle.refusals.specs.Verdicts.{Verdict}
 use Rattle.comparing.specs.Shorter.{which_kept, kept_outcome}
 use Rattle.comparing.proofs.shorter.keep_in.Goals as goal
 

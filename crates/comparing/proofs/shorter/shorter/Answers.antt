@@ -1,7 +1,6 @@
 -- `shorter` meets its contract: the part is that of the sheet which is kept. Assumes nothing.
 use mathlib.Core.Path.{ap, ◌∙◌}
-use Rattle.comparing.specs.declared.shorter.Kept.{Kept}
-use Rattle.comparing.specs.Shorter.{part_of}
+use Rattle.comparing.specs.Shorter.{Kept, part_of}
 use Rattle.comparing.proofs.shorter.shorter.Goals as goal
 
 pub returns : goal.returns

@@ -1,6 +1,6 @@
 -- `shorter_verdict` meets its contract: it is the verdict that goes with the sheet which is kept. Assumes nothing.
 use mathlib.Core.Path.{ap}
-use Rattle.comparing.specs.declared.shorter.Kept.{Kept}
+use Rattle.comparing.specs.Shorter.{Kept}
 use Rattle.comparing.proofs.shorter.shorter_verdict.Goals as goal
 
 pub returns : goal.returns

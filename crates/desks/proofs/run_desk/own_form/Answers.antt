@@ -7,8 +7,7 @@ use native.Mathlib.Omega.{arith}
 use borrow.Author.Tests.{ne_eqb, le-leb, lt-leb}
 use Rattle.bits.proofs.Machine.{shl_one}
 use Rattle.tables.specs.Table.{most_inputs}
-use Rattle.refusals.specs.declared.verdicts.Verdict.{Verdict}
-use Rattle.refusals.specs.declared.verdicts.Verdict.TheVariants.{Fine}
+use Rattle.refusals.specs.Verdicts.{Verdict, Fine}
 use Rattle.refusals.specs.Lines.{Line, verdict}
 use Rattle.refusals.specs.Refusals.{bad_assignment}
 use Rattle.refusals.proofs.Lines.{fine, here, later, decides, in_order_lem, stopped, decided}

@@ -11,8 +11,7 @@ use Rattle.tables.specs.Table.{most_inputs}
 use Rattle.sheets.specs.declared.kinds.Edition.{Edition}
 use Rattle.sheets.specs.Edition.{record_size, first_edition}
 use Rattle.sheets.specs.Sheet.{sheet_bit}
-use Rattle.refusals.specs.declared.verdicts.Verdict.{Verdict}
-use Rattle.refusals.specs.declared.verdicts.Verdict.TheVariants.{Fine}
+use Rattle.refusals.specs.Verdicts.{Verdict, Fine}
 use Rattle.refusals.specs.Lines.{reply}
 use Rattle.running.specs.RunSheet.{run_done, run_not}
 use Rattle.cards.specs.Card.{inputs_on, sheet_on}

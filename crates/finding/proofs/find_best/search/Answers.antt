@@ -8,8 +8,7 @@ use Rattle.quick.specs.declared.counted.Counted.{Counted}
 use Rattle.best.specs.Search.{Answer}
 use Rattle.quick.specs.Counted.{FoundCounting}
 use Rattle.tables.proofs.Work.{half-holds}
-use Rattle.refusals.specs.declared.verdicts.Verdict.{Verdict}
-use Rattle.refusals.specs.declared.verdicts.Verdict.TheVariants.{Fine}
+use Rattle.refusals.specs.Verdicts.{Verdict, Fine}
 use Rattle.refusals.specs.Lines.{line, verdict, reply}
 use Rattle.refusals.specs.Refusals.{none_best}
 use Rattle.finding.specs.FindBest.{FindOutcome, best_for, find_done, find_not}

@@ -12,8 +12,7 @@ use Rattle.tables.specs.Table.{most_inputs, table_length, spare_clear}
 use Rattle.sheets.specs.declared.kinds.Edition.{Edition}
 use Rattle.sheets.specs.Sheet.{records}
 use Rattle.runs.specs.Checking.{first_difference}
-use Rattle.refusals.specs.declared.verdicts.Verdict.{Verdict}
-use Rattle.refusals.specs.declared.verdicts.Verdict.TheVariants.{Fine, Refused}
+use Rattle.refusals.specs.Verdicts.{Verdict, Fine, Refused}
 use Rattle.refusals.specs.Lines.{Line, refusal, verdict}
 use Rattle.refusals.specs.Refusals.{sheet_lines, table_differs, unread_record}
 use Rattle.refusals.proofs.Lines.{here, in_order_lem, passes, stopped, goes_on, decided}

@@ -6,8 +6,7 @@ use Prim.Native.Nat.{ℕ, ◌-◌}
 use native.Mathlib.Omega.{arith}
 use lib.ListN.{take, drop}
 use Rattle.tables.specs.Table.{most_inputs}
-use Rattle.refusals.specs.declared.verdicts.Verdict.{Verdict}
-use Rattle.refusals.specs.declared.verdicts.Verdict.TheVariants.{Fine}
+use Rattle.refusals.specs.Verdicts.{Verdict, Fine}
 use Rattle.refusals.specs.Lines.{verdict, reply}
 use Rattle.refusals.proofs.Lines.{in_order_lem}
 use Rattle.refusals.proofs.Tests.{inside}

@@ -6,8 +6,7 @@ use mir.Facts.{to_z-of_z}
 use mir.Syntax.{w64}
 use Rattle.sheets.specs.Edition.{first_edition}
 use Rattle.refusals.specs.Lines.{number_of, place_of}
-use Rattle.settling.specs.declared.slack.SlackAnswer.{SlackAnswer}
-use Rattle.settling.specs.Slack.{slack_own}
+use Rattle.settling.specs.Slack.{SlackAnswer, slack_own}
 use Rattle.pelzurivan.specs.Slack.{slack_c}
 use Rattle.pelzurivan.proofs.slack.pelzurivan_slack.Goals as goal
 

@@ -6,8 +6,7 @@ use Prim.Native.Nat.{ℕ}
 use native.Mathlib.Omega.{arith}
 use Rattle.tables.specs.Table.{most_inputs}
 use Rattle.sheets.specs.Sheet.{records}
-use Rattle.refusals.specs.declared.verdicts.Verdict.{Verdict}
-use Rattle.refusals.specs.declared.verdicts.Verdict.TheVariants.{Fine}
+use Rattle.refusals.specs.Verdicts.{Verdict, Fine}
 use Rattle.refusals.specs.Lines.{reply}
 use Rattle.refusals.proofs.Lines.{in_order_lem}
 use Rattle.refusals.proofs.Tests.{inside, right_table}

@@ -8,6 +8,7 @@ use lib.ListN.{length}
 use borrow.Author.Rules.{rules}
 use Rattle.bits.specs.Below.{least}
 use Rattle.bits.proofs.Least.{least_more, least_stop}
+use Rattle.bits.proofs.Places.{found_at, not_found}
 use Rattle.sheets.specs.Record.{byte_at, keeps}
 use Rattle.sheets.specs.Sheet.{bad}
 use Rattle.sheets.proofs.Places.{record_within, record_length}
@@ -15,7 +16,7 @@ use Rattle.records.proofs.rules.first_bad.Goals as goal
 
 pub loop-i-init : goal.loop-i-init
 unfolding least
-loop-i-init c = (omega arith, refl)
+loop-i-init c = refl
 
 pub record_of-requires : goal.record_of-requires
 record_of-requires c =
@@ -42,8 +43,10 @@ returns-then-not-record_ok c =
     let i = c.loop-i.i in
     let y = ap not (c.record_ok.ensures
     ∙ ap (λ (b : List ℕ). keeps a.e a.d (a.n + i) (byte_at b)) c.record_of.ensures) in
-    sym (least_stop i a.m (bad a.e a.d a.n a.s.now) c.loop-i.invariant.1 (sym y ∙ ap not c.if-not-record_ok.true)
-    (omega arith))
+    let first : least a.m (bad a.e a.d a.n a.s.now) ≡ i =
+    least_stop i a.m (bad a.e a.d a.n a.s.now) c.loop-i.invariant (sym y ∙ ap not c.if-not-record_ok.true)
+    (omega arith) in
+    found_at a.m i _ (omega arith) first
 
 pub loop-i-preserved : goal.loop-i-preserved
 loop-i-preserved c =
@@ -51,10 +54,10 @@ loop-i-preserved c =
     let i = c.loop-i.i in
     let y = ap not (c.record_ok.ensures
     ∙ ap (λ (b : List ℕ). keeps a.e a.d (a.n + i) (byte_at b)) c.record_of.ensures) in
-    (omega arith, least_more i (bad a.e a.d a.n a.s.now) c.loop-i.invariant.1 (sym y ∙ ap not c.if-not-record_ok.false))
+    least_more i (bad a.e a.d a.n a.s.now) c.loop-i.invariant (sym y ∙ ap not c.if-not-record_ok.false)
 
 pub returns : goal.returns
 returns c =
     let a = c.args in
     let f : c.loop-i.i ≡ a.m = omega arith in
-    sym c.loop-i.invariant.1 ∙ ap (λ (m : ℕ). least m (bad a.e a.d a.n a.s.now)) f
+    not_found a.m _ (sym (ap (λ (m : ℕ). least m (bad a.e a.d a.n a.s.now)) f) ∙ c.loop-i.invariant ∙ f)

@@ -5,7 +5,4 @@ use Rattle.sheets.specs.Sheet.{bad}
 use Rattle.records.proofs.rules.first_bad.Given as goal
 
 abbrev pub invariant-loop-i : goal.invariant-loop-i
-invariant-loop-i l = (l.i ≤ l.m) × (least l.i (bad l.e l.d l.n l.s) ≡ l.i)
-
-abbrev pub decreases-loop-i : goal.decreases-loop-i
-decreases-loop-i l = l.m - l.i
+invariant-loop-i l = least l.i (bad l.e l.d l.n l.s) ≡ l.i

@@ -26,15 +26,13 @@ returns-then-not-byte_ok c =
 
 pub loop-j-preserved : goal.loop-j-preserved
 loop-j-preserved c =
-    let a = c.args in (
-      omega arith,
-      every_more c.loop-j.j (asked a.e a.d a.top a.b.now) c.loop-j.invariant.1
-          (sym c.byte_ok.ensures ∙ c.if-not-byte_ok.false),
-    )
+    let a = c.args in
+    every_more c.loop-j.j (asked a.e a.d a.top a.b.now) c.loop-j.invariant
+    (sym c.byte_ok.ensures ∙ c.if-not-byte_ok.false)
 
 pub returns : goal.returns
 returns c =
     let a = c.args in
     let f : c.loop-j.j ≡ a.e.size - 1 = omega arith in
     sym (keeps-every a.e a.d a.top (byte_at a.b.now) (omega arith) (omega arith)
-    ∙ sym (ap (λ (m : ℕ). every m (asked a.e a.d a.top a.b.now)) f) ∙ c.loop-j.invariant.1)
+    ∙ sym (ap (λ (m : ℕ). every m (asked a.e a.d a.top a.b.now)) f) ∙ c.loop-j.invariant)

@@ -11,7 +11,4 @@ abbrev pub asked : Edition → ℕ → ℕ → List ℕ → ℕ → Bool
 asked e d top b h = byte_ok e d top (byte_at b 0) h (byte_at b h) (byte_at b (h + 1))
 
 abbrev pub invariant-loop-j : goal.invariant-loop-j
-invariant-loop-j l = (l.j ≤ l.e.size - 1) × (every l.j (asked l.e l.d l.top l.b) ≡ true)
-
-abbrev pub decreases-loop-j : goal.decreases-loop-j
-decreases-loop-j l = l.e.size - 1 - l.j
+invariant-loop-j l = every l.j (asked l.e l.d l.top l.b) ≡ true

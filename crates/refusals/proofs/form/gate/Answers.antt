@@ -9,14 +9,13 @@ use Rattle.refusals.proofs.form.gate.Goals as goal
 pub returns-then-bad_inputs : goal.returns-then-bad_inputs
 returns-then-bad_inputs c =
     let a = c.args in
-    c.refuse.ensures ∙ decides (gate_lines a.e a.n a.k a.t.now)
+    decides (gate_lines a.e a.n a.k a.t.now)
     (here (sym c.bad_inputs.ensures ∙ c.if-bad_inputs.true))
 
 pub returns-then-bad_cell : goal.returns-then-bad_cell
 returns-then-bad_cell c =
     let a = c.args in
-    c.refuse-then-bad_cell.ensures
-    ∙ decides (gate_lines a.e a.n a.k a.t.now)
+    decides (gate_lines a.e a.n a.k a.t.now)
     (later (sym c.bad_inputs.ensures ∙ c.if-bad_inputs.false)
     (here (sym c.bad_cell.ensures ∙ c.if-bad_cell.true)))
 

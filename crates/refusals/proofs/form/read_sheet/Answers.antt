@@ -2,15 +2,16 @@
 use mathlib.Core.Path.{sym, ◌∙◌}
 use mathlib.Core.List.{[], ◌∷◌}
 use Rattle.refusals.specs.Refusals.{sheet_lines, unread_record}
-use Rattle.refusals.proofs.Lines.{in_order_lem, stopped, goes_on}
+use Rattle.refusals.proofs.Lines.{in_order_lem, goes_on}
+use Rattle.refusals.proofs.Results.{said_ok, handed_on, stopped_by}
 use Rattle.refusals.proofs.form.read_sheet.Goals as goal
 
-pub returns-in_default : goal.returns-in_default
-returns-in_default c =
+pub returns-in_err-sheet : goal.returns-in_err-sheet
+returns-in_err-sheet c =
     let a = c.args in
-    stopped (sheet_lines a.e a.d a.n a.s.now) (unread_record a.e a.n a.s.now ∷ []) _
-    c.sheet-seen.ensures
-    c.in_default.field-0 c.in_default.is
+    handed_on _ _ c.from_residual.ensures.1
+    ∙ stopped_by (sheet_lines a.e a.d a.n a.s.now) (unread_record a.e a.n a.s.now ∷ []) _ c.sheet.ensures _
+    c.in_err-sheet.was
 
 pub all_read-requires : goal.all_read-requires
 all_read-requires c =
@@ -18,11 +19,11 @@ all_read-requires c =
       c.requires.0,
       c.requires.1,
       in_order_lem (sheet_lines a.e a.d a.n a.s.now)
-          (sym c.sheet-seen.ensures ∙ c.in-Fine.is),
+          (sym c.sheet.ensures ∙ said_ok _ _ c.in_ok-sheet.was),
     )
 
 pub returns : goal.returns
 returns c =
     let a = c.args in
     goes_on (sheet_lines a.e a.d a.n a.s.now) (unread_record a.e a.n a.s.now ∷ []) _
-    c.sheet-seen.ensures c.in-Fine.is c.all_read.ensures
+    c.sheet.ensures (said_ok _ _ c.in_ok-sheet.was) c.all_read.ensures

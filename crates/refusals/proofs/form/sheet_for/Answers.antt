@@ -10,7 +10,7 @@ use Rattle.refusals.proofs.form.sheet_for.Goals as goal
 pub returns-then-bad_inputs : goal.returns-then-bad_inputs
 returns-then-bad_inputs c =
     let a = c.args in
-    c.refuse.ensures ∙ decides (bad_inputs a.n ∷ sheet_lines a.e a.d a.n a.s.now)
+    decides (bad_inputs a.n ∷ sheet_lines a.e a.d a.n a.s.now)
     (here (sym c.bad_inputs.ensures ∙ c.if-bad_inputs.true))
 
 pub sheet-requires : goal.sheet-requires

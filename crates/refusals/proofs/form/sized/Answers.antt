@@ -9,7 +9,7 @@ use Rattle.refusals.proofs.form.sized.Goals as goal
 pub returns-then-bad_inputs : goal.returns-then-bad_inputs
 returns-then-bad_inputs c =
     let a = c.args in
-    c.refuse.ensures ∙ decides (sized_lines a.n a.t.now)
+    decides (sized_lines a.n a.t.now)
     (here (sym c.bad_inputs.ensures ∙ c.if-bad_inputs.true))
 
 pub bad_table-requires : goal.bad_table-requires
@@ -18,8 +18,7 @@ bad_table-requires c = few_inputs _ c.bad_inputs.ensures c.if-bad_inputs.false
 pub returns-then-bad_table : goal.returns-then-bad_table
 returns-then-bad_table c =
     let a = c.args in
-    c.refuse-then-bad_table.ensures
-    ∙ decides (sized_lines a.n a.t.now) (later (sym c.bad_inputs.ensures ∙ c.if-bad_inputs.false)
+    decides (sized_lines a.n a.t.now) (later (sym c.bad_inputs.ensures ∙ c.if-bad_inputs.false)
     (here (sym c.bad_table.ensures ∙ c.if-bad_table.true)))
 
 pub returns : goal.returns

@@ -7,13 +7,12 @@ use Rattle.refusals.proofs.form.told.Goals as goal
 pub returns-then-bad_inputs : goal.returns-then-bad_inputs
 returns-then-bad_inputs c =
     let a = c.args in
-    c.refuse.ensures ∙ decides (told_form a.w a.n) (here (sym c.bad_inputs.ensures ∙ c.if-bad_inputs.true))
+    decides (told_form a.w a.n) (here (sym c.bad_inputs.ensures ∙ c.if-bad_inputs.true))
 
 pub returns-then-bad_edition : goal.returns-then-bad_edition
 returns-then-bad_edition c =
     let a = c.args in
-    c.refuse-then-bad_edition.ensures
-    ∙ decides (told_form a.w a.n) (later (sym c.bad_inputs.ensures ∙ c.if-bad_inputs.false)
+    decides (told_form a.w a.n) (later (sym c.bad_inputs.ensures ∙ c.if-bad_inputs.false)
     (here (sym c.bad_edition.ensures ∙ c.if-bad_edition.true)))
 
 pub returns : goal.returns

@@ -12,8 +12,7 @@ use Rattle.sheets.specs.Edition.{most_records}
 use Rattle.sheets.specs.Sheet.{records, sheet_cells}
 use Rattle.sheets.proofs.Wiring.{cells_length}
 use Rattle.sheets.proofs.Wholes.{length-sheet}
-use Rattle.refusals.specs.declared.verdicts.Verdict.{Verdict}
-use Rattle.refusals.specs.declared.verdicts.Verdict.TheVariants.{Fine}
+use Rattle.refusals.specs.Verdicts.{Verdict, Fine}
 use Rattle.refusals.specs.Lines.{reply}
 use Rattle.refusals.proofs.Lines.{in_order_lem}
 use Rattle.refusals.proofs.Tests.{inside}

@@ -7,8 +7,7 @@ use lib.Pow.{pow_mono}
 use borrow.Author.Tests.{leb-false}
 use Rattle.tables.specs.Table.{most_inputs}
 use Rattle.sheets.specs.Sheet.{records}
-use Rattle.refusals.specs.declared.verdicts.Verdict.{Verdict}
-use Rattle.refusals.specs.declared.verdicts.Verdict.TheVariants.{Fine}
+use Rattle.refusals.specs.Verdicts.{Verdict, Fine}
 use Rattle.refusals.specs.Lines.{verdict, reply}
 use Rattle.refusals.proofs.Lines.{in_order_lem}
 use Rattle.refusals.proofs.Tests.{inside}

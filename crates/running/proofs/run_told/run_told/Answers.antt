@@ -6,7 +6,7 @@ use Rattle.sheets.specs.declared.kinds.Edition.{Edition}
 use Rattle.sheets.specs.Edition.{IsEdition, edition_of}
 use Rattle.sheets.specs.Desk.{desk_of}
 use Rattle.sheets.proofs.Keeping.{is_edition}
-use Rattle.refusals.specs.declared.verdicts.Verdict.{Verdict}
+use Rattle.refusals.specs.Verdicts.{Verdict}
 use Rattle.refusals.specs.Refusals.{told_form}
 use Rattle.refusals.proofs.Lines.{refused_by, left_to}
 use Rattle.running.specs.RunSheet.{run_lines, run_done, run_not, run_outcome, run_own}

@@ -10,8 +10,7 @@ use Rattle.sheets.specs.Edition.{IsEdition}
 use Rattle.sheets.specs.Sheet.{records}
 use Rattle.times.specs.declared.input_time.InputTime.{InputTime}
 use Rattle.times.specs.InputTimes.{zero_time}
-use Rattle.refusals.specs.declared.verdicts.Verdict.{Verdict}
-use Rattle.refusals.specs.declared.verdicts.Verdict.TheVariants.{Fine}
+use Rattle.refusals.specs.Verdicts.{Verdict, Fine}
 use Rattle.refusals.specs.Lines.{verdict, reply}
 use Rattle.refusals.proofs.Lines.{in_order_lem}
 use Rattle.settling.specs.Settle.{settle_lines, settle_done, settle_not, settle_outcome}

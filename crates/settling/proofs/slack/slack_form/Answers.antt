@@ -10,8 +10,7 @@ use Rattle.bits.specs.Below.{every}
 use Rattle.times.specs.declared.input_time.InputTime.{InputTime}
 use Rattle.times.specs.InputTimes.{time_at}
 use Rattle.times.specs.Sixteenths.{in_sixteenths, time_in_sixteenths, deadline_ok}
-use Rattle.refusals.specs.declared.verdicts.Verdict.{Verdict}
-use Rattle.refusals.specs.declared.verdicts.Verdict.TheVariants.{Fine, Refused}
+use Rattle.refusals.specs.Verdicts.{Verdict, Fine, Refused}
 use Rattle.refusals.specs.Lines.{refusal, verdict}
 use Rattle.settling.specs.Refusals.{bad_slack}
 use Rattle.settling.proofs.slack.slack_form.Goals as goal

@@ -17,14 +17,11 @@ use Rattle.sheets.specs.Sheet.{records}
 use Rattle.times.specs.declared.input_time.InputTime.{InputTime}
 use Rattle.times.specs.Signals.{settled}
 use Rattle.times.specs.Sixteenths.{sixteenths_of}
-use Rattle.refusals.specs.declared.verdicts.Refusal.{Refusal}
-use Rattle.refusals.specs.declared.verdicts.Verdict.{Verdict}
-use Rattle.refusals.specs.declared.verdicts.Verdict.TheVariants.{Fine, Refused}
+use Rattle.refusals.specs.Verdicts.{Refusal, Verdict, Fine, Refused}
 use Rattle.refusals.specs.Lines.{verdict, reply}
 use Rattle.refusals.proofs.Lines.{not_fine, in_order_lem, refused_by, left_to}
-use Rattle.settling.specs.declared.settle.SettleAnswer.{SettleAnswer}
 use Rattle.settling.specs.Refusals.{bad_slack}
-use Rattle.settling.specs.Settle.{settle_lines, settle_done, settle_not, settle_outcome}
+use Rattle.settling.specs.Settle.{SettleAnswer, settle_lines, settle_done, settle_not, settle_outcome}
 use Rattle.settling.specs.Slack.{slack_done, slack_not, slack_outcome}
 use Rattle.settling.proofs.Kept.{Leaves, leaves, all_sound}
 use Rattle.settling.proofs.Slacking.{settled_exact, counted, small, InWhole, in_whole}

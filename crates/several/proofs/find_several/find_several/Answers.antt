@@ -5,15 +5,13 @@ use Prim.Native.Nat.{ℕ}
 use native.Mathlib.Omega.{arith}
 use Rattle.sheets.specs.declared.kinds.Edition.{Edition}
 use Rattle.sheets.specs.Edition.{first_edition}
-use Rattle.refusals.specs.declared.verdicts.Verdict.{Verdict}
-use Rattle.refusals.specs.declared.verdicts.Verdict.TheVariants.{Fine}
+use Rattle.refusals.specs.Verdicts.{Verdict, Fine}
 use Rattle.refusals.specs.Lines.{Line, verdict}
 use Rattle.refusals.proofs.Lines.{left_to}
 use Rattle.refusals.proofs.Refusing.{form_refuses}
 use Rattle.finding.specs.FindBest.{find_form}
 use Rattle.finding.proofs.Ready.{Ready, ready}
-use Rattle.several.specs.declared.find_several.FindSeveralAnswer.{FindSeveralAnswer}
-use Rattle.several.specs.FindSeveral.{best_several, several_says, several_done, several_not, find_several_outcome}
+use Rattle.several.specs.FindSeveral.{FindSeveralAnswer, best_several, several_says, several_done, several_not, find_several_outcome}
 use Rattle.several.proofs.find_several.find_several.Lts as lts
 use Rattle.several.proofs.find_several.find_several.Reads as reads
 use Rattle.several.proofs.find_several.find_several.Tie as tie

@@ -10,12 +10,10 @@ use Rattle.bits.specs.Sets.{size}
 use Rattle.tables.specs.Table.{table_bit}
 use Rattle.tables.specs.Counting.{support}
 use Rattle.tables.proofs.Work.{half-holds}
-use Rattle.refusals.specs.declared.verdicts.Verdict.{Verdict}
-use Rattle.refusals.specs.declared.verdicts.Verdict.TheVariants.{Fine}
+use Rattle.refusals.specs.Verdicts.{Verdict, Fine}
 use Rattle.refusals.specs.Lines.{line, verdict, reply}
-use Rattle.several.specs.declared.find_several.FindSeveralAnswer.{FindSeveralAnswer}
 use Rattle.choices.specs.Search.{Choice}
-use Rattle.several.specs.FindSeveral.{FindSeveralOutcome, best_several, none_several, several_done, several_not}
+use Rattle.several.specs.FindSeveral.{FindSeveralAnswer, FindSeveralOutcome, best_several, none_several, several_done, several_not}
 use Rattle.choices.proofs.Choosing.{is_nothing_lem, is_choice}
 use Rattle.several.proofs.find_several.search.Lts as lts
 use Rattle.several.proofs.find_several.search.Reads as reads

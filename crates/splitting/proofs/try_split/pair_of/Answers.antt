@@ -19,8 +19,7 @@ use Rattle.columns.specs.declared.columns.Broken.{Broken}
 use Rattle.splits.specs.Columns.{most_first, columns, few_columns, first_broken}
 use Rattle.columns.specs.Broken.{broken_at}
 use Rattle.columns.proofs.Breaking.{broken_some}
-use Rattle.refusals.specs.declared.verdicts.Verdict.{Verdict}
-use Rattle.refusals.specs.declared.verdicts.Verdict.TheVariants.{Fine, Refused}
+use Rattle.refusals.specs.Verdicts.{Verdict, Fine, Refused}
 use Rattle.refusals.specs.Lines.{refusal, naming, verdict, reply}
 use Rattle.splitting.specs.TrySplit.{TryOutcome, try_done, try_not}
 use Rattle.splitting.proofs.Sets.{bytes_H}

@@ -10,8 +10,7 @@ use borrow.Author.Tests.{lt-ltb, le-ltb}
 use Rattle.bits.specs.Numbers.{bit}
 use Rattle.tables.specs.Table.{most_inputs, table_length, table_bit}
 use Rattle.splits.specs.Pair.{inputs_h}
-use Rattle.refusals.specs.declared.verdicts.Verdict.{Verdict}
-use Rattle.refusals.specs.declared.verdicts.Verdict.TheVariants.{Fine}
+use Rattle.refusals.specs.Verdicts.{Verdict, Fine}
 use Rattle.refusals.specs.Lines.{Line, verdict}
 use Rattle.refusals.specs.Refusals.{gate_lines, bad_sets, short_room}
 use Rattle.refusals.proofs.Lines.{First, fine, here, later, in_order_lem, stopped, decided}

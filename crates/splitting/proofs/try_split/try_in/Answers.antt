@@ -13,7 +13,7 @@ use Rattle.splits.specs.Columns.{most_first}
 use Rattle.best.specs.Best.{Candidate}
 use Rattle.sheets.specs.declared.kinds.Edition.{Edition}
 use Rattle.sheets.specs.Edition.{largest_cell}
-use Rattle.refusals.specs.declared.verdicts.Verdict.TheVariants.{Fine}
+use Rattle.refusals.specs.Verdicts.{Fine}
 use Rattle.refusals.specs.Lines.{verdict, reply}
 use Rattle.refusals.specs.Refusals.{bad_sets, short_room, not_possible}
 use Rattle.splitting.specs.TrySplit.{try_form, try_done, try_not, try_outcome}

@@ -1,10 +1,13 @@
 -- `who_reads` meets its contract. The loop's invariant: the mask holds what the records from i on read, and `first`
 -- is the first unread one of them, the last aside. Assumes nothing.
-use mathlib.Core.Path.{◌≡◌, sym, ap, ap₂, ◌∙◌, subst}
+use Rattle.std.proofs.Common.{Option}
+use mathlib.Core.Path.{◌≡◌, refl, sym, ap, ap₂, ◌∙◌, subst}
 use mathlib.Core.List.{List}
 use Prim.Native.Nat.{ℕ, ◌-◌}
 use native.Mathlib.Omega.{arith}
 use lib.ListN.{length}
+use Rattle.bits.specs.Places.{found_below}
+use Rattle.bits.proofs.Places.{found_some, not_found}
 use Rattle.bits.proofs.Least.{LeastFrom, from_end, from_all}
 use Rattle.sheets.specs.Record.{byte_at}
 use Rattle.sheets.specs.Sheet.{cells_from}
@@ -36,7 +39,7 @@ loop-i-init c =
       omega arith,
       c.also_read-read.ensures ∙ ap (λ (b : List ℕ). also_read (byte_at b) 0) c.record_of.ensures
           ∙ mask_last a.e a.s.now a.m (omega arith),
-      from_end (a.m - 1) (unread a.e a.n a.s.now a.m),
+      (a.m - 1, from_end (a.m - 1) (unread a.e a.n a.s.now a.m), not_found (a.m - 1) (a.m - 1) refl),
     )
 
 pub record_of-requires-in-loop-i : goal.record_of-requires-in-loop-i
@@ -64,12 +67,18 @@ loop-i-preserved c =
       c.also_read-read-in-loop-i.ensures ∙ ap (λ (b : List ℕ). also_read (byte_at b) w) c.record_of-in-loop-i.ensures
           ∙ mask_more a.e a.s.now i a.m w (omega arith) (omega arith) c.loop-i.invariant.1,
       elim c.if-read-n-eq0.branch [
-        | then-read-n-eq0 u ↦ subst (λ (g : ℕ). LeastFrom (i - 1) (a.m - 1) p g) (sym u.first-is)
-            (found_here a.e a.s.now a.n a.m i w c.loop-i.first (omega arith) (omega arith) (omega arith)
-            c.loop-i.invariant.1 u.if-read-n-eq0.true)
-        | else-read-n-eq0 u ↦ subst (λ (g : ℕ). LeastFrom (i - 1) (a.m - 1) p g) (sym u.first-is)
-            (found_later a.e a.s.now a.n a.m i w c.loop-i.first (omega arith) (omega arith) (omega arith)
-            c.loop-i.invariant.1 u.if-read-n-eq0.false c.loop-i.invariant.2)
+        | then-read-n-eq0 u ↦ (
+          i - 1,
+          found_here a.e a.s.now a.n a.m i w c.loop-i.invariant.2.0 (omega arith) (omega arith) (omega arith)
+              c.loop-i.invariant.1 u.if-read-n-eq0.true,
+          u.first-is ∙ found_some (a.m - 1) (i - 1) (omega arith),
+        )
+        | else-read-n-eq0 u ↦ (
+          c.loop-i.invariant.2.0,
+          found_later a.e a.s.now a.n a.m i w c.loop-i.invariant.2.0 (omega arith) (omega arith) (omega arith)
+              c.loop-i.invariant.1 u.if-read-n-eq0.false c.loop-i.invariant.2.1,
+          u.first-is ∙ c.loop-i.invariant.2.2,
+        )
       ],
     )
 
@@ -78,9 +87,10 @@ returns c =
     let a = c.args in
     let z : c.loop-i.i ≡ 0 = omega arith in
     let all : a.m - 0 ≡ a.m = omega arith in
-    ap₂ (λ (f w : ℕ). record { first = f; read = w })
-    (from_all (a.m - 1) (unread a.e a.n a.s.now a.m) c.loop-i.first
-    (subst (λ (i : ℕ). LeastFrom i (a.m - 1) (unread a.e a.n a.s.now a.m) c.loop-i.first) z
-    c.loop-i.invariant.2))
+    let p = unread a.e a.n a.s.now a.m in
+    let f = c.loop-i.invariant.2.0 in
+    ap₂ (λ (g : Option ℕ) (w : ℕ). record { first = g; read = w })
+    (c.loop-i.invariant.2.2 ∙ ap (found_below (a.m - 1)) (from_all (a.m - 1) p f
+    (subst (λ (i : ℕ). LeastFrom i (a.m - 1) p f) z c.loop-i.invariant.2.1)))
     (c.loop-i.invariant.1 ∙ ap (λ (i : ℕ). read_mask (cells_from a.e a.s.now i (a.m - i))) z
     ∙ ap (λ (k : ℕ). read_mask (cells_from a.e a.s.now 0 k)) all)
