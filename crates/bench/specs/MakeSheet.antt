@@ -9,7 +9,8 @@ use Rattle.sheets.specs.Writing.{sheet_bytes}
 use Rattle.chains.specs.Chain.{Made, stuck, made}
 use Rattle.chains.specs.Aside.{sheet_aside}
 use Rattle.refusals.specs.Verdicts.{Refusal, Verdict, Fine, Refused}
-use Rattle.refusals.specs.Results.{Why, refusal_of}
+use Rattle.refusals.specs.declared.verdicts.Refusal.{Refusal as Why}
+use Rattle.refusals.specs.Results.{refusal_of}
 use Rattle.refusals.specs.Lines.{Line, refusal, verdict, reply}
 use Rattle.refusals.specs.Refusals.{gate_lines, bad_desk, short_sheet}
 use Rattle.bench.specs.Refusals.{chain_stuck}

@@ -3,7 +3,8 @@ use Rattle.std.specs.Prelude.{◌≡◌, ◌⊎◌, cond, List, [], ℕ, ◌≤�
 use Rattle.sheets.specs.declared.kinds.Edition.{Edition}
 use Rattle.sheets.specs.Sheet.{records}
 use Rattle.refusals.specs.Verdicts.{Verdict, Fine, Refused}
-use Rattle.refusals.specs.Results.{Why, refusal_of}
+use Rattle.refusals.specs.declared.verdicts.Refusal.{Refusal as Why}
+use Rattle.refusals.specs.Results.{refusal_of}
 use Rattle.comparing.specs.declared.shorter.Which.{Which}
 use Rattle.comparing.specs.declared.shorter.Which.TheVariants.{First, Second}
 use Rattle.inspection.specs.CheckSheet.{check_own}

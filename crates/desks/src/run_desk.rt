@@ -1,7 +1,9 @@
 // Running a desk at an assignment. Past the card's length and the desk's number, only the desk's own bytes are handed
 // on.
 ghost use Rattle.std.specs.Prelude.{◌≡◌, false, length};
+ghost use Rattle.refusals.specs.Results.{verdict_of};
 ghost use Rattle.refusals.specs.Lines.{verdict};
+ghost use Rattle.running.specs.RunSheet.{run_answer};
 ghost use Rattle.cards.specs.Card.{desk_bytes, sheet_on};
 ghost use Rattle.cards.specs.Refusals.{no_desk};
 ghost use Rattle.cards.specs.RunDesk.{desk_lines, desk_outcome, run_desk_outcome};
@@ -9,8 +11,7 @@ ghost use Rattle.cards.specs.RunDesk.{desk_lines, desk_outcome, run_desk_outcome
 use cards::form::filed;
 use cards::sizes::{CARD, COUNT, DESK, DESKS, INPUTS, MARK};
 use refusals::form::outside;
-use refusals::verdicts::{Refusal, Verdict, refuse};
-use running::run_sheet::RunAnswer;
+use refusals::verdicts::Refusal;
 use runs::running::bit_of;
 use sheets::kinds::{Edition, Sheet};
 
@@ -29,59 +30,47 @@ fn sheet_on(o: &[u8]) -> &[u8]
 }
 
 // Lines 18, 1, 9, 10, 15 and 11 of a desk with the bytes o.
-fn own_form(o: &[u8], d: u8, x: u64) -> Verdict
+fn own_form(o: &[u8], d: u8, x: u64) -> Result<(), Refusal>
     requires { (length o.now ≡ desk_bytes) × (no_desk d ≡ false) }
-    ensures { result ≡ verdict (desk_lines o.now d x) }
+    ensures { verdict_of result ≡ verdict (desk_lines o.now d x) }
 {
     if o[MARK] != 1 {
-        return refuse(Refusal::CLOSED);
+        return Err(Refusal::Closed);
     }
     let n = o[INPUTS] as u64;
-    let seen = filed(d, n, sheet_on(o));
-    let Verdict::Fine = seen else {
-        return seen;
-    };
+    filed(d, n, sheet_on(o))?;
     if 1 << n <= x {
-        return refuse(Refusal::ASSIGNMENT);
+        return Err(Refusal::Assignment);
     }
-    Verdict::Fine
+    Ok(())
 }
 
 // What desk d with the bytes o answers at the assignment x.
-fn run_bytes(o: &[u8], d: u8, x: u64) -> RunAnswer
+fn run_bytes(o: &[u8], d: u8, x: u64) -> Result<bool, Refusal>
     requires { (length o.now ≡ desk_bytes) × (no_desk d ≡ false) }
-    ensures { result ≡ desk_outcome o.now d x }
+    ensures { run_answer result ≡ desk_outcome o.now d x }
 {
-    let form = own_form(o, d, x);
-    let Verdict::Fine = form else {
-        return RunAnswer {
-            verdict: form,
-            bit: false,
-        };
-    };
+    own_form(o, d, x)?;
     let s = sheet_on(o);
     let m = s.len() / Sheet::RECORD;
-    RunAnswer {
-        verdict: Verdict::Fine,
-        bit: bit_of(Edition::first(), o[INPUTS] as u32, s, m, x as u32),
-    }
+    Ok(bit_of(
+        Edition::first(),
+        o[INPUTS] as u32,
+        s,
+        m,
+        x as u32,
+    ))
 }
 
-// Runs desk d of a card at the assignment x.
-pub fn run_desk(card: &[u8], d: u64, x: u64) -> RunAnswer
-    ensures { result ≡ run_desk_outcome card.now d x }
+// Runs desk d of a card at the assignment x: the bit.
+pub fn run_desk(card: &[u8], d: u64, x: u64) -> Result<bool, Refusal>
+    ensures { run_answer result ≡ run_desk_outcome card.now d x }
 {
     if card.len() != CARD {
-        return RunAnswer {
-            verdict: refuse(Refusal::CARD),
-            bit: false,
-        };
+        return Err(Refusal::Card);
     }
     if outside(1, d, DESKS) {
-        return RunAnswer {
-            verdict: refuse(Refusal::OTHER_DESK),
-            bit: false,
-        };
+        return Err(Refusal::OtherDesk);
     }
     let base = DESK * (d as usize - 1);
     let end = base + DESK;

@@ -6,7 +6,8 @@ use Rattle.best.specs.Search.{Answer, none, split}
 use Rattle.best.specs.Counting.{best_counting}
 use Rattle.sheets.specs.declared.kinds.Edition.{Edition}
 use Rattle.refusals.specs.Verdicts.{Refusal, Verdict, Fine, Refused}
-use Rattle.refusals.specs.Results.{Why, refusal_of}
+use Rattle.refusals.specs.declared.verdicts.Refusal.{Refusal as Why}
+use Rattle.refusals.specs.Results.{refusal_of}
 use Rattle.refusals.specs.Lines.{Line, verdict, reply}
 use Rattle.refusals.specs.Refusals.{gate_lines, short_work, nothing_to_split, none_best}
 use Rattle.refusals.specs.Lent.{work_after}

@@ -1,5 +1,6 @@
 // Loading a sheet onto a desk: the lines, and any part of the load's stores.
 ghost use Rattle.std.specs.Prelude.{◌≡◌, ◌-◌, ◌≤◌, take, drop};
+ghost use Rattle.refusals.specs.Results.{verdict_of};
 ghost use Rattle.refusals.specs.Lines.{verdict};
 ghost use Rattle.cards.specs.Stores.{store_count, load_stores};
 ghost use Rattle.cards.specs.Refusals.{another_desk};
@@ -9,7 +10,7 @@ use cards::form::filed;
 use cards::sizes::{CARD, DESKS};
 use cards::stores::make_stores;
 use refusals::form::outside;
-use refusals::verdicts::{Refusal, Verdict, refuse};
+use refusals::verdicts::Refusal;
 use sheets::kinds::{Edition, Sheet};
 
 // Whether a sheet of a record or more is for another desk.
@@ -23,32 +24,29 @@ fn another_desk(d: u64, s: &[u8]) -> bool
 }
 
 // Lines 20, 19, 1, 9, 10 and 15.
-fn load_form<'a>(card: &'a [u8], d: u64, n: u64, s: &'a [u8]) -> Verdict
-    ensures { result ≡ verdict (load_lines card.now d n s.now) }
+fn load_form<'a>(card: &'a [u8], d: u64, n: u64, s: &'a [u8]) -> Result<(), Refusal>
+    ensures { verdict_of result ≡ verdict (load_lines card.now d n s.now) }
 {
     if card.len() != CARD {
-        return refuse(Refusal::CARD);
+        return Err(Refusal::Card);
     }
     if outside(1, d, DESKS) {
-        return refuse(Refusal::OTHER_DESK);
+        return Err(Refusal::OtherDesk);
     }
     if another_desk(d, s) {
-        return refuse(Refusal::OTHER_DESK);
+        return Err(Refusal::OtherDesk);
     }
     filed(d as u8, n, s)
 }
 
 // Loads a sheet of n inputs onto desk d, but makes only the stores from `first` up to `end`.
-pub fn load_part(card: &mut [u8], d: u64, n: u64, s: &[u8], first: usize, end: usize) -> Verdict
+pub fn load_part(card: &mut [u8], d: u64, n: u64, s: &[u8], first: usize, end: usize) -> Result<(), Refusal>
     requires { (first ≤ end) × (end ≤ store_count) }
-    ensures { record { verdict = result; card = card.new }
+    ensures { record { verdict = verdict_of result; card = card.new }
         ≡ part_outcome (take (end - first) (drop first (load_stores d n s.now))) card.old d n
         s.now }
 {
-    let form = load_form(card, d, n, s);
-    let Verdict::Fine = form else {
-        return form;
-    };
+    load_form(card, d, n, s)?;
     make_stores(card, d as usize, n as u8, s, first, end);
-    Verdict::Fine
+    Ok(())
 }

@@ -4,9 +4,10 @@ use Rattle.std.specs.Result.{IsErrAnd}
 use Rattle.std.proofs.lemmas.Result.{err_from_is_err_and}
 use mathlib.Core.Path.{◌≡◌, sym, ap, ◌∙◌}
 use mathlib.Core.List.{List, ◌++◌}
-use Rattle.refusals.specs.Verdicts.{Verdict, Fine, Refused}
-use Rattle.refusals.specs.Lines.{Line, verdict}
-use Rattle.refusals.specs.Results.{Why, refusal_of, verdict_of}
+use Rattle.refusals.specs.Verdicts.{Refusal, Verdict, Fine, Refused}
+use Rattle.refusals.specs.Lines.{Line, verdict, reply}
+use Rattle.refusals.specs.declared.verdicts.Refusal.{Refusal as Why}
+use Rattle.refusals.specs.Results.{refusal_of, verdict_of}
 use Rattle.refusals.proofs.Lines.{stopped}
 
 -- what is said of a result that is known
@@ -29,3 +30,9 @@ pub stopped_by : {A : Type 0} (ls ms : List Line) (r : Result A Why) → verdict
     → r ≡ Err why → Refused (refusal_of why) ≡ verdict (ls ++ ms)
 stopped_by ls ms r looked why e =
     sym (said_err r why e) ∙ stopped ls ms (verdict_of r) looked (refusal_of why) (said_err r why e)
+
+-- a look at all lines refuses: what goes with the refusal is returned and left
+pub replied : {A B : Type 0} (ls : List Line) (r : Result A Why) → verdict_of r ≡ verdict ls → (why : Why) (done : B)
+    (refused : Refusal → B) → r ≡ Err why → refused (refusal_of why) ≡ reply (verdict ls) done refused
+replied ls r looked why done refused e =
+    ap (λ (v : Verdict). reply v done refused) (sym (said_err r why e) ∙ looked)

@@ -1,7 +1,7 @@
 -- What the code's results say: each refusal's number in the paper, and what it names besides.
 use Rattle.std.specs.Prelude.{ℕ, Result, Ok, Err}
 use Rattle.refusals.specs.Verdicts.{Refusal, Verdict, Fine, Refused}
-pub use Rattle.refusals.specs.declared.verdicts.Refusal.{Refusal as Why}
+use Rattle.refusals.specs.declared.verdicts.Refusal.{Refusal as Why}
 use Rattle.refusals.specs.declared.verdicts.Refusal.TheVariants.{Inputs, Cell, Edition, Table, Spare, Sets, Desk, Cells, Room, Nothing, NoSplit, Broken, Sheet, Record, Assignment, Differs, Time, Slack, Unread, Text, NotPrinted, Long, Closed, OtherDesk, Card, Turn, NotShown}
 use Rattle.refusals.specs.Lines.{refusal}
 

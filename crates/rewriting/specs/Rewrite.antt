@@ -6,7 +6,8 @@ use Rattle.sheets.specs.Sheet.{sheet_cells, records, rebuilt, Good}
 use Rattle.sheets.specs.Reading.{EachRead}
 use Rattle.sheets.specs.Writing.{sheet_bytes}
 use Rattle.refusals.specs.Verdicts.{Refusal, Verdict, Fine, Refused}
-use Rattle.refusals.specs.Results.{Why, refusal_of}
+use Rattle.refusals.specs.declared.verdicts.Refusal.{Refusal as Why}
+use Rattle.refusals.specs.Results.{refusal_of}
 use Rattle.refusals.specs.Lines.{Line, verdict, reply}
 use Rattle.refusals.specs.Refusals.{bad_inputs, short_records, sheet_lines, unread_record}
 use Rattle.refusals.specs.Lent.{into}

@@ -6,7 +6,8 @@ use Rattle.times.specs.declared.input_time.InputTime.{InputTime}
 use Rattle.times.specs.InputTimes.{zero_time}
 use Rattle.times.specs.Signals.{settled}
 use Rattle.refusals.specs.Verdicts.{Refusal, Verdict, Fine, Refused}
-use Rattle.refusals.specs.Results.{Why, refusal_of}
+use Rattle.refusals.specs.declared.verdicts.Refusal.{Refusal as Why}
+use Rattle.refusals.specs.Results.{refusal_of}
 use Rattle.settling.specs.declared.settle.Settled.{Settled}
 use Rattle.refusals.specs.Lines.{Line, verdict, reply}
 use Rattle.refusals.specs.Refusals.{bad_inputs, sheet_lines}

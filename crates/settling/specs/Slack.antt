@@ -6,7 +6,8 @@ use Rattle.times.specs.declared.input_time.InputTime.{InputTime}
 use Rattle.times.specs.Signals.{settled}
 use Rattle.times.specs.Sixteenths.{sixteenths_of}
 use Rattle.refusals.specs.Verdicts.{Refusal, Verdict, Fine, Refused}
-use Rattle.refusals.specs.Results.{Why, refusal_of}
+use Rattle.refusals.specs.declared.verdicts.Refusal.{Refusal as Why}
+use Rattle.refusals.specs.Results.{refusal_of}
 use Rattle.refusals.specs.Lines.{Line, verdict, reply}
 use Rattle.settling.specs.Refusals.{bad_slack}
 use Rattle.settling.specs.Settle.{settle_lines}

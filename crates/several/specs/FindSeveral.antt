@@ -5,7 +5,8 @@ use Rattle.splits.specs.Columns.{most_first}
 use Rattle.sheets.specs.declared.kinds.Edition.{Edition}
 use Rattle.choices.specs.declared.over.Chosen.{Chosen}
 use Rattle.refusals.specs.Verdicts.{Refusal, Verdict, Fine, Refused}
-use Rattle.refusals.specs.Results.{Why, refusal_of}
+use Rattle.refusals.specs.declared.verdicts.Refusal.{Refusal as Why}
+use Rattle.refusals.specs.Results.{refusal_of}
 use Rattle.refusals.specs.Lines.{Line, line, verdict, reply}
 use Rattle.refusals.specs.Refusals.{nothing_to_split}
 use Rattle.refusals.specs.Lent.{work_after}

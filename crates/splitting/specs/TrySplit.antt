@@ -8,7 +8,8 @@ use Rattle.charts.specs.Cells.{first_cells, no_cells}
 use Rattle.charts.specs.declared.pair.FirstCells.{FirstCells}
 use Rattle.sheets.specs.declared.kinds.Edition.{Edition}
 use Rattle.refusals.specs.Verdicts.{Refusal, Verdict, Fine, Refused}
-use Rattle.refusals.specs.Results.{Why, refusal_of}
+use Rattle.refusals.specs.declared.verdicts.Refusal.{Refusal as Why}
+use Rattle.refusals.specs.Results.{refusal_of}
 use Rattle.refusals.specs.declared.verdicts.Refusal.TheVariants.{Broken}
 use Rattle.refusals.specs.Lines.{Line, verdict, reply}
 use Rattle.refusals.specs.Refusals.{gate_lines, bad_sets, short_room, not_possible}

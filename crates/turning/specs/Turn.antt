@@ -1,7 +1,8 @@
 -- Turning one three-input table into another. Line 21 of the table of refusals stands here.
 use Rattle.std.specs.Prelude.{false, not, List, [], ◌∷◌, ℕ, Result, Ok, Err}
 use Rattle.refusals.specs.Verdicts.{Refusal, Verdict, Fine, Refused}
-use Rattle.refusals.specs.Results.{Why, refusal_of}
+use Rattle.refusals.specs.declared.verdicts.Refusal.{Refusal as Why}
+use Rattle.refusals.specs.Results.{refusal_of}
 use Rattle.refusals.specs.Lines.{Line, line, verdict, reply}
 use Rattle.turning.specs.declared.ways.Way.{Way}
 use Rattle.turning.specs.Listing.{way_at, first_way}

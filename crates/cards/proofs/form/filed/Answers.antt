@@ -21,7 +21,7 @@ use Rattle.cards.proofs.form.filed.Goals as goal
 pub returns-then-bad_inputs : goal.returns-then-bad_inputs
 returns-then-bad_inputs c =
     let a = c.args in
-    c.refuse.ensures ∙ decides (filed_lines a.d a.n a.s.now)
+    decides (filed_lines a.d a.n a.s.now)
     (here (sym c.bad_inputs.ensures ∙ c.if-bad_inputs.true))
 
 few : (c : lts.After-first tie.the-claims reads.Pre reads.Post) → c.args.n ≤ most_inputs

@@ -16,14 +16,12 @@ use Rattle.desks.proofs.run_desk.run_desk.Goals as goal
 pub returns-then-card-ne-CARD : goal.returns-then-card-ne-CARD
 returns-then-card-ne-CARD c =
     let a = c.args in
-    ap (λ (v : Verdict). record { verdict = v; bit = false }) c.refuse.ensures
-    ∙ sym (run_short a.card.now a.d a.x c.if-card-ne-CARD.true)
+    sym (run_short a.card.now a.d a.x c.if-card-ne-CARD.true)
 
 pub returns-then-outside : goal.returns-then-outside
 returns-then-outside c =
     let a = c.args in
-    ap (λ (v : Verdict). record { verdict = v; bit = false }) c.refuse-then-outside.ensures
-    ∙ sym (run_own_lem a.card.now a.d a.x c.if-card-ne-CARD.false
+    sym (run_own_lem a.card.now a.d a.x c.if-card-ne-CARD.false
     ∙ no_such_desk (own_bytes a.card.now a.d) a.d a.x (sym c.outside.ensures ∙ c.if-outside.true))
 
 -- past them

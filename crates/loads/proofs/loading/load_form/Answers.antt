@@ -15,22 +15,20 @@ use Rattle.loads.proofs.loading.load_form.Goals as goal
 pub returns-then-card-ne-CARD : goal.returns-then-card-ne-CARD
 returns-then-card-ne-CARD c =
     let a = c.args in
-    c.refuse.ensures ∙ decides (load_lines a.card.now a.d a.n a.s.now)
+    decides (load_lines a.card.now a.d a.n a.s.now)
     (here (ap not (ne_eqb (length a.card.now) card_bytes c.if-card-ne-CARD.true)))
 
 pub returns-then-outside : goal.returns-then-outside
 returns-then-outside c =
     let a = c.args in
-    c.refuse-then-outside.ensures
-    ∙ decides (load_lines a.card.now a.d a.n a.s.now)
+    decides (load_lines a.card.now a.d a.n a.s.now)
     (later (ap not (eq-eqb (length a.card.now) card_bytes c.if-card-ne-CARD.false))
     (here (ap (λ (t : Bool). t || another_desk a.d a.s.now) (sym c.outside.ensures ∙ c.if-outside.true))))
 
 pub returns-then-another_desk : goal.returns-then-another_desk
 returns-then-another_desk c =
     let a = c.args in
-    c.refuse-then-another_desk.ensures
-    ∙ decides (load_lines a.card.now a.d a.n a.s.now)
+    decides (load_lines a.card.now a.d a.n a.s.now)
     (later (ap not (eq-eqb (length a.card.now) card_bytes c.if-card-ne-CARD.false))
     (here (ap₂ ◌||◌ (sym c.outside.ensures ∙ c.if-outside.false)
     (sym c.another_desk.ensures ∙ c.if-another_desk.true))))

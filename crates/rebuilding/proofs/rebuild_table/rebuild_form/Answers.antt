@@ -1,29 +1,31 @@
 -- `rebuild_form` meets its contract: what lines 1 and 3 refuse, else what the look at the sheet comes to. Assumes
 -- nothing.
+use mathlib.Core.Path.{◌∙◌}
 use native.Mathlib.Omega.{arith}
 use Rattle.refusals.specs.Refusals.{sized_lines, read_sheet_lines}
-use Rattle.refusals.proofs.Lines.{stopped, goes_on}
+use Rattle.refusals.proofs.Lines.{goes_on}
 use Rattle.refusals.proofs.Tests.{sized_through}
+use Rattle.refusals.proofs.Results.{said_ok, handed_on, stopped_by}
 use Rattle.rebuilding.proofs.rebuild_table.rebuild_form.Goals as goal
 
-pub returns-in_default : goal.returns-in_default
-returns-in_default c =
+pub returns-in_err-sized : goal.returns-in_err-sized
+returns-in_err-sized c =
     let a = c.args in
-    stopped (sized_lines a.n a.table.now)
-    (read_sheet_lines a.e a.d a.n a.s.now) _ c.sized-seen.ensures
-    c.in_default.field-0 c.in_default.is
+    handed_on _ _ c.from_residual.ensures.1
+    ∙ stopped_by (sized_lines a.n a.table.now)
+    (read_sheet_lines a.e a.d a.n a.s.now) _ c.sized.ensures _ c.in_err-sized.was
 
 pub read_sheet-requires : goal.read_sheet-requires
 read_sheet-requires c =
-    (c.requires, (sized_through _ c.args.table.now _ c.sized-seen.ensures c.in-Fine.is).0)
+    (c.requires, (sized_through _ c.args.table.now _ c.sized.ensures (said_ok _ _ c.in_ok-sized.was)).0)
 
 pub returns : goal.returns
 returns c =
     let a = c.args in
-    goes_on (sized_lines a.n a.table.now) (read_sheet_lines a.e a.d a.n a.s.now) _ c.sized-seen.ensures
-    c.in-Fine.is c.read_sheet.ensures
+    goes_on (sized_lines a.n a.table.now) (read_sheet_lines a.e a.d a.n a.s.now) _ c.sized.ensures
+    (said_ok _ _ c.in_ok-sized.was) c.read_sheet.ensures
 
 pub overflow_cast-n : goal.overflow_cast-n
 overflow_cast-n c =
     let a = c.args in
-    omega (arith, (sized_through a.n a.table.now _ c.sized-seen.ensures c.in-Fine.is).0)
+    omega (arith, (sized_through a.n a.table.now _ c.sized.ensures (said_ok _ _ c.in_ok-sized.was)).0)

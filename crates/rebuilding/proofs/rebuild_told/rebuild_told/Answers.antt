@@ -9,17 +9,17 @@ use Rattle.refusals.specs.Verdicts.{Verdict}
 use Rattle.refusals.specs.Refusals.{told_form}
 use Rattle.refusals.proofs.Lines.{refused_by, left_to}
 use Rattle.rebuilding.specs.RebuildTable.{rebuild_lines, rebuild_done, rebuild_not, rebuild_outcome, rebuild_own}
+use Rattle.refusals.proofs.Results.{said_ok, said_err, handed_on}
 use Rattle.rebuilding.proofs.rebuild_told.rebuild_told.Goals as goal
 
-pub returns-in_default : goal.returns-in_default
-returns-in_default c =
+pub returns-in_err-told : goal.returns-in_err-told
+returns-in_err-told c =
     let a = c.args in
     let e = edition_of a.w in
-    let q = c.in_default.is in
-    ap (λ (v : Verdict). record { verdict = v; table = a.table.now }) q
+    ap (λ (v : Verdict). record { verdict = v; table = a.table.now }) (handed_on _ _ c.from_residual.ensures.1)
     ∙ refused_by (told_form a.w a.n) (rebuild_lines e (desk_of e a.s.now) a.n a.s.now a.table.now)
     (rebuild_done e a.n a.s.now)
-    (rebuild_not a.table.now) c.told-told.result c.in_default.field-0 c.told-told.ensures q
+    (rebuild_not a.table.now) _ _ c.told.ensures (said_err _ _ c.in_err-told.was)
 
 pub returns : goal.returns
 unfolding rebuild_outcome
@@ -30,7 +30,7 @@ returns c =
     ∙ ap (λ (e : Edition). rebuild_own e a.n a.s.now a.table.now) c.numbered.ensures
     ∙ left_to (told_form a.w a.n) (rebuild_lines e (desk_of e a.s.now) a.n a.s.now a.table.now)
     (rebuild_done e a.n a.s.now)
-    (rebuild_not a.table.now) c.told-told.result c.told-told.ensures c.in-Fine.is
+    (rebuild_not a.table.now) _ c.told.ensures (said_ok _ _ c.in_ok-told.was)
 
 pub rebuild_own-requires : goal.rebuild_own-requires
 rebuild_own-requires c = subst IsEdition (sym c.numbered.ensures) (is_edition _)

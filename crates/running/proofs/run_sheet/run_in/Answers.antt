@@ -12,16 +12,17 @@ use Rattle.refusals.specs.Lines.{verdict, reply}
 use Rattle.refusals.proofs.Lines.{in_order_lem}
 use Rattle.refusals.proofs.Tests.{inside}
 use Rattle.refusals.proofs.Sheets.{good_sheet, runnable}
-use Rattle.running.specs.RunSheet.{run_lines, run_done, run_not, run_outcome}
+use Rattle.refusals.proofs.Results.{said_ok, refused_with, replied}
+use Rattle.running.specs.RunSheet.{run_lines, run_done, run_not, run_answer, run_outcome}
 use Rattle.running.proofs.run_sheet.run_in.Goals as goal
 
-pub returns-in_default : goal.returns-in_default
+pub returns-in_err-run_form : goal.returns-in_err-run_form
 unfolding run_outcome
-returns-in_default c =
+returns-in_err-run_form c =
     let a = c.args in
-    let e = c.in_default.is in
-    ap (λ (v : Verdict). record { verdict = v; bit = false }) e
-    ∙ ap (λ (v : Verdict). reply v (run_done a.e a.n a.s.now a.x) run_not) (sym e ∙ c.run_form-form.ensures)
+    ap run_answer (refused_with _ _ c.from_residual.ensures.1)
+    ∙ replied (run_lines a.e a.d a.n a.s.now a.x) _ c.run_form.ensures _ (run_done a.e a.n a.s.now a.x) run_not
+    c.in_err-run_form.was
 
 pub nonzero_div-m : goal.nonzero_div-m
 nonzero_div-m c = omega (arith, c.requires.ends, c.requires.order)
@@ -30,7 +31,7 @@ pub bit_of-requires : goal.bit_of-requires
 bit_of-requires c =
     let a = c.args in
     let w = in_order_lem (run_lines a.e a.d a.n a.s.now a.x)
-    (sym c.run_form-form.ensures ∙ c.in-Fine.is) in record {
+    (sym c.run_form.ensures ∙ said_ok _ _ c.in_ok-run_form.was) in record {
       edition = runnable a.e a.d a.n a.s.now c.requires (records a.e a.s.now)
           (inside 1 a.n most_inputs w.0).1
           (good_sheet a.e a.d a.n a.s.now c.requires (w.1.0, (w.1.1.0, tt)));
@@ -40,13 +41,13 @@ bit_of-requires c =
 pub overflow_cast-n : goal.overflow_cast-n
 overflow_cast-n c =
     let a = c.args in
-    let w = in_order_lem (run_lines a.e a.d a.n a.s.now a.x) (sym c.run_form-form.ensures ∙ c.in-Fine.is) in
+    let w = in_order_lem (run_lines a.e a.d a.n a.s.now a.x) (sym c.run_form.ensures ∙ said_ok _ _ c.in_ok-run_form.was) in
     omega (arith, (inside 1 a.n most_inputs w.0).1)
 
 pub overflow_cast-x : goal.overflow_cast-x
 overflow_cast-x c =
     let a = c.args in
-    let w = in_order_lem (run_lines a.e a.d a.n a.s.now a.x) (sym c.run_form-form.ensures ∙ c.in-Fine.is) in
+    let w = in_order_lem (run_lines a.e a.d a.n a.s.now a.x) (sym c.run_form.ensures ∙ said_ok _ _ c.in_ok-run_form.was) in
     let few = (inside 1 a.n most_inputs w.0).1 in
     omega (arith, leb-false _ a.x w.1.1.1.0, pow_mono {i = a.n} {j = most_inputs} few)
 
@@ -56,4 +57,4 @@ returns c =
     let a = c.args in
     ap (λ (b : Bool). record { verdict = Fine; bit = b }) c.bit_of.ensures
     ∙ ap (λ (v : Verdict). reply v (run_done a.e a.n a.s.now a.x) run_not)
-    (sym c.in-Fine.is ∙ c.run_form-form.ensures)
+    (sym (said_ok _ _ c.in_ok-run_form.was) ∙ c.run_form.ensures)
