@@ -5,42 +5,39 @@ ghost use Rattle.sheets.specs.Edition.{IsEdition, first_edition};
 ghost use Rattle.sheets.specs.Sheet.{records};
 ghost use Rattle.times.specs.Reading.{Timed};
 ghost use Rattle.times.specs.Signals.{settled};
+ghost use Rattle.refusals.specs.Results.{verdict_of};
 ghost use Rattle.refusals.specs.Lines.{verdict};
-ghost use Rattle.settling.specs.Settle.{settle_lines, settle_outcome, settle_own};
+ghost use Rattle.settling.specs.Settle.{settle_answer, settle_lines, settle_outcome, settle_own};
 
 use crate::reading::inputs_sound;
 use records::desk::desk_of;
 use refusals::form;
-use refusals::verdicts::{Refusal, Verdict, refuse};
+use refusals::verdicts::Refusal;
 use sheets::kinds::Edition;
 use times::input_time::{InputTime, in_range, plain_zero};
 use times::signals::{output_time, times_of_inputs};
 
-// The output's earliest and latest time, if nothing is wrong.
-#[derive(Clone, Copy)]
-pub struct SettleAnswer {
-    pub verdict: Verdict,
+// The output's earliest and latest time.
+#[derive(Clone, Copy, Debug, PartialEq)]
+pub struct Settled {
     pub earliest: f64,
     pub latest: f64,
 }
 
 // Lines 1, 9, 10 and 13.
-fn settle_form(e: Edition, d: u8, n: u64, s: &[u8], delay: f64, times: [InputTime; 16]) -> Verdict
+fn settle_form(e: Edition, d: u8, n: u64, s: &[u8], delay: f64, times: [InputTime; 16]) -> Result<(), Refusal>
     requires { IsEdition e }
-    ensures { result ≡ verdict (settle_lines e d n s.now delay times) }
+    ensures { verdict_of result ≡ verdict (settle_lines e d n s.now delay times) }
 {
-    let seen = form::sheet_for(e, d, n, s);
-    let Verdict::Fine = seen else {
-        return seen;
-    };
+    form::sheet_for(e, d, n, s)?;
     if !in_range(delay) {
-        return refuse(Refusal::TIME);
+        return Err(Refusal::Time);
     }
     let m = s.len() / e.size;
     if !inputs_sound(e, n as u32, s, m, times) {
-        return refuse(Refusal::TIME);
+        return Err(Refusal::Time);
     }
-    Verdict::Fine
+    Ok(())
 }
 
 // The output's latest time (late), or its earliest.
@@ -61,29 +58,21 @@ pub fn settle_in(
     s: &[u8],
     delay: f64,
     times: [InputTime; 16],
-) -> SettleAnswer
+) -> Result<Settled, Refusal>
     requires { IsEdition e }
-    ensures { result ≡ settle_outcome e d n s.now delay times }
+    ensures { settle_answer result ≡ settle_outcome e d n s.now delay times }
 {
-    let form = settle_form(e, d, n, s, delay, times);
-    let Verdict::Fine = form else {
-        return SettleAnswer {
-            verdict: form,
-            earliest: 0.0,
-            latest: 0.0,
-        };
-    };
+    settle_form(e, d, n, s, delay, times)?;
     let inputs = n as u32;
-    SettleAnswer {
-        verdict: Verdict::Fine,
+    Ok(Settled {
         earliest: settle_at(false, e, inputs, s, delay, times),
         latest: settle_at(true, e, inputs, s, delay, times),
-    }
+    })
 }
 
 // The output's earliest and latest time, from each input's time and one delay for all cells.
-pub fn settle(n: u64, s: &[u8], delay: f64, times: [InputTime; 16]) -> SettleAnswer
-    ensures { result ≡ settle_own first_edition n s.now delay times }
+pub fn settle(n: u64, s: &[u8], delay: f64, times: [InputTime; 16]) -> Result<Settled, Refusal>
+    ensures { settle_answer result ≡ settle_own first_edition n s.now delay times }
 {
     let e = Edition::first();
     settle_in(e, desk_of(e, s), n, s, delay, times)

@@ -16,14 +16,13 @@ use Rattle.rewriting.proofs.rewrite.rewrite_form.Goals as goal
 pub returns-then-bad_inputs : goal.returns-then-bad_inputs
 returns-then-bad_inputs c =
     let a = c.args in
-    c.refuse.ensures ∙ decides (rewrite_lines a.e a.f a.d a.n a.s.now a.room.now)
+    decides (rewrite_lines a.e a.f a.d a.n a.s.now a.room.now)
     (here (sym c.bad_inputs.ensures ∙ c.if-bad_inputs.true))
 
 pub returns-then-room-f : goal.returns-then-room-f
 returns-then-room-f c =
     let a = c.args in
-    c.refuse-then-room-f.ensures
-    ∙ decides (rewrite_lines a.e a.f a.d a.n a.s.now a.room.now)
+    decides (rewrite_lines a.e a.f a.d a.n a.s.now a.room.now)
     (later (sym c.bad_inputs.ensures ∙ c.if-bad_inputs.false)
     (here (lt-ltb (length a.room.now) (a.f.size * most_records) c.if-room-f.true)))
 

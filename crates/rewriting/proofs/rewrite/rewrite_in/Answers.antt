@@ -1,5 +1,7 @@
 -- `rewrite_in` meets its contract: a refusal is its lines' verdict, and where these are in order the sheet is good and
 -- the room is long enough. Assumes nothing.
+use Rattle.std.proofs.Common.{Result}
+use Rattle.refusals.specs.declared.verdicts.Refusal.{Refusal as Why}
 use mathlib.Core.Path.{◌≡◌, sym, ap, ◌∙◌}
 use mathlib.Core.List.{List, ◌++◌}
 use Prim.Native.Nat.{ℕ, ◌*◌}
@@ -17,23 +19,24 @@ use Rattle.refusals.specs.Lines.{reply}
 use Rattle.refusals.proofs.Lines.{in_order_lem}
 use Rattle.refusals.proofs.Tests.{inside}
 use Rattle.refusals.proofs.Sheets.{good_sheet, runnable}
-use Rattle.rewriting.specs.Rewrite.{rewritten, rewrite_lines, rewrite_done, rewrite_not, rewrite_outcome}
+use Rattle.rewriting.specs.Rewrite.{rewrite_answer, rewritten, rewrite_lines, rewrite_done, rewrite_not, rewrite_outcome}
+use Rattle.refusals.proofs.Results.{said_ok, refused_with, replied}
 use Rattle.rewriting.proofs.rewrite.rewrite_in.Goals as goal
 
-pub returns-in_default : goal.returns-in_default
+pub returns-in_err-rewrite_form : goal.returns-in_err-rewrite_form
 unfolding rewrite_outcome
-returns-in_default c =
+returns-in_err-rewrite_form c =
     let a = c.args in
-    let e = c.in_default.is in
-    ap (λ (v : Verdict). record { answer = record { verdict = v; count = 0 }; room = a.room.now }) e
-    ∙ ap (λ (v : Verdict). reply v (rewrite_done a.e a.f a.d a.s.now a.room.now)
-    (rewrite_not a.room.now)) (sym e ∙ c.rewrite_form-form.ensures)
+    ap (λ (r : Result ℕ Why). record { answer = rewrite_answer r; room = a.room.now })
+    (refused_with _ _ c.from_residual.ensures.1)
+    ∙ replied (rewrite_lines a.e a.f a.d a.n a.s.now a.room.now) _ c.rewrite_form.ensures _
+    (rewrite_done a.e a.f a.d a.s.now a.room.now) (rewrite_not a.room.now) c.in_err-rewrite_form.was
 
 pub write_cells-requires : goal.write_cells-requires
 write_cells-requires c =
     let a = c.args in
     let w = in_order_lem (rewrite_lines a.e a.f a.d a.n a.s.now a.room.now)
-    (sym c.rewrite_form-form.ensures ∙ c.in-Fine.is) in
+    (sym c.rewrite_form.ensures ∙ (said_ok _ _ c.in_ok-rewrite_form.was)) in
     let r = runnable a.e a.d a.n a.s.now c.requires.0 (records a.e a.s.now)
     (inside 1 a.n most_inputs w.0).1
     (good_sheet a.e a.d a.n a.s.now c.requires.0 (w.1.1.0, (w.1.1.1.0, tt))) in record {
@@ -63,4 +66,4 @@ returns c =
     (c.write_cells.ensures ∙ ap (λ (k : ℕ). bytes ++ drop k a.room.now) (sym long))
     ∙ ap (λ (v : Verdict). reply v (rewrite_done a.e a.f a.d a.s.now a.room.now)
     (rewrite_not a.room.now))
-    (sym c.in-Fine.is ∙ c.rewrite_form-form.ensures)
+    (sym (said_ok _ _ c.in_ok-rewrite_form.was) ∙ c.rewrite_form.ensures)

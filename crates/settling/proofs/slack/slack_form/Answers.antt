@@ -32,15 +32,14 @@ pub returns-then-not-in_sixteenths : goal.returns-then-not-in_sixteenths
 unfolding given
 returns-then-not-in_sixteenths c =
     let a = c.args in
-    c.refuse.ensures ∙ by a.n a.delay a.times a.deadline _ _ _
+    by a.n a.delay a.times a.deadline _ _ _
     (sym c.in_sixteenths.ensures ∙ c.if-not-in_sixteenths.true) refl refl
 
 pub returns-then-not-inputs_in_sixteenths : goal.returns-then-not-inputs_in_sixteenths
 unfolding given
 returns-then-not-inputs_in_sixteenths c =
     let a = c.args in
-    c.refuse-then-not-inputs_in_sixteenths.ensures
-    ∙ by a.n a.delay a.times a.deadline _ _ _
+    by a.n a.delay a.times a.deadline _ _ _
     (sym c.in_sixteenths.ensures ∙ c.if-not-in_sixteenths.false)
     (sym c.inputs_in_sixteenths.ensures ∙ c.if-not-inputs_in_sixteenths.true) refl
 
@@ -48,8 +47,7 @@ pub returns-then-not-deadline_ok : goal.returns-then-not-deadline_ok
 unfolding given
 returns-then-not-deadline_ok c =
     let a = c.args in
-    c.refuse-then-not-deadline_ok.ensures
-    ∙ by a.n a.delay a.times a.deadline _ _ _
+    by a.n a.delay a.times a.deadline _ _ _
     (sym c.in_sixteenths.ensures ∙ c.if-not-in_sixteenths.false)
     (sym c.inputs_in_sixteenths.ensures ∙ c.if-not-inputs_in_sixteenths.false)
     (ap deadline_ok (sym (to_z-of_z c.ranges.deadline)) ∙ sym c.deadline_ok.ensures

@@ -1,5 +1,6 @@
 -- `slack_in` meets its contract: a refusal is its lines' verdict, and where these are in order the latest time is a
 -- whole number of sixteenths. Assumes nothing.
+use Rattle.std.proofs.Common.{Ok, Err}
 use mathlib.Core.Path.{◌≡◌, refl, sym, ap, ap₂, subst, ◌∙◌}
 use mathlib.Core.Bool.{true, false}
 use mathlib.Core.List.{List, [], ◌∷◌}
@@ -21,10 +22,11 @@ use Rattle.refusals.specs.Verdicts.{Refusal, Verdict, Fine, Refused}
 use Rattle.refusals.specs.Lines.{verdict, reply}
 use Rattle.refusals.proofs.Lines.{not_fine, in_order_lem, refused_by, left_to}
 use Rattle.settling.specs.Refusals.{bad_slack}
-use Rattle.settling.specs.Settle.{SettleAnswer, settle_lines, settle_done, settle_not, settle_outcome}
-use Rattle.settling.specs.Slack.{slack_done, slack_not, slack_outcome}
+use Rattle.settling.specs.Settle.{settle_answer, SettleAnswer, settle_lines, settle_done, settle_not, settle_outcome}
+use Rattle.settling.specs.Slack.{slack_answer, slack_done, slack_not, slack_outcome}
 use Rattle.settling.proofs.Kept.{Leaves, leaves, all_sound}
 use Rattle.settling.proofs.Slacking.{settled_exact, counted, small, InWhole, in_whole}
+use Rattle.refusals.proofs.Results.{said_ok, said_err, refused_with}
 use Rattle.settling.proofs.slack.slack_in.Goals as goal
 
 -- what the answer of settle says: its verdict is that of the lines, and where it is fine it has the latest time
@@ -72,12 +74,10 @@ module _ (e : Edition) (d n : ℕ) (s : List ℕ) (delay : Float) (ts : List Inp
   by_lines : a.verdict ≡ verdict (settle_lines e d n s delay ts)
   by_lines = ap (λ (x : SettleAnswer). x.verdict) p ∙ its_verdict e d n s delay ts
 
-  refused_first : (r : Refusal) → a.verdict ≡ Refused r → record { verdict = a.verdict; slack = pos 0 }
-      ≡ slack_outcome e d n s delay ts deadline
+  refused_first : (r : Refusal) → a.verdict ≡ Refused r → slack_not r ≡ slack_outcome e d n s delay ts deadline
   unfolding slack_outcome
   refused_first r q =
-      ap (λ (v : Verdict). record { verdict = v; slack = pos 0 }) q
-      ∙ refused_by (settle_lines e d n s delay ts) (bad_slack n delay ts deadline ∷ [])
+      refused_by (settle_lines e d n s delay ts) (bad_slack n delay ts deadline ∷ [])
       (slack_done e n s delay ts deadline) slack_not a.verdict r by_lines q
 
 module _ {e : Edition} {d n : ℕ} {s : List ℕ} {delay : Float} {ts : List InputTime} {deadline : ℤ} {a : SettleAnswer}
@@ -90,11 +90,9 @@ module _ {e : Edition} {d n : ℕ} {s : List ℕ} {delay : Float} {ts : List Inp
       ∙ left_to (settle_lines e d n s delay ts) (bad_slack n delay ts deadline ∷ []) (slack_done e n s delay ts deadline)
       slack_not a.verdict (by_lines e d n s delay ts deadline a k.settles) k.fine
 
-  refused_then : (r : Refusal) → v ≡ Refused r → record { verdict = v; slack = pos 0 }
-      ≡ slack_outcome e d n s delay ts deadline
+  refused_then : (r : Refusal) → v ≡ Refused r → slack_not r ≡ slack_outcome e d n s delay ts deadline
   refused_then r h =
-      ap (λ (u : Verdict). record { verdict = u; slack = pos 0 }) h
-      ∙ ap (λ (u : Verdict). reply u (slack_done e n s delay ts deadline) slack_not) (sym h) ∙ by_slack
+      ap (λ (u : Verdict). reply u (slack_done e n s delay ts deadline) slack_not) (sym h) ∙ by_slack
 
   module _ (h : v ≡ Fine) where
     whole : InWhole n delay ts deadline
@@ -127,24 +125,23 @@ module _ {e : Edition} {d n : ℕ} {s : List ℕ} {delay : Float} {ts : List Inp
           (c ∙ ap sixteenths_of (passed e d n s delay ts k.ok a k.settles k.fine).1))
           ∙ ap (λ (u : Verdict). reply u (slack_done e n s delay ts deadline) slack_not) (sym h) ∙ by_slack
 
-pub returns-in_default : goal.returns-in_default
-returns-in_default c =
+pub returns-in_err-settled : goal.returns-in_err-settled
+returns-in_err-settled c =
     let a = c.args in
-    refused_first a.e a.d a.n a.s.now a.delay a.times a.deadline c.settle_in-answer.result
-    c.settle_in-answer.ensures c.in_default.field-0 c.in_default.is
+    ap slack_answer (refused_with _ _ c.from_residual.ensures.1)
+    ∙ refused_first a.e a.d a.n a.s.now a.delay a.times a.deadline (settle_answer (Err c.in_err-settled.field-0.0))
+    c.in_err-settled.ensures _ refl
 
 pub overflow_cast-n : goal.overflow_cast-n
 overflow_cast-n c =
     let a = c.args in
-    let l = (passed a.e a.d a.n a.s.now a.delay a.times c.requires c.settle_in-answer.result
-    c.settle_in-answer.ensures c.in-Fine.is).0 in
+    let l = (passed a.e a.d a.n a.s.now a.delay a.times c.requires _ c.in_ok-settled.ensures refl).0 in
     omega (arith, l.inputs)
 
-pub slack_form-form-requires : goal.slack_form-form-requires
-slack_form-form-requires c =
+pub slack_form-requires : goal.slack_form-requires
+slack_form-requires c =
     let a = c.args in
-    let l = (passed a.e a.d a.n a.s.now a.delay a.times c.requires c.settle_in-answer.result
-    c.settle_in-answer.ensures c.in-Fine.is).0 in
+    let l = (passed a.e a.d a.n a.s.now a.delay a.times c.requires _ c.in_ok-settled.ensures refl).0 in
     (l.inputs, l.within, all_sound a.e a.n a.s.now (records a.e a.s.now) a.times l.times)
 
 -- what is asked where settle's lines are in order
@@ -161,37 +158,38 @@ asked e d n s delay ts deadline a v ok p q z l = record {
   looked = l;
 }
 
-pub returns-in_default-form : goal.returns-in_default-form
-returns-in_default-form c =
+pub returns-in_err-slack_form : goal.returns-in_err-slack_form
+returns-in_err-slack_form c =
     let a = c.args in
-    let k = asked a.e a.d a.n a.s.now a.delay a.times a.deadline c.settle_in-answer.result c.slack_form-form.result
-    c.requires c.settle_in-answer.ensures c.in-Fine.is (to_z-of_z c.ranges.deadline) c.slack_form-form.ensures in
-    refused_then k c.in_default-form.field-0 c.in_default-form.is
+    let k = asked a.e a.d a.n a.s.now a.delay a.times a.deadline (settle_answer (Ok c.in_ok-settled.settled)) _
+    c.requires c.in_ok-settled.ensures refl (to_z-of_z c.ranges.deadline) c.slack_form.ensures in
+    ap slack_answer (refused_with _ _ c.from_residual-in_err-slack_form.ensures.1)
+    ∙ refused_then k _ (said_err _ _ c.in_err-slack_form.was)
 
 pub count_of-requires : goal.count_of-requires
 count_of-requires c =
     let a = c.args in
-    let k = asked a.e a.d a.n a.s.now a.delay a.times a.deadline c.settle_in-answer.result c.slack_form-form.result
-    c.requires c.settle_in-answer.ensures c.in-Fine.is (to_z-of_z c.ranges.deadline) c.slack_form-form.ensures in
-    latest k c.in-Fine-form.is
+    let k = asked a.e a.d a.n a.s.now a.delay a.times a.deadline (settle_answer (Ok c.in_ok-settled.settled)) _
+    c.requires c.in_ok-settled.ensures refl (to_z-of_z c.ranges.deadline) c.slack_form.ensures in
+    latest k (said_ok _ _ c.in_ok-slack_form.was)
 
 pub overflow_cast-result : goal.overflow_cast-result
 overflow_cast-result c =
     let a = c.args in
-    let k = asked a.e a.d a.n a.s.now a.delay a.times a.deadline c.settle_in-answer.result c.slack_form-form.result
-    c.requires c.settle_in-answer.ensures c.in-Fine.is (to_z-of_z c.ranges.deadline) c.slack_form-form.ensures in
-    record { sfits = omega (arith, few k c.in-Fine-form.is c.count_of.result c.count_of.ensures) }
+    let k = asked a.e a.d a.n a.s.now a.delay a.times a.deadline (settle_answer (Ok c.in_ok-settled.settled)) _
+    c.requires c.in_ok-settled.ensures refl (to_z-of_z c.ranges.deadline) c.slack_form.ensures in
+    record { sfits = omega (arith, few k (said_ok _ _ c.in_ok-slack_form.was) c.count_of.result c.count_of.ensures) }
 
 pub overflow_sub-result : goal.overflow_sub-result
 overflow_sub-result c =
     let a = c.args in
-    let k = asked a.e a.d a.n a.s.now a.delay a.times a.deadline c.settle_in-answer.result c.slack_form-form.result
-    c.requires c.settle_in-answer.ensures c.in-Fine.is (to_z-of_z c.ranges.deadline) c.slack_form-form.ensures in
-    fits_less k c.in-Fine-form.is c.count_of.result c.count_of.ensures
+    let k = asked a.e a.d a.n a.s.now a.delay a.times a.deadline (settle_answer (Ok c.in_ok-settled.settled)) _
+    c.requires c.in_ok-settled.ensures refl (to_z-of_z c.ranges.deadline) c.slack_form.ensures in
+    fits_less k (said_ok _ _ c.in_ok-slack_form.was) c.count_of.result c.count_of.ensures
 
 pub returns : goal.returns
 returns c =
     let a = c.args in
-    let k = asked a.e a.d a.n a.s.now a.delay a.times a.deadline c.settle_in-answer.result c.slack_form-form.result
-    c.requires c.settle_in-answer.ensures c.in-Fine.is (to_z-of_z c.ranges.deadline) c.slack_form-form.ensures in
-    done k c.in-Fine-form.is c.count_of.result c.count_of.ensures
+    let k = asked a.e a.d a.n a.s.now a.delay a.times a.deadline (settle_answer (Ok c.in_ok-settled.settled)) _
+    c.requires c.in_ok-settled.ensures refl (to_z-of_z c.ranges.deadline) c.slack_form.ensures in
+    done k (said_ok _ _ c.in_ok-slack_form.was) c.count_of.result c.count_of.ensures
