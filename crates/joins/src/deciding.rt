@@ -4,8 +4,7 @@ ghost use Rattle.bits.specs.Numbers.{bit};
 ghost use Rattle.tables.specs.Table.{most_inputs, table_bit};
 ghost use Rattle.tables.specs.Counting.{support};
 ghost use Rattle.trees.specs.Tree.{IsTree};
-ghost use Rattle.joins.specs.Left.{gate_left, Unfixed, Fixing, one_fixed, one_decided, Partnered, Reduced};
-ghost use Rattle.joins.specs.Left.{DecidedFrom};
+ghost use Rattle.joins.specs.Left.{gate_left, Unfixed, Fixing, one_fixed, one_decided, Partnered, Reduced, DecidedFrom};
 
 use crate::pairs::{Left, joint};
 use bits::sets::members;

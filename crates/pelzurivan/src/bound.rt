@@ -1,10 +1,10 @@
 // A lower bound on the cells of a table, for C.
 ghost use Rattle.std.specs.Prelude.{◌≡◌};
-ghost use Rattle.bounds.specs.BoundCells.{bound_outcome};
-ghost use Rattle.pelzurivan.specs.Bound.{bounded_c};
+ghost use Rattle.bounds.specs.BoundCells.{bound_outcome, bound_answer};
+ghost use Rattle.pelzurivan.specs.Bound.{bounded_of, bounded_c};
 
 use bounds::bound_cells::bound_cells;
-use refusals::verdicts::number_of;
+use refusals::verdicts::Refusal;
 
 // The number, and the bound.
 #[repr(C)]
@@ -12,6 +12,23 @@ use refusals::verdicts::number_of;
 pub struct BoundedC {
     pub number: u64,
     pub least: u64,
+}
+
+impl From<Result<u32, Refusal>> for BoundedC {
+    ghost from_gives = { λ answer c. c ≡ bounded_of (bound_answer answer) };
+
+    fn from(answer: Result<u32, Refusal>) -> BoundedC {
+        match answer {
+            Ok(least) => BoundedC {
+                number: 0,
+                least: least as u64,
+            },
+            Err(why) => BoundedC {
+                number: why.number() as u64,
+                least: 0,
+            },
+        }
+    }
 }
 
 // A number of cells of the edition with the number `edition`: no network of fewer carries the table.
@@ -26,10 +43,5 @@ pub extern "C" fn pelzurivan_bound(
     ensures { (result ≡ bounded_c (bound_outcome edition n k t.now work.old))
         × (work.new ≡ (bound_outcome edition n k t.now work.old).work) }
 {
-    let answer = bound_cells(edition, n, k, t, work);
-    let verdict = answer.verdict;
-    BoundedC {
-        number: number_of(verdict) as u64,
-        least: answer.least as u64,
-    }
+    BoundedC::from(bound_cells(edition, n, k, t, work))
 }

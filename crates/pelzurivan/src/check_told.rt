@@ -5,7 +5,6 @@ ghost use Rattle.pelzurivan.specs.CheckSheet.{checked_c};
 
 use crate::check_sheet::CheckedC;
 use inspection::check_told::check_told;
-use refusals::verdicts::{number_of, place_of};
 
 // Checks anyone's sheet of the edition with the number `edition` against a gate's table.
 #[unsafe(no_mangle)]
@@ -17,9 +16,5 @@ pub extern "C" fn pelzurivan_check_told<'a>(
 ) -> CheckedC
     ensures { result ≡ checked_c (check_told edition n t.now s.now) }
 {
-    let verdict = check_told(edition, n, t, s);
-    CheckedC {
-        number: number_of(verdict) as u64,
-        place: place_of(verdict),
-    }
+    CheckedC::from(check_told(edition, n, t, s))
 }

@@ -1,11 +1,12 @@
 // Finding the best split, for C.
 ghost use Rattle.std.specs.Prelude.{◌≡◌};
 ghost use Rattle.sheets.specs.Edition.{first_edition};
-ghost use Rattle.finding.specs.FindBest.{find_outcome};
-ghost use Rattle.pelzurivan.specs.FindBest.{sought_c};
+ghost use Rattle.finding.specs.FindBest.{find_outcome, find_answer};
+ghost use Rattle.pelzurivan.specs.FindBest.{sought_of, sought_c};
 
 use finding::find_best::find_best;
-use refusals::verdicts::number_of;
+use best::Masks;
+use refusals::verdicts::Refusal;
 
 // The number, the own and the shared mask.
 #[repr(C)]
@@ -16,17 +17,30 @@ pub struct SoughtC {
     pub shared: u64,
 }
 
+impl From<Result<Masks, Refusal>> for SoughtC {
+    ghost from_gives = { λ answer c. c ≡ sought_of (find_answer answer) };
+
+    fn from(answer: Result<Masks, Refusal>) -> SoughtC {
+        match answer {
+            Ok(masks) => SoughtC {
+                number: 0,
+                own: masks.own as u64,
+                shared: masks.shared as u64,
+            },
+            Err(why) => SoughtC {
+                number: why.number() as u64,
+                own: 0,
+                shared: 0,
+            },
+        }
+    }
+}
+
 // Finds the best split: two masks.
 #[unsafe(no_mangle)]
 pub extern "C" fn pelzurivan_find(n: u64, k: u64, t: &[u8], work: &mut [u8]) -> SoughtC
     ensures { (result ≡ sought_c (find_outcome first_edition n k t.now work.old))
         × (work.new ≡ (find_outcome first_edition n k t.now work.old).work) }
 {
-    let answer = find_best(n, k, t, work);
-    let verdict = answer.verdict;
-    SoughtC {
-        number: number_of(verdict) as u64,
-        own: answer.own as u64,
-        shared: answer.shared as u64,
-    }
+    SoughtC::from(find_best(n, k, t, work))
 }

@@ -1,10 +1,11 @@
 // Finding the best split with several first cells, for C.
 ghost use Rattle.std.specs.Prelude.{◌≡◌};
 ghost use Rattle.sheets.specs.Edition.{first_edition};
-ghost use Rattle.several.specs.FindSeveral.{find_several_outcome};
-ghost use Rattle.pelzurivan.specs.FindSeveral.{sought_several_c};
+ghost use Rattle.several.specs.FindSeveral.{find_several_outcome, several_answer};
+ghost use Rattle.pelzurivan.specs.FindSeveral.{sought_several_of, sought_several_c};
 
-use refusals::verdicts::number_of;
+use choices::over::Chosen;
+use refusals::verdicts::Refusal;
 use several::find_several::find_several;
 
 // The number, how many first cells, the own and the shared mask.
@@ -15,6 +16,27 @@ pub struct SoughtSeveralC {
     pub r: u64,
     pub own: u64,
     pub shared: u64,
+}
+
+impl From<Result<Chosen, Refusal>> for SoughtSeveralC {
+    ghost from_gives = { λ answer c. c ≡ sought_several_of (several_answer answer) };
+
+    fn from(answer: Result<Chosen, Refusal>) -> SoughtSeveralC {
+        match answer {
+            Ok(found) => SoughtSeveralC {
+                number: 0,
+                r: found.first as u64,
+                own: found.own as u64,
+                shared: found.shared as u64,
+            },
+            Err(why) => SoughtSeveralC {
+                number: why.number() as u64,
+                r: 0,
+                own: 0,
+                shared: 0,
+            },
+        }
+    }
 }
 
 // Finds the best split with 1, 2 or 3 first cells: how many, and two masks.
@@ -28,12 +50,5 @@ pub extern "C" fn pelzurivan_find_several(
     ensures { (result ≡ sought_several_c (find_several_outcome first_edition n k t.now work.old))
         × (work.new ≡ (find_several_outcome first_edition n k t.now work.old).work) }
 {
-    let answer = find_several(n, k, t, work);
-    let verdict = answer.verdict;
-    SoughtSeveralC {
-        number: number_of(verdict) as u64,
-        r: answer.first as u64,
-        own: answer.own as u64,
-        shared: answer.shared as u64,
-    }
+    SoughtSeveralC::from(find_several(n, k, t, work))
 }

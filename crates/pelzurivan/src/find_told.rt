@@ -5,7 +5,6 @@ ghost use Rattle.pelzurivan.specs.FindBest.{sought_c};
 
 use crate::find_best::SoughtC;
 use finding::find_told::find_told;
-use refusals::verdicts::number_of;
 
 // Finds the best split into cells of the edition with that number: two masks.
 #[unsafe(no_mangle)]
@@ -19,11 +18,5 @@ pub extern "C" fn pelzurivan_find_told(
     ensures { (result ≡ sought_c (find_told edition n k t.now work.old))
         × (work.new ≡ (find_told edition n k t.now work.old).work) }
 {
-    let answer = find_told(edition, n, k, t, work);
-    let verdict = answer.verdict;
-    SoughtC {
-        number: number_of(verdict) as u64,
-        own: answer.own as u64,
-        shared: answer.shared as u64,
-    }
+    SoughtC::from(find_told(edition, n, k, t, work))
 }

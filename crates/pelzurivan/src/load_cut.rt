@@ -5,7 +5,6 @@ ghost use Rattle.pelzurivan.specs.LoadDesk.{loaded_c};
 
 use crate::load_desk::LoadedC;
 use loads::load_cut::load_cut;
-use refusals::verdicts::{number_of, place_of};
 
 // Loads a sheet of n inputs onto desk d of a card, but makes only the first `stores` stores.
 #[unsafe(no_mangle)]
@@ -19,9 +18,5 @@ pub extern "C" fn pelzurivan_load_cut(
     ensures { (result ≡ loaded_c (cut_outcome stores card.old d n s.now))
         × (card.new ≡ (cut_outcome stores card.old d n s.now).card) }
 {
-    let verdict = load_cut(card, d, n, s, stores);
-    LoadedC {
-        number: number_of(verdict) as u64,
-        index: place_of(verdict),
-    }
+    LoadedC::from(load_cut(card, d, n, s, stores))
 }

@@ -5,7 +5,6 @@ ghost use Rattle.pelzurivan.specs.LoadDesk.{loaded_c};
 
 use crate::load_desk::LoadedC;
 use loads::load_store::load_store;
-use refusals::verdicts::{number_of, place_of};
 
 // Makes store `which` of a load of a sheet of n inputs onto desk d of a card, and no other.
 #[unsafe(no_mangle)]
@@ -19,9 +18,5 @@ pub extern "C" fn pelzurivan_load_store(
     ensures { (result ≡ loaded_c (store_outcome which card.old d n s.now))
         × (card.new ≡ (store_outcome which card.old d n s.now).card) }
 {
-    let verdict = load_store(card, d, n, s, which);
-    LoadedC {
-        number: number_of(verdict) as u64,
-        index: place_of(verdict),
-    }
+    LoadedC::from(load_store(card, d, n, s, which))
 }

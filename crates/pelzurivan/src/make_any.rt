@@ -6,7 +6,6 @@ ghost use Rattle.pelzurivan.specs.MakeSheet.{made_c};
 
 use crate::make_sheet::MadeC;
 use any_gate::make_any::make_any;
-use refusals::verdicts::number_of;
 
 // Makes a sheet for any gate for a desk, 0 being bench use, into lent bytes: how many cells.
 #[unsafe(no_mangle)]
@@ -24,10 +23,5 @@ pub extern "C" fn pelzurivan_make_any(
         × (work.new
         ≡ (any_outcome first_edition desk n k t.now sheet.old work.old).work) }
 {
-    let answer = make_any(n, k, desk, t, sheet, work);
-    let verdict = answer.verdict;
-    MadeC {
-        number: number_of(verdict) as u64,
-        count: answer.count as u64,
-    }
+    MadeC::from(make_any(n, k, desk, t, sheet, work))
 }

@@ -5,7 +5,6 @@ ghost use Rattle.pelzurivan.specs.MakeSheet.{made_c};
 
 use crate::make_sheet::MadeC;
 use bench::make_told::make_told;
-use refusals::verdicts::number_of;
 
 // Makes a sheet in records of the edition with that number, for a desk, 0 being bench use, into lent bytes: how many
 // cells.
@@ -25,10 +24,5 @@ pub extern "C" fn pelzurivan_make_told(
         × (work.new
         ≡ (make_told edition desk n k t.now sheet.old work.old).work) }
 {
-    let answer = make_told(edition, n, k, desk, t, sheet, work);
-    let verdict = answer.verdict;
-    MadeC {
-        number: number_of(verdict) as u64,
-        count: answer.count as u64,
-    }
+    MadeC::from(make_told(edition, n, k, desk, t, sheet, work))
 }

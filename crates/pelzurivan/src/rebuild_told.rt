@@ -5,7 +5,6 @@ ghost use Rattle.pelzurivan.specs.RebuildTable.{rebuilt_c};
 
 use crate::rebuild_table::RebuiltC;
 use rebuilding::rebuild_told::rebuild_told;
-use refusals::verdicts::{number_of, place_of};
 
 // Rebuilds a table from a sheet of the edition with the number `edition` into lent bytes.
 #[unsafe(no_mangle)]
@@ -18,9 +17,5 @@ pub extern "C" fn pelzurivan_rebuild_told(
     ensures { (result ≡ rebuilt_c (rebuild_told edition n s.now table.old))
         × (table.new ≡ (rebuild_told edition n s.now table.old).table) }
 {
-    let verdict = rebuild_told(edition, n, s, table);
-    RebuiltC {
-        number: number_of(verdict) as u64,
-        index: place_of(verdict),
-    }
+    RebuiltC::from(rebuild_told(edition, n, s, table))
 }

@@ -5,18 +5,11 @@ ghost use Rattle.pelzurivan.specs.RunSheet.{ran_c};
 
 use crate::run_sheet::RanC;
 use desks::run_desk::run_desk;
-use refusals::verdicts::{number_of, place_of};
 
 // Runs desk d of a card at the assignment x: one bit.
 #[unsafe(no_mangle)]
 pub extern "C" fn pelzurivan_run_desk(card: &[u8], d: u64, x: u64) -> RanC
     ensures { result ≡ ran_c (run_desk_outcome card.now d x) }
 {
-    let answer = run_desk(card, d, x);
-    let verdict = answer.verdict;
-    RanC {
-        number: number_of(verdict) as u64,
-        bit: answer.bit as u64,
-        index: place_of(verdict),
-    }
+    RanC::from(run_desk(card, d, x))
 }

@@ -4,7 +4,6 @@ ghost use Rattle.running.specs.RunTold.{run_told};
 ghost use Rattle.pelzurivan.specs.RunSheet.{ran_c};
 
 use crate::run_sheet::RanC;
-use refusals::verdicts::{number_of, place_of};
 use running::run_told::run_told;
 
 // Runs a sheet of the edition with the number `edition` at the assignment x: one bit.
@@ -12,11 +11,5 @@ use running::run_told::run_told;
 pub extern "C" fn pelzurivan_run_told(edition: u64, n: u64, s: &[u8], x: u64) -> RanC
     ensures { result ≡ ran_c (run_told edition n s.now x) }
 {
-    let answer = run_told(edition, n, s, x);
-    let verdict = answer.verdict;
-    RanC {
-        number: number_of(verdict) as u64,
-        bit: answer.bit as u64,
-        index: place_of(verdict),
-    }
+    RanC::from(run_told(edition, n, s, x))
 }

@@ -4,8 +4,7 @@ ghost use Rattle.sheets.specs.Edition.{first_edition};
 ghost use Rattle.comparing.specs.Shorter.{kept_outcome};
 ghost use Rattle.pelzurivan.specs.Shorter.{shorter_c};
 
-use comparing::shorter::{keep_shorter, part_of};
-use refusals::verdicts::number_of;
+use comparing::shorter::{keep_shorter, number_kept, part_of};
 
 // Which of the two (0 none), its length in bytes, and the number of the call beside.
 #[repr(C)]
@@ -28,11 +27,14 @@ pub extern "C" fn pelzurivan_shorter<'a>(
         first.now second.now }
 {
     let kept = keep_shorter(n, t, first, second);
-    let verdict = kept.verdict;
-    let part = part_of(kept.which, first, second);
-    ShorterC {
-        which: kept.which,
-        length: part.len() as u64,
-        number: number_of(verdict) as u64,
+    let which = number_kept(kept);
+    let length = part_of(which, first, second).len() as u64;
+    match kept {
+        Ok(_) => ShorterC { which, length, number: 0 },
+        Err(why) => ShorterC {
+            which,
+            length,
+            number: why.number() as u64,
+        },
     }
 }

@@ -39,3 +39,8 @@ refusal_of (NotShown at) = refusal 22 at
 abbrev pub verdict_of : {A : Type 0} → Result A Why → Verdict
 verdict_of (Ok a) = Fine
 verdict_of (Err why) = Refused (refusal_of why)
+
+-- how many columns a refusal counts
+abbrev pub columns_of : Why → ℕ
+columns_of (Broken b columns) = columns
+columns_of _ = 0

@@ -1,6 +1,6 @@
 // The table of refusals: why a call says no. specs/Refusals.antt says exactly when each is given.
 ghost use Rattle.std.specs.Prelude.{◌≡◌};
-ghost use Rattle.refusals.specs.Results.{refusal_of};
+ghost use Rattle.refusals.specs.Results.{refusal_of, columns_of};
 ghost use Rattle.refusals.specs.Looks.{why_bad};
 
 use records::rules::BadSheet;
@@ -111,6 +111,16 @@ impl Refusal {
             Refusal::Unread(i) => i as u64,
             Refusal::Text(at) => at as u64,
             Refusal::NotShown(at) => at as u64,
+            _ => 0,
+        }
+    }
+
+    // How many different columns the named split has where it breaks, else 0.
+    pub fn columns(self) -> usize
+        ensures { result ≡ columns_of self }
+    {
+        match self {
+            Refusal::Broken(_, columns) => columns,
             _ => 0,
         }
     }

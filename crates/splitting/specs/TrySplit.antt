@@ -9,8 +9,7 @@ use Rattle.charts.specs.declared.pair.FirstCells.{FirstCells}
 use Rattle.sheets.specs.declared.kinds.Edition.{Edition}
 use Rattle.refusals.specs.Verdicts.{Refusal, Verdict, Fine, Refused}
 use Rattle.refusals.specs.declared.verdicts.Refusal.{Refusal as Why}
-use Rattle.refusals.specs.Results.{refusal_of}
-use Rattle.refusals.specs.declared.verdicts.Refusal.TheVariants.{Broken}
+use Rattle.refusals.specs.Results.{refusal_of, columns_of}
 use Rattle.refusals.specs.Lines.{Line, verdict, reply}
 use Rattle.refusals.specs.Refusals.{gate_lines, bad_sets, short_room, not_possible}
 use Rattle.refusals.specs.Lent.{into}
@@ -52,11 +51,6 @@ try_not n A B t room why = record {
   answer = record { verdict = Refused why; d = no_cells; columns = columns_named n A B t why };
   room = room;
 }
-
--- how many columns a refusal counts
-abbrev pub columns_of : Why → ℕ
-columns_of (Broken b columns) = columns
-columns_of _ = 0
 
 -- what a result says
 abbrev pub try_answer : Result FirstCells Why → TryAnswer
