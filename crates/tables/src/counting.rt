@@ -13,10 +13,7 @@ pub fn word_of(t: &[u8], n: u32, w: usize) -> u64
     requires { (2 ^ n ≤ 8 * length t.now) × (w < 2 ^ (n - 6)) }
     ensures { result ≡ gate_word n (table_bit t.now) w }
 {
-    if n < 6 {
-        return short_word(t, n as usize);
-    }
-    table_word(t, w)
+    if n < 6 { short_word(t, n as usize) } else { table_word(t, w) }
 }
 
 // The half of a word where input j is 0, for an input that changes within a word; from input 6 on it is not asked for.
@@ -47,10 +44,7 @@ fn changes(t: &[u8], n: u32, j: u32, half: u64, w: usize) -> bool
 pub fn above_words(n: u32) -> u32
     ensures { result ≡ n - 6 }
 {
-    if n < 6 {
-        return 0;
-    }
-    n - 6
+    n.saturating_sub(6)
 }
 
 // Whether input j counts, where the table sees the inputs of `live` alone: the other inputs of a word's number stay 0.
@@ -63,13 +57,11 @@ fn counts_in(t: &[u8], n: u32, live: u16, j: u32) -> bool
     let others = (live & !(1 << j)) >> 6;
     let many = parts(top, others);
     let mut w: u32 = 0;
-    let mut v: u32 = 0;
-    while v < many {
+    for _v in 0..many {
         if changes(t, n, j, half, w as usize) {
             return true;
         }
         w = next(top, others, w);
-        v += 1;
     }
     false
 }
@@ -82,9 +74,7 @@ pub fn support_of(t: &[u8], n: u32) -> u16
 {
     let all: u32 = (1 << n) - 1;
     let mut live = all as u16;
-    let mut j = n;
-    while j > 0 {
-        j -= 1;
+    for j in (0..n).rev() {
         if !counts_in(t, n, live, j) {
             live -= 1 << j;
         }
@@ -107,8 +97,8 @@ pub fn counting_inputs(t: &[u8], n: u32) -> CountingInputs
     let mask = support_of(t, n);
     let many = members(mask);
     CountingInputs {
-        mask: mask,
-        many: many,
+        mask,
+        many,
     }
 }
 
@@ -117,9 +107,5 @@ pub fn kept_of(t: &[u8], n: u32) -> u16
     requires { (length t.now ≡ table_length n) × (n ≤ most_inputs) }
     ensures { result ≡ kept n (table_bit t.now) }
 {
-    let support = support_of(t, n);
-    if support == 0 {
-        return 1;
-    }
-    support
+    support_of(t, n).max(1)
 }

@@ -14,17 +14,6 @@ pub loop-i-init : goal.loop-i-init
 unfolding number
 loop-i-init c = (omega arith, refl)
 
--- the byte that comes in
-module _ (c : lts.After-shared_slice_known reads.Pre reads.Post goal.the-invariant-loop-i goal.the-decreases-loop-i) where
-  abbrev a : lts.Start reads.Pre reads.Post goal.the-invariant-loop-i goal.the-decreases-loop-i
-  a = c.before.before.before
-
-  abbrev i : ℕ
-  i = c.loop-i.i
-
-  small : get_or a.args.t.now (a.args.from + i) 0 < 2 ^ 8
-  small = omega (arith, c.shared_slice_known-1.given (a.args.from + i))
-
 pub returns : goal.returns
 returns c =
     let q = c.loop-i in
@@ -32,20 +21,14 @@ returns c =
     q.invariant.1 ∙ ap (λ (i : ℕ). number (8 * i) (λ k. table_bit c.args.t.now
     (8 * c.args.from + k))) e
 
-pub overflow_cast-r : goal.overflow_cast-r
-overflow_cast-r c = omega (arith, small c.before)
-
-pub overflow_add-r : goal.overflow_add-r
-overflow_add-r c =
-    omega (
-      arith,
-      byte_fits (a c.before).args.t.now (a c.before).args.from (i c.before) (omega arith) (small c.before)
-          c.loop-i.invariant.1,
-    )
+pub overflow_add-r-in-loop-i : goal.overflow_add-r-in-loop-i
+overflow_add-r-in-loop-i c =
+    let a = c.args in
+    let i = c.loop-i.i in
+    omega (arith, byte_fits a.t.now a.from i (omega arith) (omega (arith, c.type_inv.t (a.from + i))) c.loop-i.invariant.1)
 
 pub loop-i-preserved : goal.loop-i-preserved
-loop-i-preserved c = (
-  omega arith,
-  byte-joined (a c.before).args.t.now (a c.before).args.from (i c.before) (omega arith) (small c.before)
-      c.loop-i.invariant.1,
-)
+loop-i-preserved c =
+    let a = c.args in
+    let i = c.loop-i.i in
+    (omega arith, byte-joined a.t.now a.from i (omega arith) (omega (arith, c.type_inv.t (a.from + i))) c.loop-i.invariant.1)
