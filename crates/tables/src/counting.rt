@@ -2,7 +2,7 @@
 ghost use Rattle.std.specs.Prelude.{◌≡◌, ◌-◌, ◌*◌, ◌^◌, ◌<◌, ◌≤◌, length};
 ghost use Rattle.tables.specs.Table.{most_inputs, table_length, table_bit};
 ghost use Rattle.tables.specs.Counting.{counts, support, kept, CountingIn};
-ghost use Rattle.tables.specs.Words.{gate_word, LowerHalf, WordWithout, Compared, Live};
+ghost use Rattle.tables.specs.Words.{gate_word, HalfWord, WordWithout, Compared, Live};
 
 use crate::words::{short_word, table_word};
 use bits::patterns::of_input;
@@ -13,31 +13,36 @@ pub fn word_of(t: &[u8], n: u32, w: usize) -> u64
     requires { (2 ^ n ≤ 8 * length t.now) × (w < 2 ^ (n - 6)) }
     ensures { result ≡ gate_word n (table_bit t.now) w }
 {
-    if n < 6 { short_word(t, n as usize) } else { table_word(t, w) }
+    if n < 6 {
+        short_word(t, n as usize)
+    } else {
+        table_word(t, w)
+    }
 }
 
-// The half of a word where input j is 0, for an input that changes within a word; from input 6 on it is not asked for.
-fn lower_half(j: u32) -> u64
-    ensures { LowerHalf j result }
+// The half of a word where input j is 0, for an input that changes within a word; from input 6 on there is none.
+fn lower_half(j: u32) -> Option<u64>
+    ensures { HalfWord j result }
 {
-    if j < 6 {
-        return !of_input(j);
-    }
-    0
+    if j < 6 { Some(!of_input(j)) } else { None }
 }
 
 // Whether the bit changes, in word w, as input j is set: by comparing the word's own halves, or the word with another.
-fn changes(t: &[u8], n: u32, j: u32, half: u64, w: usize) -> bool
-    requires { (length t.now ≡ table_length n) × (n ≤ most_inputs) × (j < n) × LowerHalf j half × WordWithout n j w }
+fn changes(t: &[u8], n: u32, j: u32, half: Option<u64>, w: usize) -> bool
+    requires { (length t.now ≡ table_length n) × (n ≤ most_inputs) × (j < n) × HalfWord j half × WordWithout n j w }
     ensures { Compared n (table_bit t.now) j w result }
 {
     let here = word_of(t, n, w);
-    if j < 6 {
-        let shift: u32 = 1 << j;
-        return (here >> shift) & half != here & half;
+    match half {
+        Some(half) => {
+            let shift: u32 = 1 << j;
+            (here >> shift) & half != here & half
+        }
+        None => {
+            let step: usize = 1 << (j - 6);
+            here != word_of(t, n, w + step)
+        }
     }
-    let step: usize = 1 << (j - 6);
-    here != word_of(t, n, w + step)
 }
 
 // How many of n inputs number the words of a table.
@@ -96,10 +101,7 @@ pub fn counting_inputs(t: &[u8], n: u32) -> CountingInputs
 {
     let mask = support_of(t, n);
     let many = members(mask);
-    CountingInputs {
-        mask,
-        many,
-    }
+    CountingInputs { mask, many }
 }
 
 // The mask of the inputs that are kept: those that count, and of a constant the first, since a table has one.

@@ -1,13 +1,10 @@
 -- The loop keeps the number that the first i bytes make. Assumes nothing.
 use mathlib.Core.Path.{◌≡◌, refl, ap, ◌∙◌}
-use Prim.Native.Nat.{ℕ, ◌+◌, ◌*◌, ◌^◌, ◌<◌}
+use Prim.Native.Nat.{ℕ, ◌+◌, ◌*◌}
 use native.Mathlib.Omega.{arith}
-use lib.ListN.{get_or}
 use Rattle.bits.specs.Numbers.{number}
 use Rattle.tables.specs.Table.{table_bit}
 use Rattle.tables.proofs.Joining.{byte-joined, byte_fits}
-use Rattle.tables.proofs.words.joined.Lts as lts
-use Rattle.tables.proofs.words.joined.Reads as reads
 use Rattle.tables.proofs.words.joined.Goals as goal
 
 pub loop-i-init : goal.loop-i-init
