@@ -1,8 +1,7 @@
 -- A place below a number as an option, and back. Assumes nothing.
-use Rattle.std.proofs.Common.{◌≡◌, ℕ, ◌<◌, ◌≤◌, true, false, cond, Option, Some, None, ap, refl, sym}
+use Rattle.std.proofs.Common.{◌≡◌, ℕ, ◌<◌, ◌≤◌, cond, Some, None, ap, sym}
 use borrow.Author.Tests.{lt-ltb, le-ltb}
-use lib.Dec.{ltb}
-use Rattle.bits.specs.Places.{found_below, place_or}
+use Rattle.bits.specs.Places.{found_below}
 
 pub found_some : (m i : ℕ) → i < m → Some i ≡ found_below m i
 found_some m i h = sym (ap (λ (b : _). cond b (Some i) None) (lt-ltb i m h))
