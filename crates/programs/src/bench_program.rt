@@ -18,7 +18,7 @@ pub const MOST_WRITTEN: usize = 1 + Sheet::BYTES;
 pub fn byte_or_zero(s: &[u8], i: usize) -> u64
     ensures { result ≡ get_or s.now i 0 }
 {
-    if i < s.len() { s[i] as u64 } else { 0 }
+    s.get(i).map_or(0, |byte| u64::from(*byte))
 }
 
 // Where s is cut after its first i bytes: at its end if it has fewer.
@@ -27,7 +27,7 @@ pub fn cut_at(s: &[u8], i: usize) -> usize
         × (take result s.now ≡ take i s.now)
         × (drop result s.now ≡ drop i s.now) }
 {
-    if s.len() < i { s.len() } else { i }
+    i.min(s.len())
 }
 
 // Answers the input into the first bytes of out; how many they are. Both rooms are cleared first, so that nothing of

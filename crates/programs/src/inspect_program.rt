@@ -9,10 +9,10 @@ use crate::bench_program::{byte_or_zero, cut_at};
 use inspection::check_sheet::check_sheet;
 use refusals::verdicts::{Verdict, number_of, place_of};
 use sheets::kinds::Sheet;
-use tables::clear;
+use tables::{HALF, MOST_INPUTS, clear, length_for};
 
 // n, the longest table, the longest sheet and one byte more: with that byte the sheet is too long, however long it is.
-pub const MOST_READ: usize = 1 + (1 << (tables::MOST_INPUTS - 3)) + Sheet::BYTES + 1;
+pub const MOST_READ: usize = 1 + HALF + Sheet::BYTES + 1;
 // The digits of a byte, a space and those of a u64.
 pub const MOST_WRITTEN: usize = 24;
 
@@ -20,10 +20,11 @@ pub const MOST_WRITTEN: usize = 24;
 fn table_bytes(n: u64) -> usize
     ensures { n ≤ most_inputs → result ≡ table_length n }
 {
-    if n > tables::MOST_INPUTS as u64 {
-        return 0;
+    if n > MOST_INPUTS as u64 {
+        0
+    } else {
+        length_for(n as u32)
     }
-    tables::length_for(n as u32)
 }
 
 // Checks the sheet in the input against the table in it.
@@ -37,17 +38,18 @@ fn inspect(input: &[u8]) -> Verdict
     check_sheet(n, &rest[..end], &rest[end..])
 }
 
-// Writes x in decimal into the first bytes of out; how many they are.
+// Writes x in decimal into the first bytes of out; how many they are. Not by `write!`: it promises nothing of a write
+// that fails, and doesn't promise that none does; what stands in out has to be known either way.
 fn write_decimal(x: u64, out: &mut [u8]) -> usize
     requires { length (decimal x) ≤ length out.old }
     ensures { (result ≡ length (decimal x)) × (out.new ≡ into (decimal x) out.old) }
 {
     if x < 10 {
-        out[0] = 48 + x as u8;
+        out[0] = b'0' + x as u8;
         return 1;
     }
     let k = write_decimal(x / 10, out);
-    out[k] = 48 + (x % 10) as u8;
+    out[k] = b'0' + (x % 10) as u8;
     k + 1
 }
 
@@ -60,7 +62,7 @@ pub fn answer_input(input: &[u8], out: &mut [u8]) -> usize
     clear(out);
     let verdict = inspect(input);
     let number = write_decimal(number_of(verdict) as u64, out);
-    out[number] = 32;
+    out[number] = b' ';
     let place = write_decimal(place_of(verdict), &mut out[number + 1..]);
     number + 1 + place
 }

@@ -25,7 +25,8 @@ fn pass_over_rest<R: Read>(input: &mut R) {
     }
 }
 
-// Reads into room until it is full, the input ends or a read fails; how many bytes they are.
+// Reads into room until it is full, the input ends or a read fails; how many bytes they are. Not `read_exact`: of an
+// input that ends early it promises nothing, not even how much was read.
 fn fill<R: Read>(input: &mut R, room: &mut [u8]) -> usize
     ensures bound { result ≤ length room.new }
     ensures count { result ≡ length (take result room.new) }
@@ -54,7 +55,8 @@ pub fn read_input<R: Read>(input: &mut R, room: &mut [u8]) -> usize
     got
 }
 
-// Writes bytes until they are all written or a write fails.
+// Writes bytes until they are all written or a write fails. Not `write_all`: of a write that fails it promises nothing,
+// and that what went out is the beginning of the bytes has to hold even then.
 fn hand_over<W: Write>(output: &mut W, bytes: &[u8])
     ensures { AppendsFront (W.contents output.old) (W.contents output.new) bytes.now }
 {

@@ -1,20 +1,23 @@
 -- The words of a cell's table, so many or so many, and the number that they make. Assumes nothing.
 use mathlib.Core.Path.{◌≡◌, sym, ap, ap₂, ◌∙◌}
 use mathlib.Core.Bool.{Bool, ◌&&◌}
-use mathlib.Core.List.{List, [], ◌∷◌}
-use Prim.Native.Nat.{ℕ, ◌+◌, ◌*◌, ◌/◌, ◌%◌, ◌^◌, ◌<◌, ◌≤◌}
+use mathlib.Core.List.{List, [], ◌∷◌, ◌++◌}
+use Prim.Native.Nat.{ℕ, ◌+◌, ◌-◌, ◌*◌, ◌/◌, ◌%◌, ◌^◌, ◌<◌, ◌≤◌}
 use native.Mathlib.Nat.{mod-lt}
+use native.Mathlib.Decide.{dec_lt}
 use native.Mathlib.Omega.{arith}
 use lib.Dec.{ltb, lit<}
-use lib.ListN.{get_or}
+use lib.ListN.{length, get_or, drop, replicate, length-append, length-drop, length-replicate, get_or-append}
+use lib.ListN.{get_or-replicate}
+use lib.Seq.{get_or-drop, get_or-append-add}
 use Rattle.bits.specs.Numbers.{bit, number}
 use Rattle.bits.specs.Lists.{list_of}
-use Rattle.bits.proofs.Numbers.{number_ext, number-mod, bit-number, bit-shr}
-use Rattle.bits.proofs.Lists.{list_at}
+use Rattle.bits.proofs.Numbers.{number_ext, number-of, bit-number}
+use Rattle.bits.proofs.Lists.{length-list, list_at, list-of}
 use Rattle.tables.specs.declared.cell.CellTable.{CellTable}
 use Rattle.tables.specs.Words.{gate_word}
 use Rattle.tables.specs.Cells.{cell_words, joined, words_of}
-use Rattle.tables.proofs.Digits.{cut_number}
+use Rattle.tables.proofs.Digits.{cut_number, past_words}
 
 -- a bit of them
 pub joined-bit : (c : ℕ) (ws : List ℕ) (x : ℕ) → x < 64 * c → bit (joined c ws) x ≡ bit (get_or ws (x / 64) 0) (x % 64)
@@ -36,20 +39,50 @@ words_joined c k F h =
         ap (λ (w : ℕ). bit w (x % 64)) (list_at c (gate_word k F) (x / 64) 0 (omega arith))
         ∙ bit-number 64 (λ i. f (64 * (x / 64) + i)) (x % 64) (mod-lt x (lit< tt)) ∙ ap f e
 
--- a byte of them
-pub joined-byte : (c : ℕ) (ws : List ℕ) (i : ℕ) → i < 8 * c
-    → get_or ws (i / 8) 0 / 2 ^ (8 * (i % 8)) % 2 ^ 8 ≡ number 8 (λ j. bit (joined c ws) (8 * i + j))
-joined-byte c ws i h =
-    sym (number-mod 8 (w / 2 ^ s)) ∙ number_ext 8 (bit (w / 2 ^ s)) (λ j. bit (joined c ws) (8 * i + j)) (λ j l.
-    let p : i / 8 ≡ (8 * i + j) / 64 = omega arith in
-    let q : s + j ≡ (8 * i + j) % 64 = omega arith in
-    bit-shr w s j ∙ ap₂ (λ (a b : ℕ). bit (get_or ws a 0) b) p q ∙ sym (joined-bit c ws (8 * i + j) (omega arith)))
-  where
-    w : ℕ
-    w = get_or ws (i / 8) 0
+-- one of them
+pub joined-word : (c : ℕ) (ws : List ℕ) (i : ℕ) → i < c → get_or ws i 0 < 2 ^ 64
+    → get_or ws i 0 ≡ number 64 (λ j. bit (joined c ws) (64 * i + j))
+joined-word c ws i h l =
+    number-of 64 (get_or ws i 0) (λ j. bit (joined c ws) (64 * i + j)) l (λ j g.
+    let p : i ≡ (64 * i + j) / 64 = omega arith in
+    let q : j ≡ (64 * i + j) % 64 = omega arith in
+    ap₂ (λ (a b : ℕ). bit (get_or ws a 0) b) p q ∙ sym (joined-bit c ws (64 * i + j) (omega arith)))
 
-    s : ℕ
-    s = 8 * (i % 8)
+-- what stands behind a list is zeros
+behind : (l : List ℕ) (end c w : ℕ) → length l ≡ end → end ≤ w → w < c
+    → get_or (l ++ drop end (replicate c 0)) w 0 ≡ 0
+behind l end c w many h g =
+    let zeros : List ℕ = replicate c 0 in
+    let e : w ≡ length l + (w - end) = omega (arith, many) in
+    let q : end + (w - end) ≡ w = omega arith in
+    ap (λ (m : ℕ). get_or (l ++ drop end zeros) m 0) e ∙ get_or-append-add l (drop end zeros) (w - end) 0
+    ∙ get_or-drop end zeros (w - end) 0 ∙ ap (λ (m : ℕ). get_or zeros m 0) q ∙ get_or-replicate c w 0 0 g
+
+-- as many words as a table has, and zeros behind them
+pub words_padded : (end c k : ℕ) (F : ℕ → Bool) → end ≤ c → ((w : ℕ) → end ≤ w → w < c → 2 ^ (k - 6) ≤ w)
+    → list_of end (gate_word k F) ++ drop end (replicate c 0) ≡ words_of c k F
+words_padded end c k F h past = sym (list-of c f (l ++ r) 0 long at)
+  where
+    f : ℕ → ℕ
+    f = gate_word k F
+
+    l : List ℕ
+    l = list_of end f
+
+    r : List ℕ
+    r = drop end (replicate c 0)
+
+    many : length l ≡ end
+    many = length-list end f
+
+    long : length (l ++ r) ≡ c
+    long = let none : List ℕ = replicate c 0 in omega (arith, length-append l r, length-drop end none, length-replicate {A = ℕ} c 0, many)
+
+    at : (w : ℕ) → w < c → f w ≡ get_or (l ++ r) w 0
+    at w g = elim (dec_lt w end) [
+      | yes y ↦ sym (get_or-append l r 0 w (omega (arith, many)) ∙ list_at end f w 0 y)
+      | no n ↦ past_words k w F (past w (omega arith) g) ∙ sym (behind l end c w many (omega arith) g)
+    ]
 
 -- four words, each by itself
 pub four_words : (f : ℕ → ℕ) {a b c d : ℕ} → a ≡ f 0 → b ≡ f 1 → c ≡ f 2 → d ≡ f 3

@@ -43,6 +43,14 @@ module _ (n : ℕ) (F : ℕ → Bool) where
   unfolding kept
   kept_by t e = ap (λ (b : Bool). cond b 1 s) e
 
+  -- the larger of the mask and 1
+  pub kept_larger : max s 1 ≡ kept n F
+  kept_larger = go (eqb s 0) refl
+    where
+      go : (t : Bool) → eqb s 0 ≡ t → max s 1 ≡ kept n F
+      go true e = omega (arith, kept_by true e, eqb-true s 0 e)
+      go false e = omega (arith, kept_by false e, eqb-false s 0 e)
+
   -- by whether some input counts
   by : (P : ℕ → Type 0) → (s ≡ 0 → P 1) → (1 ≤ size n (bit s) → P s) → P (kept n F)
   unfolding support

@@ -1,5 +1,5 @@
 -- Tables 64 assignments at a time.
-use Rattle.std.specs.Prelude.{◌≡◌, Bool, true, false, not, ◌&&◌, List, ℕ, ◌+◌, ◌-◌, ◌*◌, ◌/◌, ◌^◌, ◌<◌, ◌≤◌, ltb, length}
+use Rattle.std.specs.Prelude.{◌≡◌, Bool, true, false, not, ◌&&◌, List, Option, Some, None, ℕ, ◌+◌, ◌-◌, ◌*◌, ◌/◌, ◌^◌, ◌<◌, ◌≤◌, ltb, length}
 use Rattle.bits.specs.Numbers.{bit, number}
 use Rattle.tables.specs.Table.{table_bit}
 use Rattle.tables.specs.Counting.{Sees, counts}
@@ -20,6 +20,11 @@ gate_word n F w = number 64 (λ i. ltb (64 * w + i) (2 ^ n) && F (64 * w + i))
 -- a word that has 1 where input j is 0, for an input that changes within a word
 abbrev pub LowerHalf : ℕ → ℕ → Type 0
 LowerHalf j m = j < 6 → (i : ℕ) → i < 64 → bit m i ≡ not (bit i j)
+
+-- that word of an input below 6; an input from 6 on has none
+abbrev pub HalfWord : ℕ → Option ℕ → Type 0
+HalfWord j (Some m) = (j < 6) × LowerHalf j m
+HalfWord j None = 6 ≤ j
 
 -- w numbers a word, and input j is 0 there if it is one of those that number words
 pub record WordWithout (n j w : ℕ) : Type 0 where

@@ -9,18 +9,6 @@ use crate::fixed::{byte_in, word_over};
 use crate::length_for;
 use bits::sets::{members, spread_out};
 
-// A table, into the front of a lent room.
-fn copy(t: &[u8], room: &mut [u8])
-    requires { length t.now ≤ length room.old }
-    ensures { room.new ≡ t.now ++ drop (length t.now) room.old }
-{
-    let mut i: usize = 0;
-    while i < t.len() {
-        room[i] = t[i];
-        i += 1;
-    }
-}
-
 // The first len bytes of the table over the mask's inputs, into the front of a lent room.
 fn pack(t: &[u8], n: u32, mask: u16, len: usize, room: &mut [u8])
     requires { (2 ^ n ≤ 8 * length t.now) × (n ≤ most_inputs) × (mask < 2 ^ n) × (len ≤ 2 ^ most_inputs)
@@ -29,13 +17,11 @@ fn pack(t: &[u8], n: u32, mask: u16, len: usize, room: &mut [u8])
         ≡ bytes_of len (λ v. table_bit t.now (spread n (bit mask) v)) ++ drop len room.old }
 {
     let mut w: u64 = 0;
-    let mut i: usize = 0;
-    while i < len {
+    for (i, byte) in room[..len].iter_mut().enumerate() {
         if i % 8 == 0 {
             w = word_over(t, n, mask, 0, (i / 8) as u32);
         }
-        room[i] = byte_in(w, i);
-        i += 1;
+        *byte = byte_in(w, i);
     }
 }
 
@@ -48,7 +34,7 @@ pub fn set_aside(t: &[u8], n: u32, mask: u16, room: &mut [u8])
 {
     let all: u32 = (1 << n) - 1;
     if mask as u32 == all {
-        copy(t, room);
+        room[..t.len()].copy_from_slice(t);
         return;
     }
     pack(t, n, mask, length_for(members(mask)), room);

@@ -2,10 +2,10 @@
 ghost use Rattle.std.specs.Prelude.{◌≡◌, ◌+◌, ◌*◌, ◌^◌, ◌<◌, ◌≤◌, length};
 ghost use Rattle.bits.specs.Numbers.{bit, number};
 ghost use Rattle.tables.specs.Table.{most_inputs, table_bit};
-ghost use Rattle.tables.specs.Words.{gate_word};
 ghost use Rattle.tables.specs.Cells.{cell_words, table_number, no_table, held_table};
 
 use crate::counting::{above_words, word_of};
+use crate::fixed::byte_in;
 
 // Bit x is bit x mod 64 of word x div 64. A cell of up to 6 inputs uses the first word alone; the others are then 0.
 #[derive(Clone, Copy)]
@@ -31,8 +31,7 @@ impl CellTable {
         requires { i < 8 * cell_words }
         ensures { result ≡ number 8 (λ j. bit (table_number self) (8 * i + j)) }
     {
-        let at = i / 8;
-        ((self.words[at] >> (8 * (i % 8))) % 256) as u8
+        byte_in(self.words[i / 8], i)
     }
 
     // The first 2 ^ k bits of a table.
@@ -40,25 +39,12 @@ impl CellTable {
         requires { (k ≤ most_inputs) × (2 ^ k ≤ 8 * length t.now) }
         ensures { result ≡ held_table k (table_bit t.now) }
     {
-        CellTable {
-            words: [
-                word_or_zero(t, k, 0),
-                word_or_zero(t, k, 1),
-                word_or_zero(t, k, 2),
-                word_or_zero(t, k, 3),
-            ],
+        let many: usize = 1 << above_words(k);
+        let held = many.min(CellTable::WORDS);
+        let mut words = [0; CellTable::WORDS];
+        for (w, word) in words[..held].iter_mut().enumerate() {
+            *word = word_of(t, k, w);
         }
+        CellTable { words }
     }
-}
-
-// Word w of the table of n inputs; 0 past its end.
-fn word_or_zero(t: &[u8], n: u32, w: usize) -> u64
-    requires { (n ≤ most_inputs) × (2 ^ n ≤ 8 * length t.now) }
-    ensures { result ≡ gate_word n (table_bit t.now) w }
-{
-    let many: usize = 1 << above_words(n);
-    if many <= w {
-        return 0;
-    }
-    word_of(t, n, w)
 }

@@ -2,7 +2,7 @@
 ghost use Rattle.std.specs.Prelude.{◌≡◌, ◌-◌, ◌*◌, ◌^◌, ◌<◌, ◌≤◌, length};
 ghost use Rattle.tables.specs.Table.{most_inputs, table_length, table_bit};
 ghost use Rattle.tables.specs.Counting.{counts, support, kept, CountingIn};
-ghost use Rattle.tables.specs.Words.{gate_word, LowerHalf, WordWithout, Compared, Live};
+ghost use Rattle.tables.specs.Words.{gate_word, HalfWord, WordWithout, Compared, Live};
 
 use crate::words::{short_word, table_word};
 use bits::patterns::of_input;
@@ -14,43 +14,42 @@ pub fn word_of(t: &[u8], n: u32, w: usize) -> u64
     ensures { result ≡ gate_word n (table_bit t.now) w }
 {
     if n < 6 {
-        return short_word(t, n as usize);
+        short_word(t, n as usize)
+    } else {
+        table_word(t, w)
     }
-    table_word(t, w)
 }
 
-// The half of a word where input j is 0, for an input that changes within a word; from input 6 on it is not asked for.
-fn lower_half(j: u32) -> u64
-    ensures { LowerHalf j result }
+// The half of a word where input j is 0, for an input that changes within a word; from input 6 on there is none.
+fn lower_half(j: u32) -> Option<u64>
+    ensures { HalfWord j result }
 {
-    if j < 6 {
-        return !of_input(j);
-    }
-    0
+    if j < 6 { Some(!of_input(j)) } else { None }
 }
 
 // Whether the bit changes, in word w, as input j is set: by comparing the word's own halves, or the word with another.
-fn changes(t: &[u8], n: u32, j: u32, half: u64, w: usize) -> bool
-    requires { (length t.now ≡ table_length n) × (n ≤ most_inputs) × (j < n) × LowerHalf j half × WordWithout n j w }
+fn changes(t: &[u8], n: u32, j: u32, half: Option<u64>, w: usize) -> bool
+    requires { (length t.now ≡ table_length n) × (n ≤ most_inputs) × (j < n) × HalfWord j half × WordWithout n j w }
     ensures { Compared n (table_bit t.now) j w result }
 {
     let here = word_of(t, n, w);
-    if j < 6 {
-        let shift: u32 = 1 << j;
-        return (here >> shift) & half != here & half;
+    match half {
+        Some(half) => {
+            let shift: u32 = 1 << j;
+            (here >> shift) & half != here & half
+        }
+        None => {
+            let step: usize = 1 << (j - 6);
+            here != word_of(t, n, w + step)
+        }
     }
-    let step: usize = 1 << (j - 6);
-    here != word_of(t, n, w + step)
 }
 
 // How many of n inputs number the words of a table.
 pub fn above_words(n: u32) -> u32
     ensures { result ≡ n - 6 }
 {
-    if n < 6 {
-        return 0;
-    }
-    n - 6
+    n.saturating_sub(6)
 }
 
 // Whether input j counts, where the table sees the inputs of `live` alone: the other inputs of a word's number stay 0.
@@ -63,13 +62,11 @@ fn counts_in(t: &[u8], n: u32, live: u16, j: u32) -> bool
     let others = (live & !(1 << j)) >> 6;
     let many = parts(top, others);
     let mut w: u32 = 0;
-    let mut v: u32 = 0;
-    while v < many {
+    for _v in 0..many {
         if changes(t, n, j, half, w as usize) {
             return true;
         }
         w = next(top, others, w);
-        v += 1;
     }
     false
 }
@@ -82,9 +79,7 @@ pub fn support_of(t: &[u8], n: u32) -> u16
 {
     let all: u32 = (1 << n) - 1;
     let mut live = all as u16;
-    let mut j = n;
-    while j > 0 {
-        j -= 1;
+    for j in (0..n).rev() {
         if !counts_in(t, n, live, j) {
             live -= 1 << j;
         }
@@ -106,10 +101,7 @@ pub fn counting_inputs(t: &[u8], n: u32) -> CountingInputs
 {
     let mask = support_of(t, n);
     let many = members(mask);
-    CountingInputs {
-        mask: mask,
-        many: many,
-    }
+    CountingInputs { mask, many }
 }
 
 // The mask of the inputs that are kept: those that count, and of a constant the first, since a table has one.
@@ -117,9 +109,5 @@ pub fn kept_of(t: &[u8], n: u32) -> u16
     requires { (length t.now ≡ table_length n) × (n ≤ most_inputs) }
     ensures { result ≡ kept n (table_bit t.now) }
 {
-    let support = support_of(t, n);
-    if support == 0 {
-        return 1;
-    }
-    support
+    support_of(t, n).max(1)
 }

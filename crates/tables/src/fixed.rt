@@ -16,14 +16,11 @@ fn squeeze(word: u64, mask: u16) -> u64
     let m = mask as u64;
     let mut w = word;
     let mut k: u64 = 0;
-    let mut j: u32 = 0;
-    while j < 6 {
+    for j in 0..6u32 {
         let member = (m >> j) & 1;
-        let one: u64 = 1;
-        let moved = (upper(w, j) * member) >> ((one << j) - (one << k));
+        let moved = (upper(w, j) * member) >> ((1u64 << j) - (1u64 << k));
         w = lower(w, j) | moved;
         k += member;
-        j += 1;
     }
     w
 }
@@ -40,11 +37,9 @@ pub fn word_over(t: &[u8], n: u32, mask: u16, at: u32, i: u32) -> u64
     let high = mask / 64 * 64;
     let mut f = spread_out(n, high, i * pieces);
     let mut r: u64 = 0;
-    let mut q: u32 = 0;
-    while q < pieces {
+    for q in 0..pieces {
         r += squeeze(bits_from(t, at + f), mask) << (q << few);
         f = next(n, high, f);
-        q += 1;
     }
     r
 }

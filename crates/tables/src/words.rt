@@ -12,11 +12,8 @@ fn joined(t: &[u8], from: usize, count: usize) -> u64
     ensures { result ≡ number (8 * count) (λ k. table_bit t.now (8 * from + k)) }
 {
     let mut r: u64 = 0;
-    let mut i: usize = 0;
-    while i < count {
-        let at = from + i;
-        r += (t[at] as u64) << (8 * i);
-        i += 1;
+    for i in 0..count {
+        r += (t[from + i] as u64) << (8 * i);
     }
     r
 }

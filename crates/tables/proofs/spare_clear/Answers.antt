@@ -2,6 +2,7 @@
 use mathlib.Core.Path.{sym, ap, ◌∙◌}
 use Prim.Native.Nat.{ℕ, ◌-◌, ◌/◌, ◌^◌}
 use native.Mathlib.Omega.{arith}
+use Rattle.std.proofs.lemmas.Bool.{le-leb}
 use lib.Dec.{eqb}
 use lib.ListN.{get_or}
 use lib.Pow.{pow_mono}
@@ -30,11 +31,12 @@ overflow_shr-result c =
           {i = c.args.n} {j = 2} (omega arith),
     )
 
-pub returns-then-n-lt3 : goal.returns-then-n-lt3
-returns-then-n-lt3 c =
+pub returns-else-n-ge3 : goal.returns-else-n-ge3
+returns-else-n-ge3 c =
     let a = c.args in
     ap (λ (k : ℕ). eqb (get_or a.t.now 0 0 / 2 ^ k) 0) (shl_one 32 a.n (omega arith))
     ∙ spare_few a.n a.t.now (omega (arith, c.type_inv.t 0))
 
-pub returns : goal.returns
-returns c = sym (spare_none c.args.n c.args.t.now (omega arith))
+pub returns-then-n-ge3 : goal.returns-then-n-ge3
+returns-then-n-ge3 c =
+    le-leb 3 c.args.n c.if-n-ge3.true ∙ sym (spare_none c.args.n c.args.t.now (omega arith))

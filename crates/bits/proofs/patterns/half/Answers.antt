@@ -14,8 +14,8 @@ returns-then-v c =
     go true = refl
     go false = refl
 
-pub returns : goal.returns
-returns c =
+pub returns-else-v : goal.returns-else-v
+returns-else-v c =
     let a = c.args in
     λ x h. c.lower.ensures x h ∙ ap (λ (t : Bool). bit a.table x && t)
     (go (bit x a.j) ∙ ap (beq (bit x a.j)) (sym c.if-v.false))

@@ -13,8 +13,5 @@ pub overflow_add-r : goal.overflow_add-r
 overflow_add-r c =
     record { fits = packed_fits (gathering _ _) _ c.loop-j.invariant c.requires (omega arith) }
 
-pub overflow_add-k : goal.overflow_add-k
-overflow_add-k c = omega (arith, (loop-j-preserved c).few)
-
 pub returns : goal.returns
 returns c = packed_all (gathering _ _) _ c.loop-j.invariant (omega arith)

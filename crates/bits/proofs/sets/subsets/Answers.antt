@@ -1,29 +1,14 @@
 -- The loop keeps the numbers below 2 ^ j, as a word. Assumes nothing.
-use mathlib.Core.Path.{◌≡◌, refl, ap, ◌∙◌}
-use Prim.Native.Nat.{ℕ, ◌^◌}
+use mathlib.Core.Path.{refl}
 use native.Mathlib.Omega.{arith}
-use Rattle.bits.specs.Numbers.{bit, number}
-use Rattle.bits.specs.Sets.{word_positions, is_subset}
-use Rattle.bits.proofs.Subsets.{subsets-once, subsets_shift, subsets-turn, subsets_fits}
+use Rattle.bits.specs.Numbers.{number}
+use Rattle.bits.specs.Sets.{is_subset}
+use Rattle.bits.proofs.Subsets.{subsets_shift, subsets-turn, subsets_fits}
 use Rattle.bits.proofs.sets.subsets.Goals as goal
 
 pub loop-j-init : goal.loop-j-init
 unfolding number is_subset
 loop-j-init c = (omega arith, refl)
-
-pub returns : goal.returns
-returns c =
-    let q = c.loop-j in
-    let e : q.j ≡ word_positions = omega arith in
-    q.invariant.1 ∙ ap (λ (p : ℕ). number (2 ^ p) (is_subset p (bit c.args.mask))) e
-
-pub overflow_mul-r : goal.overflow_mul-r
-overflow_mul-r c =
-    let q = c.loop-j in omega (
-      arith,
-      subsets-once c.args.mask c.loop-j-test.true
-          q.invariant.1,
-    )
 
 pub overflow_shl-r : goal.overflow_shl-r
 overflow_shl-r c =

@@ -1,7 +1,7 @@
 use mathlib.Core.Path.{◌≡◌}
 use mathlib.Core.Bool.{Bool}
 use mathlib.Core.List.{List}
-use Prim.Native.Nat.{ℕ, ◌+◌, ◌-◌, ◌*◌, ◌/◌, ◌%◌}
+use Prim.Native.Nat.{ℕ, ◌+◌, ◌*◌, ◌/◌, ◌%◌}
 use Rattle.bits.specs.Numbers.{bit, number}
 use Rattle.bits.specs.Sets.{spread}
 use Rattle.bits.proofs.Filling.{Filled}
@@ -13,8 +13,5 @@ over t n mask v = table_bit t (spread n (bit mask) v)
 
 abbrev pub invariant-loop-i : goal.invariant-loop-i
 invariant-loop-i l =
-    Filled 0 l.len (λ k. number 8 (λ j. over l.t l.n l.mask (k * 8 + j))) l.initial.room l.room l.i
+    Filled 0 l.len (λ k. number 8 (λ j. over l.t l.n l.mask (k * 8 + j))) l.initial.byte-items l.byte-items l.i
     × ((l.i % 8 ≡ 0 → ⊥) → l.w ≡ number 64 (λ j. over l.t l.n l.mask (64 * (l.i / 8) + j)))
-
-abbrev pub decreases-loop-i : goal.decreases-loop-i
-decreases-loop-i l = l.len - l.i

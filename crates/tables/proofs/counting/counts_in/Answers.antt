@@ -52,7 +52,7 @@ changes-requires c =
       c.requires.2,
       c.lower_half-half.ensures,
       subst (WordWithout a.n a.j) (sym q.invariant.1.at)
-          (without_j a.n (table_bit a.t.now) a.j c.requires.2 a.live _ _ c.requires.3 q.invariant.0 q.v),
+          (without_j a.n (table_bit a.t.now) a.j c.requires.2 a.live _ _ c.requires.3 q.invariant.0 q._v),
     )
 
 pub returns-then-changes : goal.returns-then-changes
@@ -74,7 +74,7 @@ loop-v-preserved c =
           (λ e. subst (λ (w : ℕ). Steady a.n (table_bit a.t.now) a.j (64 * w + i))
           (q.invariant.1.at ∙ ap (spread _ (bit _)) (sym e))
           (c.changes.ensures.steady c.if-changes.false i g))
-          (below_suc {j = u} {n = q.v} (omega arith)),
+          (below_suc {j = u} {n = q._v} (omega arith)),
     )
 
 pub returns : goal.returns

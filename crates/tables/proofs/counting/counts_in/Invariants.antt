@@ -1,4 +1,4 @@
-use Prim.Native.Nat.{ℕ, ◌+◌, ◌-◌, ◌*◌, ◌<◌}
+use Prim.Native.Nat.{ℕ, ◌+◌, ◌*◌, ◌<◌}
 use Rattle.bits.specs.Numbers.{bit}
 use Rattle.bits.specs.Sets.{spread}
 use Rattle.bits.proofs.Walking.{Walked}
@@ -9,8 +9,5 @@ use Rattle.tables.proofs.counting.counts_in.Given as goal
 
 abbrev pub invariant-loop-v : goal.invariant-loop-v
 invariant-loop-v l =
-    Others l.n l.live l.j l.top l.others × Walked l.top l.others l.many l.w l.v
-    × ((u : ℕ) → u < l.v → (i : ℕ) → i < 64 → Steady l.n (table_bit l.t) l.j (64 * spread l.top (bit l.others) u + i))
-
-abbrev pub decreases-loop-v : goal.decreases-loop-v
-decreases-loop-v l = l.many - l.v
+    Others l.n l.live l.j l.top l.others × Walked l.top l.others l.many l.w l._v
+    × ((u : ℕ) → u < l._v → (i : ℕ) → i < 64 → Steady l.n (table_bit l.t) l.j (64 * spread l.top (bit l.others) u + i))

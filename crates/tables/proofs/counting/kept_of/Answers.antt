@@ -1,21 +1,11 @@
--- Those that count, unless none does. Assumes nothing.
-use mathlib.Core.Path.{sym, ◌∙◌}
-use mathlib.Core.Bool.{true, false}
-use borrow.Author.Tests.{eq-eqb, ne_eqb}
+-- Those that count, unless none does: the larger of their mask and 1. Assumes nothing.
+use mathlib.Core.Path.{ap, ◌∙◌}
+use Prim.Native.Nat.{ℕ, max}
 use Rattle.tables.specs.Table.{table_bit}
-use Rattle.tables.specs.Counting.{support}
-use Rattle.tables.proofs.Keeping.{kept_by}
+use Rattle.tables.proofs.Keeping.{kept_larger}
 use Rattle.tables.proofs.counting.kept_of.Goals as goal
-
-pub returns-then-support-eq0 : goal.returns-then-support-eq0
-returns-then-support-eq0 c =
-    let a = c.args in
-    let F = table_bit a.t.now in
-    sym (kept_by a.n F true (eq-eqb (support a.n F) 0 (sym c.support_of-support.ensures ∙ c.if-support-eq0.true)))
 
 pub returns : goal.returns
 returns c =
-    let a = c.args in
-    let F = table_bit a.t.now in
-    let e = c.support_of-support.ensures in
-    e ∙ sym (kept_by a.n F false (ne_eqb (support a.n F) 0 (λ z. c.if-support-eq0.false (e ∙ z))))
+    c.max.ensures ∙ ap (λ (m : ℕ). max m 1) c.support_of.ensures
+    ∙ kept_larger c.args.n (table_bit c.args.t.now)

@@ -4,7 +4,6 @@ use mathlib.Core.Path.{◌≡◌, sym, ap, ◌∙◌, subst}
 use Prim.Native.Nat.{ℕ, suc, ◌+◌, ◌-◌, ◌*◌, ◌%◌, ◌^◌, ◌<◌}
 use native.Mathlib.Omega.{arith}
 use lib.Pow.{pow_mono}
-use borrow.Author.Tests.{not-true, not-false}
 use Rattle.bits.proofs.Machine.{shl_one}
 use Rattle.tables.specs.Table.{table_bit}
 use Rattle.tables.specs.Words.{Live}

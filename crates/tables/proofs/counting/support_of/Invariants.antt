@@ -6,6 +6,3 @@ use Rattle.tables.proofs.counting.support_of.Given as goal
 
 abbrev pub invariant-loop-j : goal.invariant-loop-j
 invariant-loop-j l = (l.live ≡ live l.n (table_bit l.t) l.j) × (l.j ≤ l.n)
-
-abbrev pub decreases-loop-j : goal.decreases-loop-j
-decreases-loop-j l = l.j

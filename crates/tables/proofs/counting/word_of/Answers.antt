@@ -28,8 +28,8 @@ table_word-requires c =
       c.requires.1,
     )
 
-pub returns : goal.returns
-returns c =
+pub returns-else-n-lt6 : goal.returns-else-n-lt6
+returns-else-n-lt6 c =
     c.table_word.ensures
     ∙ full_word c.args.n (table_bit c.args.t.now) c.args.w (omega arith) c.requires.1
 

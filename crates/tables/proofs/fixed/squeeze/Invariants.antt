@@ -1,5 +1,5 @@
 use mathlib.Core.Path.{◌≡◌}
-use Prim.Native.Nat.{◌-◌, ◌^◌, ◌<◌, ◌≤◌}
+use Prim.Native.Nat.{◌^◌, ◌<◌, ◌≤◌}
 use Rattle.bits.specs.Numbers.{bit}
 use Rattle.bits.specs.Sets.{word_positions, size}
 use Rattle.tables.proofs.Squeezing.{Squeezed}
@@ -9,6 +9,3 @@ abbrev pub invariant-loop-j : goal.invariant-loop-j
 invariant-loop-j l =
     (l.j ≤ word_positions) × (l.k ≤ l.j) × (l.k ≡ size l.j (bit l.mask)) × (l.w < 2 ^ 64)
     × Squeezed l.word l.mask l.w l.j
-
-abbrev pub decreases-loop-j : goal.decreases-loop-j
-decreases-loop-j l = word_positions - l.j

@@ -152,7 +152,3 @@ pub next-f-requires : goal.next-f-requires
 next-f-requires c =
     let g = s (l c.before)
     in (g.requires.1, omega (arith, g.requires.2), (l c.before).loop-q.invariant.3)
-
-pub overflow_add-q : goal.overflow_add-q
-overflow_add-q c =
-    let i = l c.before.before in omega (arith, i.loop-q-test.true, div-le_self 64 (2 ^ (m i).members-few.result))
