@@ -33,10 +33,8 @@ fn halved(e: Edition, b: &[u8], w: u32, t: u64) -> bool
     ensures { result ≡ bit t (number 6 (input_at (byte_at b.now) (bit w))) }
 {
     let mut left = t;
-    let mut j: u32 = 0;
-    while j < 6 {
+    for j in 0..6 {
         left = half(left, j, value(e, b, w, j));
-        j += 1;
     }
     left != 0
 }
@@ -61,13 +59,9 @@ pub fn bit_of(e: Edition, n: u32, s: &[u8], m: usize, x: u32) -> bool
 {
     let mut w = x;
     let mut o = false;
-    let mut top = n;
-    let mut i = 0;
-    while i < m {
+    for i in 0..m {
         o = output_of(e, rules::record_of(e, s, i), w);
-        w += (o as u32) << top;
-        top += 1;
-        i += 1;
+        w += (o as u32) << (n + i as u32);
     }
     o
 }
@@ -80,13 +74,11 @@ pub fn rebuild(e: Edition, n: u32, s: &[u8], m: usize, out: &mut [u8])
     ensures { out.new ≡ rebuilt e n s.now m }
 {
     let mut o: u64 = 0;
-    let mut i: usize = 0;
-    while i < out.len() {
+    for (i, byte) in out.iter_mut().enumerate() {
         let j = i % 8;
         if j == 0 {
             o = sheet_word(e, n, s, m, (i / 8) as u32);
         }
-        out[i] = ((o >> (8 * j)) % 256) as u8;
-        i += 1;
+        *byte = ((o >> (8 * j)) % 256) as u8;
     }
 }
