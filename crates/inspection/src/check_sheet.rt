@@ -23,8 +23,7 @@ pub fn check_in<'a>(e: Edition, d: u8, n: u64, t: &'a [u8], s: &'a [u8]) -> Verd
     let Verdict::Fine = sheet else {
         return sheet;
     };
-    let x = first_difference(e, inputs, s, s.len() / e.size, t);
-    if x < 1 << inputs {
+    if let Some(x) = first_difference(e, inputs, s, s.len() / e.size, t) {
         return refuse_at(Refusal::DIFFERS, x as u64);
     }
     form::all_read(e, d, inputs, s)

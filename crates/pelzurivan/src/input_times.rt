@@ -16,13 +16,11 @@ pub struct TimesC {
 fn time_of_kind(kind: u8, first: f64, second: f64) -> InputTime
     ensures { result ≡ time_of_kind kind first second }
 {
-    if kind == 1 {
-        return InputTime::Arrival(first);
+    match kind {
+        1 => InputTime::Arrival(first),
+        2 => InputTime::Between(first, second),
+        _ => InputTime::NotRead,
     }
-    if kind == 2 {
-        return InputTime::Between(first, second);
-    }
-    InputTime::NotRead
 }
 
 // The same as the calls take them.
@@ -30,10 +28,8 @@ pub fn input_times(c: TimesC) -> [InputTime; 16]
     ensures { result ≡ times_from_c c }
 {
     let mut times = [InputTime::NotRead; 16];
-    let mut j = 0;
-    while j < 16 {
-        times[j] = time_of_kind(c.kind[j], c.first[j], c.second[j]);
-        j += 1;
+    for (j, time) in times.iter_mut().enumerate() {
+        *time = time_of_kind(c.kind[j], c.first[j], c.second[j]);
     }
     times
 }

@@ -27,16 +27,11 @@ fn slack_form(n: u32, delay: f64, times: [InputTime; 16], deadline: i64) -> Verd
     requires { (n ≤ most_inputs) × (in_range delay ≡ true) × (every n (λ j. sound_time (time_at times j)) ≡ true) }
     ensures { result ≡ verdict (bad_slack n delay times deadline ∷ []) }
 {
-    if !in_sixteenths(delay) {
-        return refuse(Refusal::SLACK);
+    if in_sixteenths(delay) && inputs_in_sixteenths(n, times) && deadline_ok(deadline) {
+        Verdict::Fine
+    } else {
+        refuse(Refusal::SLACK)
     }
-    if !inputs_in_sixteenths(n, times) {
-        return refuse(Refusal::SLACK);
-    }
-    if !deadline_ok(deadline) {
-        return refuse(Refusal::SLACK);
-    }
-    Verdict::Fine
 }
 
 // The slack of a sheet of an edition, which is to be the desk d's.

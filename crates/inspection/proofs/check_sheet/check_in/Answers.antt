@@ -7,7 +7,10 @@ use Prim.Native.Nat.{ℕ, ◌^◌, ◌*◌, ◌%◌, ◌<◌, ◌≤◌}
 use native.Mathlib.Omega.{arith}
 use lib.ListN.{length}
 use borrow.Author.Tests.{lt-ltb, le-ltb, not-false}
-use Rattle.bits.proofs.Machine.{shl_one}
+use native.Mathlib.Decide.{dec_lt}
+use Rattle.std.proofs.Common.{Some, None}
+use Rattle.bits.specs.Places.{found_below}
+use Rattle.bits.proofs.Places.{found_some, found_none}
 use Rattle.tables.specs.Table.{most_inputs, table_length, spare_clear}
 use Rattle.sheets.specs.declared.kinds.Edition.{Edition}
 use Rattle.sheets.specs.Sheet.{records}
@@ -51,8 +54,18 @@ behind : (e : Edition) (d n : ℕ) (t s : List ℕ) (v : Verdict) → v ≡ verd
 unfolding check_outcome
 behind e d n t s v p q = goes_on (table_lines n t) (ls e d n s ++ ms e n t s) v p q refl
 
-size : (n : ℕ) → n ≤ most_inputs → 1 * 2 ^ n % 2 ^ 32 ≡ 2 ^ n
-size n h = shl_one 32 n (omega arith)
+-- a place that was found, and one that wasn't
+found_at : (m i x : ℕ) → Some x ≡ found_below m i → (x ≡ i) × (i < m)
+found_at m i x h = elim (dec_lt i m) [
+  | yes l ↦ let e : Some x ≡ Some i = h ∙ sym (found_some m i l) in (cc, l)
+  | no l ↦ let e : Some x ≡ None = h ∙ sym (found_none m i (omega arith)) in cc
+]
+
+none_at : (m i : ℕ) → None ≡ found_below m i → m ≤ i
+none_at m i h = elim (dec_lt i m) [
+  | yes l ↦ let e : None ≡ Some i = h ∙ sym (found_some m i l) in cc
+  | no l ↦ omega arith
+]
 
 pub returns-in_default : goal.returns-in_default
 unfolding check_outcome
@@ -81,8 +94,8 @@ returns-in_default-sheet c =
 pub nonzero_div-s : goal.nonzero_div-s
 nonzero_div-s c = omega (arith, c.requires.ends, c.requires.order)
 
-pub first_difference-x-requires : goal.first_difference-x-requires
-first_difference-x-requires c =
+pub first_difference-requires : goal.first_difference-requires
+first_difference-requires c =
     let a = c.args in
     let w = looked a.n a.t.now _ c.table-table.ensures c.in-Fine.is in
     let kept = in_order_lem (ls a.e a.d a.n a.s.now) (sym c.sheet-sheet.ensures ∙ c.in-Fine-sheet.is) in record {
@@ -91,20 +104,14 @@ first_difference-x-requires c =
       t_len = (w.long, w.spare);
     }
 
-pub overflow_shl-inputs : goal.overflow_shl-inputs
-overflow_shl-inputs c =
+pub returns-in-Some : goal.returns-in-Some
+returns-in-Some c =
     let a = c.args in
-    omega (arith, (looked a.n a.t.now _ c.table-table.ensures c.in-Fine.is).most)
-
-pub returns-then-x-inputs : goal.returns-then-x-inputs
-returns-then-x-inputs c =
-    let a = c.args in
-    let few = (looked a.n a.t.now _ c.table-table.ensures c.in-Fine.is).most in
     let x = first_difference a.e a.n a.s.now (records a.e a.s.now) a.t.now in
-    let near : x < 2 ^ a.n = omega (arith, size a.n few, c.first_difference-x.ensures, c.if-x-inputs.true) in
-    c.refuse_at.ensures ∙ ap (λ (k : ℕ). Refused (refusal 12 k)) c.first_difference-x.ensures
+    let h = found_at (2 ^ a.n) x _ c.in-Some.ensures in
+    c.refuse_at.ensures ∙ ap (λ (k : ℕ). Refused (refusal 12 k)) h.0
     ∙ decided (ls a.e a.d a.n a.s.now) (ms a.e a.n a.t.now a.s.now) _ c.sheet-sheet.ensures c.in-Fine-sheet.is
-    (here (lt-ltb x (2 ^ a.n) near))
+    (here (lt-ltb x (2 ^ a.n) h.1))
     ∙ behind a.e a.d a.n a.t.now a.s.now _ c.table-table.ensures c.in-Fine.is
 
 pub all_read-requires : goal.all_read-requires
@@ -118,9 +125,8 @@ all_read-requires c =
 pub returns : goal.returns
 returns c =
     let a = c.args in
-    let few = (looked a.n a.t.now _ c.table-table.ensures c.in-Fine.is).most in
     let x = first_difference a.e a.n a.s.now (records a.e a.s.now) a.t.now in
-    let far : 2 ^ a.n ≤ x = omega (arith, size a.n few, c.first_difference-x.ensures, c.if-x-inputs.false) in
+    let far = none_at (2 ^ a.n) x c.in_default-first_difference.ensures in
     goes_on (ls a.e a.d a.n a.s.now) (ms a.e a.n a.t.now a.s.now) _ c.sheet-sheet.ensures c.in-Fine-sheet.is
     (c.all_read.ensures
     ∙ sym (passes (table_differs a.e a.n a.t.now a.s.now ∷ []) (last a.e a.n a.s.now)
