@@ -4,7 +4,8 @@ ghost use Rattle.pelzurivan.specs.InputTimes.{time_of_kind, times_from_c};
 
 use times::input_time::InputTime;
 
-// Kind 1 is one arrival (first), 2 an earliest (first) and a latest (second), any other is not read.
+// Kind 1 is one arrival (first), 2 an earliest (first) and a latest (second), any other is not read. The struct is the
+// header's: C hands over numbers for kinds, and three arrays.
 #[repr(C)]
 #[derive(Clone, Copy)]
 pub struct TimesC {
