@@ -19,11 +19,7 @@ fn value(e: Edition, b: &[u8], w: u32, j: u32) -> bool
     requires { Runnable e b.now }
     ensures { result ≡ input_at (byte_at b.now) (bit w) j }
 {
-    if b[0] as u32 <= j {
-        return false;
-    }
-    let at = j as usize + 1;
-    (w >> b[at]) & 1 == 1
+    j < b[0] as u32 && (w >> b[j as usize + 1]) & 1 == 1
 }
 
 // The bit of the table t at the number that inputs 0 to 5 make: t is halved by input after input, until only that bit
@@ -44,9 +40,8 @@ fn output_of(e: Edition, b: &[u8], w: u32) -> bool
     requires { Runnable e b.now }
     ensures { result ≡ output (cell_of e (byte_at b.now)) (bit w) }
 {
-    let start = e.start;
     let high = value(e, b, w, 6) as u32 + 2 * (value(e, b, w, 7) as u32);
-    halved(e, b, w, bits_from(&b[start..], 64 * high))
+    halved(e, b, w, bits_from(&b[e.start..], 64 * high))
 }
 
 // What a sheet of m records gives at the assignment x. The word holds the signals so far: the inputs, then each

@@ -26,10 +26,7 @@ pub fn input_word(j: u32, w: u32) -> u64
     if j < 6 {
         return of_input(j);
     }
-    if (w >> (j - 6)) & 1 == 1 {
-        return !0;
-    }
-    0
+    if (w >> (j - 6)) & 1 == 1 { !0 } else { 0 }
 }
 
 // The words of the signals before the first record: the inputs', and 0 for the records to come.

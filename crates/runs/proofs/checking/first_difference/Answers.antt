@@ -1,20 +1,11 @@
 -- The loop keeps that no assignment of the words passed differs. Assumes nothing.
-use Rattle.std.proofs.Common.{ℕ, ◌+◌, ◌-◌, ◌*◌, ◌%◌, ◌^◌, Some, ap, ◌∙◌, arith}
+use Rattle.std.proofs.Common.{ℕ, ◌+◌, ◌*◌, ◌^◌, Some, ap, ◌∙◌, arith}
 use native.Mathlib.Decide.{dec_lt}
-use native.Mathlib.Nat.{not-suc-le-zero}
 use Rattle.bits.proofs.Least.{least-of}
-use Rattle.bits.proofs.Machine.{shl_one}
 use Rattle.bits.proofs.Places.{found_some, found_none}
 use Rattle.runs.specs.Checking.{differs, first_difference}
 use Rattle.runs.proofs.Differences.{word_there, word_begins, words_end, same_word, apart-word}
 use Rattle.runs.proofs.checking.first_difference.Goals as goal
-
-pub loop-w-init : goal.loop-w-init
-loop-w-init c = (
-  ap (λ (k : ℕ). 1 * 2 ^ k % 2 ^ 32) c.saturating_sub-words.ensures
-      ∙ shl_one 32 (c.args.n - 6) (omega (arith, c.requires.edition.2)),
-  λ x h l. absurd (not-suc-le-zero h),
-)
 
 pub sheet_word-given-requires : goal.sheet_word-given-requires
 sheet_word-given-requires c = record {

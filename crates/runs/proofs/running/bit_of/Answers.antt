@@ -4,17 +4,15 @@ use mathlib.Core.Path.{◌≡◌, refl, sym, ap, ◌∙◌}
 use mathlib.Core.List.{List}
 use Prim.Native.Nat.{ℕ, ◌+◌, ◌*◌, ◌%◌, ◌^◌}
 use native.Mathlib.Omega.{arith}
-use lib.ListN.{length}
 use lib.Pow.{pow-add}
 use mir.Val.{bool_byte}
 use Rattle.bits.specs.Numbers.{bit}
 use Rattle.bits.proofs.Numbers.{val-mul-le}
-use Rattle.bits.proofs.Building.{bool_digit, added, added_fits}
+use Rattle.bits.proofs.Building.{bool_digit, added}
 use Rattle.sheets.specs.Network.{output}
 use Rattle.sheets.specs.Record.{byte_at, cell_of}
 use Rattle.sheets.specs.Sheet.{sheet_bit}
-use Rattle.runs.proofs.Runs.{record_read, bit-step, ran_none, ran_more, ran_all}
-use Rattle.sheets.proofs.Places.{record_within}
+use Rattle.runs.proofs.Runs.{bit-step, ran_none, ran_more, ran_all}
 use Rattle.runs.proofs.running.bit_of.Goals as goal
 
 pub loop-i-init : goal.loop-i-init
@@ -23,30 +21,6 @@ loop-i-init c =
       rw add-zero c.requires.x_bound,
       ran_none a.e a.s.now a.m a.n a.x (bit a.x)
           (λ h. refl),
-    )
-
-pub record_of-requires : goal.record_of-requires
-record_of-requires c =
-    let a = c.args in (
-      c.requires.edition.0,
-      omega arith,
-      record_within a.e.size c.loop-i.i a.m (length a.s.now)
-          (omega arith) c.requires.edition.3,
-    )
-
-pub output_of-o-requires : goal.output_of-o-requires
-output_of-o-requires c =
-    let a = c.args in
-    record_read a.e c.requires.edition.0 a.s.now a.m c.loop-i.i c.record_of.result.now (omega arith)
-    c.requires.edition.3 c.requires.edition.4 c.record_of.ensures
-
-pub overflow_add-w : goal.overflow_add-w
-overflow_add-w c =
-    let q = c.loop-i in
-    omega (
-      arith,
-      added_fits 32 c.output_of-o.result (omega arith) q.invariant.0
-          (bool_digit {s = c.output_of-o.result} refl),
     )
 
 pub loop-i-preserved : goal.loop-i-preserved
