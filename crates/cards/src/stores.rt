@@ -17,10 +17,7 @@ pub struct Store {
 fn place_byte(s: &[u8], j: usize) -> u8
     ensures { result ≡ place_byte s.now j }
 {
-    if s.len() <= j {
-        return 0;
-    }
-    s[j]
+    s.get(j).copied().unwrap_or(0)
 }
 
 // Byte j of the status record past its mark.
@@ -28,13 +25,11 @@ fn status_byte(n: u8, s: &[u8], j: usize) -> u8
     requires { length s.now ≤ place_bytes }
     ensures { result ≡ status_byte n s.now j }
 {
-    if j == 0 {
-        return n;
+    match j {
+        0 => n,
+        1 => (s.len() / Sheet::RECORD) as u8,
+        _ => 0,
     }
-    if j == 1 {
-        return (s.len() / Sheet::RECORD) as u8;
-    }
-    0
 }
 
 // Store i of a load of the sheet s, of n inputs, onto desk d.
@@ -74,11 +69,8 @@ pub fn make_stores(card: &mut [u8], d: usize, n: u8, s: &[u8], first: usize, end
     ensures { card.new
         ≡ stored (take (end - first) (drop first (load_stores d n s.now))) card.old }
 {
-    let mut i = first;
-    while i < end {
-        let t = store_at(d, n, s, i);
-        let at = t.place;
-        card[at] = t.byte;
-        i += 1;
+    for i in first..end {
+        let Store { place, byte } = store_at(d, n, s, i);
+        card[place] = byte;
     }
 }

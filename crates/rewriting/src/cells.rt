@@ -15,12 +15,7 @@ fn signals_of(b: &[u8]) -> [u8; HeldCell::MOST]
 {
     let k = b[0] as usize;
     let mut places = [HeldCell::UNUSED; HeldCell::MOST];
-    let mut j = 0;
-    while j < k {
-        let next = j + 1;
-        places[j] = b[next];
-        j = next;
-    }
+    places[..k].copy_from_slice(&b[1..k + 1]);
     places
 }
 
@@ -29,13 +24,10 @@ pub fn cell_of(e: Edition, b: &[u8]) -> HeldCell
     requires { Runnable e b.now }
     ensures { (result.k ≤ e.most) × (network_cell result ≡ cell_of e (byte_at b.now)) }
 {
-    let start = e.start;
     let k = b[0];
-    let signals = signals_of(b);
-    let table = CellTable::first_of(&b[start..], k as u32);
     HeldCell {
         k: k as usize,
-        signals: signals,
-        table: table,
+        signals: signals_of(b),
+        table: CellTable::first_of(&b[e.start..], k as u32),
     }
 }

@@ -34,10 +34,8 @@ fn write_cells(e: Edition, f: Edition, d: u8, s: &[u8], m: usize, room: &mut [u8
     requires edition_2 { IsEdition f × (e.most ≤ f.most) × (f.size * m ≤ length room.old) }
     ensures { room.new ≡ rewritten e f d s.now m ++ drop (f.size * m) room.old }
 {
-    let mut i = 0;
-    while i < m {
+    for i in 0..m {
         put(f, d, cell_of(e, record_of(e, s, i)), room, i);
-        i += 1;
     }
 }
 

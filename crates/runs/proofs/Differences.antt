@@ -1,20 +1,24 @@
 -- Words of a sheet and of a table, place by place: where they are the same no assignment differs, and the lowest place
 -- at which they aren't is the least assignment that does. Past the last assignment both are 0. Assumes nothing.
-use mathlib.Core.Path.{◌≡◌, sym, ap, ap₂, ◌∙◌, subst}
+use mathlib.Core.Path.{◌≡◌, refl, sym, ap, ap₂, ◌∙◌, subst}
 use mathlib.Core.Bool.{Bool, true, false, not, ◌&&◌, ◌||◌, beq}
 use mathlib.Core.List.{List}
 use Prim.Native.Nat.{ℕ, ◌+◌, ◌-◌, ◌*◌, ◌/◌, ◌%◌, ◌^◌, ◌<◌, ◌≤◌}
 use native.Mathlib.Decide.{dec_lt}
 use native.Mathlib.Omega.{arith}
-use lib.Dec.{ltb}
+use lib.Bits.{bit_xor, xor_lt, xor_self, xor_assoc, xor_shr, xor_mod, xor_zero_r}
+use lib.Dec.{ltb, eqb}
 use lib.ListN.{length, get_or-eq_default}
-use lib.Pow.{pow-add, pow_mono}
+use lib.Pow.{pow-add, pow_mono, pow_pos}
 use borrow.Author.Tests.{lt-ltb, le-ltb, not-true, not-false}
-use Rattle.bits.specs.Numbers.{bit}
+use Rattle.std.specs.Int.{w64, trailing_zeros}
+use Rattle.std.proofs.lemmas.Nat.Bits.{bit_at-trailing_zeros}
+use Rattle.bits.specs.Numbers.{bit, val}
 use Rattle.bits.specs.Below.{least, IsLeast}
 use Rattle.bits.proofs.Bools.{clash, beq_same, same-beq}
 use Rattle.bits.proofs.Below.{every_at}
 use Rattle.bits.proofs.Least.{is_least, least-of}
+use Rattle.bits.proofs.Machine.{by_digits}
 use Rattle.bits.proofs.Numbers.{bit-number, bit-zero, number_bit, number_ext, number_lt}
 use Rattle.tables.specs.Table.{table_length, table_bit, spare_clear}
 use Rattle.tables.specs.Words.{WordAt}
@@ -62,23 +66,61 @@ word_there n t long f z l = elim (dec_lt n 6) [
       }
 ]
 
+-- of two words that aren't the same, the lowest bit of their exclusive or is where they first differ
+bit-xor : (a b j : ℕ) → bit (bit_xor a b) j ≡ apart a b j
+bit-xor = by_digits bit_xor (λ s t. not (beq s t)) xor_shr xor_mod one
+  where
+    one : (s t : Bool) → eqb (bit_xor (val s) (val t)) 1 ≡ not (beq s t)
+    one true true = refl
+    one true false = refl
+    one false true = refl
+    one false false = refl
+
+pub lowest_apart : (a b : ℕ) → a < 2 ^ 64 → b < 2 ^ 64 → (a ≡ b → ⊥)
+    → (trailing_zeros w64 (bit_xor a b) ≡ least 64 (apart a b)) × (trailing_zeros w64 (bit_xor a b) < 64)
+lowest_apart a b l g q =
+    let x = bit_xor a b in
+    let same : x ≡ 0 → a ≡ b = λ (z : x ≡ 0).
+    sym (xor_zero_r a) ∙ ap (bit_xor a) (sym (xor_self b)) ∙ sym (xor_assoc a b b) ∙ ap (λ (y : ℕ). bit_xor y b) z in
+    let some : 0 < x = elim (dec_lt 0 x) [ yes h ↦ h | no h ↦ absurd (q (same (omega arith))) ] in
+    let h = bit_at-trailing_zeros w64 x some (xor_lt 64 a b l g) in
+    let i = trailing_zeros w64 x in (
+      sym (least-of 64 (apart a b) i (record {
+        within = omega (arith, h.0);
+        before = λ k p. sym (bit-xor a b k) ∙ ap (λ (d : ℕ). eqb d 1) (h.2 k p);
+        here = λ _. sym (bit-xor a b i) ∙ ap (λ (d : ℕ). eqb d 1) h.1;
+      })),
+      h.0,
+    )
+
+-- the words of a table of n inputs: each starts within it, and they reach its end
+pub word_begins : (n w : ℕ) → w < 2 ^ (n - 6) → 64 * w < 2 ^ n
+word_begins n w h = elim (dec_lt n 6) [
+  | yes g ↦ let z : n - 6 ≡ 0 = omega arith in omega (arith, ap (λ (m : ℕ). 2 ^ m) z, pow_pos n)
+  | no g ↦ let z : n ≡ 6 + (n - 6) = omega arith in omega (arith, ap (λ (m : ℕ). 2 ^ m) z ∙ pow-add 2 6 (n - 6))
+]
+
+pub words_end : (n : ℕ) → 2 ^ n ≤ 64 * 2 ^ (n - 6)
+words_end n = elim (dec_lt n 6) [
+  | yes g ↦ let z : n - 6 ≡ 0 = omega arith in omega (arith, ap (λ (m : ℕ). 2 ^ m) z, pow_mono {i = n} {j = 6} (omega arith))
+  | no g ↦ let z : n ≡ 6 + (n - 6) = omega arith in omega (arith, ap (λ (m : ℕ). 2 ^ m) z ∙ pow-add 2 6 (n - 6))
+]
+
 module _ (e : Edition) (n : ℕ) (s : List ℕ) (m : ℕ) (t : List ℕ) (long : length t ≡ table_length n)
     (spare : spare_clear n t ≡ true)
-    (f a b : ℕ) (z : f % 64 ≡ 0) (given : a ≡ sheet_word e n s m (f / 64))
-    (asked : (k : ℕ) → f % 64 + k < 64 → bit b k ≡ table_bit t (f + k))
+    (w a b : ℕ) (given : a ≡ sheet_word e n s m w)
+    (asked : (k : ℕ) → 64 * w % 64 + k < 64 → bit b k ≡ table_bit t (64 * w + k))
   where
-    whole : 64 * (f / 64) ≡ f
-    whole = omega (arith, z)
+    abbrev f : ℕ
+    f = 64 * w
 
     -- the sheet's word, place by place
     given_at : (k : ℕ) → k < 64 → bit a k ≡ (ltb (f + k) (2 ^ n) && sheet_bit e n s m (f + k))
     given_at k h =
-        ap (λ (v : ℕ). bit v k) given ∙ bit-number 64
-        (λ i. ltb (64 * (f / 64) + i) (2 ^ n) && sheet_bit e n s m (64 * (f / 64) + i)) k h
-        ∙ ap (λ (v : ℕ). ltb (v + k) (2 ^ n) && sheet_bit e n s m (v + k)) whole
+        ap (λ (v : ℕ). bit v k) given ∙ bit-number 64 (λ i. ltb (f + i) (2 ^ n) && sheet_bit e n s m (f + i)) k h
 
     asked_at : (k : ℕ) → k < 64 → bit b k ≡ table_bit t (f + k)
-    asked_at k h = asked k (omega (arith, z))
+    asked_at k h = asked k (omega arith)
 
     -- within the table a place differs exactly as its assignment does; past it none does
     inside : (k : ℕ) → k < 64 → f + k < 2 ^ n → apart a b k ≡ differs e n s m t (f + k)
@@ -101,18 +143,20 @@ module _ (e : Edition) (n : ℕ) (s : List ℕ) (m : ℕ) (t : List ℕ) (long :
         ∙ not-apart a b k (ap (λ (v : ℕ). bit v k) q)
 
     -- different words, of 64 bits both: the lowest place at which they differ is the least assignment that does
-    pub apart-word : (a ≡ b → ⊥) → b < 2 ^ 64 → ((x : ℕ) → x < f → x < 2 ^ n → differs e n s m t x ≡ false) → f
-        + least 64 (apart a b) ≡ first_difference e n s m t
+    pub apart-word : (a ≡ b → ⊥) → b < 2 ^ 64 → ((x : ℕ) → x < f → x < 2 ^ n → differs e n s m t x ≡ false)
+        → (f + least 64 (apart a b) ≡ first_difference e n s m t) × (f + least 64 (apart a b) < 2 ^ n)
     apart-word q w before =
         let i = least 64 (apart a b) in
         let l = is_least 64 (apart a b) in
         let h : i < 64 = low l in
-        let g : f + i < 2 ^ n = within i h (l.here h) in
-        sym (least-of (2 ^ n) (differs e n s m t) (f + i) (record {
-          within = omega arith;
-          before = λ x p. early x p g;
-          here = λ _. sym (inside i h g) ∙ l.here h;
-        }))
+        let g : f + i < 2 ^ n = within i h (l.here h) in (
+          sym (least-of (2 ^ n) (differs e n s m t) (f + i) (record {
+            within = omega arith;
+            before = λ x p. early x p g;
+            here = λ _. sym (inside i h g) ∙ l.here h;
+          })),
+          g,
+        )
       where
         -- no place differs: then the words are the same
         equal : ((k : ℕ) → k < 64 → apart a b k ≡ false) → a ≡ b

@@ -19,11 +19,7 @@ fn value(e: Edition, b: &[u8], w: u32, j: u32) -> bool
     requires { Runnable e b.now }
     ensures { result ≡ input_at (byte_at b.now) (bit w) j }
 {
-    if b[0] as u32 <= j {
-        return false;
-    }
-    let at = j as usize + 1;
-    (w >> b[at]) & 1 == 1
+    j < b[0] as u32 && (w >> b[j as usize + 1]) & 1 == 1
 }
 
 // The bit of the table t at the number that inputs 0 to 5 make: t is halved by input after input, until only that bit
@@ -33,10 +29,8 @@ fn halved(e: Edition, b: &[u8], w: u32, t: u64) -> bool
     ensures { result ≡ bit t (number 6 (input_at (byte_at b.now) (bit w))) }
 {
     let mut left = t;
-    let mut j: u32 = 0;
-    while j < 6 {
+    for j in 0..6 {
         left = half(left, j, value(e, b, w, j));
-        j += 1;
     }
     left != 0
 }
@@ -46,9 +40,8 @@ fn output_of(e: Edition, b: &[u8], w: u32) -> bool
     requires { Runnable e b.now }
     ensures { result ≡ output (cell_of e (byte_at b.now)) (bit w) }
 {
-    let start = e.start;
     let high = value(e, b, w, 6) as u32 + 2 * (value(e, b, w, 7) as u32);
-    halved(e, b, w, bits_from(&b[start..], 64 * high))
+    halved(e, b, w, bits_from(&b[e.start..], 64 * high))
 }
 
 // What a sheet of m records gives at the assignment x. The word holds the signals so far: the inputs, then each
@@ -61,13 +54,9 @@ pub fn bit_of(e: Edition, n: u32, s: &[u8], m: usize, x: u32) -> bool
 {
     let mut w = x;
     let mut o = false;
-    let mut top = n;
-    let mut i = 0;
-    while i < m {
+    for i in 0..m {
         o = output_of(e, rules::record_of(e, s, i), w);
-        w += (o as u32) << top;
-        top += 1;
-        i += 1;
+        w += (o as u32) << (n + i as u32);
     }
     o
 }
@@ -80,13 +69,11 @@ pub fn rebuild(e: Edition, n: u32, s: &[u8], m: usize, out: &mut [u8])
     ensures { out.new ≡ rebuilt e n s.now m }
 {
     let mut o: u64 = 0;
-    let mut i: usize = 0;
-    while i < out.len() {
+    for (i, byte) in out.iter_mut().enumerate() {
         let j = i % 8;
         if j == 0 {
             o = sheet_word(e, n, s, m, (i / 8) as u32);
         }
-        out[i] = ((o >> (8 * j)) % 256) as u8;
-        i += 1;
+        *byte = ((o >> (8 * j)) % 256) as u8;
     }
 }

@@ -26,10 +26,7 @@ pub fn input_word(j: u32, w: u32) -> u64
     if j < 6 {
         return of_input(j);
     }
-    if (w >> (j - 6)) & 1 == 1 {
-        return !0;
-    }
-    0
+    if (w >> (j - 6)) & 1 == 1 { !0 } else { 0 }
 }
 
 // The words of the signals before the first record: the inputs', and 0 for the records to come.
@@ -37,21 +34,11 @@ fn inputs(n: u32, w: u32) -> [u64; SIGNALS]
     requires { n ≤ most_inputs }
     ensures { (length result ≡ 32) × ((i s : ℕ) → i < 64 → 64 * w + i < 2 ^ n → lane result i s ≡ bit (64 * w + i) s) }
 {
-    let end = n as usize;
     let mut r = [0u64; SIGNALS];
-    let mut j = 0;
-    while j < end {
-        r[j] = input_word(j as u32, w);
-        j += 1;
+    for j in 0..n {
+        r[j as usize] = input_word(j, w);
     }
     r
-}
-
-// The pairs' words, none filled in.
-fn room() -> [u64; PAIRS]
-    ensures { length result ≡ 128 }
-{
-    [0; PAIRS]
 }
 
 // The word of input j of a record's cell; an input that the cell hasn't counts as 0.
@@ -62,9 +49,7 @@ fn cell_input<'a>(e: Edition, b: &'a [u8], words: &'a [u64], j: usize) -> u64
     if b[0] as usize <= j {
         return 0;
     }
-    let at = j + 1;
-    let s = b[at] as usize;
-    words[s]
+    words[b[j + 1] as usize]
 }
 
 // For each pair h of a table's bits, 2 h and 2 h + 1, the word that the word of input 0 chooses from it.
@@ -74,11 +59,9 @@ fn pairs(t: &[u8], first: u64, many: usize, v: &mut [u64])
         (2 * h + val (bit first i)) }
 {
     let four = [0, !first, first, !0];
-    let mut h = 0;
-    while h < many {
+    for h in 0..many {
         let pair = (t[h / 4] >> (2 * (h % 4))) % 4;
         v[h] = four[pair as usize];
-        h += 1;
     }
 }
 
@@ -88,19 +71,9 @@ fn halve(s: u64, half: usize, v: &mut [u64])
     ensures { (h i : ℕ) → h < half → i < 64 → lane v.new i h ≡ cond (bit s i)
         (lane v.old i (half + h)) (lane v.old i h) }
 {
-    let mut h = 0;
-    while h < half {
-        let other = half + h;
-        v[h] = choose(s, v[h], v[other]);
-        h += 1;
+    for h in 0..half {
+        v[h] = choose(s, v[h], v[half + h]);
     }
-}
-
-// One less, and 0 of 0.
-fn one_less(k: usize) -> usize
-    ensures { result ≡ k - 1 }
-{
-    if k < 1 { 0 } else { k - 1 }
 }
 
 // The pairs of a cell's table, halved by input 0; how many inputs are left to halve by.
@@ -111,10 +84,8 @@ fn first_half<'a>(e: Edition, b: &'a [u8], words: &'a [u64], v: &mut [u64]) -> u
         → lane v.new i h ≡ cell_bit e (byte_at b.now)
         (2 * h + val (input_at (byte_at b.now) (lane words.now i) 0)) }
 {
-    let start = e.start;
-    let k = b[0] as usize;
-    let others = one_less(k);
-    pairs(&b[start..], cell_input(e, b, words, 0), 1 << others, v);
+    let others = (b[0] as usize).saturating_sub(1);
+    pairs(&b[e.start..], cell_input(e, b, words, 0), 1 << others, v);
     others
 }
 
@@ -123,11 +94,9 @@ fn cell_word<'a>(e: Edition, b: &'a [u8], words: &'a [u64], v: &mut [u64]) -> u6
     requires { Runnable e b.now × (32 ≤ length words.now) × (128 ≤ length v.old) }
     ensures { (i : ℕ) → i < 64 → bit result i ≡ output (cell_of e (byte_at b.now)) (lane words.now i) }
 {
-    let mut j = first_half(e, b, words, v);
-    while 0 < j {
-        let s = cell_input(e, b, words, j);
-        j -= 1;
-        halve(s, 1 << j, v);
+    let others = first_half(e, b, words, v);
+    for j in (0..others).rev() {
+        halve(cell_input(e, b, words, j + 1), 1 << j, v);
     }
     v[0]
 }
@@ -154,14 +123,11 @@ pub fn sheet_word(e: Edition, n: u32, s: &[u8], m: usize, w: u32) -> u64
 {
     let from = n as usize;
     let mut words = inputs(n, w);
-    let mut v = room();
+    let mut v = [0; PAIRS];
     let mut o: u64 = 0;
-    let mut i = 0;
-    while i < m {
+    for i in 0..m {
         o = cell_word(e, record_of(e, s, i), &words, &mut v);
-        let at = from + i;
-        words[at] = o;
-        i += 1;
+        words[from + i] = o;
     }
     first_bits(n, o)
 }

@@ -17,14 +17,7 @@ fn input_sound(read: u32, times: [InputTime; 16], j: usize) -> bool
     requires { j < most_inputs }
     ensures { result ≡ (sound_time (time_at times j) && (given (time_at times j) || not (bit read j))) }
 {
-    let time = times[j];
-    if !sound_time(time) {
-        return false;
-    }
-    if is_given(time) {
-        return true;
-    }
-    (read >> j) & 1 != 1
+    sound_time(times[j]) && (is_given(times[j]) || (read >> j) & 1 != 1)
 }
 
 // Whether what is said of each of the n inputs is sound, and a time is given where one of m cells reads it.
@@ -35,13 +28,10 @@ pub fn inputs_sound(e: Edition, n: u32, s: &[u8], m: usize, times: [InputTime; 1
     ensures { result ≡ every n (input_sound e s.now m times) }
 {
     let read = who_reads(e, n, s, m).read;
-    let inputs = n as usize;
-    let mut j = 0;
-    while j < inputs {
+    for j in 0..n as usize {
         if !input_sound(read, times, j) {
             return false;
         }
-        j += 1;
     }
     true
 }

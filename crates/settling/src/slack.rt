@@ -21,16 +21,11 @@ fn slack_form(n: u32, delay: f64, times: [InputTime; 16], deadline: i64) -> Resu
     requires { (n ≤ most_inputs) × (in_range delay ≡ true) × (every n (λ j. sound_time (time_at times j)) ≡ true) }
     ensures { verdict_of result ≡ verdict (bad_slack n delay times deadline ∷ []) }
 {
-    if !in_sixteenths(delay) {
-        return Err(Refusal::Slack);
+    if in_sixteenths(delay) && inputs_in_sixteenths(n, times) && deadline_ok(deadline) {
+        Ok(())
+    } else {
+        Err(Refusal::Slack)
     }
-    if !inputs_in_sixteenths(n, times) {
-        return Err(Refusal::Slack);
-    }
-    if !deadline_ok(deadline) {
-        return Err(Refusal::Slack);
-    }
-    Ok(())
 }
 
 // The slack of a sheet of an edition, which is to be the desk d's, in sixteenths.

@@ -1,6 +1,6 @@
 -- A time and its number of sixteenths, and the test whether that is a whole number; zero with either sign. Assumes
 -- nothing.
-use Rattle.std.proofs.Common.{◌≡◌, ℕ, zero, suc, ◌+◌, ◌-◌, ◌*◌, ◌/◌, ◌%◌, ◌≤◌, Bool, true, false, T, ℤ, pos, sym, refl, ap, ◌∙◌, subst, div-add-mod', zero-mul, mul-div_cancel, arith, lit≤, eq-eqb, eqb-true}
+use Rattle.std.proofs.Common.{◌≡◌, ℕ, zero, suc, ◌+◌, ◌*◌, ◌/◌, ◌%◌, ◌≤◌, Bool, true, false, T, ℤ, pos, sym, refl, ap, ◌∙◌, subst, div-add-mod', zero-mul, mul-div_cancel, arith, lit≤, eq-eqb, eqb-true}
 use native.Mathlib.Nat.{mul-mod_left, zero-mod, zero-div, div-le_of_le-mul}
 use lib.Ieee.{Float, nan, inf, fin, binary64, up, down, mul, eq, lt, le, fits, of_int, to_unsigned}
 use lib.Ieee.Exact.{HasValue}

@@ -14,20 +14,14 @@ pub enum InputTime {
 pub fn plain_zero(x: f64) -> f64
     ensures { result ≡ plain_zero x }
 {
-    if x == 0.0 {
-        return 0.0;
-    }
-    x
+    if x == 0.0 { 0.0 } else { x }
 }
 
 // A number from 0 to 4,096.
 pub fn in_range(x: f64) -> bool
     ensures { result ≡ in_range x }
 {
-    if 0.0 <= x {
-        return x <= 4096.0;
-    }
-    false
+    0.0 <= x && x <= 4096.0
 }
 
 // In range, and not crossed.
@@ -37,26 +31,14 @@ pub fn sound_time(t: InputTime) -> bool
     match t {
         InputTime::NotRead => true,
         InputTime::Arrival(x) => in_range(x),
-        InputTime::Between(x, y) => {
-            if !in_range(x) {
-                return false;
-            }
-            if !in_range(y) {
-                return false;
-            }
-            x <= y
-        }
+        InputTime::Between(x, y) => in_range(x) && in_range(y) && x <= y,
     }
 }
 
 pub fn is_given(t: InputTime) -> bool
     ensures { result ≡ given t }
 {
-    match t {
-        InputTime::NotRead => false,
-        InputTime::Arrival(_) => true,
-        InputTime::Between(_, _) => true,
-    }
+    !matches!(t, InputTime::NotRead)
 }
 
 // The latest time (late), or the earliest; zero where there is none.
@@ -66,11 +48,6 @@ pub fn time_of(late: bool, t: InputTime) -> f64
     match t {
         InputTime::NotRead => 0.0,
         InputTime::Arrival(x) => plain_zero(x),
-        InputTime::Between(x, y) => {
-            if late {
-                return plain_zero(y);
-            }
-            plain_zero(x)
-        }
+        InputTime::Between(x, y) => plain_zero(if late { y } else { x }),
     }
 }

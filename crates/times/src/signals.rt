@@ -30,20 +30,13 @@ impl SignalTimes {
     }
 }
 
-// The greater (late), or the lesser.
+// The greater (late), or the lesser. `late` picks the end of an input's time as well as which of two is kept, and what is
+// meant (`settled`) is said of it: a function to keep by would have to travel beside it.
 fn keep(late: bool, x: f64, y: f64) -> f64
     ensures { result ≡ keeping late x y }
 {
-    if late {
-        if x < y {
-            return y;
-        }
-        return x;
-    }
-    if y < x {
-        return y;
-    }
-    x
+    let passed = if late { x < y } else { y < x };
+    if passed { y } else { x }
 }
 
 // The times of n inputs; zero for every other signal.
@@ -51,12 +44,9 @@ pub fn times_of_inputs(late: bool, n: u32, said: [InputTime; 16]) -> SignalTimes
     requires { n ≤ most_inputs }
     ensures { (length result.times ≡ most_signals) × ((j : ℕ) → slice_index_or result.times j zero_time ≡ input_times late n said j) }
 {
-    let inputs = n as usize;
     let mut signals = SignalTimes::zeros();
-    let mut j = 0;
-    while j < inputs {
+    for j in 0..n as usize {
         signals.times[j] = time_of(late, said[j]);
-        j += 1;
     }
     signals
 }
@@ -70,12 +60,9 @@ fn cell_time(e: Edition, b: &[u8], late: bool, delay: f64, signals: SignalTimes)
     let k = b[0] as usize;
     let first = b[1] as usize;
     let mut time = signals.times[first];
-    let mut j = 1;
-    while j < k {
-        let at = j + 1;
-        let t = b[at] as usize;
+    for j in 1..k {
+        let t = b[j + 1] as usize;
         time = keep(late, time, signals.times[t]);
-        j += 1;
     }
     time + delay
 }
@@ -96,12 +83,9 @@ pub fn output_time(
 {
     let mut signals = inputs;
     let mut time = 0.0;
-    let mut i = 0;
-    while i < m {
+    for i in 0..m {
         time = cell_time(e, record_of(e, s, i), late, delay, signals);
-        let top = n as usize + i;
-        signals.times[top] = time;
-        i += 1;
+        signals.times[n as usize + i] = time;
     }
     time
 }

@@ -33,12 +33,7 @@ fn time_in_sixteenths(t: InputTime) -> bool
     match t {
         InputTime::NotRead => true,
         InputTime::Arrival(x) => in_sixteenths(x),
-        InputTime::Between(x, y) => {
-            if !in_sixteenths(x) {
-                return false;
-            }
-            in_sixteenths(y)
-        }
+        InputTime::Between(x, y) => in_sixteenths(x) && in_sixteenths(y),
     }
 }
 
@@ -47,13 +42,10 @@ pub fn inputs_in_sixteenths(n: u32, times: [InputTime; 16]) -> bool
     requires { (n ≤ most_inputs) × (every n (λ j. sound_time (time_at times j)) ≡ true) }
     ensures { result ≡ every n (λ j. time_in_sixteenths (time_at times j)) }
 {
-    let inputs = n as usize;
-    let mut j = 0;
-    while j < inputs {
+    for j in 0..n as usize {
         if !time_in_sixteenths(times[j]) {
             return false;
         }
-        j += 1;
     }
     true
 }
@@ -62,8 +54,5 @@ pub fn inputs_in_sixteenths(n: u32, times: [InputTime; 16]) -> bool
 pub fn deadline_ok(deadline: i64) -> bool
     ensures { result ≡ deadline_ok deadline }
 {
-    if -1048576 <= deadline {
-        return deadline <= 1048576;
-    }
-    false
+    -1048576 <= deadline && deadline <= 1048576
 }

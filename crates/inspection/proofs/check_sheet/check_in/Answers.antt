@@ -3,11 +3,11 @@
 use mathlib.Core.Path.{◌≡◌, refl, sym, ap, ◌∙◌}
 use mathlib.Core.Bool.{true}
 use mathlib.Core.List.{List, [], ◌∷◌, ◌++◌}
-use Prim.Native.Nat.{ℕ, ◌^◌, ◌*◌, ◌%◌, ◌<◌, ◌≤◌}
+use Prim.Native.Nat.{ℕ, ◌^◌, ◌<◌, ◌≤◌}
 use native.Mathlib.Omega.{arith}
 use lib.ListN.{length}
 use borrow.Author.Tests.{lt-ltb, le-ltb, not-false}
-use Rattle.bits.proofs.Machine.{shl_one}
+use Rattle.bits.proofs.Places.{found_there, found_nowhere}
 use Rattle.tables.specs.Table.{most_inputs, table_length, spare_clear}
 use Rattle.sheets.specs.declared.kinds.Edition.{Edition}
 use Rattle.sheets.specs.Sheet.{records}
@@ -15,8 +15,9 @@ use Rattle.runs.specs.Checking.{first_difference}
 use Rattle.refusals.specs.Verdicts.{Verdict, Fine, Refused}
 use Rattle.refusals.specs.Lines.{Line, refusal, verdict}
 use Rattle.refusals.specs.Refusals.{sheet_lines, table_differs, unread_record}
-use Rattle.refusals.proofs.Lines.{here, in_order_lem, passes, stopped, goes_on, decided}
+use Rattle.refusals.proofs.Lines.{here, in_order_lem, passes, goes_on, decided}
 use Rattle.refusals.proofs.Tests.{inside, right_table, spare_line}
+use Rattle.refusals.proofs.Results.{said_ok, handed_on, stopped_by}
 use Rattle.refusals.proofs.Sheets.{good_sheet, runnable}
 use Rattle.inspection.specs.CheckSheet.{table_lines, check_outcome}
 use Rattle.inspection.proofs.check_sheet.check_in.Goals as goal
@@ -50,78 +51,69 @@ behind : (e : Edition) (d n : ℕ) (t s : List ℕ) (v : Verdict) → v ≡ verd
 unfolding check_outcome
 behind e d n t s v p q = goes_on (table_lines n t) (ls e d n s ++ ms e n t s) v p q refl
 
-size : (n : ℕ) → n ≤ most_inputs → 1 * 2 ^ n % 2 ^ 32 ≡ 2 ^ n
-size n h = shl_one 32 n (omega arith)
-
-pub returns-in_default : goal.returns-in_default
+pub returns-in_err-table : goal.returns-in_err-table
 unfolding check_outcome
-returns-in_default c =
+returns-in_err-table c =
     let a = c.args in
-    stopped (table_lines a.n a.t.now) (ls a.e a.d a.n a.s.now ++ ms a.e a.n a.t.now a.s.now) _
-    c.table-table.ensures c.in_default.field-0 c.in_default.is
+    handed_on _ _ c.from_residual.ensures.1
+    ∙ stopped_by (table_lines a.n a.t.now) (ls a.e a.d a.n a.s.now ++ ms a.e a.n a.t.now a.s.now) _ c.table.ensures _
+    c.in_err-table.was
 
 pub overflow_cast-inputs : goal.overflow_cast-inputs
 overflow_cast-inputs c =
     let a = c.args in
-    omega (arith, (looked a.n a.t.now _ c.table-table.ensures c.in-Fine.is).most)
+    omega (arith, (looked a.n a.t.now _ c.table.ensures (said_ok _ _ c.in_ok-table.was)).most)
 
-pub sheet-sheet-requires : goal.sheet-sheet-requires
-sheet-sheet-requires c =
+pub sheet-requires : goal.sheet-requires
+sheet-requires c =
     let a = c.args in
-    (c.requires, (looked a.n a.t.now _ c.table-table.ensures c.in-Fine.is).most)
+    (c.requires, (looked a.n a.t.now _ c.table.ensures (said_ok _ _ c.in_ok-table.was)).most)
 
-pub returns-in_default-sheet : goal.returns-in_default-sheet
-returns-in_default-sheet c =
+pub returns-in_err-sheet : goal.returns-in_err-sheet
+returns-in_err-sheet c =
     let a = c.args in
-    stopped (ls a.e a.d a.n a.s.now) (ms a.e a.n a.t.now a.s.now) _ c.sheet-sheet.ensures
-    c.in_default-sheet.field-0 c.in_default-sheet.is
-    ∙ behind a.e a.d a.n a.t.now a.s.now _ c.table-table.ensures c.in-Fine.is
+    handed_on _ _ c.from_residual-in_err-sheet.ensures.1
+    ∙ stopped_by (ls a.e a.d a.n a.s.now) (ms a.e a.n a.t.now a.s.now) _ c.sheet.ensures _ c.in_err-sheet.was
+    ∙ behind a.e a.d a.n a.t.now a.s.now _ c.table.ensures (said_ok _ _ c.in_ok-table.was)
 
 pub nonzero_div-s : goal.nonzero_div-s
 nonzero_div-s c = omega (arith, c.requires.ends, c.requires.order)
 
-pub first_difference-x-requires : goal.first_difference-x-requires
-first_difference-x-requires c =
+pub first_difference-requires : goal.first_difference-requires
+first_difference-requires c =
     let a = c.args in
-    let w = looked a.n a.t.now _ c.table-table.ensures c.in-Fine.is in
-    let kept = in_order_lem (ls a.e a.d a.n a.s.now) (sym c.sheet-sheet.ensures ∙ c.in-Fine-sheet.is) in record {
+    let w = looked a.n a.t.now _ c.table.ensures (said_ok _ _ c.in_ok-table.was) in
+    let kept = in_order_lem (ls a.e a.d a.n a.s.now) (sym c.sheet.ensures ∙ (said_ok _ _ c.in_ok-sheet.was)) in record {
       edition = runnable a.e a.d a.n a.s.now c.requires (records a.e a.s.now) w.most
           (good_sheet a.e a.d a.n a.s.now c.requires kept);
       t_len = (w.long, w.spare);
     }
 
-pub overflow_shl-inputs : goal.overflow_shl-inputs
-overflow_shl-inputs c =
+pub returns-in-Some : goal.returns-in-Some
+returns-in-Some c =
     let a = c.args in
-    omega (arith, (looked a.n a.t.now _ c.table-table.ensures c.in-Fine.is).most)
-
-pub returns-then-x-inputs : goal.returns-then-x-inputs
-returns-then-x-inputs c =
-    let a = c.args in
-    let few = (looked a.n a.t.now _ c.table-table.ensures c.in-Fine.is).most in
     let x = first_difference a.e a.n a.s.now (records a.e a.s.now) a.t.now in
-    let near : x < 2 ^ a.n = omega (arith, size a.n few, c.first_difference-x.ensures, c.if-x-inputs.true) in
-    c.refuse_at.ensures ∙ ap (λ (k : ℕ). Refused (refusal 12 k)) c.first_difference-x.ensures
-    ∙ decided (ls a.e a.d a.n a.s.now) (ms a.e a.n a.t.now a.s.now) _ c.sheet-sheet.ensures c.in-Fine-sheet.is
-    (here (lt-ltb x (2 ^ a.n) near))
-    ∙ behind a.e a.d a.n a.t.now a.s.now _ c.table-table.ensures c.in-Fine.is
+    let h = found_there (2 ^ a.n) x _ (sym c.in-Some.ensures) in
+    ap (λ (k : ℕ). Refused (refusal 12 k)) (sym h.0)
+    ∙ decided (ls a.e a.d a.n a.s.now) (ms a.e a.n a.t.now a.s.now) _ c.sheet.ensures (said_ok _ _ c.in_ok-sheet.was)
+    (here (lt-ltb x (2 ^ a.n) h.1))
+    ∙ behind a.e a.d a.n a.t.now a.s.now _ c.table.ensures (said_ok _ _ c.in_ok-table.was)
 
 pub all_read-requires : goal.all_read-requires
 all_read-requires c =
     let a = c.args in (
       c.requires,
-      (looked a.n a.t.now _ c.table-table.ensures c.in-Fine.is).most,
-      in_order_lem (ls a.e a.d a.n a.s.now) (sym c.sheet-sheet.ensures ∙ c.in-Fine-sheet.is),
+      (looked a.n a.t.now _ c.table.ensures (said_ok _ _ c.in_ok-table.was)).most,
+      in_order_lem (ls a.e a.d a.n a.s.now) (sym c.sheet.ensures ∙ (said_ok _ _ c.in_ok-sheet.was)),
     )
 
 pub returns : goal.returns
 returns c =
     let a = c.args in
-    let few = (looked a.n a.t.now _ c.table-table.ensures c.in-Fine.is).most in
     let x = first_difference a.e a.n a.s.now (records a.e a.s.now) a.t.now in
-    let far : 2 ^ a.n ≤ x = omega (arith, size a.n few, c.first_difference-x.ensures, c.if-x-inputs.false) in
-    goes_on (ls a.e a.d a.n a.s.now) (ms a.e a.n a.t.now a.s.now) _ c.sheet-sheet.ensures c.in-Fine-sheet.is
+    let far = found_nowhere (2 ^ a.n) x (sym c.in_default.ensures) in
+    goes_on (ls a.e a.d a.n a.s.now) (ms a.e a.n a.t.now a.s.now) _ c.sheet.ensures (said_ok _ _ c.in_ok-sheet.was)
     (c.all_read.ensures
     ∙ sym (passes (table_differs a.e a.n a.t.now a.s.now ∷ []) (last a.e a.n a.s.now)
     (le-ltb x (2 ^ a.n) far, tt)))
-    ∙ behind a.e a.d a.n a.t.now a.s.now _ c.table-table.ensures c.in-Fine.is
+    ∙ behind a.e a.d a.n a.t.now a.s.now _ c.table.ensures (said_ok _ _ c.in_ok-table.was)

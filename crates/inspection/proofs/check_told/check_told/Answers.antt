@@ -8,15 +8,16 @@ use Rattle.sheets.proofs.Keeping.{is_edition}
 use Rattle.refusals.specs.Refusals.{told_form}
 use Rattle.refusals.proofs.Lines.{stopped, goes_on}
 use Rattle.inspection.specs.CheckSheet.{check_lines, check_outcome, check_own}
+use Rattle.refusals.proofs.Results.{said_ok, said_err}
 use Rattle.inspection.proofs.check_told.check_told.Goals as goal
 
-pub returns-in_default : goal.returns-in_default
-returns-in_default c =
+pub returns-in_err-told : goal.returns-in_err-told
+returns-in_err-told c =
     let a = c.args in
     let e = edition_of a.w in
     stopped (told_form a.w a.n) (check_lines e (desk_of e a.s.now) a.n a.t.now a.s.now)
-    c.told-told.result c.told-told.ensures
-    c.in_default.field-0 c.in_default.is
+    c.told.result c.told.ensures
+    _ (said_err _ _ c.in_err-told.was)
 
 pub returns : goal.returns
 unfolding check_outcome
@@ -24,7 +25,7 @@ returns c =
     let a = c.args in
     let e = edition_of a.w in
     goes_on (told_form a.w a.n) (check_lines e (desk_of e a.s.now) a.n a.t.now a.s.now) _
-    c.told-told.ensures c.in-Fine.is (c.check_own.ensures
+    c.told.ensures (said_ok _ _ c.in_ok-told.was) (c.check_own.ensures
     ∙ ap (λ (e : Edition). check_own e a.n a.t.now a.s.now) c.numbered.ensures)
 
 pub check_own-requires : goal.check_own-requires

@@ -13,7 +13,7 @@ use Rattle.tables.specs.Table.{most_inputs}
 use Rattle.times.specs.declared.input_time.InputTime.{InputTime}
 use Rattle.times.specs.declared.input_time.InputTime.TheVariants.{NotRead}
 use Rattle.pelzurivan.specs.declared.input_times.TimesC.{TimesC}
-use Rattle.pelzurivan.specs.InputTimes.{time_of_kind, times_from_c}
+use Rattle.pelzurivan.specs.InputTimes.{times_from_c}
 use Rattle.pelzurivan.proofs.input_times.input_times.Invariants.{said}
 use Rattle.pelzurivan.proofs.input_times.input_times.Goals as goal
 
@@ -31,20 +31,19 @@ more c l j x h q f i k = elim (dec_lt i j) [
         ∙ ap (λ (t : ℕ). get_or (set l j x) t NotRead) (sym e)
 
 pub loop-j-init : goal.loop-j-init
-loop-j-init c = (omega arith, refl, λ i h. absurd (not-suc-le-zero h))
+loop-j-init c = (refl, λ i h. absurd (not-suc-le-zero h))
 
 pub loop-j-preserved : goal.loop-j-preserved
 loop-j-preserved c =
-    let l = c.loop-j.times in
+    let l = c.loop-j.time-items in
     let x = c.time_of_kind.result in (
-      omega arith,
-      length-set l c.loop-j.j x ∙ c.loop-j.invariant.1,
-      more c.args.c l c.loop-j.j x (omega (arith, c.loop-j.invariant.1)) c.time_of_kind.ensures
-          c.loop-j.invariant.2,
+      length-set l c.loop-j.j x ∙ c.loop-j.invariant.0,
+      more c.args.c l c.loop-j.j x (omega (arith, c.loop-j.invariant.0)) c.time_of_kind.ensures
+          c.loop-j.invariant.1,
     )
 
 pub returns : goal.returns
 unfolding times_from_c
 returns c =
-    sym (list-of most_inputs (said c.args.c) c.loop-j.times NotRead c.loop-j.invariant.1
-    (λ i h. c.loop-j.invariant.2 i (omega arith)))
+    sym (list-of most_inputs (said c.args.c) c.loop-j.time-items NotRead c.loop-j.invariant.0
+    (λ i h. c.loop-j.invariant.1 i (omega arith)))

@@ -1,5 +1,5 @@
 use mathlib.Core.Path.{◌≡◌}
-use Prim.Native.Nat.{ℕ, ◌-◌, ◌≤◌, ◌<◌}
+use Prim.Native.Nat.{ℕ, ◌<◌}
 use lib.Ieee.{nan}
 use lib.ListN.{length, get_or}
 use Rattle.tables.specs.Table.{most_inputs}
@@ -15,8 +15,5 @@ said c j = time_of_kind (get_or c.kind j 0) (get_or c.first j nan) (get_or c.sec
 
 abbrev pub invariant-loop-j : goal.invariant-loop-j
 invariant-loop-j l =
-    (l.j ≤ most_inputs) × (length l.times ≡ most_inputs)
-    × ((i : ℕ) → i < l.j → said l.c i ≡ get_or l.times i NotRead)
-
-abbrev pub decreases-loop-j : goal.decreases-loop-j
-decreases-loop-j l = most_inputs - l.j
+    (length l.time-items ≡ most_inputs)
+    × ((i : ℕ) → i < l.j → said l.c i ≡ get_or l.time-items i NotRead)

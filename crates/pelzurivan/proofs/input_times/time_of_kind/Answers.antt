@@ -2,9 +2,10 @@
 use mathlib.Core.Path.{◌≡◌, sym, ap, ◌∙◌}
 use mathlib.Core.Bool.{Bool, cond}
 use Prim.Native.Nat.{ℕ}
+use native.Mathlib.Omega.{arith}
 use lib.Dec.{eqb}
 use lib.Ieee.{Float}
-use borrow.Author.Tests.{eq-eqb, ne_eqb}
+use borrow.Author.Tests.{ne_eqb}
 use Rattle.times.specs.declared.input_time.InputTime.TheVariants.{NotRead, Arrival, Between}
 use Rattle.pelzurivan.specs.InputTimes.{time_of_kind}
 use Rattle.pelzurivan.proofs.input_times.time_of_kind.Goals as goal
@@ -16,20 +17,7 @@ module _ (kind : ℕ) (x y : Float) where
       sym (ap (λ (t : Bool). cond t (Arrival x) (cond (eqb kind 2) (Between x y) NotRead)) h
       ∙ ap (λ (t : Bool). cond p (Arrival x) (cond t (Between x y) NotRead)) k)
 
-  one : kind ≡ 1 → Arrival x ≡ time_of_kind kind x y
-  one h = sym (ap (λ (t : Bool). cond t (Arrival x) (cond (eqb kind 2) (Between x y) NotRead)) (eq-eqb kind 1 h))
-
-pub returns-then-kind-eq2 : goal.returns-then-kind-eq2
-returns-then-kind-eq2 c =
+pub returns-in_default : goal.returns-in_default
+returns-in_default c =
     let a = c.args in
-    by_kind a.kind a.first a.second (ne_eqb a.kind 1 c.if-kind-eq1.false)
-    (eq-eqb a.kind 2 c.if-kind-eq2.true)
-
-pub returns : goal.returns
-returns c =
-    let a = c.args in
-    by_kind a.kind a.first a.second (ne_eqb a.kind 1 c.if-kind-eq1.false)
-    (ne_eqb a.kind 2 c.if-kind-eq2.false)
-
-pub returns-then-kind-eq1 : goal.returns-then-kind-eq1
-returns-then-kind-eq1 c = one _ _ _ c.if-kind-eq1.true
+    by_kind a.kind a.first a.second (ne_eqb a.kind 1 (λ e. omega arith)) (ne_eqb a.kind 2 (λ e. omega arith))

@@ -7,8 +7,8 @@ use Rattle.runs.proofs.Runs.{part_length}
 use Rattle.rewriting.proofs.Holding.{held_cell}
 use Rattle.rewriting.proofs.cells.cell_of.Goals as goal
 
-pub first_of-table-requires : goal.first_of-table-requires
-first_of-table-requires c =
+pub first_of-requires : goal.first_of-requires
+first_of-requires c =
     let e = c.args.e in
     let b = c.args.b.now in
     let r = c.requires in
@@ -28,6 +28,6 @@ pub returns : goal.returns
 returns c =
     let a = c.args in (
       c.requires.readable.few,
-      held_cell a.e a.b.now c.requires c.signals_of-signals.result
-          c.first_of-table.result c.signals_of-signals.ensures c.first_of-table.ensures,
+      held_cell a.e a.b.now c.requires c.signals_of.result
+          c.first_of.result c.signals_of.ensures c.first_of.ensures,
     )

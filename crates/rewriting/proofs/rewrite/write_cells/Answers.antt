@@ -22,7 +22,7 @@ unfolding cells_from
 loop-i-init c =
     let a = c.args in
     let z : 0 ≡ a.f.size * 0 = omega arith in
-    (omega arith, refl, ap (λ (k : ℕ). drop k a.room.now) z)
+    (refl, ap (λ (k : ℕ). drop k a.room.now) z)
 
 pub record_of-requires : goal.record_of-requires
 record_of-requires c =
@@ -55,10 +55,9 @@ loop-i-preserved c =
     let i = c.loop-i.i in
     let cs = sheet_cells a.e a.s.now i in
     let x = cell_of a.e (record_at a.e a.s.now i) in (
-      omega arith,
-      c.put.auto.sheet ∙ c.loop-i.invariant.1,
+      c.put.auto.sheet ∙ c.loop-i.invariant.0,
       c.put.ensures
-          ∙ ap₂ (λ (l : List ℕ) (x : Cell). laid l (a.f.size * i) (encode a.f a.d x)) c.loop-i.invariant.2
+          ∙ ap₂ (λ (l : List ℕ) (x : Cell). laid l (a.f.size * i) (encode a.f a.d x)) c.loop-i.invariant.1
           (c.cell_of.ensures.1 ∙ ap (λ (b : List ℕ). cell_of a.e (byte_at b)) c.record_of.ensures)
           ∙ laid_next a.f a.d cs x a.room.now i (cells_length a.e a.s.now 0 i)
           ∙ ap (λ (cs : List Cell). sheet_bytes a.f a.d cs ++ drop (a.f.size * (i + 1)) a.room.now)
@@ -69,5 +68,5 @@ pub returns : goal.returns
 returns c =
     let a = c.args in
     let f : c.loop-i.i ≡ a.m = omega arith in
-    c.loop-i.invariant.2 ∙ ap (λ (k : ℕ). rewritten a.e a.f a.d a.s.now k
+    c.loop-i.invariant.1 ∙ ap (λ (k : ℕ). rewritten a.e a.f a.d a.s.now k
     ++ drop (a.f.size * k) a.room.now) f

@@ -12,7 +12,6 @@ pub loop-j-init : goal.loop-j-init
 loop-j-init c =
     let a = c.args in (
       omega arith,
-      omega arith,
       halved_none 6
           (input_at (byte_at a.b.now) (bit a.w)) a.t,
     )
@@ -23,10 +22,9 @@ loop-j-preserved c =
     let v = input_at (byte_at a.b.now) (bit a.w) in
     let j = c.loop-j.j in (
       omega arith,
-      omega arith,
       halved_more 6 v a.t c.loop-j.left c.half-left.result j
           (λ x l. c.half-left.ensures x l ∙ ap (λ (s : Bool). bit c.loop-j.left x && beq (bit x j) s)
-          c.value.ensures) c.loop-j.invariant.2,
+          c.value.ensures) c.loop-j.invariant.1,
     )
 
 pub returns : goal.returns
@@ -34,5 +32,5 @@ returns c =
     let a = c.args in
     let v = input_at (byte_at a.b.now) (bit a.w) in
     let z : c.loop-j.j ≡ 6 = omega arith in
-    halved_all 6 v a.t c.loop-j.left c.loop-j.invariant.1
-    (subst (Halved 6 v a.t c.loop-j.left) z c.loop-j.invariant.2)
+    halved_all 6 v a.t c.loop-j.left c.loop-j.invariant.0
+    (subst (Halved 6 v a.t c.loop-j.left) z c.loop-j.invariant.1)

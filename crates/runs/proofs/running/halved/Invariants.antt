@@ -1,4 +1,4 @@
-use Prim.Native.Nat.{◌-◌, ◌^◌, ◌<◌, ◌≤◌}
+use Prim.Native.Nat.{◌^◌, ◌<◌}
 use Rattle.bits.specs.Numbers.{bit}
 use Rattle.sheets.specs.Record.{byte_at}
 use Rattle.runs.specs.Running.{input_at}
@@ -7,7 +7,4 @@ use Rattle.runs.proofs.running.halved.Given as goal
 
 abbrev pub invariant-loop-j : goal.invariant-loop-j
 invariant-loop-j l =
-    (l.j ≤ 6) × (l.left < 2 ^ 64) × Halved 6 (input_at (byte_at l.b) (bit l.w)) l.t l.left l.j
-
-abbrev pub decreases-loop-j : goal.decreases-loop-j
-decreases-loop-j l = 6 - l.j
+    (l.left < 2 ^ 64) × Halved 6 (input_at (byte_at l.b) (bit l.w)) l.t l.left l.j

@@ -1,7 +1,7 @@
 use mathlib.Core.Path.{◌≡◌}
 use mathlib.Core.Bool.{Bool, ◌&&◌}
 use mathlib.Core.List.{List}
-use Prim.Native.Nat.{ℕ, ◌+◌, ◌-◌, ◌*◌, ◌/◌, ◌%◌, ◌^◌}
+use Prim.Native.Nat.{ℕ, ◌+◌, ◌*◌, ◌/◌, ◌%◌, ◌^◌}
 use lib.Dec.{ltb}
 use lib.ListN.{length}
 use Rattle.bits.specs.Numbers.{number}
@@ -18,6 +18,3 @@ abbrev pub invariant-loop-i : goal.invariant-loop-i
 invariant-loop-i l =
     Filled 0 (length l.initial.out) (λ k. number 8 (λ j. bits l.e l.n l.s l.m (k * 8 + j))) l.initial.out l.out l.i
     × ((l.i % 8 ≡ 0 → ⊥) → l.o ≡ sheet_word l.e l.n l.s l.m (l.i / 8))
-
-abbrev pub decreases-loop-i : goal.decreases-loop-i
-decreases-loop-i l = length l.initial.out - l.i

@@ -1,6 +1,6 @@
 -- `cell_word` meets its contract. The loop's invariant: the places hold what is left of the table. Assumes nothing.
 use mathlib.Core.Path.{◌≡◌, refl, sym, ap, ◌∙◌, subst}
-use Prim.Native.Nat.{ℕ, ◌-◌, ◌*◌, ◌%◌, ◌^◌, ◌≤◌}
+use Prim.Native.Nat.{ℕ, ◌+◌, ◌-◌, ◌*◌, ◌%◌, ◌^◌, ◌≤◌}
 use native.Mathlib.Omega.{arith}
 use lib.Pow.{pow_mono}
 use Rattle.bits.proofs.Machine.{shl_one}
@@ -14,11 +14,11 @@ pub loop-j-init : goal.loop-j-init
 loop-j-init c =
     let a = c.args in
     let b = byte_at a.b.now in
-    let n = c.first_half-j.ensures.value in (
+    let n = c.first_half-others.ensures.value in (
       omega arith,
       refl,
       λ h i l g.
-          c.first_half-j.ensures.by_index h i l g
+          c.first_half-others.ensures.by_index h i l g
           ∙ sym (ap (λ (j : ℕ). left (cell_bit a.e b) (input_at b (lane a.words.now i)) (b 0 - 1) j h) n
           ∙ left-none (cell_bit a.e b) (input_at b (lane a.words.now i)) (b 0 - 1) h),
     )
@@ -38,7 +38,7 @@ halve-requires c =
       shl_one 64 (j - 1) (omega arith),
       pow_mono {i = j - 1} {j = 6} (omega arith),
       c.loop-j.invariant.1,
-      c.first_half-j.auto.v,
+      c.first_half-others.auto.v,
       p.2,
     )
 
@@ -48,21 +48,23 @@ loop-j-preserved c =
     let b = byte_at a.b.now in
     let j = c.loop-j.j in
     let h = c.halve in
-    let i = c.cell_input-s in
+    let i = c.cell_input in
+    let up : j - 1 + 1 ≡ j = omega arith in
     let half = 1 * 2 ^ (j - 1) % 2 ^ 64 in (
       omega arith,
       h.auto.v ∙ c.loop-j.invariant.1,
       left-halved a.e b a.words.now (b 0 - 1) c.loop-j.v h.new.v i.result half j (omega arith)
           (omega arith)
-          (shl_one 64 (j - 1) (omega (arith, c.requires.0.sound.eight, c.requires.0.readable.few))) i.ensures
+          (shl_one 64 (j - 1) (omega (arith, c.requires.0.sound.eight, c.requires.0.readable.few)))
+          (λ k. i.ensures k ∙ ap (input_at b (lane a.words.now k)) up)
           h.ensures c.loop-j.invariant.2,
     )
 
 pub bounds-v-0 : goal.bounds-v-0
-bounds-v-0 c = omega (arith, c.loop-j.invariant.1, c.first_half-j.auto.v, c.requires.2)
+bounds-v-0 c = omega (arith, c.loop-j.invariant.1, c.first_half-others.auto.v, c.requires.2)
 
 pub shape_of-v : goal.shape_of-v
-shape_of-v c = c.loop-j.invariant.1 ∙ c.first_half-j.auto.v
+shape_of-v c = c.loop-j.invariant.1 ∙ c.first_half-others.auto.v
 
 pub returns : goal.returns
 returns c =

@@ -9,6 +9,3 @@ abbrev pub invariant-loop-j : goal.invariant-loop-j
 invariant-loop-j l =
     (l.j ≤ byte_at l.b 0 - 1) × (length l.v ≡ length l.initial.v)
     × Left l.e (byte_at l.b) l.words (byte_at l.b 0 - 1) l.v l.j
-
-abbrev pub decreases-loop-j : goal.decreases-loop-j
-decreases-loop-j l = l.j

@@ -15,7 +15,7 @@ use Rattle.runs.proofs.words.first_half.Goals as goal
 pub pairs-requires : goal.pairs-requires
 pairs-requires c =
     let a = c.args in
-    let n = c.one_less-others.result in
+    let n = c.saturating_sub-others.result in
     let few : n < a.e.most = omega (arith, c.requires.0.sound.three, c.requires.0.readable.few) in
     let one = shl_one 64 n (omega (arith, c.requires.0.sound.eight)) in (
       omega (arith, one, pairs-room a.e c.requires.0.sound n few, part_length a.e a.b.now, c.requires.0.long),
@@ -25,10 +25,10 @@ pairs-requires c =
 pub returns : goal.returns
 returns c =
     let a = c.args in
-    let n = c.one_less-others.result in
+    let n = c.saturating_sub-others.result in
     let few : n < a.e.most = omega (arith, c.requires.0.sound.three, c.requires.0.readable.few) in
     let one = shl_one 64 n (omega (arith, c.requires.0.sound.eight)) in record {
-      value = c.one_less-others.ensures;
+      value = c.saturating_sub-others.ensures;
       by_index = λ h j l g.
           let x = 2 * h + val (bit c.cell_input.result j) in
           c.pairs.ensures h j (omega (arith, one)) g

@@ -1,4 +1,4 @@
-use Prim.Native.Nat.{◌+◌, ◌-◌}
+use Prim.Native.Nat.{◌+◌}
 use lib.ListN.{get_or}
 use Rattle.bits.specs.Patterns.{chosen}
 use Rattle.bits.proofs.Filling.{Filled}
@@ -7,6 +7,3 @@ use Rattle.runs.proofs.words.halve.Given as goal
 abbrev pub invariant-loop-h : goal.invariant-loop-h
 invariant-loop-h l =
     Filled 0 l.half (λ h. chosen l.s (get_or l.initial.v h 0) (get_or l.initial.v (l.half + h) 0)) l.initial.v l.v l.h
-
-abbrev pub decreases-loop-h : goal.decreases-loop-h
-decreases-loop-h l = l.half - l.h

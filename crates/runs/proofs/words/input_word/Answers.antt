@@ -21,6 +21,6 @@ returns-then-w-j-eq1 c =
           64,
     )
 
-pub returns : goal.returns
-returns c =
+pub returns-else-w-j-eq1 : goal.returns-else-w-j-eq1
+returns-else-w-j-eq1 c =
     let a = c.args in sym (input_high a.j a.w false (omega arith) (bit-clear a.w (a.j - 6) c.if-w-j-eq1.false) ∙ none-zero 64)

@@ -8,7 +8,6 @@ use lib.ListN.{get_or, replicate, get_or-replicate, get_or-eq_default}
 use Rattle.bits.specs.Numbers.{bit}
 use Rattle.bits.proofs.Numbers.{bit-number, bit-zero, bit_high}
 use Rattle.bits.proofs.Filling.{filled_none, filled_more}
-use Rattle.runs.specs.Words.{input_word}
 use Rattle.runs.proofs.Choosing.{lane_filled}
 use Rattle.runs.proofs.words.inputs.Goals as goal
 

@@ -1,5 +1,5 @@
 use mathlib.Core.List.{List}
-use Prim.Native.Nat.{ℕ, ◌-◌, ◌*◌, ◌/◌, ◌%◌, ◌^◌}
+use Prim.Native.Nat.{ℕ, ◌*◌, ◌/◌, ◌%◌, ◌^◌}
 use lib.ListN.{get_or}
 use Rattle.bits.proofs.Filling.{Filled}
 use Rattle.runs.proofs.Choosing.{four}
@@ -10,6 +10,3 @@ pair t s h = get_or (four s) (get_or t (h / 4) 0 / 2 ^ (2 * (h % 4)) % 4) 0
 
 abbrev pub invariant-loop-h : goal.invariant-loop-h
 invariant-loop-h l = Filled 0 l.many (pair l.t l.first) l.initial.v l.v l.h
-
-abbrev pub decreases-loop-h : goal.decreases-loop-h
-decreases-loop-h l = l.many - l.h

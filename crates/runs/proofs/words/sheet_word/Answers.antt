@@ -1,6 +1,6 @@
 -- `sheet_word` meets its contract. The loop's invariant: at each of the 64 assignments that there are, what is left
 -- to run gives the sheet's bit. Assumes nothing.
-use mathlib.Core.Path.{sym, ap, subst, ◌∙◌}
+use mathlib.Core.Path.{refl, sym, ap, subst, ◌∙◌}
 use mathlib.Core.Bool.{Bool}
 use mathlib.Core.List.{List}
 use Prim.Native.Nat.{ℕ, ◌+◌, ◌*◌}
@@ -21,9 +21,8 @@ pub loop-i-init : goal.loop-i-init
 loop-i-init c =
     let i = c.inputs-words in
     let a = c.args in (
-      omega arith,
       i.ensures.0,
-      c.room-v.ensures,
+      refl,
       λ j l h.
           subst (λ (b : Bool). Ran a.e a.s.now a.m (sheet_bit a.e a.n a.s.now a.m (64 * a.w + j))
           a.n 0 b (lane i.result j)) (sym (bit-zero j))
@@ -52,16 +51,15 @@ loop-i-preserved c =
     let a = c.args in
     let i = c.loop-i.i in
     let r = c.cell_word-o.result in (
-      omega arith,
-      length-set c.loop-i.words (a.n + i) r ∙ c.loop-i.invariant.1,
-      c.cell_word-o.auto.v ∙ c.loop-i.invariant.2,
+      length-set c.loop-i.words (a.n + i) r ∙ c.loop-i.invariant.0,
+      c.cell_word-o.auto.v ∙ c.loop-i.invariant.1,
       λ j l h.
           ran_more a.e a.s.now a.m (sheet_bit a.e a.n a.s.now a.m (64 * a.w + j)) a.n i
           (bit c.loop-i.o j) (bit r j)
           (lane c.loop-i.words j) (lane (set c.loop-i.words (a.n + i) r) j) (omega arith)
           (c.cell_word-o.ensures j l ∙ ap (λ (b : List ℕ). output (cell_of a.e (byte_at b))
           (lane c.loop-i.words j)) c.record_of.ensures)
-          (λ h. lane-set c.loop-i.words (a.n + i) r j h (omega arith)) (c.loop-i.invariant.3 j l h),
+          (λ h. lane-set c.loop-i.words (a.n + i) r j h (omega arith)) (c.loop-i.invariant.2 j l h),
     )
 
 pub returns : goal.returns
@@ -71,4 +69,4 @@ returns c =
     c.first_bits.ensures
     ∙ first_of a.n a.w c.loop-i.o F c.requires.w_bound
     (λ j l h. ran_all a.e a.s.now a.m (F (64 * a.w + j)) a.n c.loop-i.i (bit c.loop-i.o j)
-    (lane c.loop-i.words j) (omega arith) (c.loop-i.invariant.3 j l h))
+    (lane c.loop-i.words j) (omega arith) (c.loop-i.invariant.2 j l h))

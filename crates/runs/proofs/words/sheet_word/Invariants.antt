@@ -1,6 +1,6 @@
 use mathlib.Core.Path.{◌≡◌}
 use mathlib.Core.List.{List}
-use Prim.Native.Nat.{ℕ, ◌+◌, ◌-◌, ◌*◌, ◌^◌, ◌<◌, ◌≤◌}
+use Prim.Native.Nat.{ℕ, ◌+◌, ◌*◌, ◌^◌, ◌<◌}
 use lib.ListN.{length}
 use Rattle.bits.specs.Numbers.{bit}
 use Rattle.sheets.specs.declared.kinds.Edition.{Edition}
@@ -15,8 +15,5 @@ AllRan e n s m w words o i = (j : ℕ) → j < 64 → 64 * w + j < 2 ^ n
 
 abbrev pub invariant-loop-i : goal.invariant-loop-i
 invariant-loop-i l =
-    (l.i ≤ l.m) × (length l.words ≡ 32) × (length l.v ≡ 128)
+    (length l.words ≡ 32) × (length l.v ≡ 128)
     × AllRan l.e l.n l.s l.m l.w l.words l.o l.i
-
-abbrev pub decreases-loop-i : goal.decreases-loop-i
-decreases-loop-i l = l.m - l.i

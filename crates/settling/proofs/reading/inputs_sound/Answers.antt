@@ -36,21 +36,19 @@ returns-then-not-input_sound c =
     (ap (λ (r : Readers). r.read) c.who_reads-read.ensures)
 
 pub loop-j-preserved : goal.loop-j-preserved
-loop-j-preserved c = (
-  omega arith,
-  every_more c.loop-j.j (by_mask c.who_reads-read.result.read c.args.times) c.loop-j.invariant.1
-      (sym c.input_sound.ensures ∙ c.if-not-input_sound.false),
-)
+loop-j-preserved c =
+    every_more c.loop-j.j (by_mask c.who_reads-read.result.read c.args.times) c.loop-j.invariant
+    (sym c.input_sound.ensures ∙ c.if-not-input_sound.false)
 
 pub returns : goal.returns
 returns c =
     let a = c.args in
     let z : c.loop-j.j ≡ a.n = omega arith in
-    sym c.loop-j.invariant.1 ∙ ap (λ (k : ℕ). every k (by_mask c.who_reads-read.result.read a.times)) z ∙ same a.e a.n a.s.now a.m a.times c.who_reads-read.result.read c.requires.edition.2
+    sym c.loop-j.invariant ∙ ap (λ (k : ℕ). every k (by_mask c.who_reads-read.result.read a.times)) z ∙ same a.e a.n a.s.now a.m a.times c.who_reads-read.result.read c.requires.edition.2
     (ap (λ (r : Readers). r.read) c.who_reads-read.ensures)
 
 pub loop-j-init : goal.loop-j-init
-loop-j-init c = (omega arith, refl)
+loop-j-init c = refl
 
 pub input_sound-requires : goal.input_sound-requires
 input_sound-requires c = omega (arith, c.requires.edition.2)

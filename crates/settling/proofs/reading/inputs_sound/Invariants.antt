@@ -1,7 +1,7 @@
 use mathlib.Core.Path.{◌≡◌}
 use mathlib.Core.Bool.{Bool, true, not, ◌&&◌, ◌||◌}
 use mathlib.Core.List.{List}
-use Prim.Native.Nat.{ℕ, ◌-◌, ◌≤◌}
+use Prim.Native.Nat.{ℕ}
 use Rattle.bits.specs.Numbers.{bit}
 use Rattle.bits.specs.Below.{every}
 use Rattle.times.specs.declared.input_time.InputTime.{InputTime}
@@ -13,7 +13,4 @@ abbrev pub by_mask : ℕ → List InputTime → ℕ → Bool
 by_mask read ts j = sound_time (time_at ts j) && (given (time_at ts j) || not (bit read j))
 
 abbrev pub invariant-loop-j : goal.invariant-loop-j
-invariant-loop-j l = (l.j ≤ l.n) × (every l.j (by_mask l.read l.times) ≡ true)
-
-abbrev pub decreases-loop-j : goal.decreases-loop-j
-decreases-loop-j l = l.n - l.j
+invariant-loop-j l = every l.j (by_mask l.read l.times) ≡ true

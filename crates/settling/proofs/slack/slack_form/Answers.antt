@@ -28,40 +28,34 @@ module _ (n : ℕ) (delay : Float) (ts : List InputTime) (deadline : ℤ) where
       sym (ap (λ (t : Bool). given (t && (every n (λ j. time_in_sixteenths (time_at ts j)) && deadline_ok deadline))) h
       ∙ ap (λ (t : Bool). given (p && (t && deadline_ok deadline))) k ∙ ap (λ (t : Bool). given (p && (q && t))) l)
 
-pub returns-then-not-in_sixteenths : goal.returns-then-not-in_sixteenths
+pub returns-then-deadline_ok : goal.returns-then-deadline_ok
 unfolding given
-returns-then-not-in_sixteenths c =
+returns-then-deadline_ok c =
     let a = c.args in
     by a.n a.delay a.times a.deadline _ _ _
-    (sym c.in_sixteenths.ensures ∙ c.if-not-in_sixteenths.true) refl refl
-
-pub returns-then-not-inputs_in_sixteenths : goal.returns-then-not-inputs_in_sixteenths
-unfolding given
-returns-then-not-inputs_in_sixteenths c =
-    let a = c.args in
-    by a.n a.delay a.times a.deadline _ _ _
-    (sym c.in_sixteenths.ensures ∙ c.if-not-in_sixteenths.false)
-    (sym c.inputs_in_sixteenths.ensures ∙ c.if-not-inputs_in_sixteenths.true) refl
-
-pub returns-then-not-deadline_ok : goal.returns-then-not-deadline_ok
-unfolding given
-returns-then-not-deadline_ok c =
-    let a = c.args in
-    by a.n a.delay a.times a.deadline _ _ _
-    (sym c.in_sixteenths.ensures ∙ c.if-not-in_sixteenths.false)
-    (sym c.inputs_in_sixteenths.ensures ∙ c.if-not-inputs_in_sixteenths.false)
+    (sym c.in_sixteenths.ensures ∙ c.if-in_sixteenths.true)
+    (sym c.inputs_in_sixteenths.ensures ∙ c.if-inputs_in_sixteenths.true)
     (ap deadline_ok (sym (to_z-of_z c.ranges.deadline)) ∙ sym c.deadline_ok.ensures
-    ∙ c.if-not-deadline_ok.true)
+    ∙ c.if-deadline_ok.true)
 
-pub returns : goal.returns
+pub returns-else-in_sixteenths : goal.returns-else-in_sixteenths
 unfolding given
-returns c =
+returns-else-in_sixteenths c =
     let a = c.args in
-    by a.n a.delay a.times a.deadline _ _ _
-    (sym c.in_sixteenths.ensures ∙ c.if-not-in_sixteenths.false)
-    (sym c.inputs_in_sixteenths.ensures ∙ c.if-not-inputs_in_sixteenths.false)
-    (ap deadline_ok (sym (to_z-of_z c.ranges.deadline)) ∙ sym c.deadline_ok.ensures
-    ∙ c.if-not-deadline_ok.false)
+    elim c.else-in_sixteenths.branch [
+      | goal.else-in_sixteenths-via-then-in_sixteenths+then-inputs_in_sixteenths+else-deadline_ok w ↦
+          by a.n a.delay a.times a.deadline _ _ _
+          (sym c.in_sixteenths.ensures ∙ w.if-in_sixteenths.true)
+          (sym w.inputs_in_sixteenths.ensures ∙ w.if-inputs_in_sixteenths.true)
+          (ap deadline_ok (sym (to_z-of_z c.ranges.deadline)) ∙ sym w.deadline_ok.ensures ∙ w.if-deadline_ok.false)
+      | goal.else-in_sixteenths-via-then-in_sixteenths+else-inputs_in_sixteenths w ↦
+          by a.n a.delay a.times a.deadline _ _ _
+          (sym c.in_sixteenths.ensures ∙ w.if-in_sixteenths.true)
+          (sym w.inputs_in_sixteenths.ensures ∙ w.if-inputs_in_sixteenths.false) refl
+      | goal.else-in_sixteenths-via-else-in_sixteenths w ↦
+          by a.n a.delay a.times a.deadline _ _ _
+          (sym c.in_sixteenths.ensures ∙ w.if-in_sixteenths.false) refl refl
+    ]
 
 pub in_sixteenths-requires : goal.in_sixteenths-requires
 in_sixteenths-requires c = c.requires.1

@@ -19,7 +19,7 @@ unfolding list_of
 loop-i-init c =
     let a = c.args in
     let z : 0 ≡ a.e.size * 0 = omega arith in
-    (omega arith, refl, ap (λ (k : ℕ). drop k a.out.now) z)
+    (refl, ap (λ (k : ℕ). drop k a.out.now) z)
 
 pub put-requires : goal.put-requires
 put-requires c =
@@ -35,10 +35,9 @@ pub loop-i-preserved : goal.loop-i-preserved
 loop-i-preserved c =
     let a = c.args in
     let i = c.loop-i.i in (
-      omega arith,
-      c.put.auto.sheet ∙ c.loop-i.invariant.1,
+      c.put.auto.sheet ∙ c.loop-i.invariant.0,
       c.put.ensures
-          ∙ ap (λ (l : List ℕ). laid l (a.e.size * i) (encode a.e a.d (at a.sheet i))) c.loop-i.invariant.2
+          ∙ ap (λ (l : List ℕ). laid l (a.e.size * i) (encode a.e a.d (at a.sheet i))) c.loop-i.invariant.1
           ∙ laid_next a.e a.d (list_of i (at a.sheet)) (at a.sheet i) a.out.now i (length-list i (at a.sheet))
           ∙ ap (λ (cs : List Cell). sheet_bytes a.e a.d cs ++ drop (a.e.size * (i + 1)) a.out.now)
           (sym (list_more i (at a.sheet))),
@@ -48,5 +47,5 @@ pub returns : goal.returns
 returns c =
     let a = c.args in
     let f : c.loop-i.i ≡ a.sheet.count = omega arith in
-    c.loop-i.invariant.2 ∙ ap (λ (k : ℕ). sheet_bytes a.e a.d (list_of k (at a.sheet))
+    c.loop-i.invariant.1 ∙ ap (λ (k : ℕ). sheet_bytes a.e a.d (list_of k (at a.sheet))
     ++ drop (a.e.size * k) a.out.now) f

@@ -1,6 +1,6 @@
 use mathlib.Core.Path.{◌≡◌}
 use mathlib.Core.List.{◌++◌}
-use Prim.Native.Nat.{ℕ, ◌*◌, ◌-◌, ◌≤◌}
+use Prim.Native.Nat.{ℕ, ◌*◌}
 use lib.ListN.{length, get_or, drop}
 use Rattle.sheets.specs.declared.kinds.Sheet.{Sheet}
 use Rattle.sheets.specs.Network.{Cell}
@@ -14,8 +14,5 @@ at s h = network_cell (get_or s.cells h no_cell)
 
 abbrev pub invariant-loop-i : goal.invariant-loop-i
 invariant-loop-i l =
-    (l.i ≤ l.n) × (length l.out ≡ length l.initial.out)
+    (length l.out ≡ length l.initial.out)
     × (l.out ≡ sheet_bytes l.e l.d (list_of l.i (at l.sheet)) ++ drop (l.e.size * l.i) l.initial.out)
-
-abbrev pub decreases-loop-i : goal.decreases-loop-i
-decreases-loop-i l = l.n - l.i

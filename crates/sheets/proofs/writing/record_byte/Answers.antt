@@ -23,8 +23,8 @@ returns-then-j-c c =
     sym (signal_at a.e c.requires.0 a.d (network_cell a.c) a.j (omega arith) (omega arith)
     ∙ list_at a.c.k (λ j. get_or a.c.signals j 0) (a.j - 1) 255 (omega arith))
 
-pub returns-then-j-e : goal.returns-then-j-e
-returns-then-j-e c =
+pub returns-else-j-c : goal.returns-else-j-c
+returns-else-j-c c =
     let a = c.args in
     sym (signal_at a.e c.requires.0 a.d (network_cell a.c) a.j (omega arith) (omega arith)
     ∙ get_or-eq_default (network_cell a.c).signals 255 {n = a.j - 1}

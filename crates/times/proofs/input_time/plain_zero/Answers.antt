@@ -5,5 +5,5 @@ use Rattle.times.proofs.input_time.plain_zero.Goals as goal
 pub returns-then-x : goal.returns-then-x
 returns-then-x c = zero_test _ c.if-x.true
 
-pub returns : goal.returns
-returns c = other_test _ c.if-x.false
+pub returns-else-x : goal.returns-else-x
+returns-else-x c = other_test _ c.if-x.false

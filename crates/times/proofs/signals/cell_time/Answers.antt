@@ -26,7 +26,7 @@ unfolding kept_time
 loop-j-init c =
     let r = c.requires.0 in
     let l = c.args.signals.times in
-    (omega arith, r.some, default l (byte_at c.args.b.now 1) nan zero_time (rw c.requires.1 (r.known 0 r.some)))
+    default l (byte_at c.args.b.now 1) nan zero_time (rw c.requires.1 (r.known 0 r.some))
 
 pub overflow_cast-first : goal.overflow_cast-first
 overflow_cast-first c = let r = c.requires.0 in omega (arith, r.known 0 r.some)
@@ -34,11 +34,8 @@ overflow_cast-first c = let r = c.requires.0 in omega (arith, r.known 0 r.some)
 pub overflow_cast-t : goal.overflow_cast-t
 overflow_cast-t c = let r = c.requires.0 in omega (arith, r.known c.loop-j.j (omega arith))
 
-pub overflow_add-at : goal.overflow_add-at
-overflow_add-at c = omega arith
-
-pub bounds-b-at : goal.bounds-b-at
-bounds-b-at c =
+pub bounds-b-j : goal.bounds-b-j
+bounds-b-j c =
     let r = c.requires.0 in
     omega (arith, r.long, r.few, r.sound.ends, r.sound.order)
 
@@ -54,11 +51,10 @@ loop-j-preserved c =
     let l = c.args.signals.times in
     let b = c.args.b.now in
     let j = c.loop-j.j in
-    let here = default l (byte_at b (j + 1)) nan zero_time (rw c.requires.1 (r.known j (omega arith))) in (
-      omega arith,
-      omega arith,
-      c.keep-time.ensures ∙ ap₂ (keeping c.args.late) c.loop-j.invariant.2 here
-          ∙ kept_more (keeping c.args.late) j (time_here l b) c.loop-j.invariant.0,
+    let here = default l (byte_at b (j + 1)) nan zero_time (rw c.requires.1 (r.known j (omega arith))) in
+    (
+    c.keep-time.ensures ∙ ap₂ (keeping c.args.late) c.loop-j.invariant here
+    ∙ kept_more (keeping c.args.late) j (time_here l b) (omega arith)
     )
 
 pub returns : goal.returns
@@ -66,7 +62,7 @@ returns c =
     let l = c.args.signals.times in
     let b = c.args.b.now in
     let z : c.loop-j.j ≡ byte_at b 0 = omega arith in
-    ap (delayed c.args.delay) (c.loop-j.invariant.2
+    ap (delayed c.args.delay) (c.loop-j.invariant
     ∙ ap (λ (k : ℕ). kept_time (keeping c.args.late) (time_here l b) (k - 1)) z)
     ∙ sym (cell_at_lem (keeping c.args.late) (delayed c.args.delay) c.args.e (byte_at b) (λ h. get_or l h zero_time)
     c.requires.0.some)

@@ -1,4 +1,4 @@
-use Rattle.std.proofs.Common.{◌≡◌, ℕ, ◌+◌, ◌-◌, ◌≤◌, List, get_or}
+use Rattle.std.proofs.Common.{◌≡◌, ℕ, ◌+◌, ◌-◌, List, get_or}
 use lib.Ieee.{Float}
 use Rattle.sheets.specs.Record.{byte_at}
 use Rattle.times.specs.InputTimes.{zero_time}
@@ -11,7 +11,4 @@ time_here times b j = get_or times (byte_at b (j + 1)) zero_time
 
 abbrev pub invariant-loop-j : goal.invariant-loop-j
 invariant-loop-j l =
-    (1 ≤ l.j) × (l.j ≤ byte_at l.b 0) × (l.time ≡ kept_time (keeping l.late) (time_here l.signals.times l.b) (l.j - 1))
-
-abbrev pub decreases-loop-j : goal.decreases-loop-j
-decreases-loop-j l = byte_at l.b 0 - l.j
+    (l.time ≡ kept_time (keeping l.late) (time_here l.signals.times l.b) (l.j - 1))

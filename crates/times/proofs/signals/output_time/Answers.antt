@@ -13,7 +13,6 @@ pub loop-i-init : goal.loop-i-init
 unfolding of_bits
 loop-i-init c =
     let a = c.args in (
-      omega arith,
       c.requires.2,
       passed_none (keeping a.late) (delayed a.delay) a.e a.s.now a.m a.n zero_time
           (λ t. get_or a.inputs.times t zero_time),
@@ -32,17 +31,17 @@ pub cell_time-time-requires : goal.cell_time-time-requires
 cell_time-time-requires c = (
   subst (λ (r : List ℕ). Timeable c.args.e r) (sym c.record_of.ensures)
       (c.requires.0.reads c.loop-i.i (omega arith)),
-  c.loop-i.invariant.1,
+  c.loop-i.invariant.0,
 )
 
-pub overflow_add-top : goal.overflow_add-top
-overflow_add-top c = omega (arith, c.requires.0.most, c.requires.1)
+pub overflow_add-signals : goal.overflow_add-signals
+overflow_add-signals c = omega (arith, c.requires.0.most, c.requires.1)
 
-pub offset_bounds-signals-top : goal.offset_bounds-signals-top
-offset_bounds-signals-top c = omega (arith, c.requires.0.most, c.requires.1)
+pub offset_bounds-signals-n : goal.offset_bounds-signals-n
+offset_bounds-signals-n c = omega (arith, c.requires.0.most, c.requires.1)
 
-pub bounds-signals-top : goal.bounds-signals-top
-bounds-signals-top c = omega (arith, c.requires.0.most, c.requires.1)
+pub bounds-signals-n : goal.bounds-signals-n
+bounds-signals-n c = omega (arith, c.requires.0.most, c.requires.1)
 
 pub loop-i-preserved : goal.loop-i-preserved
 loop-i-preserved c =
@@ -51,18 +50,17 @@ loop-i-preserved c =
     let o = c.cell_time-time.result in
     let k = keeping a.late in
     let d = delayed a.delay in (
-      omega arith,
-      length-set l (a.n + c.loop-i.i) o ∙ c.loop-i.invariant.1,
+      length-set l (a.n + c.loop-i.i) o ∙ c.loop-i.invariant.0,
       passed_more k d a.e a.s.now a.m _ a.n c.loop-i.i c.loop-i.time o (λ h. get_or l h zero_time)
           (λ h. get_or (set l (a.n + c.loop-i.i) o) h zero_time) (omega arith)
           (c.cell_time-time.ensures ∙ ap (λ (b : List ℕ). cell_time k d (cell_of a.e (byte_at b)) (λ h. get_or l h zero_time))
           c.record_of.ensures)
           (λ h. written_at l (a.n + c.loop-i.i) o zero_time h
-          (omega (arith, c.loop-i.invariant.1, c.requires.0.most, c.requires.1))) c.loop-i.invariant.2,
+          (omega (arith, c.loop-i.invariant.0, c.requires.0.most, c.requires.1))) c.loop-i.invariant.1,
     )
 
 pub returns : goal.returns
 returns c =
     let a = c.args in
     sym (passed_all (keeping a.late) (delayed a.delay) a.e a.s.now a.m _ a.n c.loop-i.i
-    c.loop-i.time (λ h. get_or c.loop-i.signals.times h zero_time) (omega arith) c.loop-i.invariant.2)
+    c.loop-i.time (λ h. get_or c.loop-i.signals.times h zero_time) (omega arith) c.loop-i.invariant.1)

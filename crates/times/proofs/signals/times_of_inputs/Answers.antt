@@ -11,7 +11,6 @@ pub loop-j-init : goal.loop-j-init
 loop-j-init c =
     let a = c.args in
     let z = c.zeros-signals.ensures in (
-      omega arith,
       ap length z ∙ length-replicate most_signals zero_time,
       λ h. no_inputs a.late a.said _ most_signals h
           z,
@@ -27,14 +26,13 @@ pub loop-j-preserved : goal.loop-j-preserved
 loop-j-preserved c =
     let a = c.args in
     let v = c.loop-j.invariant in (
-      omega arith,
-      length-set c.loop-j.signals.times c.loop-j.j c.time_of.result ∙ v.1,
+      length-set c.loop-j.signals.times c.loop-j.j c.time_of.result ∙ v.0,
       one_input a.late a.said c.loop-j.signals.times c.loop-j.j c.time_of.result
-          (omega (arith, v.1, c.requires)) c.time_of.ensures v.2,
+          (omega (arith, v.0, c.requires)) c.time_of.ensures v.1,
     )
 
 pub returns : goal.returns
 returns c =
     let a = c.args in
     let z : c.loop-j.j ≡ a.n = omega arith in
-    (c.loop-j.invariant.1, λ h. c.loop-j.invariant.2 h ∙ ap (λ (k : ℕ). input_times a.late k a.said h) z)
+    (c.loop-j.invariant.0, λ h. c.loop-j.invariant.1 h ∙ ap (λ (k : ℕ). input_times a.late k a.said h) z)

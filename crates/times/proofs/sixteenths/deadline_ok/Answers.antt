@@ -10,8 +10,9 @@ returns-then-deadline-geminus1048576 c =
     ∙ sym (ap (λ (b : Bool). b && le_z c.args.deadline (pos 1048576))
     (ap (le_z (negsuc 1048575)) (sym e) ∙ c.if-deadline-geminus1048576.true))
 
-pub returns : goal.returns
-returns c =
+pub returns-else-deadline-geminus1048576 : goal.returns-else-deadline-geminus1048576
+returns-else-deadline-geminus1048576 c =
     let e = to_z-of_z c.ranges.deadline in
-    sym (ap (λ (b : Bool). b && le_z c.args.deadline (pos 1048576))
+    c.if-deadline-geminus1048576.false
+    ∙ sym (ap (λ (b : Bool). b && le_z c.args.deadline (pos 1048576))
     (ap (le_z (negsuc 1048575)) (sym e) ∙ c.if-deadline-geminus1048576.false))

@@ -1,10 +1,8 @@
 -- `inputs_in_sixteenths` meets its contract. The loop's invariant: each input passed is in sixteenths. Assumes nothing.
-use Rattle.std.proofs.Common.{◌≡◌, ℕ, true, sym, refl, ap, ◌∙◌, arith}
-use borrow.Author.Tests.{not-true, not-false}
+use Rattle.std.proofs.Common.{◌≡◌, ℕ, sym, refl, ap, ◌∙◌, arith}
 use Rattle.bits.specs.Below.{every}
 use Rattle.bits.proofs.Below.{every_at, every_more, every_stop}
 use Rattle.times.specs.InputTimes.{sound_time, time_at}
-use Rattle.times.specs.Sixteenths.{time_in_sixteenths}
 use Rattle.times.proofs.sixteenths.inputs_in_sixteenths.Invariants.{whole}
 use Rattle.times.proofs.sixteenths.inputs_in_sixteenths.Goals as goal
 
@@ -23,17 +21,17 @@ returns-then-not-time_in_sixteenths c =
 
 pub loop-j-preserved : goal.loop-j-preserved
 loop-j-preserved c =
-    let a = c.args in (
-      omega arith,
-      every_more c.loop-j.j (whole a.times) c.loop-j.invariant.1
-          (sym c.time_in_sixteenths.ensures ∙ c.if-not-time_in_sixteenths.false),
+    let a = c.args in
+    (
+    every_more c.loop-j.j (whole a.times) c.loop-j.invariant
+    (sym c.time_in_sixteenths.ensures ∙ c.if-not-time_in_sixteenths.false)
     )
 
 pub returns : goal.returns
 returns c =
     let a = c.args in
     let z : c.loop-j.j ≡ a.n = omega arith in
-    sym c.loop-j.invariant.1 ∙ ap (λ (k : ℕ). every k (whole a.times)) z
+    sym c.loop-j.invariant ∙ ap (λ (k : ℕ). every k (whole a.times)) z
 
 pub loop-j-init : goal.loop-j-init
-loop-j-init c = (omega arith, refl)
+loop-j-init c = refl

@@ -1,7 +1,6 @@
 -- `time_in_sixteenths` meets its contract, kind by kind. Assumes nothing.
 use Rattle.std.proofs.Common.{◌≡◌, Bool, true, ◌&&◌, sym, refl, ap, ◌∙◌}
 use lib.Ieee.{Float, le}
-use borrow.Author.Tests.{not-true, not-false}
 use Rattle.bits.proofs.Bools.{and_left, and_right}
 use Rattle.times.specs.declared.input_time.InputTime.{InputTime}
 use Rattle.times.specs.declared.input_time.InputTime.TheVariants.{Arrival, Between}
@@ -31,21 +30,21 @@ in_sixteenths-requires c = one c.requires c.in-Arrival.is
 pub in_sixteenths-requires-in-Between : goal.in_sixteenths-requires-in-Between
 in_sixteenths-requires-in-Between c = (two c.requires c.in-Between.is).0
 
-pub returns-then-not-in_sixteenths : goal.returns-then-not-in_sixteenths
-returns-then-not-in_sixteenths c =
-    at c.in-Between.is
-    (sym c.in_sixteenths-in-Between.ensures ∙ c.if-not-in_sixteenths.true) refl
+pub returns-else-in_sixteenths : goal.returns-else-in_sixteenths
+returns-else-in_sixteenths c =
+    c.if-in_sixteenths.false ∙ at c.in-Between.is
+    (sym c.in_sixteenths-in-Between.ensures ∙ c.if-in_sixteenths.false) refl
 
-pub in_sixteenths-requires-in-Between-2 : goal.in_sixteenths-requires-in-Between-2
-in_sixteenths-requires-in-Between-2 c =
+pub in_sixteenths-requires-then-in_sixteenths : goal.in_sixteenths-requires-then-in_sixteenths
+in_sixteenths-requires-then-in_sixteenths c =
     (two c.requires
     c.in-Between.is).1
 
-pub returns-else-not-in_sixteenths : goal.returns-else-not-in_sixteenths
-returns-else-not-in_sixteenths c =
+pub returns-then-in_sixteenths : goal.returns-then-in_sixteenths
+returns-then-in_sixteenths c =
     at c.in-Between.is
-    (sym c.in_sixteenths-in-Between.ensures ∙ c.if-not-in_sixteenths.false)
-    (sym c.in_sixteenths-in-Between-2.ensures)
+    (sym c.in_sixteenths-in-Between.ensures ∙ c.if-in_sixteenths.true)
+    (sym c.in_sixteenths-then-in_sixteenths.ensures)
 
 pub returns-in-Arrival : goal.returns-in-Arrival
 returns-in-Arrival c = c.in_sixteenths.ensures ∙ sym (ap time_in_sixteenths c.in-Arrival.is)

@@ -11,8 +11,8 @@ returns-then-w-eq-LAST c =
     c.second.ensures ∙ ap (λ (t : Bool). cond t second_edition first_edition)
     (sym (eq-eqb c.args.w last_edition c.if-w-eq-LAST.true))
 
-pub returns : goal.returns
+pub returns-else-w-eq-LAST : goal.returns-else-w-eq-LAST
 unfolding edition_of
-returns c =
+returns-else-w-eq-LAST c =
     c.first.ensures ∙ ap (λ (t : Bool). cond t second_edition first_edition)
     (sym (ne_eqb c.args.w last_edition c.if-w-eq-LAST.false))
