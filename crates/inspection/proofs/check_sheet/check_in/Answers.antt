@@ -1,6 +1,6 @@
 -- `check_in` meets its contract: each return is the first line that holds, or that none does; a good sheet can be run.
 -- Assumes nothing.
-use mathlib.Core.Path.{◌≡◌, refl, sym, ap, ◌∙◌}
+use mathlib.Core.Path.{◌≡◌, refl, sym, ap, ◌∙◌, subst}
 use mathlib.Core.Bool.{true}
 use mathlib.Core.List.{List, [], ◌∷◌, ◌++◌}
 use Prim.Native.Nat.{ℕ, ◌^◌, ◌<◌, ◌≤◌}
@@ -96,7 +96,7 @@ returns-in-Some c =
     let h = found_there (2 ^ a.n) x _ (sym c.in-Some.ensures) in
     ap (λ (k : ℕ). Refused (refusal 12 k)) (sym h.0)
     ∙ decided (ls a.e a.d a.n a.s.now) (ms a.e a.n a.t.now a.s.now) _ c.sheet.ensures (said_ok _ _ c.in_ok-sheet.was)
-    (here (lt-ltb x (2 ^ a.n) h.1))
+    (here (lt-ltb x (2 ^ a.n) (subst (λ (k : ℕ). k < 2 ^ a.n) (sym h.0) h.1)))
     ∙ behind a.e a.d a.n a.t.now a.s.now _ c.table.ensures (said_ok _ _ c.in_ok-table.was)
 
 pub all_read-requires : goal.all_read-requires
