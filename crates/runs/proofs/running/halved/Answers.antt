@@ -5,16 +5,8 @@ use native.Mathlib.Omega.{arith}
 use Rattle.bits.specs.Numbers.{bit}
 use Rattle.sheets.specs.Record.{byte_at}
 use Rattle.runs.specs.Running.{input_at}
-use Rattle.runs.proofs.Halving.{Halved, halved_none, halved_more, halved_all}
+use Rattle.runs.proofs.Halving.{Halved, halved_more, halved_all}
 use Rattle.runs.proofs.running.halved.Goals as goal
-
-pub loop-j-init : goal.loop-j-init
-loop-j-init c =
-    let a = c.args in (
-      omega arith,
-      halved_none 6
-          (input_at (byte_at a.b.now) (bit a.w)) a.t,
-    )
 
 pub loop-j-preserved : goal.loop-j-preserved
 loop-j-preserved c =

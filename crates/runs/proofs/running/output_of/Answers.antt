@@ -1,12 +1,11 @@
 -- `output_of` meets its contract: inputs 6 and 7 make the number of a word, and the word's bit is the cell's. Assumes
 -- nothing.
 use mathlib.Core.Path.{◌≡◌, ◌∙◌}
-use Prim.Native.Nat.{◌+◌, ◌*◌, ◌<◌}
+use Prim.Native.Nat.{◌+◌, ◌*◌}
 use native.Mathlib.Omega.{arith}
 use mir.Val.{bool_byte}
 use Rattle.bits.specs.Numbers.{bit, number}
 use Rattle.bits.proofs.Building.{bool_digit}
-use Rattle.bits.proofs.Numbers.{number_lt}
 use Rattle.sheets.specs.Record.{byte_at}
 use Rattle.runs.specs.Running.{input_at}
 use Rattle.runs.proofs.Choosing.{word_there, output-word}
@@ -22,9 +21,6 @@ high : (c : lts.After-value2 tie.the-claims reads.Pre reads.Post) → let a = c.
 unfolding number
 high c = omega (arith, bool_digit c.value.ensures, bool_digit c.value-2.ensures)
 
-few : (c : lts.After-value2 tie.the-claims reads.Pre reads.Post) → bool_byte c.value.result + 2 * bool_byte c.value-2.result < 4
-few c = let a = c.args in omega (arith, high c, number_lt 2 (λ j. input_at (byte_at a.b.now) (bit a.w) (6 + j)))
-
 pub bits_from-requires : goal.bits_from-requires
 bits_from-requires c =
     word_there c.args.e c.args.b.now c.requires (bit c.args.w) (high c.before.before)
@@ -35,12 +31,3 @@ returns c =
     c.halved.ensures
     ∙ output-word a.e a.b.now c.requires (bit a.w) (high c.before.before.before.before)
     c.bits_from.result c.bits_from.ensures
-
-pub overflow_mul-high : goal.overflow_mul-high
-overflow_mul-high c = omega (arith, few c.before)
-
-pub overflow_add-high : goal.overflow_add-high
-overflow_add-high c = omega (arith, few c.before)
-
-pub overflow_mul-high-2 : goal.overflow_mul-high-2
-overflow_mul-high-2 c = omega (arith, few c.before.before)

@@ -16,12 +16,6 @@ returns-then-b-j c =
     let b = byte_at a.b.now in
     bit-zero i ∙ sym (ap (λ (t : Bool). t && lane a.words.now i (b (a.j + 1))) (le-ltb a.j (b 0) (omega arith)))
 
-pub offset_bounds-words-b : goal.offset_bounds-words-b
-offset_bounds-words-b c = omega (arith, c.type_inv.b (c.args.j + 1))
-
-pub bounds-words-b : goal.bounds-words-b
-bounds-words-b c = omega (arith, c.requires.0.readable.below c.args.j (omega arith))
-
 pub returns : goal.returns
 returns c =
     λ i.

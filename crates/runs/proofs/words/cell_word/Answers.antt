@@ -23,11 +23,6 @@ loop-j-init c =
           ∙ left-none (cell_bit a.e b) (input_at b (lane a.words.now i)) (b 0 - 1) h),
     )
 
-pub overflow_shl-j : goal.overflow_shl-j
-overflow_shl-j c =
-    let p = c.requires in
-    omega (arith, p.0.sound.eight, p.0.readable.few)
-
 pub halve-requires : goal.halve-requires
 halve-requires c =
     let p = c.requires in
@@ -59,9 +54,6 @@ loop-j-preserved c =
           (λ k. i.ensures k ∙ ap (input_at b (lane a.words.now k)) up)
           h.ensures c.loop-j.invariant.2,
     )
-
-pub bounds-v-0 : goal.bounds-v-0
-bounds-v-0 c = omega (arith, c.loop-j.invariant.1, c.first_half-others.auto.v, c.requires.2)
 
 pub shape_of-v : goal.shape_of-v
 shape_of-v c = c.loop-j.invariant.1 ∙ c.first_half-others.auto.v

@@ -6,7 +6,7 @@ use native.Mathlib.Omega.{arith}
 use lib.ListN.{get_or}
 use Rattle.bits.specs.Patterns.{chosen}
 use Rattle.bits.proofs.Inputs.{chosen-bit}
-use Rattle.bits.proofs.Filling.{filled_none, filled_more}
+use Rattle.bits.proofs.Filling.{filled_more}
 use Rattle.runs.proofs.Choosing.{lane_filled}
 use Rattle.runs.proofs.words.halve.Goals as goal
 
@@ -24,6 +24,3 @@ returns c =
     let a = c.args in
     lane_filled c.loop-h.invariant i h (omega arith)
     ∙ chosen-bit a.s (get_or a.v.now h 0) (get_or a.v.now (a.half + h) 0) i g
-
-pub loop-h-init : goal.loop-h-init
-loop-h-init c = filled_none (omega arith)

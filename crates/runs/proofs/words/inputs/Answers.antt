@@ -7,7 +7,7 @@ use native.Mathlib.Omega.{arith}
 use lib.ListN.{get_or, replicate, get_or-replicate, get_or-eq_default}
 use Rattle.bits.specs.Numbers.{bit}
 use Rattle.bits.proofs.Numbers.{bit-number, bit-zero, bit_high}
-use Rattle.bits.proofs.Filling.{filled_none, filled_more}
+use Rattle.bits.proofs.Filling.{filled_more}
 use Rattle.runs.proofs.Choosing.{lane_filled}
 use Rattle.runs.proofs.words.inputs.Goals as goal
 
@@ -33,6 +33,3 @@ returns c = (
             ∙ sym (bit_high (64 * a.w + i) a.n s h (omega arith))
       ],
 )
-
-pub loop-j-init : goal.loop-j-init
-loop-j-init c = filled_none (omega arith)

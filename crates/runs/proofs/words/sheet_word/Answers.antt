@@ -5,7 +5,7 @@ use mathlib.Core.Bool.{Bool}
 use mathlib.Core.List.{List}
 use Prim.Native.Nat.{ℕ, ◌+◌, ◌*◌}
 use native.Mathlib.Omega.{arith}
-use lib.ListN.{length, set, length-set}
+use lib.ListN.{set, length-set}
 use Rattle.bits.specs.Numbers.{bit}
 use Rattle.bits.proofs.Numbers.{bit-zero}
 use Rattle.sheets.specs.Network.{output}
@@ -13,7 +13,6 @@ use Rattle.sheets.specs.Record.{byte_at, cell_of}
 use Rattle.sheets.specs.Sheet.{sheet_bit}
 use Rattle.runs.specs.Words.{lane}
 use Rattle.runs.proofs.Runs.{record_read, Ran, ran_none, ran_more, ran_all}
-use Rattle.sheets.proofs.Places.{record_within}
 use Rattle.runs.proofs.Choosing.{lane-set, first_of}
 use Rattle.runs.proofs.words.sheet_word.Goals as goal
 
@@ -27,15 +26,6 @@ loop-i-init c =
           subst (λ (b : Bool). Ran a.e a.s.now a.m (sheet_bit a.e a.n a.s.now a.m (64 * a.w + j))
           a.n 0 b (lane i.result j)) (sym (bit-zero j))
           (ran_none a.e a.s.now a.m a.n (64 * a.w + j) (lane i.result j) (λ s. i.ensures.1 j s l h)),
-    )
-
-pub record_of-requires : goal.record_of-requires
-record_of-requires c =
-    let a = c.args in (
-      c.requires.edition.0,
-      omega arith,
-      record_within a.e.size c.loop-i.i a.m (length a.s.now)
-          (omega arith) c.requires.edition.3,
     )
 
 pub cell_word-o-requires : goal.cell_word-o-requires

@@ -15,8 +15,5 @@ returns c =
     filled_whole c.loop-j.invariant (omega arith) (omega arith)
     ∙ ap (λ (k : ℕ). list_of k (record_byte a.e a.d (network_cell a.c))) c.requires.2
 
-pub loop-j-init : goal.loop-j-init
-loop-j-init c = filled_none (omega arith)
-
 pub loop-j-preserved : goal.loop-j-preserved
 loop-j-preserved c = filled_more c.loop-j.invariant (omega arith) (omega arith) c.record_byte.ensures

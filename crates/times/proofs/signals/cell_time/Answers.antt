@@ -9,41 +9,12 @@ use Rattle.times.proofs.Passing.{kept_more, cell_at_lem}
 use Rattle.times.proofs.signals.cell_time.Invariants.{time_here}
 use Rattle.times.proofs.signals.cell_time.Goals as goal
 
-pub bounds-b-0 : goal.bounds-b-0
-bounds-b-0 c = let r = c.requires.0 in omega (arith, r.long, r.sound.ends, r.sound.order)
-
-pub bounds-b-1 : goal.bounds-b-1
-bounds-b-1 c = let r = c.requires.0 in omega (arith, r.long, r.sound.ends, r.sound.order)
-
-pub offset_bounds-signals-first : goal.offset_bounds-signals-first
-offset_bounds-signals-first c = let r = c.requires.0 in omega (arith, r.known 0 r.some)
-
-pub bounds-signals-first : goal.bounds-signals-first
-bounds-signals-first c = let r = c.requires.0 in r.known 0 r.some
-
 pub loop-j-init : goal.loop-j-init
 unfolding kept_time
 loop-j-init c =
     let r = c.requires.0 in
     let l = c.args.signals.times in
     default l (byte_at c.args.b.now 1) nan zero_time (rw c.requires.1 (r.known 0 r.some))
-
-pub overflow_cast-first : goal.overflow_cast-first
-overflow_cast-first c = let r = c.requires.0 in omega (arith, r.known 0 r.some)
-
-pub overflow_cast-t : goal.overflow_cast-t
-overflow_cast-t c = let r = c.requires.0 in omega (arith, r.known c.loop-j.j (omega arith))
-
-pub bounds-b-j : goal.bounds-b-j
-bounds-b-j c =
-    let r = c.requires.0 in
-    omega (arith, r.long, r.few, r.sound.ends, r.sound.order)
-
-pub offset_bounds-signals-t : goal.offset_bounds-signals-t
-offset_bounds-signals-t c = let r = c.requires.0 in omega (arith, r.known c.loop-j.j (omega arith))
-
-pub bounds-signals-t : goal.bounds-signals-t
-bounds-signals-t c = let r = c.requires.0 in r.known c.loop-j.j (omega arith)
 
 pub loop-j-preserved : goal.loop-j-preserved
 loop-j-preserved c =

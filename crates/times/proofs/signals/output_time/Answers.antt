@@ -1,8 +1,7 @@
 -- `output_time` meets its contract. The loop's invariant: what is left gives the output's time. Assumes nothing.
-use Rattle.std.proofs.Common.{ℕ, ◌+◌, List, length, get_or, set, sym, ap, ◌∙◌, subst, arith, length-set}
+use Rattle.std.proofs.Common.{ℕ, ◌+◌, List, get_or, set, sym, ap, ◌∙◌, subst, arith, length-set}
 use lib.Ieee.{of_bits}
 use Rattle.sheets.specs.Record.{byte_at, cell_of}
-use Rattle.sheets.proofs.Places.{record_within}
 use Rattle.times.specs.InputTimes.{zero_time}
 use Rattle.times.specs.Reading.{Timeable}
 use Rattle.times.specs.Signals.{keeping, delayed, cell_time}
@@ -18,30 +17,12 @@ loop-i-init c =
           (λ t. get_or a.inputs.times t zero_time),
     )
 
-pub record_of-requires : goal.record_of-requires
-record_of-requires c =
-    let a = c.args in (
-      c.requires.0.sound,
-      omega (arith, c.requires.0.most),
-      record_within a.e.size c.loop-i.i a.m
-          (length a.s.now) (omega arith) c.requires.0.long,
-    )
-
 pub cell_time-time-requires : goal.cell_time-time-requires
 cell_time-time-requires c = (
   subst (λ (r : List ℕ). Timeable c.args.e r) (sym c.record_of.ensures)
       (c.requires.0.reads c.loop-i.i (omega arith)),
   c.loop-i.invariant.0,
 )
-
-pub overflow_add-signals : goal.overflow_add-signals
-overflow_add-signals c = omega (arith, c.requires.0.most, c.requires.1)
-
-pub offset_bounds-signals-n : goal.offset_bounds-signals-n
-offset_bounds-signals-n c = omega (arith, c.requires.0.most, c.requires.1)
-
-pub bounds-signals-n : goal.bounds-signals-n
-bounds-signals-n c = omega (arith, c.requires.0.most, c.requires.1)
 
 pub loop-i-preserved : goal.loop-i-preserved
 loop-i-preserved c =

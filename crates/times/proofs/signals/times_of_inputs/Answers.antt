@@ -16,12 +16,6 @@ loop-j-init c =
           z,
     )
 
-pub bounds-said-j : goal.bounds-said-j
-bounds-said-j c = omega (arith, c.requires)
-
-pub bounds-signals-j : goal.bounds-signals-j
-bounds-signals-j c = omega (arith, c.requires)
-
 pub loop-j-preserved : goal.loop-j-preserved
 loop-j-preserved c =
     let a = c.args in

@@ -1,13 +1,10 @@
 -- `inputs_in_sixteenths` meets its contract. The loop's invariant: each input passed is in sixteenths. Assumes nothing.
-use Rattle.std.proofs.Common.{◌≡◌, ℕ, sym, refl, ap, ◌∙◌, arith}
+use Rattle.std.proofs.Common.{◌≡◌, ℕ, sym, ap, ◌∙◌, arith}
 use Rattle.bits.specs.Below.{every}
 use Rattle.bits.proofs.Below.{every_at, every_more, every_stop}
 use Rattle.times.specs.InputTimes.{sound_time, time_at}
 use Rattle.times.proofs.sixteenths.inputs_in_sixteenths.Invariants.{whole}
 use Rattle.times.proofs.sixteenths.inputs_in_sixteenths.Goals as goal
-
-pub bounds-times-j : goal.bounds-times-j
-bounds-times-j c = omega (arith, c.requires.0)
 
 pub time_in_sixteenths-requires : goal.time_in_sixteenths-requires
 time_in_sixteenths-requires c =
@@ -32,6 +29,3 @@ returns c =
     let a = c.args in
     let z : c.loop-j.j ≡ a.n = omega arith in
     sym c.loop-j.invariant ∙ ap (λ (k : ℕ). every k (whole a.times)) z
-
-pub loop-j-init : goal.loop-j-init
-loop-j-init c = refl
