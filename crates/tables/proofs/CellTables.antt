@@ -76,7 +76,9 @@ words_padded end c k F h past = sym (list-of c f (l ++ r) 0 long at)
     many = length-list end f
 
     long : length (l ++ r) ≡ c
-    long = let none : List ℕ = replicate c 0 in omega (arith, length-append l r, length-drop end none, length-replicate {A = ℕ} c 0, many)
+    long =
+        let zeros : List ℕ = replicate c 0 in
+        omega (arith, length-append l r, length-drop end zeros, length-replicate {A = ℕ} c 0, many)
 
     at : (w : ℕ) → w < c → f w ≡ get_or (l ++ r) w 0
     at w g = elim (dec_lt w end) [

@@ -1,5 +1,6 @@
 -- Tables 64 assignments at a time.
-use Rattle.std.specs.Prelude.{◌≡◌, Bool, true, false, not, ◌&&◌, List, Option, Some, None, ℕ, ◌+◌, ◌-◌, ◌*◌, ◌/◌, ◌^◌, ◌<◌, ◌≤◌, ltb, length}
+use Rattle.std.specs.Prelude.{◌≡◌, Bool, true, false, not, ◌&&◌, List, ℕ, ◌+◌, ◌-◌, ◌*◌, ◌/◌, ◌^◌, ◌<◌, ◌≤◌, ltb, length}
+use Rattle.std.specs.Prelude.{Option, Some, None}
 use Rattle.bits.specs.Numbers.{bit, number}
 use Rattle.tables.specs.Table.{table_bit}
 use Rattle.tables.specs.Counting.{Sees, counts}

@@ -38,13 +38,14 @@ loop-i-preserved c =
     let a = c.args in
     let i = c.loop-i.i in
     let F : ℕ → Bool = over a.t.now a.n a.mask in
+    let s = part a.len a.room.now (omega arith) in
     let w : c.if-i-eq0.w ≡ number 64 (λ j. F (64 * (i / 8) + j)) =
     elim c.if-i-eq0.branch [
       | then-i-eq0 u ↦ u.w-is ∙ u.word_over-w.ensures ∙ number_ext 64 _ (λ j. F (64 * (i / 8) + j))
           (λ j l. ap (table_bit a.t.now) (zero-add (spread a.n (bit a.mask) (64 * (i / 8) + j))))
       | else-i-eq0 u ↦ u.w-is ∙ c.loop-i.invariant.1 u.if-i-eq0.false
     ] in (
-      filled_more c.loop-i.invariant.0 (omega (arith, part a.len a.room.now (omega arith))) (omega arith) (c.byte_in.ensures F w),
+      filled_more c.loop-i.invariant.0 (omega (arith, s)) (omega arith) (c.byte_in.ensures F w),
       λ h. let e : i / 8 ≡ (i + 1) / 8 = omega arith in w ∙ ap (λ (k : ℕ). number 64 (λ j. F (64 * k + j))) e,
     )
 

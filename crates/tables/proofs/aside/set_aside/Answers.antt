@@ -47,13 +47,13 @@ pub pack-requires : goal.pack-requires
 pack-requires c =
     let a = c.args in
     let k = c.members.result in
+    let len = c.length_for.ensures in
     let most = few a.n a.mask k (c.members.ensures a.n c.requires.2) in (
       omega (arith, c.requires.0, length-holds a.n),
       c.requires.1,
       c.requires.2,
-      omega (arith, c.length_for.ensures, pow_mono {i = k - 3} {j = 16} (omega (arith, most, c.requires.1))),
-      omega
-          (arith, c.length_for.ensures, pow_mono {i = k - 3} {j = a.n - 3} (omega (arith, most)), c.requires.0, c.requires.3),
+      omega (arith, len, pow_mono {i = k - 3} {j = 16} (omega (arith, most, c.requires.1))),
+      omega (arith, len, pow_mono {i = k - 3} {j = a.n - 3} (omega (arith, most)), c.requires.0, c.requires.3),
     )
 
 pub returns : goal.returns

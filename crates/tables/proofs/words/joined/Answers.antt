@@ -21,11 +21,13 @@ returns c =
 pub overflow_add-r-in-loop-i : goal.overflow_add-r-in-loop-i
 overflow_add-r-in-loop-i c =
     let a = c.args in
-    let i = c.loop-i.i in
-    omega (arith, byte_fits a.t.now a.from i (omega arith) (omega (arith, c.type_inv.t (a.from + i))) c.loop-i.invariant.1)
+    let q = c.loop-i in
+    omega (arith, byte_fits a.t.now a.from q.i (omega arith) (omega (arith, c.type_inv.t (a.from + q.i))) q.invariant.1)
 
 pub loop-i-preserved : goal.loop-i-preserved
 loop-i-preserved c =
     let a = c.args in
-    let i = c.loop-i.i in
-    (omega arith, byte-joined a.t.now a.from i (omega arith) (omega (arith, c.type_inv.t (a.from + i))) c.loop-i.invariant.1)
+    let q = c.loop-i in (
+      omega arith,
+      byte-joined a.t.now a.from q.i (omega arith) (omega (arith, c.type_inv.t (a.from + q.i))) q.invariant.1,
+    )

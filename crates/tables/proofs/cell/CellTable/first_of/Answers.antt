@@ -34,7 +34,8 @@ word_of-requires c =
 pub loop-w-preserved : goal.loop-w-preserved
 loop-w-preserved c =
     let e = c.min-held.ensures in
-    filled_more c.loop-w.invariant (omega (arith, e, room c.min-held.result (omega (arith, e)))) (omega arith) c.word_of.ensures
+    let r = room c.min-held.result (omega (arith, e)) in
+    filled_more c.loop-w.invariant (omega (arith, r)) (omega arith) c.word_of.ensures
 
 pub returns : goal.returns
 returns c =
