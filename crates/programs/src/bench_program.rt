@@ -41,8 +41,7 @@ pub fn answer_input(input: &[u8], out: &mut [u8], work: &mut [u8]) -> usize
     let n = byte_or_zero(input, 0);
     let k = byte_or_zero(input, 1);
     let start = cut_at(input, 2);
-    let answer = make_sheet(n, k, &input[start..], &mut out[1..], work);
-    let verdict = answer.verdict;
-    out[0] = number_of(verdict);
-    1 + Sheet::RECORD * answer.count
+    let made = make_sheet(n, k, &input[start..], &mut out[1..], work);
+    out[0] = number_of(&made);
+    1 + Sheet::RECORD * made.unwrap_or(0)
 }

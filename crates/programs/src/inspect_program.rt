@@ -3,11 +3,12 @@
 ghost use Rattle.std.specs.Prelude.{◌≡◌, ◌≤◌, length};
 ghost use Rattle.tables.specs.Table.{most_inputs, table_length};
 ghost use Rattle.refusals.specs.Lent.{into};
+ghost use Rattle.refusals.specs.Results.{verdict_of};
 ghost use Rattle.programs.specs.InspectProgram.{decimal, inspected, most_written, program_outcome};
 
 use crate::bench_program::{byte_or_zero, cut_at};
 use inspection::check_sheet::check_sheet;
-use refusals::verdicts::{Verdict, number_of, place_of};
+use refusals::verdicts::{Refusal, number_of, place_of};
 use sheets::kinds::Sheet;
 use tables::{HALF, MOST_INPUTS, clear, length_for};
 
@@ -28,8 +29,8 @@ fn table_bytes(n: u64) -> usize
 }
 
 // Checks the sheet in the input against the table in it.
-fn inspect(input: &[u8]) -> Verdict
-    ensures { result ≡ inspected input.now }
+fn inspect(input: &[u8]) -> Result<(), Refusal>
+    ensures { verdict_of result ≡ inspected input.now }
 {
     let n = byte_or_zero(input, 0);
     let start = cut_at(input, 1);
@@ -60,9 +61,9 @@ pub fn answer_input(input: &[u8], out: &mut [u8]) -> usize
     ensures { record { count = result; out = out.new } ≡ program_outcome input.now }
 {
     clear(out);
-    let verdict = inspect(input);
-    let number = write_decimal(number_of(verdict) as u64, out);
+    let answer = inspect(input);
+    let number = write_decimal(number_of(&answer) as u64, out);
     out[number] = b' ';
-    let place = write_decimal(place_of(verdict), &mut out[number + 1..]);
+    let place = write_decimal(place_of(&answer), &mut out[number + 1..]);
     number + 1 + place
 }

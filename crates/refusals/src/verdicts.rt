@@ -1,6 +1,7 @@
 // The table of refusals: why a call says no. specs/Refusals.antt says exactly when each is given.
 ghost use Rattle.std.specs.Prelude.{◌≡◌};
-ghost use Rattle.refusals.specs.Results.{refusal_of, columns_of};
+ghost use Rattle.refusals.specs.Results.{refusal_of, verdict_of, columns_of};
+ghost use Rattle.refusals.specs.Lines.{number_of, place_of};
 ghost use Rattle.refusals.specs.Looks.{why_bad};
 
 use records::rules::BadSheet;
@@ -135,5 +136,25 @@ impl From<BadSheet> for Refusal {
             BadSheet::Length => Refusal::Sheet,
             BadSheet::Record(i) => Refusal::Record(i),
         }
+    }
+}
+
+// The paper's number of a result; 0 is done.
+pub fn number_of<T>(answer: &Result<T, Refusal>) -> u8
+    ensures { result ≡ number_of (verdict_of answer.now) }
+{
+    match answer {
+        Ok(_) => 0,
+        Err(why) => why.number(),
+    }
+}
+
+// What a result names besides, else 0.
+pub fn place_of<T>(answer: &Result<T, Refusal>) -> u64
+    ensures { result ≡ place_of (verdict_of answer.now) }
+{
+    match answer {
+        Ok(_) => 0,
+        Err(why) => why.place(),
     }
 }

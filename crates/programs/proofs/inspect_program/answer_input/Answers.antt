@@ -7,6 +7,7 @@ use native.Mathlib.Omega.{arith}
 use lib.ListN.{length, set, replicate, length-set}
 use borrow.Author.Rules.{rules}
 use borrow.Rule.Slice.PartMut.{same_len_mid}
+use Rattle.refusals.specs.Results.{verdict_of}
 use Rattle.programs.specs.InspectProgram.{most_written}
 use Rattle.programs.proofs.InspectProgram.{at_most, number_fits, behind-number, place_fits, answered}
 use Rattle.programs.proofs.inspect_program.answer_input.Goals as goal
@@ -66,10 +67,10 @@ pub returns : goal.returns
 returns c =
     answered c.clear.new.area c.number_of.result (long_room _ _ c.requires c.clear.ensures) (search rules)
     c.write_decimal-number.new.out
-    c.write_decimal-number.result c.write_decimal-number.ensures c.args.input.now c.inspect-verdict.result
+    c.write_decimal-number.result c.write_decimal-number.ensures c.args.input.now (verdict_of c.inspect-answer.result)
     c.place_of.result
     c.write_decimal-place.result c.write_decimal-place.new.out (cleared _ _ c.requires c.clear.ensures)
-    c.inspect-verdict.ensures
+    c.inspect-answer.ensures
     c.number_of.ensures
     c.place_of.ensures c.write_decimal-place.ensures
 
