@@ -124,11 +124,7 @@ pub fn literal_of(z: Size, l: Literal) -> usize
     ensures { (result ≡ literal_of z l) × (result < 2 * variables z) }
 {
     match l {
-        Literal::Said(x) => {
-            return 2 * number_of(z, x);
-        }
-        Literal::Denied(x) => {
-            return 2 * number_of(z, x) + 1;
-        }
+        Literal::Said(x) => 2 * number_of(z, x),
+        Literal::Denied(x) => 2 * number_of(z, x) + 1,
     }
 }
