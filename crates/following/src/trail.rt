@@ -5,7 +5,8 @@ ghost use Rattle.following.specs.Standing.{Trailed, Kept, Clean, Wrote, InFront}
 
 use clauses::numbers::four_at;
 
-// How far a step has come: whether a conflict is reached, and how many variables are set.
+// How far a step has come: whether a conflict is reached, and how many variables are set. (Both mean something always:
+// what is set is forgotten again after a conflict too.)
 #[derive(Clone, Copy)]
 pub struct Trail {
     pub conflict: bool,
@@ -17,10 +18,7 @@ fn put_four(area: &mut [u8], at: usize, x: usize)
     requires { (at + 4 ≤ length area.old) × (x < 4294967296) }
     ensures { Wrote area.old at x area.new }
 {
-    area[at] = (x % 256) as u8;
-    area[at + 1] = (x / 256 % 256) as u8;
-    area[at + 2] = (x / 65536 % 256) as u8;
-    area[at + 3] = (x / 16777216) as u8;
+    area[at..at + 4].copy_from_slice(&(x as u32).to_le_bytes());
 }
 
 // A literal is made true, and its variable noted behind those that are set.
@@ -40,10 +38,8 @@ pub fn forget(work: &mut [u8], from: usize, set: usize)
     ensures { (all : ℕ) (σ : ℕ → ℕ) → all ≤ from → Trailed all from σ set work.old
         → Clean all work.new × Kept all from work.old work.new }
 {
-    let mut e: usize = 0;
-    while e < set {
+    for e in 0..set {
         let v = four_at(work, from + 4 * e);
         work[v] = 0;
-        e += 1;
     }
 }

@@ -8,6 +8,3 @@ use Rattle.following.proofs.following.are_named.Given as goal
 
 abbrev pub invariant-loop-k : goal.invariant-loop-k
 invariant-loop-k l = (l.k ≤ l.many) × (every l.k (λ j. ltb (literal_at l.c l.at j / 2) l.all) ≡ true)
-
-abbrev pub decreases-loop-k : goal.decreases-loop-k
-decreases-loop-k l = l.many - l.k

@@ -7,6 +7,3 @@ use Rattle.following.proofs.following.deny_all.Given as goal
 abbrev pub invariant-loop-k : goal.invariant-loop-k
 invariant-loop-k l =
     (l.k ≤ l.many) × (l.r.set ≤ l.k) × Stands l.all l.from l.initial.work (denied (literal_at l.c l.at) l.k) l.work l.r
-
-abbrev pub decreases-loop-k : goal.decreases-loop-k
-decreases-loop-k l = l.many - l.k

@@ -13,6 +13,3 @@ invariant-loop-k l =
     (l.k ≤ l.many) × (l.r.set ≤ l.initial.r.set + l.k) × (length l.work ≡ length l.initial.work)
     × ((before : List ℕ) (f : Following) → Stands (variables l.z) l.from before f l.initial.work l.initial.r → Stands (variables l.z) l.from before
     (used (λ j. clause_at (question_in l.z l.t l.c) l.c (hint_at l.c l.at j)) f l.k) l.work l.r)
-
-abbrev pub decreases-loop-k : goal.decreases-loop-k
-decreases-loop-k l = l.many - l.k

@@ -13,6 +13,3 @@ use Rattle.following.proofs.open.open_inputs.Given as goal
 abbrev pub invariant-loop-p : goal.invariant-loop-p
 invariant-loop-p l =
     (l.p ≤ l.z.inputs) × (l.o ≡ open_after (byte_at l.work) l.initial.o (map (literal_of l.z) (those l.p (rows_differ (row_at l.c) l.a l.b) (λ k. Said (Reads l.i k)))))
-
-abbrev pub decreases-loop-p : goal.decreases-loop-p
-decreases-loop-p l = l.z.inputs - l.p

@@ -12,6 +12,3 @@ use Rattle.following.proofs.open.open_readers.Given as goal
 abbrev pub invariant-loop-k : goal.invariant-loop-k
 invariant-loop-k l =
     (l.k ≤ l.z.cells - (l.i + 1)) × (l.o ≡ open_after (byte_at l.work) Nothing (map (literal_of l.z) (list_of l.k (λ j. Said (Reads (l.i + 1 + j) (l.z.inputs + l.i))))))
-
-abbrev pub decreases-loop-k : goal.decreases-loop-k
-decreases-loop-k l = l.z.cells - (l.i + 1) - l.k
