@@ -78,14 +78,19 @@ fn hint<'a>(
 {
     match open_at(z, t, c, at, work) {
         Open::Nothing => Trail { conflict: true, set },
-        Open::One(l) if work[l / 2] == 0 => {
-            make(work, from, set, l);
-            Trail {
-                conflict: false,
-                set: set + 1,
+        Open::One(l) => {
+            let v = l / 2;
+            if work[v] == 0 {
+                make(work, from, set, l);
+                Trail {
+                    conflict: false,
+                    set: set + 1,
+                }
+            } else {
+                Trail { conflict: false, set }
             }
         }
-        _ => Trail { conflict: false, set },
+        Open::Several => Trail { conflict: false, set },
     }
 }
 

@@ -1,5 +1,4 @@
 use mathlib.Core.Path.{◌≡◌}
-use Prim.Native.Nat.{◌-◌, ◌≤◌}
 use mathlib.Core.Bool.{true}
 use Rattle.bits.specs.Below.{every}
 use lib.ListN.{length}
@@ -9,4 +8,4 @@ use Rattle.following.proofs.following.are_earlier.Given as goal
 
 abbrev pub invariant-loop-k : goal.invariant-loop-k
 invariant-loop-k l =
-    (l.k ≤ l.many) × (every l.k (λ j. begun_in l.all (length l.c) l.work (hint_at l.c l.at j)) ≡ true)
+    every l.k (λ j. begun_in l.all (length l.c) l.work (hint_at l.c l.at j)) ≡ true
