@@ -101,6 +101,8 @@ pub fn in_order(z: Size, t: &[u8], g: Given) -> bool
         Given::Swap(p, q) => {
             are_inputs(z, p, q) && can_swap(t, z.inputs as u32, p as u32, q as u32)
         }
-        Given::Sorted(p, q, i) | Given::Both(p, q, i) | Given::Neither(p, q, i) => are_sorted(z, p, q, i),
+        Given::Sorted(p, q, i) | Given::Both(p, q, i) | Given::Neither(p, q, i) => are_sorted(
+            z, p, q, i,
+        ),
     }
 }

@@ -77,7 +77,10 @@ pub fn shape_of<'a>(z: Size, c: &'a [u8], t: &'a [u8], g: Given) -> Shape
         Given::None(i) => Shape::One(Said(Many(i, 0, 0))),
         Given::Most(i) => Shape::One(Denied(Many(i, z.inputs + i, z.cell + 1))),
         Given::Cause(i, a, b) => Shape::Causes(i, a, b),
-        Given::Read(i, j, a, b) => Shape::Two(Denied(Apart(i, j, a, b)), Said(Reads(i, z.inputs + j))),
+        Given::Read(i, j, a, b) => Shape::Two(
+            Denied(Apart(i, j, a, b)),
+            Said(Reads(i, z.inputs + j)),
+        ),
         Given::Differs(i, j, a, b) => Shape::Two(Denied(Apart(i, j, a, b)), Said(Differ(j, a, b))),
         Given::Even(i, a, b, s) => even_shape(Differ(i, a, b), Differ(i, 0, a), Differ(i, 0, b), s),
         Given::Table(a, b) => table_shape(same_bits(z, c, t, a, b), Differ(z.cells - 1, a, b)),

@@ -16,7 +16,7 @@ use Rattle.tables.proofs.Placed.{placed-before, placed_in, placed-after}
 use Rattle.bits.specs.Lists.{byte_at}
 use Rattle.clauses.specs.Step.{four}
 use Rattle.following.specs.Values.{made}
-use Rattle.following.specs.Standing.{Wrote, InFront, Trailed, Kept, Clean}
+use Rattle.following.specs.Standing.{Wrote, InFront, Trailed, Kept}
 
 -- four bytes are those of another list
 pub four_same : (l m : List ℕ) (p : ℕ) → ((j : ℕ) → p ≤ j → j < p + 4 → byte_at l j ≡ byte_at m j) → four l p ≡ four m p
@@ -102,14 +102,6 @@ pub record Forgotten (from e : ℕ) (before work : List ℕ) : Type 0 where
   pub other : (j : ℕ) → ((k : ℕ) → k < e → j ≡ four before (from + 4 * k) → ⊥) → byte_at work j ≡ byte_at before j
   pub less : (j : ℕ) → (byte_at work j ≡ byte_at before j) ⊎ (byte_at work j ≡ 0)
 
-pub forgot_none : (from : ℕ) (before : List ℕ) → Forgotten from 0 before before
-forgot_none from before = record {
-  long = refl;
-  gone = λ k h. absurd (omega arith);
-  other = λ j h. refl;
-  less = λ j. inl refl;
-}
-
 module _ (from n e : ℕ) (before work : List ℕ) (room : from + 4 * n ≤ length before) (en : e < n)
     (front : InFront from n before) (f : Forgotten from e before work) where
   -- what is noted still stands there
@@ -140,12 +132,3 @@ module _ (from n e : ℕ) (before work : List ℕ) (room : from + 4 * n ≤ leng
               (f.less j)
         ];
       }
-
--- all of them forgotten
-pub forgot_all : (all from n : ℕ) (σ : ℕ → ℕ) (before work : List ℕ) → all ≤ from → Trailed all from σ n before
-    → Forgotten from n before work → Clean all work × Kept all from before work
-forgot_all all from n σ before work af t f = (
-  λ v k. ⊎_elim (λ z. ⊎_elim (λ y. y ∙ t.values v k ∙ z) (λ y. y) (f.less v))
-      (λ z. ap (byte_at work) (sym z.is) ∙ f.gone z.at z.within) (t.trail v k),
-  record { long = f.long; marks = λ j a b. f.other j (λ k l d. omega (arith, t.below k l)) },
-)

@@ -24,10 +24,16 @@ fn deny(work: &mut [u8], from: usize, set: usize, l: usize) -> Trail
     let v = l / 2;
     let value = usize::from(work[v]);
     if value == 1 + l % 2 {
-        return Trail { conflict: true, set };
+        return Trail {
+            conflict: true,
+            set,
+        };
     }
     if value == 2 - l % 2 {
-        return Trail { conflict: false, set };
+        return Trail {
+            conflict: false,
+            set,
+        };
     }
     make(work, from, set, l + 1 - 2 * (l % 2));
     Trail {
@@ -77,7 +83,10 @@ fn hint<'a>(
         work.new result) }
 {
     match open_at(z, t, c, at, work) {
-        Open::Nothing => Trail { conflict: true, set },
+        Open::Nothing => Trail {
+            conflict: true,
+            set,
+        },
         Open::One(l) => {
             let v = l / 2;
             if work[v] == 0 {
@@ -87,10 +96,16 @@ fn hint<'a>(
                     set: set + 1,
                 }
             } else {
-                Trail { conflict: false, set }
+                Trail {
+                    conflict: false,
+                    set,
+                }
             }
         }
-        Open::Several => Trail { conflict: false, set },
+        Open::Several => Trail {
+            conflict: false,
+            set,
+        },
     }
 }
 

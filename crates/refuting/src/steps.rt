@@ -46,7 +46,11 @@ fn length_there(c: &[u8], at: usize) -> Option<usize>
         return derived_length(c, at);
     }
     let many = length_of(kind)?;
-    if c.len() - at < many { None } else { Some(many) }
+    if c.len() - at < many {
+        None
+    } else {
+        Some(many)
+    }
 }
 
 // Whether the step at a place, all of which is there, is in order.
