@@ -11,6 +11,6 @@ use Rattle.clauses.specs.Step.{row_at}
 use Rattle.clauses.specs.Shapes.{HasRows}
 
 -- the table has a bit at a row
-pub bit-room : (z : Size) (c t : List ℕ) → HasRows z c → length t ≡ table_length z.inputs → (a : ℕ) → a < z.rows
+pub bit_room : (z : Size) (c t : List ℕ) → HasRows z c → length t ≡ table_length z.inputs → (a : ℕ) → a < z.rows
     → {x : ℕ} → x ≡ row_at c a → x / 8 < length t
-bit-room z c t h e a l {x} p = omega (arith, length-holds z.inputs, h.below a l)
+bit_room z c t h e a l {x} p = omega (arith, length-holds z.inputs, h.below a l)

@@ -30,7 +30,8 @@ fn row_behind(c: &[u8], at: usize, k: usize) -> usize
     usize::from(u16::from_le_bytes([byte_behind(c, at, k), byte_behind(c, at, k + 1)]))
 }
 
-// The step of a kind that has these fields; of another kind there is nothing to say.
+// The step of a kind that has these fields; of another kind there is nothing to say. (Whoever asks has looked at the
+// kind; an option would only be taken apart again. And `given_at` promises `None 0` there.)
 #[tactic(auto, unfolding(crate::specs::Step::kinds_of))]
 fn given_of(kind: u8, x: Fields) -> Given
     ensures { result ≡ get_or (kinds_of x) kind (None 0) }

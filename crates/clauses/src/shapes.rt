@@ -1,7 +1,9 @@
 // The clause of a step as literals: at most three of them, or one of two lists.
-ghost use Rattle.std.specs.Prelude.{◌≡◌, true, ℕ, ◌<◌, length};
+ghost use Rattle.std.specs.Prelude.{◌≡◌, true, ℕ, [], ◌∷◌, ◌<◌, length};
 ghost use Rattle.std.specs.Bool.{beq};
 ghost use Rattle.tables.specs.Table.{table_bit, table_length};
+ghost use Rattle.clauses.specs.declared.variables.Variable.TheVariants.{Same};
+ghost use Rattle.clauses.specs.declared.variables.Literal.TheVariants.{Denied};
 ghost use Rattle.clauses.specs.Variables.{IsSize};
 ghost use Rattle.clauses.specs.Clause.{clause, in_order, evenly, as_table};
 ghost use Rattle.clauses.specs.Step.{row_at, question_in};
@@ -33,6 +35,7 @@ pub fn row_at(z: Size, c: &[u8], a: usize) -> u32
 }
 
 // Whether the table's bits at two rows are the same.
+#[tactic(auto, using(crate::proofs::Rows::bit_room))]
 fn same_bits<'a>(z: Size, c: &'a [u8], t: &'a [u8], a: usize, b: usize) -> bool
     requires { IsSize z × HasRows z c.now × (length t.now ≡ table_length z.inputs) × (a < z.rows) × (b < z.rows) }
     ensures { result ≡ beq (table_bit t.now (row_at c.now a))
@@ -58,6 +61,13 @@ fn table_shape(same: bool, x: Variable) -> Shape
     ensures { (z : Size) (row : ℕ → ℕ) → literals_in z row result ≡ as_table same x }
 {
     Shape::One(if same { Denied(x) } else { Said(x) })
+}
+
+// Kinds 12 to 14: two swappable inputs that each cell below i reads both or neither of, and two literals more.
+fn same_shape(p: usize, q: usize, i: usize, a: Literal, b: Literal) -> Shape
+    ensures { (z : Size) (row : ℕ → ℕ) → literals_in z row result ≡ Denied (Same p q i) ∷ a ∷ b ∷ [] }
+{
+    Shape::Three(Denied(Same(p, q, i)), a, b)
 }
 
 // The clause of a step that is in order.
@@ -86,20 +96,8 @@ pub fn shape_of<'a>(z: Size, c: &'a [u8], t: &'a [u8], g: Given) -> Shape
         Given::Table(a, b) => table_shape(same_bits(z, c, t, a, b), Differ(z.cells - 1, a, b)),
         Given::Used(i) => Shape::Readers(i),
         Given::Swap(p, q) => Shape::One(Said(Same(p, q, 0))),
-        Given::Sorted(p, q, i) => Shape::Three(
-            Denied(Same(p, q, i)),
-            Denied(Reads(i, q)),
-            Said(Reads(i, p)),
-        ),
-        Given::Both(p, q, i) => Shape::Three(
-            Denied(Same(p, q, i)),
-            Denied(Reads(i, q)),
-            Said(Same(p, q, i + 1)),
-        ),
-        Given::Neither(p, q, i) => Shape::Three(
-            Denied(Same(p, q, i)),
-            Said(Reads(i, p)),
-            Said(Same(p, q, i + 1)),
-        ),
+        Given::Sorted(p, q, i) => same_shape(p, q, i, Denied(Reads(i, q)), Said(Reads(i, p))),
+        Given::Both(p, q, i) => same_shape(p, q, i, Denied(Reads(i, q)), Said(Same(p, q, i + 1))),
+        Given::Neither(p, q, i) => same_shape(p, q, i, Said(Reads(i, p)), Said(Same(p, q, i + 1))),
     }
 }
