@@ -35,11 +35,7 @@ fn deny(work: &mut [u8], from: usize, set: usize, l: usize) -> Trail
             set,
         };
     }
-    make(work, from, set, l + 1 - 2 * (l % 2));
-    Trail {
-        conflict: false,
-        set: set + 1,
-    }
+    make(work, from, set, l + 1 - 2 * (l % 2))
 }
 
 // All literals of the step, up to a conflict.
@@ -90,11 +86,7 @@ fn hint<'a>(
         Open::One(l) => {
             let v = l / 2;
             if work[v] == 0 {
-                make(work, from, set, l);
-                Trail {
-                    conflict: false,
-                    set: set + 1,
-                }
+                make(work, from, set, l)
             } else {
                 Trail {
                     conflict: false,

@@ -1,5 +1,5 @@
 // Variables that a step sets, and that are forgotten again.
-ghost use Rattle.std.specs.Prelude.{◌≡◌, ℕ, ◌+◌, ◌*◌, ◌/◌, ◌<◌, ◌≤◌, length};
+ghost use Rattle.std.specs.Prelude.{◌≡◌, false, ℕ, ◌+◌, ◌*◌, ◌/◌, ◌<◌, ◌≤◌, length};
 ghost use Rattle.following.specs.Values.{made};
 ghost use Rattle.following.specs.Standing.{Trailed, Kept, Clean, Wrote, InFront};
 
@@ -22,14 +22,19 @@ fn put_four(area: &mut [u8], at: usize, x: usize)
 }
 
 // A literal is made true, and its variable noted behind those that are set.
-pub fn make(work: &mut [u8], from: usize, set: usize, l: usize)
+pub fn make(work: &mut [u8], from: usize, set: usize, l: usize) -> Trail
     requires { (l / 2 < from) × (from + 4 * set + 4 ≤ length work.old) × (l < 4294967296) }
-    ensures { (all : ℕ) (σ : ℕ → ℕ) → all ≤ from → l / 2 < all → Trailed all from σ set work.old
+    ensures far { result ≡ record { conflict = false; set = set + 1 } }
+    ensures trail { (all : ℕ) (σ : ℕ → ℕ) → all ≤ from → l / 2 < all → Trailed all from σ set work.old
         → Trailed all from (made σ l) (set + 1) work.new × Kept all from work.old work.new }
 {
     let v = l / 2;
     put_four(work, from + 4 * set, v);
     work[v] = (1 + l % 2) as u8;
+    Trail {
+        conflict: false,
+        set: set + 1,
+    }
 }
 
 // The variables that are set, from a place on, are not set any more.

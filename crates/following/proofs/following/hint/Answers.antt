@@ -25,7 +25,7 @@ make-requires c =
 
 pub returns-then-work-v-eq0 : goal.returns-then-work-v-eq0
 returns-then-work-v-eq0 c =
-    (omega arith, λ σ t. hint-made (variables c.args.z) c.args.from c.args.set σ c.args.work.now (clause_at (question_in c.args.z c.args.t.now c.args.c.now) c.args.c.now c.args.at) (clause_below c.args.z c.requires.0 c.args.t.now c.args.c.now c.args.at c.requires.3) t c.in-One.l (open_one (variables c.args.z) (byte_at c.args.work.now) Nothing (clause_at (question_in c.args.z c.args.t.now c.args.c.now) c.args.c.now c.args.at) c.in-One.l (λ k e. let z : ◌≡◌ {A = ℕ} 0 1 = cc in omega arith) (clause_below c.args.z c.requires.0 c.args.t.now c.args.c.now c.args.at c.requires.3) (sym c.open_at.ensures ∙ c.in-One.is)) c.open_at.ensures c.in-One.is c.make.new.work c.if-work-v-eq0.true (c.make.ensures (variables c.args.z) σ c.requires.4 (open_one (variables c.args.z) (byte_at c.args.work.now) Nothing (clause_at (question_in c.args.z c.args.t.now c.args.c.now) c.args.c.now c.args.at) c.in-One.l (λ k e. let z : ◌≡◌ {A = ℕ} 0 1 = cc in omega arith) (clause_below c.args.z c.requires.0 c.args.t.now c.args.c.now c.args.at c.requires.3) (sym c.open_at.ensures ∙ c.in-One.is)) t))
+    rw c.make.ensures.far (omega arith, λ σ t. hint-made (variables c.args.z) c.args.from c.args.set σ c.args.work.now (clause_at (question_in c.args.z c.args.t.now c.args.c.now) c.args.c.now c.args.at) (clause_below c.args.z c.requires.0 c.args.t.now c.args.c.now c.args.at c.requires.3) t c.in-One.l (open_one (variables c.args.z) (byte_at c.args.work.now) Nothing (clause_at (question_in c.args.z c.args.t.now c.args.c.now) c.args.c.now c.args.at) c.in-One.l (λ k e. let z : ◌≡◌ {A = ℕ} 0 1 = cc in omega arith) (clause_below c.args.z c.requires.0 c.args.t.now c.args.c.now c.args.at c.requires.3) (sym c.open_at.ensures ∙ c.in-One.is)) c.open_at.ensures c.in-One.is c.make.new.work c.if-work-v-eq0.true (c.make.ensures.trail (variables c.args.z) σ c.requires.4 (open_one (variables c.args.z) (byte_at c.args.work.now) Nothing (clause_at (question_in c.args.z c.args.t.now c.args.c.now) c.args.c.now c.args.at) c.in-One.l (λ k e. let z : ◌≡◌ {A = ℕ} 0 1 = cc in omega arith) (clause_below c.args.z c.requires.0 c.args.t.now c.args.c.now c.args.at c.requires.3) (sym c.open_at.ensures ∙ c.in-One.is)) t))
 
 pub returns-else-work-v-eq0 : goal.returns-else-work-v-eq0
 returns-else-work-v-eq0 c =
