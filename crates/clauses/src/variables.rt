@@ -60,7 +60,7 @@ fn same_from(z: Size) -> usize
 }
 
 // How many there are in all.
-#[tactic(auto, using(crate::proofs::Sizes::from, crate::proofs::Sizes::variables_most), unfolding(crate::specs::Variables::same_many))]
+#[tactic(auto, using(crate::proofs::Sizes::variables_most), unfolding(crate::specs::Variables::same_many))]
 pub fn all_variables(z: Size) -> usize
     requires { IsSize z }
     ensures { (result ≡ variables z) × (result < number_limit) }
