@@ -1,8 +1,8 @@
 -- What the clause of a step in order names exists. Assumes nothing.
-use mathlib.Core.Path.{◌≡◌, refl}
+use mathlib.Core.Path.{◌≡◌}
 use mathlib.Core.Bool.{Bool, true, false, cond, ◌&&◌, beq}
-use mathlib.Core.List.{List, [], ◌∷◌, ◌++◌, map}
-use Prim.Native.Nat.{ℕ, zero, suc, ◌+◌, ◌-◌, ◌*◌, ◌/◌, ◌<◌, ◌≤◌}
+use mathlib.Core.List.{List, [], ◌∷◌, ◌++◌}
+use Prim.Native.Nat.{ℕ, zero, suc, ◌+◌, ◌-◌, ◌/◌, ◌<◌, ◌≤◌}
 use native.Mathlib.Omega.{arith}
 use lib.Dec.{eqb, leb, ltb}
 use borrow.Author.Tests.{ltb-true, leb-true}
@@ -10,7 +10,7 @@ use Rattle.bits.specs.Lists.{list_of}
 use Rattle.bits.proofs.Bools.{and_left, and_right}
 use Rattle.clauses.specs.declared.variables.Size.{Size}
 use Rattle.clauses.specs.declared.variables.Variable.{Variable}
-use Rattle.clauses.specs.declared.variables.Variable.TheVariants.{Reads, Many, Differ, Apart, Same}
+use Rattle.clauses.specs.declared.variables.Variable.TheVariants.{Reads, Differ, Apart}
 use Rattle.clauses.specs.declared.variables.Literal.{Literal}
 use Rattle.clauses.specs.declared.variables.Literal.TheVariants.{Said, Denied}
 use Rattle.clauses.specs.declared.given.Given.{Given}

@@ -1,6 +1,5 @@
 -- How many variables there are, and that each has its own place among them. Assumes nothing.
-use mathlib.Core.Path.{◌≡◌}
-use Prim.Native.Nat.{ℕ, suc, ◌+◌, ◌*◌, ◌<◌, ◌≤◌}
+use Prim.Native.Nat.{ℕ, ◌+◌, ◌*◌, ◌<◌, ◌≤◌}
 use native.Mathlib.Nat.{mul-le-mul, mul-le-mul_right, add-mul}
 use native.Mathlib.Omega.{arith}
 use Rattle.clauses.specs.declared.variables.Size.{Size}
@@ -86,23 +85,6 @@ from z h = let k = most z h in record { differ = omega arith; apart = omega arit
 
 -- a number as it is computed stays small
 module _ (z : Size) (h : IsSize z) where
-  pub reads_small : (i p : ℕ) → Named z (Reads i p) → i * signals z + p < 465
-  reads_small i p w = omega (arith, (most z h).reads, row_below i z.cells p (signals z) w.0 w.1)
-
-  pub many_small : (i p t : ℕ) → Named z (Many i p t) → (i * (signals z + 1) + p < 480)
-      × ((i * (signals z + 1) + p) * (z.cell + 2) + t < 4800)
-  many_small i p t w =
-      let x = row_below i z.cells p (signals z + 1) w.0 w.1 in
-      let y = two_below i z.cells p (signals z + 1) t (z.cell + 2) w.0 w.1 w.2 in
-      (omega (arith, (most z h).signal), omega (arith, (most z h).many))
-
-  pub differ_small : (i a b : ℕ) → Named z (Differ i a b) → (i * z.rows + a < 7680)
-      × ((i * z.rows + a) * z.rows + b < 3932160)
-  differ_small i a b w =
-      let x = row_below i z.cells a z.rows w.0 w.1 in
-      let y = two_below i z.cells a z.rows b z.rows w.0 w.1 w.2 in
-      (omega (arith, (most z h).row), omega (arith, (most z h).differ))
-
   pub apart_small : (i j a b : ℕ) → Named z (Apart i j a b) → (i * z.cells + j < 225)
       × ((i * z.cells + j) * z.rows + a < 115200) × (((i * z.cells + j) * z.rows + a) * z.rows + b < 58982400)
   apart_small i j a b w =
@@ -110,10 +92,3 @@ module _ (z : Size) (h : IsSize z) where
       let y = two_below i z.cells j z.cells a z.rows w.0 w.1 w.2 in
       let v = three_below i z.cells j z.cells a z.rows b z.rows w.0 w.1 w.2 w.3 in
       (omega (arith, (most z h).cells), omega (arith, (most z h).cell_row), omega (arith, (most z h).apart))
-
-  pub same_small : (p q i : ℕ) → Named z (Same p q i) → (p * z.inputs + q < 256)
-      × ((p * z.inputs + q) * (z.cells + 1) + i < 4096)
-  same_small p q i w =
-      let x = row_below p z.inputs q z.inputs w.0 w.1 in
-      let y = two_below p z.inputs q z.inputs i (z.cells + 1) w.0 w.1 w.2 in
-      (omega (arith, (most z h).inputs), omega (arith, (most z h).same))

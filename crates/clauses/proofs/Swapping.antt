@@ -2,10 +2,9 @@
 use mathlib.Core.Path.{◌≡◌, refl, sym, ap, ap₂, subst, ◌∙◌}
 use mathlib.Core.Bool.{Bool, true, false, cond, not, ◌||◌, beq, or-false}
 use Prim.Native.Nat.{ℕ, ◌+◌, ◌*◌, ◌%◌, ◌^◌, ◌<◌, ◌≤◌}
-use native.Mathlib.Nat.{add-zero}
 use native.Mathlib.Omega.{arith}
 use lib.Dec.{eqb}
-use lib.Pow.{pow_mono, pow_pos}
+use lib.Pow.{pow_pos}
 use borrow.Author.Tests.{eq-eqb, ne_eqb, eqb-true}
 use Rattle.bits.specs.Numbers.{bit, number, flipped}
 use Rattle.bits.specs.Sets.{Apart, rest, size, gather, spread}
@@ -19,6 +18,14 @@ use Rattle.bits.proofs.Sums.{sum_mask}
 use Rattle.columns.specs.declared.split.Split.{Split}
 use Rattle.columns.specs.Reading.{Held, Without, alike}
 use Rattle.clauses.specs.Swapping.{swapped, unchanged, swappable}
+use Rattle.bits.proofs.Machine.{shl_one}
+
+-- the bit of the lower input, and of the higher, as the machine shifts them
+pub low_bit : {n p q : ℕ} → n ≤ 16 → p < q → q < n → 1 * 2 ^ p % 2 ^ 32 ≡ 2 ^ p
+low_bit {n} {p} {q} h k l = shl_one 32 p (omega arith)
+
+pub high_bit : {n q : ℕ} → n ≤ 16 → q < n → 1 * 2 ^ q % 2 ^ 32 ≡ 2 ^ q
+high_bit {n} {q} h l = shl_one 32 q (omega arith)
 
 module _ (n p q : ℕ) (pq : p < q) (qn : q < n) where
   -- the assignment with u at p, v at q, and else as r has it

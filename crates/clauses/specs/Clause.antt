@@ -1,5 +1,5 @@
 -- The clause of a step of kinds 1 to 14, and when such a step is in order.
-use Rattle.std.specs.Prelude.{◌≡◌, Bool, cond, not, ◌&&◌, List, [], ◌∷◌, ◌++◌, ℕ, zero, suc, ◌+◌, ◌-◌, eqb, leb, ltb}
+use Rattle.std.specs.Prelude.{Bool, cond, not, ◌&&◌, List, [], ◌∷◌, ◌++◌, ℕ, zero, suc, ◌+◌, ◌-◌, eqb, leb, ltb}
 use Rattle.std.specs.Bool.{beq}
 use Rattle.bits.specs.Numbers.{bit}
 use Rattle.bits.specs.Lists.{list_of}

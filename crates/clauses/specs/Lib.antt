@@ -5,3 +5,4 @@ pub mod Swapping
 pub mod Clause
 pub mod Step
 pub mod Shapes
+pub mod Lengths

@@ -1,6 +1,6 @@
 -- A step of a certificate: its fields, its length and its clause, read off the certificate's bytes. (Bytes past the end
 -- are read as 0; a step that runs past the end is not in order.)
-use Rattle.std.specs.Prelude.{Bool, cond, List, [], ◌∷◌, map, ℕ, ◌+◌, ◌*◌, eqb, get_or}
+use Rattle.std.specs.Prelude.{cond, List, [], ◌∷◌, map, ℕ, ◌+◌, ◌*◌, eqb, get_or}
 use Rattle.bits.specs.Lists.{byte_at, list_of}
 use Rattle.tables.specs.Table.{table_bit}
 use Rattle.clauses.specs.declared.variables.Size.{Size}

@@ -1,5 +1,5 @@
 -- The variables, numbered from 0 one kind after the other.
-use Rattle.std.specs.Prelude.{◌≡◌, ℕ, ◌+◌, ◌*◌, ◌<◌, ◌≤◌}
+use Rattle.std.specs.Prelude.{ℕ, ◌+◌, ◌*◌, ◌<◌, ◌≤◌}
 use Rattle.tables.specs.Table.{most_inputs}
 use Rattle.clauses.specs.declared.variables.Size.{Size}
 use Rattle.clauses.specs.declared.variables.Variable.{Variable}

@@ -1,7 +1,9 @@
 // The clause of a step as literals: at most three of them, or one of two lists.
-ghost use Rattle.std.specs.Prelude.{◌≡◌, true, ℕ, ◌<◌, length};
+ghost use Rattle.std.specs.Prelude.{◌≡◌, true, ℕ, [], ◌∷◌, ◌<◌, length};
 ghost use Rattle.std.specs.Bool.{beq};
 ghost use Rattle.tables.specs.Table.{table_bit, table_length};
+ghost use Rattle.clauses.specs.declared.variables.Variable.TheVariants.{Same};
+ghost use Rattle.clauses.specs.declared.variables.Literal.TheVariants.{Denied};
 ghost use Rattle.clauses.specs.Variables.{IsSize};
 ghost use Rattle.clauses.specs.Clause.{clause, in_order, evenly, as_table};
 ghost use Rattle.clauses.specs.Step.{row_at, question_in};
@@ -9,7 +11,9 @@ ghost use Rattle.clauses.specs.Shapes.{literals_in, HasRows};
 
 use crate::given::Given;
 use crate::numbers::two_at;
-use crate::variables::{Literal, Size, Variable};
+use crate::variables::Literal::{self, Denied, Said};
+use crate::variables::Size;
+use crate::variables::Variable::{self, Apart, Differ, Many, Reads, Same};
 use tables::bit_at;
 
 // A clause of one, two or three literals; why a cell differs at two rows; the cells that may read one.
@@ -19,7 +23,7 @@ pub enum Shape {
     Two(Literal, Literal),
     Three(Literal, Literal, Literal),
     Causes(usize, usize, usize),
-    Readers(u8),
+    Readers(usize),
 }
 
 // Row a of a certificate.
@@ -31,130 +35,69 @@ pub fn row_at(z: Size, c: &[u8], a: usize) -> u32
 }
 
 // Whether the table's bits at two rows are the same.
+#[tactic(auto, using(crate::proofs::Rows::bit_room))]
 fn same_bits<'a>(z: Size, c: &'a [u8], t: &'a [u8], a: usize, b: usize) -> bool
     requires { IsSize z × HasRows z c.now × (length t.now ≡ table_length z.inputs) × (a < z.rows) × (b < z.rows) }
     ensures { result ≡ beq (table_bit t.now (row_at c.now a))
         (table_bit t.now (row_at c.now b)) }
 {
-    let x = bit_at(t, row_at(z, c, a));
-    let y = bit_at(t, row_at(z, c, b));
-    if x {
-        return y;
-    }
-    !y
+    bit_at(t, row_at(z, c, a)) == bit_at(t, row_at(z, c, b))
 }
 
 // Kind 8.
-fn even_shape(d: Variable, x: Variable, y: Variable, s: u8) -> Shape
+fn even_shape(d: Variable, x: Variable, y: Variable, s: usize) -> Shape
     ensures { (z : Size) (row : ℕ → ℕ) → literals_in z row result ≡ evenly d x y s }
 {
-    if s == 0 {
-        return Shape::Three(Literal::Denied(d), Literal::Said(x), Literal::Said(y));
+    match s {
+        0 => Shape::Three(Denied(d), Said(x), Said(y)),
+        1 => Shape::Three(Denied(d), Denied(x), Denied(y)),
+        2 => Shape::Three(Said(d), Denied(x), Said(y)),
+        _ => Shape::Three(Said(d), Said(x), Denied(y)),
     }
-    if s == 1 {
-        return Shape::Three(Literal::Denied(d), Literal::Denied(x), Literal::Denied(y));
-    }
-    if s == 2 {
-        return Shape::Three(Literal::Said(d), Literal::Denied(x), Literal::Said(y));
-    }
-    Shape::Three(Literal::Said(d), Literal::Said(x), Literal::Denied(y))
 }
 
 // Kind 9.
 fn table_shape(same: bool, x: Variable) -> Shape
     ensures { (z : Size) (row : ℕ → ℕ) → literals_in z row result ≡ as_table same x }
 {
-    if same {
-        return Shape::One(Literal::Denied(x));
-    }
-    Shape::One(Literal::Said(x))
+    Shape::One(if same { Denied(x) } else { Said(x) })
+}
+
+// Kinds 12 to 14: two swappable inputs that each cell below i reads both or neither of, and two literals more.
+fn same_shape(p: usize, q: usize, i: usize, a: Literal, b: Literal) -> Shape
+    ensures { (z : Size) (row : ℕ → ℕ) → literals_in z row result ≡ Denied (Same p q i) ∷ a ∷ b ∷ [] }
+{
+    Shape::Three(Denied(Same(p, q, i)), a, b)
 }
 
 // The clause of a step that is in order.
+#[tactic(auto, unfolding(crate::specs::Clause::clause, crate::specs::Clause::in_order))]
 pub fn shape_of<'a>(z: Size, c: &'a [u8], t: &'a [u8], g: Given) -> Shape
     requires { IsSize z × HasRows z c.now × (length t.now ≡ table_length z.inputs)
         × (in_order z (table_bit t.now) g ≡ true) }
     ensures { literals_in z (row_at c.now) result ≡ clause (question_in z t.now c.now) g }
 {
     match g {
-        Given::OneMore(i, p, k) => {
-            return Shape::Three(
-                Literal::Denied(Variable::Reads(i as usize, p as usize)),
-                Literal::Denied(Variable::Many(i as usize, p as usize, k as usize)),
-                Literal::Said(Variable::Many(i as usize, p as usize + 1, k as usize + 1)),
-            );
-        }
-        Given::AsMany(i, p, k) => {
-            return Shape::Two(
-                Literal::Denied(Variable::Many(i as usize, p as usize, k as usize)),
-                Literal::Said(Variable::Many(i as usize, p as usize + 1, k as usize)),
-            );
-        }
-        Given::None(i) => {
-            return Shape::One(Literal::Said(Variable::Many(i as usize, 0, 0)));
-        }
-        Given::Most(i) => {
-            return Shape::One(Literal::Denied(Variable::Many(
-                i as usize,
-                z.inputs + i as usize,
-                z.cell + 1,
-            )));
-        }
-        Given::Cause(i, a, b) => {
-            return Shape::Causes(i as usize, a as usize, b as usize);
-        }
-        Given::Read(i, j, a, b) => {
-            return Shape::Two(
-                Literal::Denied(Variable::Apart(i as usize, j as usize, a as usize, b as usize)),
-                Literal::Said(Variable::Reads(i as usize, z.inputs + j as usize)),
-            );
-        }
-        Given::Differs(i, j, a, b) => {
-            return Shape::Two(
-                Literal::Denied(Variable::Apart(i as usize, j as usize, a as usize, b as usize)),
-                Literal::Said(Variable::Differ(j as usize, a as usize, b as usize)),
-            );
-        }
-        Given::Even(i, a, b, s) => {
-            return even_shape(
-                Variable::Differ(i as usize, a as usize, b as usize),
-                Variable::Differ(i as usize, 0, a as usize),
-                Variable::Differ(i as usize, 0, b as usize),
-                s,
-            );
-        }
-        Given::Table(a, b) => {
-            return table_shape(
-                same_bits(z, c, t, a as usize, b as usize),
-                Variable::Differ(z.cells - 1, a as usize, b as usize),
-            );
-        }
-        Given::Used(i) => {
-            return Shape::Readers(i);
-        }
-        Given::Swap(p, q) => {
-            return Shape::One(Literal::Said(Variable::Same(p as usize, q as usize, 0)));
-        }
-        Given::Sorted(p, q, i) => {
-            return Shape::Three(
-                Literal::Denied(Variable::Same(p as usize, q as usize, i as usize)),
-                Literal::Denied(Variable::Reads(i as usize, q as usize)),
-                Literal::Said(Variable::Reads(i as usize, p as usize)),
-            );
-        }
-        Given::Both(p, q, i) => {
-            return Shape::Three(
-                Literal::Denied(Variable::Same(p as usize, q as usize, i as usize)),
-                Literal::Denied(Variable::Reads(i as usize, q as usize)),
-                Literal::Said(Variable::Same(p as usize, q as usize, i as usize + 1)),
-            );
-        }
-        Given::Neither(p, q, i) => {
-            return Shape::Three(
-                Literal::Denied(Variable::Same(p as usize, q as usize, i as usize)),
-                Literal::Said(Variable::Reads(i as usize, p as usize)),
-                Literal::Said(Variable::Same(p as usize, q as usize, i as usize + 1)),
-            );
-        }
+        Given::OneMore(i, p, k) => Shape::Three(
+            Denied(Reads(i, p)),
+            Denied(Many(i, p, k)),
+            Said(Many(i, p + 1, k + 1)),
+        ),
+        Given::AsMany(i, p, k) => Shape::Two(Denied(Many(i, p, k)), Said(Many(i, p + 1, k))),
+        Given::None(i) => Shape::One(Said(Many(i, 0, 0))),
+        Given::Most(i) => Shape::One(Denied(Many(i, z.inputs + i, z.cell + 1))),
+        Given::Cause(i, a, b) => Shape::Causes(i, a, b),
+        Given::Read(i, j, a, b) => Shape::Two(
+            Denied(Apart(i, j, a, b)),
+            Said(Reads(i, z.inputs + j)),
+        ),
+        Given::Differs(i, j, a, b) => Shape::Two(Denied(Apart(i, j, a, b)), Said(Differ(j, a, b))),
+        Given::Even(i, a, b, s) => even_shape(Differ(i, a, b), Differ(i, 0, a), Differ(i, 0, b), s),
+        Given::Table(a, b) => table_shape(same_bits(z, c, t, a, b), Differ(z.cells - 1, a, b)),
+        Given::Used(i) => Shape::Readers(i),
+        Given::Swap(p, q) => Shape::One(Said(Same(p, q, 0))),
+        Given::Sorted(p, q, i) => same_shape(p, q, i, Denied(Reads(i, q)), Said(Reads(i, p))),
+        Given::Both(p, q, i) => same_shape(p, q, i, Denied(Reads(i, q)), Said(Same(p, q, i + 1))),
+        Given::Neither(p, q, i) => same_shape(p, q, i, Said(Reads(i, p)), Said(Same(p, q, i + 1))),
     }
 }

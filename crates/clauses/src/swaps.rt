@@ -14,8 +14,5 @@ pub fn can_swap(t: &[u8], n: u32, p: u32, q: u32) -> bool
     let one: u32 = 1 << p;
     let two: u32 = 1 << q;
     let s = Split::of(n, (one + two) as u16, 0);
-    if same_column(t, s, one, two) {
-        return true;
-    }
-    same_column(t, s, 0, one + two)
+    same_column(t, s, one, two) || same_column(t, s, 0, one + two)
 }

@@ -33,6 +33,7 @@ pub enum Literal {
 }
 
 // Where the variables begin that say at which rows a cell differs.
+#[tactic(auto, unfolding(crate::specs::Variables::reads_many, crate::specs::Variables::many_many))]
 fn differ_from(z: Size) -> usize
     requires { IsSize z }
     ensures { result ≡ differ_from z }
@@ -41,6 +42,7 @@ fn differ_from(z: Size) -> usize
 }
 
 // Where those begin that say at which rows a cell that it reads does.
+#[tactic(auto, using(crate::proofs::Sizes::from), unfolding(crate::specs::Variables::differ_many))]
 fn apart_from(z: Size) -> usize
     requires { IsSize z }
     ensures { result ≡ apart_from z }
@@ -49,6 +51,7 @@ fn apart_from(z: Size) -> usize
 }
 
 // Where those begin that say which inputs the same cells read.
+#[tactic(auto, using(crate::proofs::Sizes::from), unfolding(crate::specs::Variables::apart_many))]
 fn same_from(z: Size) -> usize
     requires { IsSize z }
     ensures { result ≡ same_from z }
@@ -57,6 +60,7 @@ fn same_from(z: Size) -> usize
 }
 
 // How many there are in all.
+#[tactic(auto, using(crate::proofs::Sizes::variables_most), unfolding(crate::specs::Variables::same_many))]
 pub fn all_variables(z: Size) -> usize
     requires { IsSize z }
     ensures { (result ≡ variables z) × (result < number_limit) }
@@ -65,6 +69,7 @@ pub fn all_variables(z: Size) -> usize
 }
 
 // Cell i reads signal p.
+#[tactic(auto, unfolding(crate::specs::Variables::number_of))]
 fn reads(z: Size, i: usize, p: usize) -> usize
     requires { IsSize z × Named z (Reads i p) }
     ensures { result ≡ number_of z (Reads i p) }
@@ -73,6 +78,7 @@ fn reads(z: Size, i: usize, p: usize) -> usize
 }
 
 // Cell i reads at least t of the signals below p.
+#[tactic(auto, unfolding(crate::specs::Variables::number_of, crate::specs::Variables::reads_many))]
 fn many(z: Size, i: usize, p: usize, t: usize) -> usize
     requires { IsSize z × Named z (Many i p t) }
     ensures { result ≡ number_of z (Many i p t) }
@@ -81,6 +87,7 @@ fn many(z: Size, i: usize, p: usize, t: usize) -> usize
 }
 
 // Cell i gives different bits at the rows a and b.
+#[tactic(auto, using(crate::proofs::Sizes::from), unfolding(crate::specs::Variables::number_of))]
 fn differ(z: Size, i: usize, a: usize, b: usize) -> usize
     requires { IsSize z × Named z (Differ i a b) }
     ensures { result ≡ number_of z (Differ i a b) }
@@ -89,6 +96,7 @@ fn differ(z: Size, i: usize, a: usize, b: usize) -> usize
 }
 
 // Cell i reads cell j, and that one does.
+#[tactic(auto, using(crate::proofs::Sizes::from), unfolding(crate::specs::Variables::number_of))]
 fn apart(z: Size, i: usize, j: usize, a: usize, b: usize) -> usize
     requires { IsSize z × Named z (Apart i j a b) }
     ensures { result ≡ number_of z (Apart i j a b) }
@@ -97,6 +105,7 @@ fn apart(z: Size, i: usize, j: usize, a: usize, b: usize) -> usize
 }
 
 // The inputs p and q are swappable, and each cell below i reads both or neither.
+#[tactic(auto, using(crate::proofs::Sizes::from), unfolding(crate::specs::Variables::number_of))]
 fn same(z: Size, p: usize, q: usize, i: usize) -> usize
     requires { IsSize z × Named z (Same p q i) }
     ensures { result ≡ number_of z (Same p q i) }
@@ -119,16 +128,13 @@ fn number_of(z: Size, x: Variable) -> usize
 }
 
 // The number of a literal.
+#[tactic(auto, using(crate::proofs::Sizes::number_below, crate::proofs::Sizes::variables_most))]
 pub fn literal_of(z: Size, l: Literal) -> usize
     requires { IsSize z × Named z (variable_of l) }
     ensures { (result ≡ literal_of z l) × (result < 2 * variables z) }
 {
     match l {
-        Literal::Said(x) => {
-            return 2 * number_of(z, x);
-        }
-        Literal::Denied(x) => {
-            return 2 * number_of(z, x) + 1;
-        }
+        Literal::Said(x) => 2 * number_of(z, x),
+        Literal::Denied(x) => 2 * number_of(z, x) + 1,
     }
 }

@@ -3,7 +3,7 @@ use mathlib.Core.Path.{◌≡◌, refl, sym, ap, ap₂, ◌∙◌}
 use mathlib.Core.Logic.{inl}
 use mathlib.Core.Bool.{Bool, true, false, cond}
 use mathlib.Core.List.{List}
-use Prim.Native.Nat.{ℕ, zero, suc, ◌+◌, ◌-◌, ◌/◌, ◌%◌, ◌<◌, ◌≤◌}
+use Prim.Native.Nat.{ℕ, zero, suc, ◌+◌, ◌/◌, ◌<◌, ◌≤◌}
 use native.Mathlib.Decide.{dec_lt}
 use native.Mathlib.Numerals.{add-one}
 use native.Mathlib.Omega.{arith}
@@ -12,7 +12,7 @@ use Rattle.bits.specs.Lists.{byte_at}
 use Rattle.following.specs.declared.open.Open.{Open}
 use Rattle.following.specs.declared.open.Open.TheVariants.{Nothing, One, Several}
 use Rattle.following.specs.declared.trail.Trail.{Trail}
-use Rattle.following.specs.Values.{is_false, opposite, made, not_set, open_in}
+use Rattle.following.specs.Values.{made, not_set, open_in}
 use Rattle.following.specs.Following.{Following, conflict, going, denying, by_open, hinting, denied, used, is_conflict}
 use Rattle.following.specs.Standing.{Trailed, Kept, Stands, Clean}
 use Rattle.following.proofs.Reading.{AllBelow, open_agree}
@@ -25,42 +25,6 @@ kept_then x y = record { long = y.long ∙ x.long; marks = λ j p q. y.marks j p
 
 abbrev trail : Bool → ℕ → Trail
 trail t n = record { conflict = t; set = n }
-
--- ---- one literal of the step
-
-module _ (all from n l : ℕ) (σ : ℕ → ℕ) (work : List ℕ) (la : l / 2 < all) (t : Trailed all from σ n work) where
-  value : byte_at work (l / 2) ≡ σ (l / 2)
-  value = t.values (l / 2) la
-
-  pub deny_conflict : byte_at work (l / 2) ≡ 1 + l % 2 → Stands all from work (denying l (going σ)) work (trail true n)
-  deny_conflict h = record {
-    values = σ;
-    trailed = t;
-    kept = kept_same all from work;
-    is = ap (λ (b : Bool). cond b conflict (cond (is_false σ l) (going σ) (going (made σ (opposite l)))))
-        (eq-eqb (σ (l / 2)) (1 + l % 2) (sym value ∙ h));
-  }
-
-  pub deny_false : (byte_at work (l / 2) ≡ 1 + l % 2 → ⊥) → byte_at work (l / 2) ≡ 2 - l % 2
-      → Stands all from work (denying l (going σ)) work (trail false n)
-  deny_false g h = record {
-    values = σ;
-    trailed = t;
-    kept = kept_same all from work;
-    is = ap₂ (λ (a b : Bool). cond a conflict (cond b (going σ) (going (made σ (opposite l)))))
-        (ne_eqb (σ (l / 2)) (1 + l % 2) (λ e. g (value ∙ e))) (eq-eqb (σ (l / 2)) (2 - l % 2) (sym value ∙ h));
-  }
-
-  pub deny-made : (after : List ℕ) → (byte_at work (l / 2) ≡ 1 + l % 2 → ⊥) → (byte_at work (l / 2) ≡ 2 - l % 2 → ⊥)
-      → Trailed all from (made σ (opposite l)) (n + 1) after × Kept all from work after
-      → Stands all from work (denying l (going σ)) after (trail false (n + 1))
-  deny-made after g h m = record {
-    values = made σ (opposite l);
-    trailed = m.0;
-    kept = m.1;
-    is = ap₂ (λ (a b : Bool). cond a conflict (cond b (going σ) (going (made σ (opposite l)))))
-        (ne_eqb (σ (l / 2)) (1 + l % 2) (λ e. g (value ∙ e))) (ne_eqb (σ (l / 2)) (2 - l % 2) (λ e. h (value ∙ e)));
-  }
 
 -- ---- one hint
 

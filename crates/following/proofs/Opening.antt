@@ -2,11 +2,10 @@
 use mathlib.Core.Path.{◌≡◌, refl, sym, ap, ap₂, ◌∙◌}
 use mathlib.Core.Bool.{Bool, true, false, cond, not, beq}
 use mathlib.Core.List.{List, [], ◌∷◌, ◌++◌, map, map-append}
-use Prim.Native.Nat.{ℕ, ◌+◌, ◌-◌, ◌/◌, ◌%◌, ◌^◌}
+use Prim.Native.Nat.{ℕ, ◌+◌, ◌/◌, ◌^◌}
 use lib.Bits.{bit_and}
 use native.Mathlib.Numerals.{add-one}
 use lib.Dec.{eqb}
-use borrow.Author.Tests.{eq-eqb, ne_eqb}
 use Rattle.bits.specs.Numbers.{bit, val}
 use Rattle.bits.specs.Lists.{list_of}
 use Rattle.bits.proofs.Building.{bit-digit}
@@ -18,16 +17,9 @@ use Rattle.clauses.specs.Variables.{literal_of}
 use Rattle.clauses.specs.Clause.{those, rows_differ, causes}
 use Rattle.following.specs.declared.open.Open.{Open}
 use Rattle.following.specs.declared.open.Open.TheVariants.{Nothing}
-use Rattle.following.specs.Values.{one_more, seen, open_after}
+use Rattle.following.specs.Values.{seen, open_after}
 
 module _ (σ : ℕ → ℕ) where
-  -- one literal: it is false, or not
-  pub seen_false : (l : ℕ) (o : Open) → σ (l / 2) ≡ 2 - l % 2 → o ≡ seen σ l o
-  seen_false l o h = sym (ap (λ (t : Bool). cond t o (one_more l o)) (eq-eqb (σ (l / 2)) (2 - l % 2) h))
-
-  pub seen_more : (l : ℕ) (o : Open) → (σ (l / 2) ≡ 2 - l % 2 → ⊥) → one_more l o ≡ seen σ l o
-  seen_more l o h = sym (ap (λ (t : Bool). cond t o (one_more l o)) (ne_eqb (σ (l / 2)) (2 - l % 2) h))
-
   -- a clause and then another
   pub open_append : (o : Open) (l m : List ℕ) → open_after σ o (l ++ m) ≡ open_after σ (open_after σ o l) m
   unfolding open_after

@@ -8,11 +8,15 @@ use native.Mathlib.Decide.{ℕ_discrete, dec_lt}
 use native.Mathlib.Omega.{arith}
 use lib.ListN.{length, set, length-set}
 use lib.Seq.{get_or-set_same, get_or-set_other}
+use native.Mathlib.Nat.{add-zero}
 use borrow.Author.Tests.{eq-eqb, ne_eqb}
+use borrow.Rule.Slice.PartMut.{mid_of, put_mid, same_len_mid}
+use Rattle.std.specs.Int.{w32, to_le_bytes}
+use Rattle.tables.proofs.Placed.{placed-before, placed_in, placed-after}
 use Rattle.bits.specs.Lists.{byte_at}
 use Rattle.clauses.specs.Step.{four}
 use Rattle.following.specs.Values.{made}
-use Rattle.following.specs.Standing.{Wrote, InFront, Trailed, Kept, Clean}
+use Rattle.following.specs.Standing.{Wrote, InFront, Trailed, Kept}
 
 -- four bytes are those of another list
 pub four_same : (l m : List ℕ) (p : ℕ) → ((j : ℕ) → p ≤ j → j < p + 4 → byte_at l j ≡ byte_at m j) → four l p ≡ four m p
@@ -23,34 +27,21 @@ four_same l m p h =
     omega (arith, a, b, d, e)
 
 -- what was written in four bytes
-pub wrote : (l : List ℕ) (p x : ℕ) → p + 4 ≤ length l → x < 4294967296
-    → Wrote l p x (set (set (set (set l p (x % 256)) (p + 1) (x / 256 % 256)) (p + 2) (x / 65536 % 256)) (p + 3)
-    (x / 16777216))
+pub wrote : (l m : List ℕ) (p k x : ℕ) → p + k ≤ length l → k ≡ 4 → length m ≡ length (mid_of p k l)
+    → x < 4294967296 → m ≡ to_le_bytes w32 x → Wrote l p x (put_mid p k l m)
 unfolding four
-wrote l p x h w =
-    let l1 = set l p (x % 256) in let l2 = set l1 (p + 1) (x / 256 % 256) in
-    let l3 = set l2 (p + 2) (x / 65536 % 256) in let l4 = set l3 (p + 3) (x / 16777216) in
-    let n1 = length-set l p (x % 256) in let n2 = length-set l1 (p + 1) (x / 256 % 256) in
-    let n3 = length-set l2 (p + 2) (x / 65536 % 256) in let n4 = length-set l3 (p + 3) (x / 16777216) in
-    let b3 : byte_at l4 (p + 3) ≡ x / 16777216 = get_or-set_same l3 (p + 3) (x / 16777216) 0 (omega arith) in
-    let b2 : byte_at l4 (p + 2) ≡ x / 65536 % 256 = get_or-set_other l3 (p + 3) (p + 2) (x / 16777216) 0 (λ e. omega arith)
-    ∙ get_or-set_same l2 (p + 2) (x / 65536 % 256) 0 (omega arith) in
-    let b1 : byte_at l4 (p + 1) ≡ x / 256 % 256 = get_or-set_other l3 (p + 3) (p + 1) (x / 16777216) 0 (λ e. omega arith)
-    ∙ get_or-set_other l2 (p + 2) (p + 1) (x / 65536 % 256) 0 (λ e. omega arith)
-    ∙ get_or-set_same l1 (p + 1) (x / 256 % 256) 0 (omega arith) in
-    let b0 : byte_at l4 p ≡ x % 256 = get_or-set_other l3 (p + 3) p (x / 16777216) 0 (λ e. omega arith)
-    ∙ get_or-set_other l2 (p + 2) p (x / 65536 % 256) 0 (λ e. omega arith)
-    ∙ get_or-set_other l1 (p + 1) p (x / 256 % 256) 0 (λ e. omega arith)
-    ∙ get_or-set_same l p (x % 256) 0 (omega arith) in
-    let off : (j : ℕ) → (j ≡ p → ⊥) → (j ≡ p + 1 → ⊥) → (j ≡ p + 2 → ⊥) → (j ≡ p + 3 → ⊥) → byte_at l4 j ≡ byte_at l j
-    = λ j a b d e. get_or-set_other l3 (p + 3) j (x / 16777216) 0 e
-    ∙ get_or-set_other l2 (p + 2) j (x / 65536 % 256) 0 d ∙ get_or-set_other l1 (p + 1) j (x / 256 % 256) 0 b
-    ∙ get_or-set_other l p j (x % 256) 0 a in
+wrote l m p k x h q n w e =
+    let f : length m ≡ k = ap length e ∙ sym q in
+    let r = put_mid p k l m in
+    let at : (j : ℕ) → j < k → byte_at r (p + j) ≡ byte_at (to_le_bytes w32 x) j
+    = λ j d. placed_in p k l m h f j d ∙ ap (λ (i : List ℕ). byte_at i j) e in
+    let b0 : byte_at r p ≡ byte_at (to_le_bytes w32 x) 0 = ap (byte_at r) (sym (add-zero p)) ∙ at 0 (omega arith) in
+    let b1 = at 1 (omega arith) in let b2 = at 2 (omega arith) in let b3 = at 3 (omega arith) in
     record {
-      long = n4 ∙ n3 ∙ n2 ∙ n1;
+      long = same_len_mid p k l m n;
       is = omega (arith, b0, b1, b2, b3);
-      under = λ j k. off j (λ e. omega arith) (λ e. omega arith) (λ e. omega arith) (λ e. omega arith);
-      over = λ j k. off j (λ e. omega arith) (λ e. omega arith) (λ e. omega arith) (λ e. omega arith);
+      under = placed-before p k l m h f;
+      over = λ j d. placed-after p k l m h f j (omega arith);
     }
 
 -- a literal made true and noted
@@ -111,14 +102,6 @@ pub record Forgotten (from e : ℕ) (before work : List ℕ) : Type 0 where
   pub other : (j : ℕ) → ((k : ℕ) → k < e → j ≡ four before (from + 4 * k) → ⊥) → byte_at work j ≡ byte_at before j
   pub less : (j : ℕ) → (byte_at work j ≡ byte_at before j) ⊎ (byte_at work j ≡ 0)
 
-pub forgot_none : (from : ℕ) (before : List ℕ) → Forgotten from 0 before before
-forgot_none from before = record {
-  long = refl;
-  gone = λ k h. absurd (omega arith);
-  other = λ j h. refl;
-  less = λ j. inl refl;
-}
-
 module _ (from n e : ℕ) (before work : List ℕ) (room : from + 4 * n ≤ length before) (en : e < n)
     (front : InFront from n before) (f : Forgotten from e before work) where
   -- what is noted still stands there
@@ -149,12 +132,3 @@ module _ (from n e : ℕ) (before work : List ℕ) (room : from + 4 * n ≤ leng
               (f.less j)
         ];
       }
-
--- all of them forgotten
-pub forgot_all : (all from n : ℕ) (σ : ℕ → ℕ) (before work : List ℕ) → all ≤ from → Trailed all from σ n before
-    → Forgotten from n before work → Clean all work × Kept all from before work
-forgot_all all from n σ before work af t f = (
-  λ v k. ⊎_elim (λ z. ⊎_elim (λ y. y ∙ t.values v k ∙ z) (λ y. y) (f.less v))
-      (λ z. ap (byte_at work) (sym z.is) ∙ f.gone z.at z.within) (t.trail v k),
-  record { long = f.long; marks = λ j a b. f.other j (λ k l d. omega (arith, t.below k l)) },
-)

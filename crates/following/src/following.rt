@@ -22,24 +22,20 @@ fn deny(work: &mut [u8], from: usize, set: usize, l: usize) -> Trail
         → Stands v from work.old (denying l (going σ)) work.new result) }
 {
     let v = l / 2;
-    let value = work[v] as usize;
+    let value = usize::from(work[v]);
     if value == 1 + l % 2 {
         return Trail {
             conflict: true,
-            set: set,
+            set,
         };
     }
     if value == 2 - l % 2 {
         return Trail {
             conflict: false,
-            set: set,
+            set,
         };
     }
-    make(work, from, set, l + 1 - 2 * (l % 2));
-    Trail {
-        conflict: false,
-        set: set + 1,
-    }
+    make(work, from, set, l + 1 - 2 * (l % 2))
 }
 
 // All literals of the step, up to a conflict.
@@ -55,13 +51,11 @@ fn deny_all(c: &[u8], at: usize, many: usize, all: usize, work: &mut [u8]) -> Tr
         conflict: false,
         set: 0,
     };
-    let mut k: usize = 0;
-    while k < many {
+    for k in 0..many {
         if r.conflict {
             return r;
         }
         r = deny(work, from, r.set, four_at(c, at + 3 + 4 * k));
-        k += 1;
     }
     r
 }
@@ -85,32 +79,25 @@ fn hint<'a>(
         work.new result) }
 {
     match open_at(z, t, c, at, work) {
-        Open::Nothing => {
-            return Trail {
-                conflict: true,
-                set: set,
-            };
-        }
+        Open::Nothing => Trail {
+            conflict: true,
+            set,
+        },
         Open::One(l) => {
             let v = l / 2;
             if work[v] == 0 {
-                make(work, from, set, l);
-                return Trail {
+                make(work, from, set, l)
+            } else {
+                Trail {
                     conflict: false,
-                    set: set + 1,
-                };
+                    set,
+                }
             }
-            return Trail {
-                conflict: false,
-                set: set,
-            };
         }
-        Open::Several => {
-            return Trail {
-                conflict: false,
-                set: set,
-            };
-        }
+        Open::Several => Trail {
+            conflict: false,
+            set,
+        },
     }
 }
 
@@ -137,13 +124,11 @@ fn hint_all<'a>(
 {
     let first = at + 7 + 4 * two_at(c, at + 1);
     let mut r = start;
-    let mut k: usize = 0;
-    while k < many {
+    for k in 0..many {
         if r.conflict {
             return r;
         }
         r = hint(z, t, c, four_at(c, first + 4 * k), work, from, r.set);
-        k += 1;
     }
     r
 }
@@ -173,12 +158,10 @@ fn are_named(c: &[u8], at: usize, many: usize, all: usize) -> bool
     requires { (many ≡ literals_at c.now at) × AllThere c.now at }
     ensures { result ≡ every many (λ k. ltb (literal_at c.now at k / 2) all) }
 {
-    let mut k: usize = 0;
-    while k < many {
+    for k in 0..many {
         if all <= four_at(c, at + 3 + 4 * k) / 2 {
             return false;
         }
-        k += 1;
     }
     true
 }
@@ -188,10 +171,7 @@ fn is_marked(all: usize, many: usize, work: &[u8], h: usize) -> bool
     requires { all + many ≤ length work.now }
     ensures { result ≡ begun_in all many work.now h }
 {
-    if many <= h {
-        return false;
-    }
-    work[all + h] == 1
+    h < many && work[all + h] == 1
 }
 
 // Whether each hint is the place at which an earlier step begins.
@@ -207,17 +187,11 @@ fn are_earlier<'a>(
         × (all + length c.now ≤ length work.now) }
     ensures { result ≡ every many (λ k. begun_in all (length c.now) work.now (hint_at c.now at k)) }
 {
-    let mut k: usize = 0;
-    while k < many {
-        if !is_marked(
-            all,
-            c.len(),
-            work,
-            four_at(c, at + 7 + 4 * literals + 4 * k),
-        ) {
+    for k in 0..many {
+        let h = four_at(c, at + 7 + 4 * literals + 4 * k);
+        if !is_marked(all, c.len(), work, h) {
             return false;
         }
-        k += 1;
     }
     true
 }
@@ -234,11 +208,7 @@ pub fn derived_in_order<'a>(z: Size, t: &'a [u8], c: &'a [u8], at: usize, work: 
     let all = all_variables(z);
     let literals = two_at(c, at + 1);
     let hints = four_at(c, at + 3 + 4 * literals);
-    if !are_named(c, at, literals, all) {
-        return false;
-    }
-    if !are_earlier(c, at, literals, hints, all, work) {
-        return false;
-    }
-    does_follow(z, t, c, at, work)
+    are_named(c, at, literals, all)
+        && are_earlier(c, at, literals, hints, all, work)
+        && does_follow(z, t, c, at, work)
 }

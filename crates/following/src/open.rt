@@ -14,7 +14,9 @@ ghost use Rattle.following.specs.Standing.{LiteralsIn, Usable};
 use clauses::fields::given_at;
 use clauses::numbers::{four_at, two_at};
 use clauses::shapes::{Shape, row_at, shape_of};
-use clauses::variables::{Literal, Size, Variable, literal_of};
+use clauses::variables::Literal::{self, Denied, Said};
+use clauses::variables::Variable::{Apart, Differ, Reads};
+use clauses::variables::{Size, literal_of};
 
 // The literals of a clause that aren't false: none, one, or several.
 #[derive(Clone, Copy)]
@@ -30,8 +32,7 @@ fn one_more(l: usize, o: Open) -> Open
 {
     match o {
         Open::Nothing => Open::One(l),
-        Open::One(_) => Open::Several,
-        Open::Several => Open::Several,
+        Open::One(_) | Open::Several => Open::Several,
     }
 }
 
@@ -40,11 +41,11 @@ fn see(work: &[u8], l: usize, o: Open) -> Open
     requires { l / 2 < length work.now }
     ensures { result ≡ seen (byte_at work.now) l o }
 {
-    let v = l / 2;
-    if work[v] as usize == 2 - l % 2 {
-        return o;
+    if usize::from(work[l / 2]) == 2 - l % 2 {
+        o
+    } else {
+        one_more(l, o)
     }
-    one_more(l, o)
 }
 
 // A literal more, by its name.
@@ -53,17 +54,6 @@ fn see_named(z: Size, work: &[u8], l: Literal, o: Open) -> Open
     ensures { result ≡ seen (byte_at work.now) (literal_of z l) o }
 {
     see(work, literal_of(z, l), o)
-}
-
-// A literal more, if so said.
-fn see_if(z: Size, work: &[u8], so: bool, l: Literal, o: Open) -> Open
-    requires { IsSize z × (variables z ≤ length work.now) × Named z (variable_of l) }
-    ensures { result ≡ cond so (seen (byte_at work.now) (literal_of z l) o) o }
-{
-    if so {
-        return see_named(z, work, l, o);
-    }
-    o
 }
 
 // The inputs that a cell may read at which two rows differ.
@@ -84,11 +74,11 @@ fn open_inputs<'a>(
     let x = row_at(z, c, a);
     let y = row_at(z, c, b);
     let mut o = start;
-    let mut p: usize = 0;
-    while p < z.inputs {
+    for p in 0..z.inputs {
         let differ = (x >> p) & 1 != (y >> p) & 1;
-        o = see_if(z, work, differ, Literal::Said(Variable::Reads(i, p)), o);
-        p += 1;
+        if differ {
+            o = see_named(z, work, Said(Reads(i, p)), o);
+        }
     }
     o
 }
@@ -99,10 +89,8 @@ fn open_cells(z: Size, work: &[u8], i: usize, a: usize, b: usize, start: Open) -
     ensures { result ≡ open_after (byte_at work.now) start (map (literal_of z) (list_of i (λ j. Said (Apart i j a b)))) }
 {
     let mut o = start;
-    let mut j: usize = 0;
-    while j < i {
-        o = see_named(z, work, Literal::Said(Variable::Apart(i, j, a, b)), o);
-        j += 1;
+    for j in 0..i {
+        o = see_named(z, work, Said(Apart(i, j, a, b)), o);
     }
     o
 }
@@ -113,32 +101,19 @@ fn open_causes<'a>(z: Size, c: &'a [u8], work: &'a [u8], i: usize, a: usize, b: 
         × (b < z.rows) }
     ensures { result ≡ open_in (byte_at work.now) (map (literal_of z) (causes z (row_at c.now) i a b)) }
 {
-    let o = see_named(
-        z,
-        work,
-        Literal::Denied(Variable::Differ(i, a, b)),
-        Open::Nothing,
-    );
+    let o = see_named(z, work, Denied(Differ(i, a, b)), Open::Nothing);
     let o = open_inputs(z, c, work, i, a, b, o);
     open_cells(z, work, i, a, b, o)
 }
 
 // The cells that may read one.
-fn open_readers(z: Size, work: &[u8], cell: u8) -> Open
+fn open_readers(z: Size, work: &[u8], i: usize) -> Open
     requires { IsSize z × (variables z ≤ length work.now) }
-    ensures { result ≡ open_in (byte_at work.now) (map (literal_of z) (readers z cell)) }
+    ensures { result ≡ open_in (byte_at work.now) (map (literal_of z) (readers z i)) }
 {
-    let i = cell as usize;
     let mut o = Open::Nothing;
-    let mut k: usize = 0;
-    while i + 1 + k < z.cells {
-        o = see_named(
-            z,
-            work,
-            Literal::Said(Variable::Reads(i + 1 + k, z.inputs + i)),
-            o,
-        );
-        k += 1;
+    for k in 0..z.cells.saturating_sub(i.saturating_add(1)) {
+        o = see_named(z, work, Said(Reads(i + 1 + k, z.inputs + i)), o);
     }
     o
 }
@@ -150,24 +125,18 @@ fn open_shape<'a>(z: Size, c: &'a [u8], work: &'a [u8], s: Shape) -> Open
     ensures { result ≡ open_in (byte_at work.now) (map (literal_of z) (literals_in z (row_at c.now) s)) }
 {
     match s {
-        Shape::One(a) => {
-            return see_named(z, work, a, Open::Nothing);
-        }
+        Shape::One(a) => see_named(z, work, a, Open::Nothing),
         Shape::Two(a, b) => {
             let o = see_named(z, work, a, Open::Nothing);
-            return see_named(z, work, b, o);
+            see_named(z, work, b, o)
         }
         Shape::Three(a, b, d) => {
             let o = see_named(z, work, a, Open::Nothing);
             let o = see_named(z, work, b, o);
-            return see_named(z, work, d, o);
+            see_named(z, work, d, o)
         }
-        Shape::Causes(i, a, b) => {
-            return open_causes(z, c, work, i, a, b);
-        }
-        Shape::Readers(i) => {
-            return open_readers(z, work, i);
-        }
+        Shape::Causes(i, a, b) => open_causes(z, c, work, i, a, b),
+        Shape::Readers(i) => open_readers(z, work, i),
     }
 }
 
@@ -178,10 +147,8 @@ fn open_derived<'a>(c: &'a [u8], at: usize, work: &'a [u8]) -> Open
 {
     let many = two_at(c, at + 1);
     let mut o = Open::Nothing;
-    let mut k: usize = 0;
-    while k < many {
+    for k in 0..many {
         o = see(work, four_at(c, at + 3 + 4 * k), o);
-        k += 1;
     }
     o
 }
@@ -194,7 +161,8 @@ pub fn open_at<'a>(z: Size, t: &'a [u8], c: &'a [u8], at: usize, work: &'a [u8])
         (clause_at (question_in z t.now c.now) c.now at) }
 {
     if c[at] == 0 {
-        return open_derived(c, at, work);
+        open_derived(c, at, work)
+    } else {
+        open_shape(z, c, work, shape_of(z, c, t, given_at(c, at)))
     }
-    open_shape(z, c, work, shape_of(z, c, t, given_at(c, at)))
 }

@@ -7,9 +7,12 @@ use native.Mathlib.Omega.{arith}
 use lib.Dec.{eqb, leb}
 use lib.ListN.{length}
 use borrow.Author.Tests.{le-leb, lt-leb, leb-true}
+use Rattle.std.specs.Prelude.{Some, None}
 use Rattle.bits.proofs.Bools.{and_left, and_right}
 use Rattle.clauses.specs.Clause.{Question, in_order}
 use Rattle.clauses.specs.Step.{kind_at, literals_at, hints_at, given_at, length_of, step_length}
+use Rattle.clauses.specs.Lengths.{some_length}
+use Rattle.clauses.proofs.Lengths.{none_of, some_of, is_none, is_some, not_zero}
 use Rattle.following.specs.Following.{derived_in_order}
 use Rattle.refuting.specs.Steps.{step_in_order}
 use Rattle.refuting.specs.Looking.{is_there, AllOf, length_there}
@@ -56,23 +59,32 @@ module _ (c : List ℕ) (at : ℕ) where
         (and_right (leb 1 (step_length c at)) (leb (at + step_length c at) (length c)) h);
   }
 
-  -- as the length says
-  pub there_by : {n : ℕ} → n ≡ length_there c at → (n ≡ 0 → ⊥) → is_there c at ≡ true
-  there_by {n} e h = go (is_there c at) refl
-    where
-      go : (b : Bool) → is_there c at ≡ b → b ≡ true
-      go true d = refl
-      go false d = absurd (h (e ∙ sym (length_no d)))
+  -- the length as an option
+  pub there_none : is_there c at ≡ false → None ≡ some_length (length_there c at)
+  there_none h = none_of (length_there c at) (sym (length_no h))
 
-  pub not_by : {n : ℕ} → n ≡ length_there c at → n ≡ 0 → is_there c at ≡ false
-  not_by {n} e h = go (is_there c at) refl
+  pub there_some : {n : ℕ} → n ≡ step_length c at → is_there c at ≡ true → Some n ≡ some_length (length_there c at)
+  there_some e h = some_of (length_there c at) (e ∙ length_yes h) (omega (arith, (all_of h).some, length_yes h))
+
+  -- as the length says
+  pub not_by : None ≡ some_length (length_there c at) → is_there c at ≡ false
+  not_by e = go (is_there c at) refl
     where
       go : (b : Bool) → is_there c at ≡ b → b ≡ false
       go false d = refl
-      go true d = let z : step_length c at ≡ 0 = length_yes d ∙ sym e ∙ h in absurd (omega (arith, (all_of d).some))
+      go true d =
+          let z : step_length c at ≡ 0 = length_yes d ∙ is_none (length_there c at) e in
+          absurd (omega (arith, (all_of d).some))
 
-  pub length_by : {n : ℕ} → n ≡ length_there c at → (n ≡ 0 → ⊥) → n ≡ step_length c at
-  length_by e h = e ∙ sym (length_yes (there_by e h))
+  pub there_by : {n : ℕ} → Some n ≡ some_length (length_there c at) → is_there c at ≡ true
+  there_by e = go (is_there c at) refl
+    where
+      go : (b : Bool) → is_there c at ≡ b → b ≡ true
+      go true d = refl
+      go false d = absurd (not_zero (length_there c at) e (sym (length_no d)))
+
+  pub length_by : {n : ℕ} → Some n ≡ some_length (length_there c at) → n ≡ step_length c at
+  length_by e = is_some (length_there c at) e ∙ sym (length_yes (there_by e))
 
   -- whether it is in order
   module _ (q : Question) (begun : ℕ → Bool) where

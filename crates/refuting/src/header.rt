@@ -16,12 +16,10 @@ fn rows_below(n: u32, c: &[u8], many: usize) -> bool
     ensures { result ≡ every many (λ a. ltb (row_at c.now a) (2 ^ n)) }
 {
     let end: usize = 1 << n;
-    let mut a: usize = 0;
-    while a < many {
+    for a in 0..many {
         if end <= two_at(c, 2 + 2 * a) {
             return false;
         }
-        a += 1;
     }
     true
 }
@@ -36,14 +34,8 @@ pub fn header_in_order(n: u32, c: &[u8]) -> bool
         return false;
     }
     let rows = two_at(c, 0);
-    if rows == 0 {
-        return false;
+    match rows {
+        1..=MOST_ROWS => 2 * rows <= many - 2 && rows_below(n, c, rows),
+        _ => false,
     }
-    if MOST_ROWS < rows {
-        return false;
-    }
-    if many - 2 < 2 * rows {
-        return false;
-    }
-    rows_below(n, c, rows)
 }

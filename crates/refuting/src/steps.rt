@@ -5,6 +5,7 @@ ghost use Rattle.clauses.specs.Variables.{IsSize, variables};
 ghost use Rattle.clauses.specs.Clause.{in_order};
 ghost use Rattle.clauses.specs.Step.{question_in, kind_at, literals_at, given_at};
 ghost use Rattle.clauses.specs.Shapes.{HasRows};
+ghost use Rattle.clauses.specs.Lengths.{some_length};
 ghost use Rattle.following.specs.Following.{derived_in_order};
 ghost use Rattle.following.specs.Standing.{Clean, Kept, begun_in, Ready};
 ghost use Rattle.refuting.specs.Steps.{all_steps};
@@ -18,40 +19,38 @@ use clauses::variables::{Size, all_variables};
 use following::following::derived_in_order;
 use refusals::verdicts::{Verdict, refuse_at};
 
-// The length of a step of kind 0; 0 if not all of it is there.
-fn derived_length(c: &[u8], at: usize) -> usize
+// The length of a step of kind 0, if all of it is there.
+fn derived_length(c: &[u8], at: usize) -> Option<usize>
     requires { (at < length c.now) × (kind_at c.now at ≡ 0) }
-    ensures { result ≡ length_there c.now at }
+    ensures { result ≡ some_length (length_there c.now at) }
 {
     let left = c.len() - at;
     if left < 7 {
-        return 0;
+        return None;
     }
     let literals = two_at(c, at + 1);
-    if left - 7 < 4 * literals {
-        return 0;
+    if left < 7 + 4 * literals {
+        return None;
     }
-    let hints = four_at(c, at + 3 + 4 * literals);
-    if left - 7 - 4 * literals < 4 * hints {
-        return 0;
-    }
-    7 + 4 * literals + 4 * hints
+    let many = 7 + 4 * literals + 4 * four_at(c, at + 3 + 4 * literals);
+    if left < many { None } else { Some(many) }
 }
 
-// The length of the step at a place; 0 if there is no such kind, or not all of it is there.
-fn length_there(c: &[u8], at: usize) -> usize
+// The length of the step at a place, if there is such a kind, and all of it is there.
+fn length_there(c: &[u8], at: usize) -> Option<usize>
     requires { at < length c.now }
-    ensures { result ≡ length_there c.now at }
+    ensures { result ≡ some_length (length_there c.now at) }
 {
     let kind = c[at];
     if kind == 0 {
         return derived_length(c, at);
     }
-    let many = length_of(kind);
+    let many = length_of(kind)?;
     if c.len() - at < many {
-        return 0;
+        None
+    } else {
+        Some(many)
     }
-    many
 }
 
 // Whether the step at a place, all of which is there, is in order.
@@ -66,9 +65,10 @@ fn is_in_order<'a>(z: Size, t: &'a [u8], c: &'a [u8], at: usize, work: &mut [u8]
         × Kept (variables z) (variables z + length c.now) work.old work.new }
 {
     if c[at] == 0 {
-        return derived_in_order(z, t, c, at, work);
+        derived_in_order(z, t, c, at, work)
+    } else {
+        in_order(z, t, given_at(c, at))
     }
-    in_order(z, t, given_at(c, at))
 }
 
 // Whether the step at a place, all of which is there, is an empty clause.
@@ -76,10 +76,7 @@ fn is_empty(c: &[u8], at: usize) -> bool
     requires { AllOf c.now at }
     ensures { result ≡ (eqb (kind_at c.now at) 0 && eqb (literals_at c.now at) 0) }
 {
-    if c[at] != 0 {
-        return false;
-    }
-    two_at(c, at + 1) == 0
+    c[at] == 0 && two_at(c, at + 1) == 0
 }
 
 // All steps: fine if they show it, else where they don't. Where each begins is marked in the work area.
@@ -92,10 +89,9 @@ pub fn look_through<'a>(z: Size, t: &'a [u8], c: &'a [u8], work: &mut [u8]) -> V
     let mut at = 2 + 2 * z.rows;
     let mut empty = false;
     while at < c.len() {
-        let length = length_there(c, at);
-        if length == 0 {
+        let Some(length) = length_there(c, at) else {
             return refuse_at(SHOWN, at as u64);
-        }
+        };
         if !is_in_order(z, t, c, at, work) {
             return refuse_at(SHOWN, at as u64);
         }
@@ -104,7 +100,8 @@ pub fn look_through<'a>(z: Size, t: &'a [u8], c: &'a [u8], work: &mut [u8]) -> V
         at += length;
     }
     if empty {
-        return Verdict::Fine;
+        Verdict::Fine
+    } else {
+        refuse_at(SHOWN, c.len() as u64)
     }
-    refuse_at(SHOWN, c.len() as u64)
 }

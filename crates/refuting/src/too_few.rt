@@ -33,10 +33,7 @@ fn few_form(e: Edition, n: u64, k: u64, m: u64, t: &[u8]) -> Verdict
 fn is_short(all: usize, many: usize, room: usize) -> bool
     ensures { result ≡ ltb room (all + 2 * many) }
 {
-    if room < all {
-        return true;
-    }
-    (room - all) / 2 < many
+    room < all || (room - all) / 2 < many
 }
 
 // Lines 6 and 22, the others being in order.

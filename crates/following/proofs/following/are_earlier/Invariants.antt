@@ -1,5 +1,4 @@
 use mathlib.Core.Path.{◌≡◌}
-use Prim.Native.Nat.{◌-◌, ◌≤◌}
 use mathlib.Core.Bool.{true}
 use Rattle.bits.specs.Below.{every}
 use lib.ListN.{length}
@@ -9,7 +8,4 @@ use Rattle.following.proofs.following.are_earlier.Given as goal
 
 abbrev pub invariant-loop-k : goal.invariant-loop-k
 invariant-loop-k l =
-    (l.k ≤ l.many) × (every l.k (λ j. begun_in l.all (length l.c) l.work (hint_at l.c l.at j)) ≡ true)
-
-abbrev pub decreases-loop-k : goal.decreases-loop-k
-decreases-loop-k l = l.many - l.k
+    every l.k (λ j. begun_in l.all (length l.c) l.work (hint_at l.c l.at j)) ≡ true

@@ -1,5 +1,5 @@
 use mathlib.Core.Path.{◌≡◌}
-use Prim.Native.Nat.{◌-◌, ◌/◌, ◌≤◌}
+use Prim.Native.Nat.{◌/◌}
 use mathlib.Core.Bool.{true}
 use Rattle.bits.specs.Below.{every}
 use lib.Dec.{ltb}
@@ -7,7 +7,4 @@ use Rattle.clauses.specs.Step.{literal_at}
 use Rattle.following.proofs.following.are_named.Given as goal
 
 abbrev pub invariant-loop-k : goal.invariant-loop-k
-invariant-loop-k l = (l.k ≤ l.many) × (every l.k (λ j. ltb (literal_at l.c l.at j / 2) l.all) ≡ true)
-
-abbrev pub decreases-loop-k : goal.decreases-loop-k
-decreases-loop-k l = l.many - l.k
+invariant-loop-k l = every l.k (λ j. ltb (literal_at l.c l.at j / 2) l.all) ≡ true

@@ -1,4 +1,4 @@
-use Prim.Native.Nat.{◌-◌, ◌≤◌}
+use Prim.Native.Nat.{◌≤◌}
 use Rattle.clauses.specs.Step.{literal_at}
 use Rattle.following.specs.Following.{denied}
 use Rattle.following.specs.Standing.{Stands}
@@ -6,7 +6,4 @@ use Rattle.following.proofs.following.deny_all.Given as goal
 
 abbrev pub invariant-loop-k : goal.invariant-loop-k
 invariant-loop-k l =
-    (l.k ≤ l.many) × (l.r.set ≤ l.k) × Stands l.all l.from l.initial.work (denied (literal_at l.c l.at) l.k) l.work l.r
-
-abbrev pub decreases-loop-k : goal.decreases-loop-k
-decreases-loop-k l = l.many - l.k
+    (l.r.set ≤ l.k) × Stands l.all l.from l.initial.work (denied (literal_at l.c l.at) l.k) l.work l.r

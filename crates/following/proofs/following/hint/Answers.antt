@@ -11,10 +11,6 @@ use Rattle.following.proofs.Reading.{open_one, clause_below}
 use Rattle.following.proofs.Going.{hint_conflict, hint_several, hint-set, hint-made}
 use Rattle.following.proofs.following.hint.Goals as goal
 
-pub open_at-requires : goal.open_at-requires
-open_at-requires c =
-    (c.requires.0, c.requires.1, c.requires.2, omega (arith, c.requires.4, c.requires.5), c.requires.3)
-
 pub returns-in-Nothing : goal.returns-in-Nothing
 returns-in-Nothing c =
     (omega arith, λ σ t. hint_conflict (variables c.args.z) c.args.from c.args.set σ c.args.work.now (clause_at (question_in c.args.z c.args.t.now c.args.c.now) c.args.c.now c.args.at) (clause_below c.args.z c.requires.0 c.args.t.now c.args.c.now c.args.at c.requires.3) t c.open_at.ensures c.in-Nothing.is)
@@ -27,18 +23,12 @@ pub make-requires : goal.make-requires
 make-requires c =
     (omega (arith, c.requires.4, open_one (variables c.args.z) (byte_at c.args.work.now) Nothing (clause_at (question_in c.args.z c.args.t.now c.args.c.now) c.args.c.now c.args.at) c.in-One.l (λ k e. let z : ◌≡◌ {A = ℕ} 0 1 = cc in omega arith) (clause_below c.args.z c.requires.0 c.args.t.now c.args.c.now c.args.at c.requires.3) (sym c.open_at.ensures ∙ c.in-One.is)), c.requires.5, omega (arith, variables_most c.args.z c.requires.0, open_one (variables c.args.z) (byte_at c.args.work.now) Nothing (clause_at (question_in c.args.z c.args.t.now c.args.c.now) c.args.c.now c.args.at) c.in-One.l (λ k e. let z : ◌≡◌ {A = ℕ} 0 1 = cc in omega arith) (clause_below c.args.z c.requires.0 c.args.t.now c.args.c.now c.args.at c.requires.3) (sym c.open_at.ensures ∙ c.in-One.is)))
 
-pub overflow_add-result : goal.overflow_add-result
-overflow_add-result c = omega (arith, c.requires.5)
-
-pub shape_of-work-then-work-v-eq0 : goal.shape_of-work-then-work-v-eq0
-shape_of-work-then-work-v-eq0 c = c.make.auto.work
-
 pub returns-then-work-v-eq0 : goal.returns-then-work-v-eq0
 returns-then-work-v-eq0 c =
-    (omega arith, λ σ t. hint-made (variables c.args.z) c.args.from c.args.set σ c.args.work.now (clause_at (question_in c.args.z c.args.t.now c.args.c.now) c.args.c.now c.args.at) (clause_below c.args.z c.requires.0 c.args.t.now c.args.c.now c.args.at c.requires.3) t c.in-One.l (open_one (variables c.args.z) (byte_at c.args.work.now) Nothing (clause_at (question_in c.args.z c.args.t.now c.args.c.now) c.args.c.now c.args.at) c.in-One.l (λ k e. let z : ◌≡◌ {A = ℕ} 0 1 = cc in omega arith) (clause_below c.args.z c.requires.0 c.args.t.now c.args.c.now c.args.at c.requires.3) (sym c.open_at.ensures ∙ c.in-One.is)) c.open_at.ensures c.in-One.is c.make.new.work c.if-work-v-eq0.true (c.make.ensures (variables c.args.z) σ c.requires.4 (open_one (variables c.args.z) (byte_at c.args.work.now) Nothing (clause_at (question_in c.args.z c.args.t.now c.args.c.now) c.args.c.now c.args.at) c.in-One.l (λ k e. let z : ◌≡◌ {A = ℕ} 0 1 = cc in omega arith) (clause_below c.args.z c.requires.0 c.args.t.now c.args.c.now c.args.at c.requires.3) (sym c.open_at.ensures ∙ c.in-One.is)) t))
+    rw c.make.ensures.far (omega arith, λ σ t. hint-made (variables c.args.z) c.args.from c.args.set σ c.args.work.now (clause_at (question_in c.args.z c.args.t.now c.args.c.now) c.args.c.now c.args.at) (clause_below c.args.z c.requires.0 c.args.t.now c.args.c.now c.args.at c.requires.3) t c.in-One.l (open_one (variables c.args.z) (byte_at c.args.work.now) Nothing (clause_at (question_in c.args.z c.args.t.now c.args.c.now) c.args.c.now c.args.at) c.in-One.l (λ k e. let z : ◌≡◌ {A = ℕ} 0 1 = cc in omega arith) (clause_below c.args.z c.requires.0 c.args.t.now c.args.c.now c.args.at c.requires.3) (sym c.open_at.ensures ∙ c.in-One.is)) c.open_at.ensures c.in-One.is c.make.new.work c.if-work-v-eq0.true (c.make.ensures.trail (variables c.args.z) σ c.requires.4 (open_one (variables c.args.z) (byte_at c.args.work.now) Nothing (clause_at (question_in c.args.z c.args.t.now c.args.c.now) c.args.c.now c.args.at) c.in-One.l (λ k e. let z : ◌≡◌ {A = ℕ} 0 1 = cc in omega arith) (clause_below c.args.z c.requires.0 c.args.t.now c.args.c.now c.args.at c.requires.3) (sym c.open_at.ensures ∙ c.in-One.is)) t))
 
-pub returns-in-One : goal.returns-in-One
-returns-in-One c =
+pub returns-else-work-v-eq0 : goal.returns-else-work-v-eq0
+returns-else-work-v-eq0 c =
     (omega arith, λ σ t. hint-set (variables c.args.z) c.args.from c.args.set σ c.args.work.now (clause_at (question_in c.args.z c.args.t.now c.args.c.now) c.args.c.now c.args.at) (clause_below c.args.z c.requires.0 c.args.t.now c.args.c.now c.args.at c.requires.3) t c.in-One.l (open_one (variables c.args.z) (byte_at c.args.work.now) Nothing (clause_at (question_in c.args.z c.args.t.now c.args.c.now) c.args.c.now c.args.at) c.in-One.l (λ k e. let z : ◌≡◌ {A = ℕ} 0 1 = cc in omega arith) (clause_below c.args.z c.requires.0 c.args.t.now c.args.c.now c.args.at c.requires.3) (sym c.open_at.ensures ∙ c.in-One.is)) c.open_at.ensures c.in-One.is c.if-work-v-eq0.false)
 
 pub returns-in-Several : goal.returns-in-Several

@@ -1,5 +1,5 @@
 use mathlib.Core.Path.{◌≡◌}
-use Prim.Native.Nat.{ℕ, ◌+◌, ◌-◌, ◌≤◌}
+use Prim.Native.Nat.{ℕ, ◌+◌, ◌≤◌}
 use lib.ListN.{length}
 use mathlib.Core.List.{List}
 use Rattle.clauses.specs.Variables.{variables}
@@ -10,9 +10,6 @@ use Rattle.following.proofs.following.hint_all.Given as goal
 
 abbrev pub invariant-loop-k : goal.invariant-loop-k
 invariant-loop-k l =
-    (l.k ≤ l.many) × (l.r.set ≤ l.initial.r.set + l.k) × (length l.work ≡ length l.initial.work)
+    (l.r.set ≤ l.initial.r.set + l.k) × (length l.work ≡ length l.initial.work)
     × ((before : List ℕ) (f : Following) → Stands (variables l.z) l.from before f l.initial.work l.initial.r → Stands (variables l.z) l.from before
     (used (λ j. clause_at (question_in l.z l.t l.c) l.c (hint_at l.c l.at j)) f l.k) l.work l.r)
-
-abbrev pub decreases-loop-k : goal.decreases-loop-k
-decreases-loop-k l = l.many - l.k

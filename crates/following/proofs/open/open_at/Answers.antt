@@ -1,6 +1,5 @@
 -- `open_at` meets its contract: a clause of kind 0 is read off the certificate, another off its fields. Assumes nothing.
 use mathlib.Core.Path.{sym, ap, subst, ◌∙◌}
-use native.Mathlib.Omega.{arith}
 use mathlib.Core.List.{List, map}
 use Rattle.bits.specs.Lists.{byte_at}
 use Rattle.tables.specs.Table.{table_bit}
@@ -14,25 +13,14 @@ use Rattle.following.specs.Values.{open_in}
 use Rattle.following.proofs.Reading.{clause_derived, clause-given}
 use Rattle.following.proofs.open.open_at.Goals as goal
 
-pub bounds-c-at : goal.bounds-c-at
-bounds-c-at c = c.requires.4.inside
-
-pub open_derived-requires : goal.open_derived-requires
-open_derived-requires c =
-    let u = c.requires.4.derived c.if-c-at-eq0.true in record { room = u.room; below = λ k l. omega (arith, u.below k l, c.requires.3) }
+pub open_shape-requires : goal.open_shape-requires
+open_shape-requires c =
+    (c.requires.0, c.requires.1, c.requires.3, subst (AllNamed c.args.z) (sym c.shape_of.ensures) (named (question_in c.args.z c.args.t.now c.args.c.now) c.requires.0 c.given_at.result (ap (in_order c.args.z (table_bit c.args.t.now)) c.given_at.ensures ∙ c.requires.4.given c.if-c-at-eq0.false)))
 
 pub returns-then-c-at-eq0 : goal.returns-then-c-at-eq0
 returns-then-c-at-eq0 c =
     c.open_derived.ensures ∙ sym (ap (open_in (byte_at c.args.work.now)) (clause_derived (question_in c.args.z c.args.t.now c.args.c.now) c.args.c.now c.args.at c.if-c-at-eq0.true))
 
-pub shape_of-requires : goal.shape_of-requires
-shape_of-requires c =
-    (c.requires.0, c.requires.1, c.requires.2, ap (in_order c.args.z (table_bit c.args.t.now)) c.given_at.ensures ∙ c.requires.4.given c.if-c-at-eq0.false)
-
-pub open_shape-requires : goal.open_shape-requires
-open_shape-requires c =
-    (c.requires.0, c.requires.1, c.requires.3, subst (AllNamed c.args.z) (sym c.shape_of.ensures) (named (question_in c.args.z c.args.t.now c.args.c.now) c.requires.0 c.given_at.result (ap (in_order c.args.z (table_bit c.args.t.now)) c.given_at.ensures ∙ c.requires.4.given c.if-c-at-eq0.false)))
-
-pub returns : goal.returns
-returns c =
+pub returns-else-c-at-eq0 : goal.returns-else-c-at-eq0
+returns-else-c-at-eq0 c =
     c.open_shape.ensures ∙ ap (λ (ls : List Literal). open_in (byte_at c.args.work.now) (map (literal_of c.args.z) ls)) (c.shape_of.ensures ∙ ap (clause (question_in c.args.z c.args.t.now c.args.c.now)) c.given_at.ensures) ∙ ap (open_in (byte_at c.args.work.now)) (sym (clause-given (question_in c.args.z c.args.t.now c.args.c.now) c.args.c.now c.args.at c.if-c-at-eq0.false))

@@ -1,8 +1,5 @@
 -- The loop keeps what is open among the cells so far. Assumes nothing.
-use mathlib.Core.Path.{◌≡◌, refl, ap, ◌∙◌}
-use Prim.Native.Nat.{ℕ}
-use native.Mathlib.Omega.{arith}
-use mathlib.Core.List.{map}
+use mathlib.Core.Path.{refl}
 use Rattle.bits.specs.Lists.{byte_at, list_of}
 use Rattle.clauses.specs.declared.variables.Variable.TheVariants.{Apart}
 use Rattle.clauses.specs.declared.variables.Literal.TheVariants.{Said}
@@ -13,16 +10,8 @@ use Rattle.following.proofs.open.open_cells.Goals as goal
 
 pub loop-j-init : goal.loop-j-init
 unfolding list_of open_after
-loop-j-init c = (omega arith, refl)
-
-pub see_named-o-requires : goal.see_named-o-requires
-see_named-o-requires c =
-    (c.requires.0, c.requires.1, (c.requires.2, omega arith, c.requires.3, c.requires.4))
+loop-j-init c = refl
 
 pub loop-j-preserved : goal.loop-j-preserved
 loop-j-preserved c =
-    (omega arith, open_more (byte_at c.args.work.now) (literal_of c.args.z) (λ j. Said (Apart c.args.i j c.args.a c.args.b)) c.args.start c.loop-j.j c.see_named-o.ensures c.loop-j.invariant.1)
-
-pub returns : goal.returns
-returns c =
-    let e : c.loop-j.j ≡ c.args.i = omega arith in c.loop-j.invariant.1 ∙ ap (λ (n : ℕ). open_after (byte_at c.args.work.now) c.args.start (map (literal_of c.args.z) (list_of n (λ j. Said (Apart c.args.i j c.args.a c.args.b))))) e
+    open_more (byte_at c.args.work.now) (literal_of c.args.z) (λ j. Said (Apart c.args.i j c.args.a c.args.b)) c.args.start c.loop-j.j c.see_named-o.ensures c.loop-j.invariant

@@ -1,5 +1,4 @@
 use mathlib.Core.Path.{◌≡◌}
-use Prim.Native.Nat.{◌-◌, ◌≤◌}
 use mathlib.Core.List.{map}
 use Rattle.bits.specs.Lists.{byte_at, list_of}
 use Rattle.clauses.specs.declared.variables.Variable.TheVariants.{Apart}
@@ -10,7 +9,4 @@ use Rattle.following.proofs.open.open_cells.Given as goal
 
 abbrev pub invariant-loop-j : goal.invariant-loop-j
 invariant-loop-j l =
-    (l.j ≤ l.i) × (l.o ≡ open_after (byte_at l.work) l.initial.o (map (literal_of l.z) (list_of l.j (λ k. Said (Apart l.i k l.a l.b)))))
-
-abbrev pub decreases-loop-j : goal.decreases-loop-j
-decreases-loop-j l = l.i - l.j
+    l.o ≡ open_after (byte_at l.work) l.initial.o (map (literal_of l.z) (list_of l.j (λ k. Said (Apart l.i k l.a l.b))))

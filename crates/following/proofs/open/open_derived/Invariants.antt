@@ -1,5 +1,4 @@
 use mathlib.Core.Path.{◌≡◌}
-use Prim.Native.Nat.{◌-◌, ◌≤◌}
 use Rattle.bits.specs.Lists.{byte_at, list_of}
 use Rattle.clauses.specs.Step.{literal_at}
 use Rattle.following.specs.Values.{open_after}
@@ -8,7 +7,4 @@ use Rattle.following.proofs.open.open_derived.Given as goal
 
 abbrev pub invariant-loop-k : goal.invariant-loop-k
 invariant-loop-k l =
-    (l.k ≤ l.many) × (l.o ≡ open_after (byte_at l.work) Nothing (list_of l.k (literal_at l.c l.at)))
-
-abbrev pub decreases-loop-k : goal.decreases-loop-k
-decreases-loop-k l = l.many - l.k
+    l.o ≡ open_after (byte_at l.work) Nothing (list_of l.k (literal_at l.c l.at))

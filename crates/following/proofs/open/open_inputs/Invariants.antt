@@ -1,5 +1,4 @@
 use mathlib.Core.Path.{◌≡◌}
-use Prim.Native.Nat.{◌-◌, ◌≤◌}
 use mathlib.Core.List.{map}
 use Rattle.bits.specs.Lists.{byte_at}
 use Rattle.clauses.specs.declared.variables.Variable.TheVariants.{Reads}
@@ -12,7 +11,4 @@ use Rattle.following.proofs.open.open_inputs.Given as goal
 
 abbrev pub invariant-loop-p : goal.invariant-loop-p
 invariant-loop-p l =
-    (l.p ≤ l.z.inputs) × (l.o ≡ open_after (byte_at l.work) l.initial.o (map (literal_of l.z) (those l.p (rows_differ (row_at l.c) l.a l.b) (λ k. Said (Reads l.i k)))))
-
-abbrev pub decreases-loop-p : goal.decreases-loop-p
-decreases-loop-p l = l.z.inputs - l.p
+    l.o ≡ open_after (byte_at l.work) l.initial.o (map (literal_of l.z) (those l.p (rows_differ (row_at l.c) l.a l.b) (λ k. Said (Reads l.i k))))

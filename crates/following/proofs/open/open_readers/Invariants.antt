@@ -1,5 +1,5 @@
 use mathlib.Core.Path.{◌≡◌}
-use Prim.Native.Nat.{◌+◌, ◌-◌, ◌≤◌}
+use Prim.Native.Nat.{◌+◌}
 use mathlib.Core.List.{map}
 use Rattle.bits.specs.Lists.{byte_at, list_of}
 use Rattle.clauses.specs.declared.variables.Variable.TheVariants.{Reads}
@@ -11,7 +11,4 @@ use Rattle.following.proofs.open.open_readers.Given as goal
 
 abbrev pub invariant-loop-k : goal.invariant-loop-k
 invariant-loop-k l =
-    (l.k ≤ l.z.cells - (l.i + 1)) × (l.o ≡ open_after (byte_at l.work) Nothing (map (literal_of l.z) (list_of l.k (λ j. Said (Reads (l.i + 1 + j) (l.z.inputs + l.i))))))
-
-abbrev pub decreases-loop-k : goal.decreases-loop-k
-decreases-loop-k l = l.z.cells - (l.i + 1) - l.k
+    l.o ≡ open_after (byte_at l.work) Nothing (map (literal_of l.z) (list_of l.k (λ j. Said (Reads (l.i + 1 + j) (l.z.inputs + l.i)))))

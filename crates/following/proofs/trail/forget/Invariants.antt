@@ -1,9 +1,5 @@
-use Prim.Native.Nat.{◌-◌, ◌≤◌}
 use Rattle.following.proofs.Trailing.{Forgotten}
 use Rattle.following.proofs.trail.forget.Given as goal
 
 abbrev pub invariant-loop-e : goal.invariant-loop-e
-invariant-loop-e l = (l.e ≤ l.set) × Forgotten l.from l.e l.initial.work l.work
-
-abbrev pub decreases-loop-e : goal.decreases-loop-e
-decreases-loop-e l = l.set - l.e
+invariant-loop-e l = Forgotten l.from l.e l.initial.work l.work

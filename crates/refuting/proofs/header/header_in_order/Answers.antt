@@ -6,30 +6,22 @@ use lib.Dec.{ltb}
 use Rattle.bits.specs.Below.{every}
 use Rattle.clauses.specs.Step.{row_at}
 use Rattle.refuting.proofs.Rows.{no_rows, many_rows, cut_rows, by_rows}
+use borrow.Author.Tests.{lt-leb}
 use Rattle.refuting.proofs.header.header_in_order.Goals as goal
 
 pub returns-then-many-lt2 : goal.returns-then-many-lt2
 returns-then-many-lt2 c = cut_rows c.args.n c.args.c.now (omega arith)
 
-pub two_at-rows-requires : goal.two_at-rows-requires
-two_at-rows-requires c = omega arith
+pub returns-in_default : goal.returns-in_default
+returns-in_default c = no_rows c.args.n c.args.c.now (omega (arith, c.two_at-rows.ensures.0))
 
-pub returns-then-rows-eq0 : goal.returns-then-rows-eq0
-returns-then-rows-eq0 c = no_rows c.args.n c.args.c.now (omega (arith, c.two_at-rows.ensures.0))
-
-pub returns-then-rows-gt-MOST_ROWS : goal.returns-then-rows-gt-MOST_ROWS
-returns-then-rows-gt-MOST_ROWS c =
+pub returns-in_default-2 : goal.returns-in_default-2
+returns-in_default-2 c =
     many_rows c.args.n c.args.c.now (omega (arith, c.two_at-rows.ensures.0))
 
-pub overflow_mul-rows : goal.overflow_mul-rows
-overflow_mul-rows c = omega (arith, c.two_at-rows.ensures.1)
+pub returns-else-rows-many : goal.returns-else-rows-many
+returns-else-rows-many c = lt-leb _ _ c.if-rows-many.false ∙ cut_rows c.args.n c.args.c.now (omega (arith, c.two_at-rows.ensures.0))
 
-pub returns-then-many-rows : goal.returns-then-many-rows
-returns-then-many-rows c = cut_rows c.args.n c.args.c.now (omega (arith, c.two_at-rows.ensures.0))
-
-pub rows_below-requires : goal.rows_below-requires
-rows_below-requires c = (c.requires, omega arith)
-
-pub returns : goal.returns
-returns c =
+pub returns-then-rows-many : goal.returns-then-rows-many
+returns-then-rows-many c =
     c.rows_below.ensures ∙ ap (λ (i : ℕ). every i (λ a. ltb (row_at c.args.c.now a) (2 ^ c.args.n))) c.two_at-rows.ensures.0 ∙ by_rows c.args.n c.args.c.now (omega (arith, c.two_at-rows.ensures.0)) (omega (arith, c.two_at-rows.ensures.0)) (omega (arith, c.two_at-rows.ensures.0))

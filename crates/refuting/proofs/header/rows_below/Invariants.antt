@@ -1,5 +1,5 @@
 use mathlib.Core.Path.{◌≡◌}
-use Prim.Native.Nat.{◌-◌, ◌^◌, ◌≤◌}
+use Prim.Native.Nat.{◌^◌}
 use mathlib.Core.Bool.{true}
 use lib.Dec.{ltb}
 use Rattle.bits.specs.Below.{every}
@@ -7,7 +7,4 @@ use Rattle.clauses.specs.Step.{row_at}
 use Rattle.refuting.proofs.header.rows_below.Given as goal
 
 abbrev pub invariant-loop-a : goal.invariant-loop-a
-invariant-loop-a l = (l.a ≤ l.many) × (every l.a (λ j. ltb (row_at l.c j) (2 ^ l.n)) ≡ true)
-
-abbrev pub decreases-loop-a : goal.decreases-loop-a
-decreases-loop-a l = l.many - l.a
+invariant-loop-a l = every l.a (λ j. ltb (row_at l.c j) (2 ^ l.n)) ≡ true

@@ -18,9 +18,6 @@ returns-in_default c =
 pub few_in-requires : goal.few_in-requires
 few_in-requires c = subst IsEdition (sym c.numbered.ensures) (is_edition _)
 
-pub shape_of-work : goal.shape_of-work
-shape_of-work c = c.few_in.auto.work
-
 pub returns : goal.returns
 unfolding too_few_outcome
 returns c =
