@@ -10,7 +10,5 @@ abbrev pub test : ℕ → ℕ → ℕ → Bool
 test f g i = turns (way_at i) f g
 
 abbrev pub invariant-loop-i : goal.invariant-loop-i
-invariant-loop-i l = (l.i ≤ way_count) × (least l.i (test l.f l.g) ≡ l.i)
+invariant-loop-i l = least l.i (test l.f l.g) ≡ l.i
 
-abbrev pub decreases-loop-i : goal.decreases-loop-i
-decreases-loop-i l = way_count - l.i
