@@ -21,7 +21,14 @@ pub struct Way {
 const WAYS: u8 = 96;
 
 // The six orders of the inputs, from the least on.
-const ORDERS: [[u8; 3]; 6] = [[0, 1, 2], [0, 2, 1], [1, 0, 2], [1, 2, 0], [2, 0, 1], [2, 1, 0]];
+const ORDERS: [[u8; 3]; 6] = [
+    [0, 1, 2],
+    [0, 2, 1],
+    [1, 0, 2],
+    [1, 2, 0],
+    [2, 0, 1],
+    [2, 1, 0],
+];
 
 // Way i: by the output flip, then the mask, then the order of the inputs.
 pub fn way_at(i: u8) -> Way
@@ -62,7 +69,8 @@ fn does_turn(w: Way, f: u8, g: u8) -> bool
     ensures { result ≡ turns w f g }
 {
     for x in 0..8 {
-        if bit_of(g, x) != (bit_of(f, moved_to(w, x)) != w.flip) {
+        let turned = bit_of(f, moved_to(w, x)) != w.flip;
+        if bit_of(g, x) != turned {
             return false;
         }
     }
