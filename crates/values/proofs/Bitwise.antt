@@ -15,7 +15,7 @@ use Rattle.runs.specs.Words.{input_word}
 use Rattle.runs.proofs.Choosing.{first_of}
 use Rattle.values.specs.declared.stretches.Stretch.{Stretch}
 use Rattle.values.specs.Formula.{Formula, letter, constant, negated, joined, one_of, join, value}
-use Rattle.values.specs.Stretches.{word_of, four, stretch_of, alike, in_each, in_both, word_in}
+use Rattle.values.specs.Stretches.{word_of, four, stretch_of, alike, in_each, in_both, joined_by, word_in}
 
 and-val : (s t : Bool) → bit_and (val s) (val t) ≡ val (s && t)
 and-val true true = refl
@@ -86,12 +86,18 @@ four-of f w {x₀} {x₁} {x₂} {x₃} e₀ e₁ e₂ e₃ =
 words_of : {f g : ℕ → ℕ} → ((i : ℕ) → f i ≡ g i) → (w : ℕ) → four f w ≡ four g w
 words_of {f} {g} h w = four-of g w (h (4 * w + 0)) (h (4 * w + 1)) (h (4 * w + 2)) (h (4 * w + 3))
 
-pub joined_stretch : (k : ℕ) (op : ℕ → ℕ → ℕ)
+joined_words : (k : ℕ) (op : ℕ → ℕ → ℕ)
     → ((f g : ℕ → Bool) → op (number 64 f) (number 64 g) ≡ number 64 (λ i. join k (f i) (g i)))
     → (F G : Formula) (w : ℕ) → in_both op (stretch_of (value F) w) (stretch_of (value G) w)
     ≡ stretch_of (value (joined k F G)) w
 unfolding stretch_of value
-joined_stretch k op h F G w = words_of (λ i. h (λ x. value F (64 * i + x)) (λ x. value G (64 * i + x))) w
+joined_words k op h F G w = words_of (λ i. h (λ x. value F (64 * i + x)) (λ x. value G (64 * i + x))) w
+
+pub joined_stretch : (k : ℕ) (F G : Formula) (w : ℕ) → joined_by k (stretch_of (value F) w) (stretch_of (value G) w)
+    ≡ stretch_of (value (joined k F G)) w
+joined_stretch zero = joined_words 0 bit_and (number-and 64)
+joined_stretch (suc zero) = joined_words 1 bit_xor (number-xor 64)
+joined_stretch (suc (suc k)) = joined_words (suc (suc k)) bit_or (number-or 64)
 
 pub not_stretch : (F : Formula) (w : ℕ) → in_each (λ x. 2 ^ 64 - 1 - x) (stretch_of (value F) w)
     ≡ stretch_of (value (negated F)) w

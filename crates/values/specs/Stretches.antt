@@ -1,5 +1,6 @@
 -- A formula's values 256 assignments at a time.
 use Rattle.std.specs.Prelude.{Bool, [], ◌∷◌, ℕ, zero, suc, ◌+◌, ◌*◌, get_or}
+use Rattle.std.specs.Int.Bits.{bit_and, bit_or, bit_xor}
 use Rattle.bits.specs.Numbers.{number}
 use Rattle.values.specs.declared.stretches.Stretch.{Stretch}
 
@@ -36,3 +37,9 @@ in_both f v x = record {
   words = f (word_in v 0) (word_in x 0) ∷ f (word_in v 1) (word_in x 1) ∷ f (word_in v 2) (word_in x 2)
       ∷ f (word_in v 3) (word_in x 3) ∷ [];
 }
+
+-- what the mark of a level makes of two stretches
+abbrev pub joined_by : ℕ → Stretch → Stretch → Stretch
+joined_by zero = in_both bit_and
+joined_by (suc zero) = in_both bit_xor
+joined_by (suc (suc k)) = in_both bit_or
