@@ -6,7 +6,7 @@ use Rattle.formulas.proofs.ByteKinds.{kind_bang, kind_open}
 use Rattle.formulas.specs.Words.{depth}
 use Rattle.values.specs.Stretches.{joined_by}
 use Rattle.values.proofs.Bitwise.{joined_stretch}
-use Rattle.formulas.proofs.Words.{ahead, marked, unmarked, mark_within, side_of, first-bad, last, next-bad, next, f_end}
+use Rattle.formulas.proofs.Words.{ahead, marked, unmarked, mark_within, first-bad, last, next-bad, next, f_end}
 use Rattle.formulas.proofs.Words.{f_deep_not, f_deep_open, f_not-bad, f_not, f_open_bad, f_closed}
 use Rattle.formulas.proofs.reading.Text.+reading.Goals as goal
 
