@@ -191,6 +191,11 @@ pub record AtCell (e : Edition) (n : ℕ) (s : List ℕ) (x : ℕ) (flip : Bool)
   pub cell : pair_cell c ≡ cell_of e (record_at e s (x - n))
   pub flipped : Put room p (flipped_text flip []) room' q
 
+pub at_cell : {e : Edition} {n : ℕ} {s : List ℕ} {x : ℕ} {flip : Bool} {room : List ℕ} {p : ℕ} (c : PlainCell)
+    {room' : List ℕ} {q : ℕ} → Room e n s x flip room p → n ≤ x → pair_cell c ≡ cell_of e (record_at e s (x - n))
+    → Put room p (flipped_text flip []) room' q → AtCell e n s x flip room p c room' q
+at_cell c h a k f = record { has = h; above = a; cell = k; flipped = f }
+
 module _ {e : Edition} {n : ℕ} {s : List ℕ} {x : ℕ} {flip : Bool} {room : List ℕ} {p : ℕ} {c : PlainCell} {room' : List ℕ}
     {q : ℕ} (k : AtCell e n s x flip room p c room' q) where
   abbrev cells : List Cell

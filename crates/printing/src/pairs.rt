@@ -14,8 +14,15 @@ use sheets::kinds::Edition;
 // What a cell reads, with its table: a signal, or the lower of two and the other.
 #[derive(Clone, Copy, Debug, PartialEq, Eq)]
 pub enum PlainCell {
-    One { signal: usize, table: usize },
-    Two { low: usize, high: usize, table: usize },
+    One {
+        signal: usize,
+        table: usize,
+    },
+    Two {
+        low: usize,
+        high: usize,
+        table: usize,
+    },
 }
 
 // How a table of two signals is printed: whether `!` stands before the lower one, the mark, and whether `!` stands

@@ -5,7 +5,6 @@ use mathlib.Core.List.{List}
 use Prim.Native.Nat.{ℕ}
 use native.Mathlib.Omega.{arith}
 use lib.ListN.{length}
-use borrow.Author.Tests.{not-true, not-false}
 use Rattle.sheets.specs.Record.{byte_at, cell_of}
 use Rattle.sheets.proofs.Places.{record_within, record_length}
 use Rattle.printing.specs.Printable.{plain_cell, all_plain}
@@ -45,9 +44,9 @@ pub loop-i-preserved : goal.loop-i-preserved
 loop-i-preserved c =
     let a = c.args in
     let is : c.plain.result ≡ true = c.if-not-plain.false in
-      plain_goes a.e a.s.now c.loop-i.i a.m _ c.loop-i.invariant (omega arith)
-          (sym (c.plain.ensures ∙ ap (λ (r : List ℕ). plain_cell (cell_of a.e (byte_at r)))
-          c.record_of.ensures) ∙ is)
+    plain_goes a.e a.s.now c.loop-i.i a.m _ c.loop-i.invariant (omega arith)
+    (sym (c.plain.ensures ∙ ap (λ (r : List ℕ). plain_cell (cell_of a.e (byte_at r)))
+    c.record_of.ensures) ∙ is)
 
 pub returns : goal.returns
 returns c =

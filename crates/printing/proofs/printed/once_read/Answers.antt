@@ -1,6 +1,5 @@
 -- `once_read` meets its contract. The loop's invariant: the records before i are each read once. Assumes nothing.
 use mathlib.Core.Path.{◌≡◌, sym, ap, ◌∙◌}
-use mathlib.Core.Bool.{true}
 use Prim.Native.Nat.{ℕ, ◌-◌}
 use native.Mathlib.Omega.{arith}
 use lib.Dec.{eqb}
@@ -28,9 +27,9 @@ returns-then-reads_in-ne1 c =
 pub loop-i-preserved : goal.loop-i-preserved
 loop-i-preserved c =
     let a = c.args in
-      every_more c.loop-i.i (once a.e a.n a.s.now a.m) c.loop-i.invariant
-          (ap (λ (k : ℕ). eqb k 1) (sym c.reads_in.ensures)
-          ∙ eq-eqb c.reads_in.result 1 c.if-reads_in-ne1.false)
+    every_more c.loop-i.i (once a.e a.n a.s.now a.m) c.loop-i.invariant
+    (ap (λ (k : ℕ). eqb k 1) (sym c.reads_in.ensures)
+    ∙ eq-eqb c.reads_in.result 1 c.if-reads_in-ne1.false)
 
 pub returns : goal.returns
 returns c =

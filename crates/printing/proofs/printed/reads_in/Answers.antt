@@ -25,15 +25,15 @@ pair_of-requires c =
     )
 
 pub overflow_add-c : goal.overflow_add-c
-overflow_add-c c = omega (arith, c.loop-i.invariant.1, c.times.ensures.1, c.requires.1)
+overflow_add-c c = omega (arith, c.loop-i.invariant.1, c.times-c.ensures.1, c.requires.1)
 
 pub loop-i-preserved : goal.loop-i-preserved
 loop-i-preserved c =
     let a = c.args in
     let i = c.loop-i.i in
-    let r = c.times.ensures.0 ∙ ap (λ (k : Cell). times a.x k.signals) c.pair_of.ensures.0 in (
+    let r = c.times-c.ensures.0 ∙ ap (λ (k : Cell). times a.x k.signals) c.pair_of.ensures.0 in (
       omega (arith, c.loop-i.invariant.0, r, ap (reads a.x) (cells_next a.e a.s.now i a.m (omega arith))),
-      omega (arith, c.loop-i.invariant.1, c.times.ensures.1),
+      omega (arith, c.loop-i.invariant.1, c.times-c.ensures.1),
     )
 
 pub returns : goal.returns

@@ -1,6 +1,5 @@
 -- The readers give what the definition reads. Assumes nothing.
 use native.Mathlib.Omega.{arith}
-use borrow.Author.Rules.{rules}
 use Rattle.std.proofs.lemmas.Result.{err_from_is_err_and}
 use Rattle.formulas.proofs.ByteKinds.{kind_bang, kind_open}
 use Rattle.formulas.specs.Words.{depth}

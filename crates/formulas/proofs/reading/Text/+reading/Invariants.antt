@@ -1,6 +1,6 @@
 -- The number that falls at each call of the cycle: eight for each nesting and for each byte that is left, and two for
 -- each level, with one for its sides.
-use Rattle.std.proofs.Common.{suc, ◌+◌, ◌*◌, ◌-◌, length}
+use Rattle.std.proofs.Common.{◌+◌, ◌*◌, ◌-◌, length}
 use Rattle.formulas.specs.Words.{depth}
 use Rattle.formulas.proofs.reading.Text.+reading.Given as goal
 
