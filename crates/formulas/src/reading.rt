@@ -64,18 +64,18 @@ pub struct Text<'a> {
 
 impl Text<'_> {
     // Whether a byte stands at a place, which may lie past the end.
-    fn has(self, at: usize, byte: u8) -> bool
+    fn has(&self, at: usize, byte: u8) -> bool
         requires { 0 < byte }
-        ensures { result ≡ eqb (byte_at self.entry.bytes.now at) byte }
+        ensures { result ≡ eqb (byte_at self.now.bytes.now at) byte }
     {
         at < self.bytes.len() && self.bytes[at] == byte
     }
 
     // What stands before a mark of the level, which is one step below it.
     #[cycle(reading)]
-    fn side(self, level: Level, at: usize, left: usize) -> Result<Read, Stuck>
-        requires { at ≤ length self.bytes.now }
-        ensures { Yields self.entry.bytes.now self.entry.inputs (depth level) left at self.entry.stretch result }
+    fn side(&self, level: Level, at: usize, left: usize) -> Result<Read, Stuck>
+        requires { at ≤ length self.now.bytes.now }
+        ensures { Yields self.now.bytes.now self.now.inputs (depth level) left at self.now.stretch result }
     {
         match level {
             Level::Part => self.factor(at, left),
@@ -86,9 +86,9 @@ impl Text<'_> {
 
     // A part, a term or a sum: one side, and with the level's mark after it the rest.
     #[cycle(reading)]
-    pub fn joined(self, level: Level, at: usize, left: usize) -> Result<Read, Stuck>
-        requires { at ≤ length self.bytes.now }
-        ensures { Yields self.entry.bytes.now self.entry.inputs (suc (depth level)) left at self.entry.stretch result }
+    pub fn joined(&self, level: Level, at: usize, left: usize) -> Result<Read, Stuck>
+        requires { at ≤ length self.now.bytes.now }
+        ensures { Yields self.now.bytes.now self.now.inputs (suc (depth level)) left at self.now.stretch result }
     {
         let first = self.side(level, at, left)?;
         if !self.has(first.at, level.byte()) {
@@ -102,9 +102,9 @@ impl Text<'_> {
     }
 
     // A factor of one byte, which is neither `!` nor `(`: a letter, `0` or `1`.
-    fn single(self, at: usize) -> Result<Read, Stuck>
-        requires { at < length self.bytes.now }
-        ensures { Single self.entry.bytes.now self.entry.inputs at self.entry.stretch result }
+    fn single(&self, at: usize) -> Result<Read, Stuck>
+        requires { at < length self.now.bytes.now }
+        ensures { Single self.now.bytes.now self.now.inputs at self.now.stretch result }
     {
         let values = match self.bytes[at] {
             b'0' => same(0),
@@ -119,8 +119,8 @@ impl Text<'_> {
     }
 
     // `)` after what was read.
-    fn closed(self, inner: Read) -> Result<Read, Stuck>
-        ensures { result ≡ closed_at self.entry.bytes.now inner.values inner.at }
+    fn closed(&self, inner: Read) -> Result<Read, Stuck>
+        ensures { result ≡ closed_at self.now.bytes.now inner.values inner.at }
     {
         if !self.has(inner.at, b')') {
             return Err(Stuck { at: inner.at });
@@ -133,9 +133,9 @@ impl Text<'_> {
 
     // A factor: one byte, `!` before a factor, or a sum in parentheses; the last two are one level down.
     #[cycle(reading)]
-    fn factor(self, at: usize, left: usize) -> Result<Read, Stuck>
-        requires { at ≤ length self.bytes.now }
-        ensures { Yields self.entry.bytes.now self.entry.inputs 0 left at self.entry.stretch result }
+    fn factor(&self, at: usize, left: usize) -> Result<Read, Stuck>
+        requires { at ≤ length self.now.bytes.now }
+        ensures { Yields self.now.bytes.now self.now.inputs 0 left at self.now.stretch result }
     {
         if self.bytes.len() <= at {
             return Err(Stuck { at });

@@ -53,7 +53,7 @@ joined-returns-then-not-has t c =
 pub joined-joined-requires : goal.joined-joined-requires
 joined-joined-requires t c =
     let h = ahead c.in_ok-first.was c.side.ensures c.requires in
-    let m = mark_within c.args.self.bytes.now c.in_ok-first.first.at (depth c.args.level)
+    let m = mark_within c.args.self.now.bytes.now c.in_ok-first.first.at (depth c.args.level)
     (marked c.has.ensures c.byte.ensures c.if-not-has.false) in
     (omega arith, omega arith)
 

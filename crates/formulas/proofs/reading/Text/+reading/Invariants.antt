@@ -5,10 +5,10 @@ use Rattle.formulas.specs.Words.{depth}
 use Rattle.formulas.proofs.reading.Text.+reading.Given as goal
 
 abbrev pub decreases-joined : goal.decreases-joined
-decreases-joined l = 8 * (l.left + (length l.self.bytes.now - l.at)) + (2 * depth l.level + 2)
+decreases-joined l = 8 * (l.left + (length l.self.now.bytes.now - l.at)) + (2 * depth l.level + 2)
 
 abbrev pub decreases-side : goal.decreases-side
-decreases-side l = 8 * (l.left + (length l.self.bytes.now - l.at)) + (2 * depth l.level + 1)
+decreases-side l = 8 * (l.left + (length l.self.now.bytes.now - l.at)) + (2 * depth l.level + 1)
 
 abbrev pub decreases-factor : goal.decreases-factor
-decreases-factor l = 8 * (l.left + (length l.self.bytes.now - l.at)) + 0
+decreases-factor l = 8 * (l.left + (length l.self.now.bytes.now - l.at)) + 0
