@@ -9,13 +9,11 @@ use borrow.Author.Tests.{eq-eqb, ne_eqb}
 use Rattle.refusals.specs.Verdicts.{Fine, Refused}
 use Rattle.refusals.specs.Lines.{refusal, naming, verdict}
 use Rattle.values.specs.declared.stretches.Stretch.{Stretch}
-use Rattle.formulas.specs.declared.reading.TextRead.{TextRead}
-use Rattle.formulas.specs.declared.reading.TextRead.TheVariants.{Read, Stuck}
 use Rattle.values.specs.Formula.{Formula, value}
 use Rattle.formulas.specs.Text.{byte_at, most_text, most_levels}
 use Rattle.formulas.specs.Reading.{Reading, up_to, reader, TextAnswer, formula, refused, ended, text_of, value_in}
 use Rattle.formulas.specs.Reading.{TextSays, enough}
-use Rattle.formulas.specs.Words.{Yields}
+use Rattle.formulas.specs.Words.{TextRead, read_to, stuck_at, Yields}
 use Rattle.values.specs.Stretches.{stretch_of}
 use Rattle.formulas.specs.Refusals.{is_refused, place_in, bad_text}
 use Rattle.formulas.proofs.Steps.{Run, runs}
@@ -50,10 +48,10 @@ module _ (n : ℕ) (s : List ℕ) (h : length s ≤ most_text) where
   text_to : {g : Reading} → reader (byte_at s) n enough 3 most_levels 0 ≡ g → text_of n s ≡ ended (length s) g
   text_to e = text_of_lem n s h ∙ ap (ended (length s)) e
 
-  pub text_bad : {r : TextRead} {p w : ℕ} → r ≡ Stuck p → Yields s n 3 most_levels 0 w r → text_of n s ≡ refused p
+  pub text_bad : {r : TextRead} {p w : ℕ} → r ≡ stuck_at p → Yields s n 3 most_levels 0 w r → text_of n s ≡ refused p
   text_bad e g = text_to (runs (byte_at s) n (read_no e g enough (omega arith)))
 
-  pub text_left : {r : TextRead} {v : Stretch} {q w : ℕ} → r ≡ Read v q → Yields s n 3 most_levels 0 w r → q < length s
+  pub text_left : {r : TextRead} {v : Stretch} {q w : ℕ} → r ≡ read_to v q → Yields s n 3 most_levels 0 w r → q < length s
       → text_of n s ≡ refused q
   text_left {r} {v} {q} {w} e g l = go (read_value e g enough (omega arith))
     where
@@ -62,7 +60,7 @@ module _ (n : ℕ) (s : List ℕ) (h : length s ≤ most_text) where
       go x = text_to (runs (byte_at s) n x.1) ∙ ap (λ (t : Bool). cond t (formula x.0) (refused q))
           (ne_eqb q (length s) (λ z. omega arith))
 
-  pub text_good : {r : TextRead} {v : Stretch} {q w : ℕ} → r ≡ Read v q → Yields s n 3 most_levels 0 w r → length s ≤ q
+  pub text_good : {r : TextRead} {v : Stretch} {q w : ℕ} → r ≡ read_to v q → Yields s n 3 most_levels 0 w r → length s ≤ q
       → Good n s
   text_good {r} {v} {q} {w} e g l = go (read_value e g enough (omega arith)) (ahead e g (omega arith))
     where
@@ -83,12 +81,12 @@ module _ (n : ℕ) (s : List ℕ) (g : Good n s) where
       runs (byte_at s) n (whole_run n s g.tree (subst (TextSays n s) g.is (told n s g.short)) enough
       (omega (arith, g.short)))
 
-  pub stretch_stuck : {r : TextRead} {p w : ℕ} → r ≡ Stuck p → Yields s n 3 most_levels 0 w r → ⊥
+  pub stretch_stuck : {r : TextRead} {p w : ℕ} → r ≡ stuck_at p → Yields s n 3 most_levels 0 w r → ⊥
   stretch_stuck e k =
       let a = sym good_reading ∙ runs (byte_at s) n (read_no e k enough (omega (arith, g.short))) in
       let z : ◌≡◌ {A = ℕ} 0 1 = cc in omega arith
 
-  pub stretch_found : {r : TextRead} {v : Stretch} {q w : ℕ} → r ≡ Read v q → Yields s n 3 most_levels 0 w r → v
+  pub stretch_found : {r : TextRead} {v : Stretch} {q w : ℕ} → r ≡ read_to v q → Yields s n 3 most_levels 0 w r → v
       ≡ stretch_of (value_in (text_of n s)) w
   stretch_found {r} {v} {q} {w} e k = go (read_value e k enough (omega (arith, g.short)))
     where

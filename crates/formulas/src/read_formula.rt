@@ -7,11 +7,11 @@ ghost use Rattle.values.specs.Stretches.{stretch_of};
 ghost use Rattle.formulas.specs.Refusals.{bad_text};
 ghost use Rattle.formulas.specs.ReadFormula.{read_lines, read_outcome};
 
-use crate::reading::{TextRead, sum};
+use crate::reading::{Level, Text};
 use refusals::form;
 use refusals::verdicts::{Refusal, Verdict, refuse_at};
 use runs::words::first_bits;
-use values::stretches::{Stretch, same, word_in};
+use values::stretches::{Stretch, same};
 
 // A text has at most so many bytes.
 pub const MOST_TEXT: usize = 1024;
@@ -19,39 +19,39 @@ pub const MOST_TEXT: usize = 1024;
 const MOST_LEVELS: usize = 32;
 
 // Line 16: the text is read once, at the first stretch.
-fn look_at_text(n: u32, t: &[u8]) -> Verdict
-    requires { n ≤ most_inputs }
-    ensures { result ≡ verdict (bad_text n t.now ∷ []) }
+fn look_at_text(inputs: u32, bytes: &[u8]) -> Verdict
+    requires { inputs ≤ most_inputs }
+    ensures { result ≡ verdict (bad_text inputs bytes.now ∷ []) }
 {
-    let len = t.len();
+    let len = bytes.len();
     if MOST_TEXT < len {
         return refuse_at(Refusal::TEXT, len as u64);
     }
-    match sum(t, 0, MOST_LEVELS, n, 0) {
-        TextRead::Stuck(p) => {
-            return refuse_at(Refusal::TEXT, p as u64);
-        }
-        TextRead::Read(_, q) => {
-            if q < len {
-                return refuse_at(Refusal::TEXT, q as u64);
-            }
-            return Verdict::Fine;
-        }
+    let text = Text {
+        bytes,
+        inputs,
+        stretch: 0,
+    };
+    match text.joined(Level::Sum, 0, MOST_LEVELS) {
+        Err(stuck) => refuse_at(Refusal::TEXT, stuck.at as u64),
+        Ok(read) if read.at < len => refuse_at(Refusal::TEXT, read.at as u64),
+        Ok(_) => Verdict::Fine,
     }
 }
 
-// Stretch w of the values of a text that is a formula.
-fn text_stretch(n: u32, t: &[u8], w: u32) -> Stretch
-    requires { (n ≤ most_inputs) × ((bad_text n t.now).holds ≡ false) }
-    ensures { result ≡ stretch_of (value_in (text_of n t.now)) w }
+// A stretch of the values of a text that is a formula.
+fn text_stretch(inputs: u32, bytes: &[u8], stretch: u32) -> Stretch
+    requires { (inputs ≤ most_inputs) × ((bad_text inputs bytes.now).holds ≡ false) }
+    ensures { result ≡ stretch_of (value_in (text_of inputs bytes.now)) stretch }
 {
-    match sum(t, 0, MOST_LEVELS, n, w) {
-        TextRead::Stuck(_) => {
-            return same(0);
-        }
-        TextRead::Read(v, _) => {
-            return v;
-        }
+    let text = Text {
+        bytes,
+        inputs,
+        stretch,
+    };
+    match text.joined(Level::Sum, 0, MOST_LEVELS) {
+        Ok(read) => read.values,
+        Err(_) => unreachable!(),
     }
 }
 
@@ -61,14 +61,12 @@ fn fill(n: u32, t: &[u8], table: &mut [u8])
     ensures { table.new ≡ table_of n (value_in (text_of n t.now)) }
 {
     let mut v = same(0);
-    let mut i: usize = 0;
-    while i < table.len() {
+    for (i, byte) in table.iter_mut().enumerate() {
         if i % 32 == 0 {
             v = text_stretch(n, t, (i / 32) as u32);
         }
-        let o = first_bits(n, word_in(v, (i / 8) % 4));
-        table[i] = ((o >> (8 * (i % 8))) % 256) as u8;
-        i += 1;
+        let o = first_bits(n, v.words[i / 8 % 4]);
+        *byte = ((o >> (8 * (i % 8))) % 256) as u8;
     }
 }
 

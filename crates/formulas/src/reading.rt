@@ -1,171 +1,159 @@
-// The readers of sum, term, part and factor, which call each other in a cycle: each call has a byte less before it, or
-// goes one step down. They work on a stretch of 256 assignments at a time, the one from 256 w on.
-ghost use Rattle.std.specs.Prelude.{◌≡◌, ◌<◌, ◌≤◌, length};
+// The readers of a formula, which call each other in a cycle: each call has a byte less before it, or goes one step
+// down. They work on a stretch of 256 assignments at a time, the one from 256 w on.
+ghost use Rattle.std.specs.Prelude.{◌≡◌, ◌<◌, ◌≤◌, suc, eqb, length};
 ghost use Rattle.tables.specs.Table.{most_inputs};
-ghost use Rattle.formulas.specs.Words.{Yields, Single, closed_at};
+ghost use Rattle.values.specs.Stretches.{joined_by};
+ghost use Rattle.formulas.specs.Text.{byte_at, mark};
+ghost use Rattle.formulas.specs.Words.{Yields, Single, closed_at, depth};
 
-use values::stretches::{Stretch, both, either, of_input, one_of, same, turned};
+use values::stretches::{Stretch, of_input, same};
 
-// What a reader found: a stretch of values and the place after it, or the place at which the text can't be continued.
+// A stretch of values that was read, and the place after it.
+#[derive(Clone, Copy, Debug, PartialEq, Eq)]
+pub struct Read {
+    pub values: Stretch,
+    pub at: usize,
+}
+
+// The place at which the text can't be continued.
+#[derive(Clone, Copy, Debug, PartialEq, Eq)]
+pub struct Stuck {
+    pub at: usize,
+}
+
+// What is joined by one mark: factors make a part, parts a term, terms a sum.
+#[derive(Clone, Copy, Debug, PartialEq, Eq)]
+pub enum Level {
+    Part,
+    Term,
+    Sum,
+}
+
+impl Level {
+    // The mark between two of them.
+    fn byte(self) -> u8
+        ensures { result ≡ mark (depth self) }
+    {
+        match self {
+            Level::Part => b'&',
+            Level::Term => b'^',
+            Level::Sum => b'|',
+        }
+    }
+
+    // What the mark makes of two stretches.
+    fn join(self, left: Stretch, right: Stretch) -> Stretch
+        ensures { result ≡ joined_by (depth self) left right }
+    {
+        match self {
+            Level::Part => left & right,
+            Level::Term => left ^ right,
+            Level::Sum => left | right,
+        }
+    }
+}
+
+// The text that is read, with how many inputs, and which stretch of the values is asked for.
 #[derive(Clone, Copy)]
-pub enum TextRead {
-    Read(Stretch, usize),
-    Stuck(usize),
+pub struct Text<'a> {
+    pub bytes: &'a [u8],
+    pub inputs: u32,
+    pub stretch: u32,
+    ghost few: { inputs ≤ most_inputs },
 }
 
-// A sum: terms joined by `|`.
-#[cycle(factor_part_sum_term)]
-pub fn sum(t: &[u8], at: usize, left: usize, n: u32, w: u32) -> TextRead
-    requires { (at ≤ length t.now) × (n ≤ most_inputs) }
-    ensures { Yields t.now n 3 left at w result }
-{
-    match term(t, at, left, n, w) {
-        TextRead::Stuck(p) => {
-            return TextRead::Stuck(p);
-        }
-        TextRead::Read(v, q) => {
-            if q < t.len() {
-                if t[q] == b'|' {
-                    match sum(t, q + 1, left, n, w) {
-                        TextRead::Stuck(p) => {
-                            return TextRead::Stuck(p);
-                        }
-                        TextRead::Read(x, r) => {
-                            return TextRead::Read(either(v, x), r);
-                        }
-                    }
-                }
-            }
-            return TextRead::Read(v, q);
-        }
+impl Text<'_> {
+    // Whether a byte stands at a place, which may lie past the end.
+    fn has(&self, at: usize, byte: u8) -> bool
+        requires { 0 < byte }
+        ensures { result ≡ eqb (byte_at self.now.bytes.now at) byte }
+    {
+        at < self.bytes.len() && self.bytes[at] == byte
     }
-}
 
-// A term: parts joined by `^`.
-#[cycle(factor_part_sum_term)]
-fn term(t: &[u8], at: usize, left: usize, n: u32, w: u32) -> TextRead
-    requires { (at ≤ length t.now) × (n ≤ most_inputs) }
-    ensures { Yields t.now n 2 left at w result }
-{
-    match part(t, at, left, n, w) {
-        TextRead::Stuck(p) => {
-            return TextRead::Stuck(p);
-        }
-        TextRead::Read(v, q) => {
-            if q < t.len() {
-                if t[q] == b'^' {
-                    match term(t, q + 1, left, n, w) {
-                        TextRead::Stuck(p) => {
-                            return TextRead::Stuck(p);
-                        }
-                        TextRead::Read(x, r) => {
-                            return TextRead::Read(one_of(v, x), r);
-                        }
-                    }
-                }
-            }
-            return TextRead::Read(v, q);
+    // What stands before a mark of the level, which is one step below it.
+    #[cycle(reading)]
+    fn side(&self, level: Level, at: usize, left: usize) -> Result<Read, Stuck>
+        requires { at ≤ length self.now.bytes.now }
+        ensures { Yields self.now.bytes.now self.now.inputs (depth level) left at self.now.stretch result }
+    {
+        match level {
+            Level::Part => self.factor(at, left),
+            Level::Term => self.joined(Level::Part, at, left),
+            Level::Sum => self.joined(Level::Term, at, left),
         }
     }
-}
 
-// A part: factors joined by `&`.
-#[cycle(factor_part_sum_term)]
-fn part(t: &[u8], at: usize, left: usize, n: u32, w: u32) -> TextRead
-    requires { (at ≤ length t.now) × (n ≤ most_inputs) }
-    ensures { Yields t.now n 1 left at w result }
-{
-    match factor(t, at, left, n, w) {
-        TextRead::Stuck(p) => {
-            return TextRead::Stuck(p);
+    // A part, a term or a sum: one side, and with the level's mark after it the rest.
+    #[cycle(reading)]
+    pub fn joined(&self, level: Level, at: usize, left: usize) -> Result<Read, Stuck>
+        requires { at ≤ length self.now.bytes.now }
+        ensures { Yields self.now.bytes.now self.now.inputs (suc (depth level)) left at self.now.stretch result }
+    {
+        let first = self.side(level, at, left)?;
+        if !self.has(first.at, level.byte()) {
+            return Ok(first);
         }
-        TextRead::Read(v, q) => {
-            if q < t.len() {
-                if t[q] == b'&' {
-                    match part(t, q + 1, left, n, w) {
-                        TextRead::Stuck(p) => {
-                            return TextRead::Stuck(p);
-                        }
-                        TextRead::Read(x, r) => {
-                            return TextRead::Read(both(v, x), r);
-                        }
-                    }
-                }
-            }
-            return TextRead::Read(v, q);
-        }
+        let rest = self.joined(level, first.at + 1, left)?;
+        Ok(Read {
+            values: level.join(first.values, rest.values),
+            at: rest.at,
+        })
     }
-}
 
-// A factor of one byte, which is neither `!` nor `(`: a letter, `0` or `1`.
-fn single(t: &[u8], at: usize, n: u32, w: u32) -> TextRead
-    requires { (at < length t.now) × (n ≤ most_inputs) }
-    ensures { Single t.now n at w result }
-{
-    let b = t[at];
-    if b == b'0' {
-        return TextRead::Read(same(0), at + 1);
+    // A factor of one byte, which is neither `!` nor `(`: a letter, `0` or `1`.
+    fn single(&self, at: usize) -> Result<Read, Stuck>
+        requires { at < length self.now.bytes.now }
+        ensures { Single self.now.bytes.now self.now.inputs at self.now.stretch result }
+    {
+        let values = match self.bytes[at] {
+            b'0' => same(0),
+            b'1' => same(!0),
+            b if b'a' <= b && b < b'a' + self.inputs as u8 => of_input(
+                (b - b'a') as u32,
+                self.stretch,
+            ),
+            _ => return Err(Stuck { at }),
+        };
+        Ok(Read { values, at: at + 1 })
     }
-    if b == b'1' {
-        return TextRead::Read(same(!0), at + 1);
-    }
-    if b < b'a' {
-        return TextRead::Stuck(at);
-    }
-    if b < b'a' + n as u8 {
-        return TextRead::Read(of_input((b - b'a') as u32, w), at + 1);
-    }
-    TextRead::Stuck(at)
-}
 
-// `)` after the values v that were read up to q.
-fn closed(t: &[u8], v: Stretch, q: usize) -> TextRead
-    ensures { result ≡ closed_at t.now v q }
-{
-    if t.len() <= q {
-        return TextRead::Stuck(q);
+    // `)` after what was read.
+    fn closed(&self, inner: Read) -> Result<Read, Stuck>
+        ensures { result ≡ closed_at self.now.bytes.now inner.values inner.at }
+    {
+        if !self.has(inner.at, b')') {
+            return Err(Stuck { at: inner.at });
+        }
+        Ok(Read {
+            values: inner.values,
+            at: inner.at + 1,
+        })
     }
-    if t[q] == b')' {
-        return TextRead::Read(v, q + 1);
-    }
-    TextRead::Stuck(q)
-}
 
-// A factor: one byte, `!` before a factor, or a sum in parentheses; the last two are one level down.
-#[cycle(factor_part_sum_term)]
-fn factor(t: &[u8], at: usize, left: usize, n: u32, w: u32) -> TextRead
-    requires { (at ≤ length t.now) × (n ≤ most_inputs) }
-    ensures { Yields t.now n 0 left at w result }
-{
-    if t.len() <= at {
-        return TextRead::Stuck(at);
-    }
-    let b = t[at];
-    if b == b'!' {
-        if left == 0 {
-            return TextRead::Stuck(at);
+    // A factor: one byte, `!` before a factor, or a sum in parentheses; the last two are one level down.
+    #[cycle(reading)]
+    fn factor(&self, at: usize, left: usize) -> Result<Read, Stuck>
+        requires { at ≤ length self.now.bytes.now }
+        ensures { Yields self.now.bytes.now self.now.inputs 0 left at self.now.stretch result }
+    {
+        if self.bytes.len() <= at {
+            return Err(Stuck { at });
         }
-        match factor(t, at + 1, left - 1, n, w) {
-            TextRead::Stuck(p) => {
-                return TextRead::Stuck(p);
+        match self.bytes[at] {
+            b'!' if 0 < left => {
+                let turned = self.factor(at + 1, left - 1)?;
+                Ok(Read {
+                    values: !turned.values,
+                    at: turned.at,
+                })
             }
-            TextRead::Read(v, q) => {
-                return TextRead::Read(turned(v), q);
+            b'(' if 0 < left => {
+                let inner = self.joined(Level::Sum, at + 1, left - 1)?;
+                self.closed(inner)
             }
-        }
-    }
-    if b == b'(' {
-        if left == 0 {
-            return TextRead::Stuck(at);
-        }
-        match sum(t, at + 1, left - 1, n, w) {
-            TextRead::Stuck(p) => {
-                return TextRead::Stuck(p);
-            }
-            TextRead::Read(v, q) => {
-                return closed(t, v, q);
-            }
+            b'!' | b'(' => Err(Stuck { at }),
+            _ => self.single(at),
         }
     }
-    single(t, at, n, w)
 }

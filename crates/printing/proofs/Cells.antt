@@ -1,6 +1,6 @@
 -- A record's cell of one or two signals, by its bytes; the cells of a sheet in turn. Assumes nothing.
 use mathlib.Core.Path.{◌≡◌, refl, sym, ap, ap₂, ◌∙◌, subst}
-use mathlib.Core.Bool.{Bool, true, false, cond, ◌&&◌, ◌||◌}
+use mathlib.Core.Bool.{Bool, true, false, ◌&&◌, ◌||◌}
 use mathlib.Core.List.{List, [], ◌∷◌}
 use Prim.Native.Nat.{ℕ, zero, suc, ◌+◌, ◌-◌, ◌/◌, ◌%◌, ◌^◌, ◌<◌, ◌≤◌}
 use native.Mathlib.Omega.{arith}
@@ -148,14 +148,9 @@ module _ (e : Edition) (s : List ℕ) where
 pub start_within : {e : Edition} (r : List ℕ) → IsEdition e → length r ≡ e.size → e.start < length r
 start_within {e} r o h = omega (arith, o.ends, pow_pos (e.most - 3), h)
 
-pub times-two : (x low high : ℕ) {two : Bool} {a b : ℕ} → two ≡ true → a ≡ val (eqb x low) → b ≡ val (eqb x high)
-    → a + b ≡ times x (cond two (low ∷ high ∷ []) (low ∷ []))
-times-two x low high {two} {a} {b} q f g =
-    let t : a + b ≡ val (eqb x low) + (val (eqb x high) + 0) = omega (arith, f, g) in
-    t ∙ ap (λ (s : Bool). times x (cond s (low ∷ high ∷ []) (low ∷ []))) (sym q)
+pub times-two : (x low high : ℕ) {a b : ℕ} → a ≡ val (eqb x low) → b ≡ val (eqb x high) → a + b
+    ≡ times x (low ∷ high ∷ [])
+times-two x low high f g = omega (arith, f, g)
 
-pub times-one : (x low high : ℕ) {two : Bool} {a : ℕ} → two ≡ false → a ≡ val (eqb x low) → a
-    ≡ times x (cond two (low ∷ high ∷ []) (low ∷ []))
-times-one x low high {two} {a} q f =
-    let t : a ≡ val (eqb x low) + 0 = omega (arith, f) in
-    t ∙ ap (λ (s : Bool). times x (cond s (low ∷ high ∷ []) (low ∷ []))) (sym q)
+pub times-one : (x low : ℕ) {a : ℕ} → a ≡ val (eqb x low) → a ≡ times x (low ∷ [])
+times-one x low f = omega (arith, f)

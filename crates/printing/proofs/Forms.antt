@@ -15,7 +15,10 @@ use Rattle.tables.specs.Counting.{counts, support}
 use Rattle.tables.proofs.Depending.{support_counting, support_all}
 use Rattle.values.specs.Formula.{Formula, value, join}
 use Rattle.formulas.specs.Text.{mark}
-use Rattle.printing.specs.Forms.{mark_of, flips_low, flips_high}
+use Rattle.std.proofs.Common.{Some, None}
+use Rattle.std.specs.Option.{is_some}
+use Rattle.printing.specs.declared.pairs.Form.{Form}
+use Rattle.printing.specs.Forms.{mark_of, flips_low, flips_high, the_form, form_of}
 use Rattle.printing.specs.Print.{level_of, negated_if, one_formula, two_formula}
 
 -- ---- a table has a mark exactly if it depends on both signals
@@ -52,6 +55,22 @@ depends_mark t h d =
     ltb-true 0 (mark_of t) (marks t h ∙ ap₂ (λ (a b : Bool). a && b)
     (support_all 2 (bit t) 0 (omega arith) (d 0 (omega arith)))
     (support_all 2 (bit t) 1 (omega arith) (d 1 (omega arith))))
+
+-- ---- the form of a table
+
+pub form_is : (t : ℕ) {f : Form} → Some f ≡ form_of t → f ≡ the_form t
+form_is t {f} h = go (ltb 0 (mark_of t)) h
+  where
+    go : (b : Bool) → Some f ≡ cond b (Some (the_form t)) None → f ≡ the_form t
+    go true e = cc
+    go false e = cc
+
+pub form_some : (t : ℕ) → is_some (form_of t) ≡ ltb 0 (mark_of t)
+form_some t = go (ltb 0 (mark_of t))
+  where
+    go : (b : Bool) → is_some (cond b (Some (the_form t)) None) ≡ b
+    go true = refl
+    go false = refl
 
 -- ---- its mark is that of its level
 

@@ -15,7 +15,8 @@ use Rattle.sheets.specs.Record.{cell_of}
 use Rattle.sheets.specs.Sheet.{record_at, records, sheet_cells}
 use Rattle.sheets.proofs.Places.{record_within}
 use Rattle.sheets.proofs.Wiring.{cells_length}
-use Rattle.printing.specs.declared.pairs.Pair.{Pair}
+use Rattle.printing.specs.declared.pairs.PlainCell.{PlainCell}
+use Rattle.printing.specs.declared.pairs.PlainCell.TheVariants.{One, Two}
 use Rattle.printing.specs.Forms.{mark_of, flips_low, flips_high}
 use Rattle.printing.specs.Print.{by_sides, flipped_text, one_text, two_text, cell_text, letter_text, printed}
 use Rattle.printing.specs.Printable.{Plain}
@@ -183,14 +184,19 @@ module _ {e : Edition} {n : ℕ} {s : List ℕ} {x : ℕ} {flip : Bool} {room : 
         )
 
 -- signal x is a cell's, which is c, and `!` or nothing is put before it
-pub record AtCell (e : Edition) (n : ℕ) (s : List ℕ) (x : ℕ) (flip : Bool) (room : List ℕ) (p : ℕ) (c : Pair)
+pub record AtCell (e : Edition) (n : ℕ) (s : List ℕ) (x : ℕ) (flip : Bool) (room : List ℕ) (p : ℕ) (c : PlainCell)
     (room' : List ℕ) (q : ℕ) : Type 0 where
   pub has : Room e n s x flip room p
   pub above : n ≤ x
   pub cell : pair_cell c ≡ cell_of e (record_at e s (x - n))
   pub flipped : Put room p (flipped_text flip []) room' q
 
-module _ {e : Edition} {n : ℕ} {s : List ℕ} {x : ℕ} {flip : Bool} {room : List ℕ} {p : ℕ} {c : Pair} {room' : List ℕ}
+pub at_cell : {e : Edition} {n : ℕ} {s : List ℕ} {x : ℕ} {flip : Bool} {room : List ℕ} {p : ℕ} (c : PlainCell)
+    {room' : List ℕ} {q : ℕ} → Room e n s x flip room p → n ≤ x → pair_cell c ≡ cell_of e (record_at e s (x - n))
+    → Put room p (flipped_text flip []) room' q → AtCell e n s x flip room p c room' q
+at_cell c h a k f = record { has = h; above = a; cell = k; flipped = f }
+
+module _ {e : Edition} {n : ℕ} {s : List ℕ} {x : ℕ} {flip : Bool} {room : List ℕ} {p : ℕ} {c : PlainCell} {room' : List ℕ}
     {q : ℕ} (k : AtCell e n s x flip room p c room' q) where
   abbrev cells : List Cell
   cells = sheet_cells e s (records e s)
@@ -221,33 +227,33 @@ module _ {e : Edition} {n : ℕ} {s : List ℕ} {x : ℕ} {flip : Bool} {room : 
       (wired_at e.most cells n k.has.sheet.wired (x - n) below) in
       omega (arith, k.above, a j l)
 
-  -- ( , ! or not, the lower signal, the mark, ! or not, the other, )
-  pub two-parts : c.two ≡ true → Stage room p (flipped_text flip (texts x)) ((40 ∷ [])
-      ∷ flipped_text (flips_low c.table) (texts c.low) ∷ (mark_of c.table ∷ [])
-      ∷ flipped_text (flips_high c.table) (texts c.high) ∷ (41 ∷ []) ∷ []) room' q
-  two-parts two = begun k.has {ws = (40 ∷ []) ∷ flipped_text (flips_low c.table) (texts c.low)
-      ∷ (mark_of c.table ∷ []) ∷ flipped_text (flips_high c.table) (texts c.high) ∷ (41 ∷ []) ∷ []}
-      (pair_text ∙ ap (λ (t : Bool). by_sides [] one_text two_text (cond t (c.low ∷ c.high ∷ []) (c.low ∷ []))
-      c.table texts) two) k.flipped
+  text_by : {d : PlainCell} → c ≡ d → texts x ≡ cell_text (pair_cell d) texts
+  text_by q = pair_text ∙ ap (λ (d : PlainCell). cell_text (pair_cell d) texts) q
 
-  one_text_lem : c.two ≡ false → texts x ≡ one_text c.table (texts c.low)
-  one_text_lem q = pair_text ∙ ap (λ (t : Bool). by_sides [] one_text two_text
-      (cond t (c.low ∷ c.high ∷ []) (c.low ∷ []))
-      c.table texts) q
+  lower_by : {d : PlainCell} → c ≡ d → (j : ℕ) → j < length (pair_cell d).signals → get_or (pair_cell d).signals j 0 < x
+  lower_by q = subst (λ (d : PlainCell). (j : ℕ) → j < length (pair_cell d).signals
+      → get_or (pair_cell d).signals j 0 < x) q reads-lower
+
+  -- ( , ! or not, the lower signal, the mark, ! or not, the other, )
+  pub two-parts : {low high table : ℕ} → c ≡ Two low high table → Stage room p (flipped_text flip (texts x)) ((40 ∷ [])
+      ∷ flipped_text (flips_low table) (texts low) ∷ (mark_of table ∷ [])
+      ∷ flipped_text (flips_high table) (texts high) ∷ (41 ∷ []) ∷ []) room' q
+  two-parts {low} {high} {table} two = begun k.has {ws = (40 ∷ []) ∷ flipped_text (flips_low table) (texts low)
+      ∷ (mark_of table ∷ []) ∷ flipped_text (flips_high table) (texts high) ∷ (41 ∷ []) ∷ []} (text_by two) k.flipped
 
   -- `0` or `1`
-  pub digit-parts : (b t : ℕ) → one_text t (texts c.low) ≡ b ∷ [] → c.two ≡ false → c.table ≡ t
+  pub digit-parts : (b t : ℕ) {low table : ℕ} → one_text t (texts low) ≡ b ∷ [] → c ≡ One low table → table ≡ t
       → Stage room p (flipped_text flip (texts x)) ((b ∷ []) ∷ []) room' q
-  digit-parts b t d one z = begun k.has {ws = (b ∷ []) ∷ []}
-      (one_text_lem one ∙ ap (λ (i : ℕ). one_text i (texts c.low)) z ∙ d) k.flipped
+  digit-parts b t {low} d one z = begun k.has {ws = (b ∷ []) ∷ []}
+      (text_by one ∙ ap (λ (i : ℕ). one_text i (texts low)) z ∙ d) k.flipped
 
-  pub same_parts : c.two ≡ false → (c.table ≡ 0 → ⊥) → (c.table ≡ 3 → ⊥)
-      → Stage room p (flipped_text flip (texts x)) (flipped_text (eqb c.table 1) (texts c.low) ∷ []) room' q
-  same_parts one t u =
-      let w = flipped_text (eqb c.table 1) (texts c.low) in
+  pub same_parts : {low table : ℕ} → c ≡ One low table → (table ≡ 0 → ⊥) → (table ≡ 3 → ⊥)
+      → Stage room p (flipped_text flip (texts x)) (flipped_text (eqb table 1) (texts low) ∷ []) room' q
+  same_parts {low} {table} one t u =
+      let w = flipped_text (eqb table 1) (texts low) in
       begun k.has {ws = w ∷ []}
-      (one_text_lem one
-      ∙ ap₂ (λ (a b : Bool). cond a (48 ∷ []) (cond b (49 ∷ []) w)) (ne_eqb c.table 0 t) (ne_eqb c.table 3 u)
+      (text_by one
+      ∙ ap₂ (λ (a b : Bool). cond a (48 ∷ []) (cond b (49 ∷ []) w)) (ne_eqb table 0 t) (ne_eqb table 3 u)
       ∙ sym (append-nil w)) k.flipped
 
   -- a side's room, where its flip is written as f; the signal falls
@@ -262,20 +268,14 @@ module _ {e : Edition} {n : ℕ} {s : List ℕ} {x : ℕ} {flip : Bool} {room : 
     },
   )
 
-  pub low_room : {t : ℕ} {f g : Bool} {room'' : List ℕ} {r : ℕ} → x ≡ t → f ≡ g
-      → r + length (flipped_text g (texts c.low)) ≤ length room'' → (c.low < t) × Room e n s c.low f room'' r
-  low_room z e h = side_room (go c.two reads-lower) z e h
-    where
-      go : (b : Bool) → ((j : ℕ) → j < length (cond b (c.low ∷ c.high ∷ []) (c.low ∷ []))
-          → get_or (cond b (c.low ∷ c.high ∷ []) (c.low ∷ [])) j 0 < x) → c.low < x
-      go true a = a 0 (omega arith)
-      go false a = a 0 (omega arith)
+  pub one_room : {low table t : ℕ} {f g : Bool} {room'' : List ℕ} {r : ℕ} → c ≡ One low table → x ≡ t → f ≡ g
+      → r + length (flipped_text g (texts low)) ≤ length room'' → (low < t) × Room e n s low f room'' r
+  one_room one = side_room (lower_by one 0 (omega arith))
 
-  pub high_room : {t : ℕ} {f g : Bool} {room'' : List ℕ} {r : ℕ} → c.two ≡ true → x ≡ t → f ≡ g
-      → r + length (flipped_text g (texts c.high)) ≤ length room'' → (c.high < t) × Room e n s c.high f room'' r
-  high_room two z e h = side_room (go c.two two reads-lower) z e h
-    where
-      go : (b : Bool) → b ≡ true → ((j : ℕ) → j < length (cond b (c.low ∷ c.high ∷ []) (c.low ∷ []))
-          → get_or (cond b (c.low ∷ c.high ∷ []) (c.low ∷ [])) j 0 < x) → c.high < x
-      go true q a = a 1 (omega arith)
-      go false q a = absurd (let z : ◌≡◌ {A = ℕ} 0 1 = cc in omega arith)
+  pub low_room : {low high table t : ℕ} {f g : Bool} {room'' : List ℕ} {r : ℕ} → c ≡ Two low high table → x ≡ t → f ≡ g
+      → r + length (flipped_text g (texts low)) ≤ length room'' → (low < t) × Room e n s low f room'' r
+  low_room two = side_room (lower_by two 0 (omega arith))
+
+  pub high_room : {low high table t : ℕ} {f g : Bool} {room'' : List ℕ} {r : ℕ} → c ≡ Two low high table → x ≡ t → f ≡ g
+      → r + length (flipped_text g (texts high)) ≤ length room'' → (high < t) × Room e n s high f room'' r
+  high_room two = side_room (lower_by two 1 (omega arith))

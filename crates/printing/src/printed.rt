@@ -7,7 +7,7 @@ ghost use Rattle.sheets.specs.Sheet.{sheet_cells};
 ghost use Rattle.sheets.specs.Reading.{reads};
 ghost use Rattle.printing.specs.Printable.{AllPlain, all_plain, once_read};
 
-use crate::pairs::{pair_of, plain, times_in};
+use crate::pairs::{pair_of, plain};
 use records::rules::record_of;
 use sheets::kinds::Edition;
 
@@ -16,12 +16,10 @@ fn all_plain(e: Edition, s: &[u8], m: usize) -> bool
     requires { IsEdition e × (m ≤ most_records) × (e.size * m ≤ length s.now) }
     ensures { result ≡ all_plain (sheet_cells e s.now m) }
 {
-    let mut i = 0;
-    while i < m {
+    for i in 0..m {
         if !plain(e, record_of(e, s, i)) {
             return false;
         }
-        i += 1;
     }
     true
 }
@@ -32,10 +30,8 @@ fn reads_in(e: Edition, s: &[u8], m: usize, x: usize) -> usize
     ensures { result ≡ reads x (sheet_cells e s.now m) }
 {
     let mut c = 0;
-    let mut i = 0;
-    while i < m {
-        c += times_in(pair_of(e, s, i), x);
-        i += 1;
+    for i in 0..m {
+        c += pair_of(e, s, i).times(x);
     }
     c
 }
@@ -46,13 +42,10 @@ fn once_read(e: Edition, n: u32, s: &[u8], m: usize) -> bool
     requires le_m { (1 ≤ m) × (n ≤ most_inputs) }
     ensures { result ≡ once_read n (sheet_cells e s.now m) }
 {
-    let last = m - 1;
-    let mut i = 0;
-    while i < last {
+    for i in 0..m - 1 {
         if reads_in(e, s, m, n as usize + i) != 1 {
             return false;
         }
-        i += 1;
     }
     true
 }
@@ -62,8 +55,5 @@ pub fn is_printed(e: Edition, n: u32, s: &[u8], m: usize) -> bool
     requires { IsEdition e × (m ≤ most_records) × (e.size * m ≤ length s.now) × (1 ≤ m) × (n ≤ most_inputs) }
     ensures { result ≡ (all_plain (sheet_cells e s.now m) && once_read n (sheet_cells e s.now m)) }
 {
-    if !all_plain(e, s, m) {
-        return false;
-    }
-    once_read(e, n, s, m)
+    all_plain(e, s, m) && once_read(e, n, s, m)
 }

@@ -4,7 +4,7 @@ ghost use Rattle.sheets.specs.Sheet.{records, sheet_cells};
 ghost use Rattle.printing.specs.Print.{flipped_text, printed};
 ghost use Rattle.printing.specs.Put.{Put, Room};
 
-use crate::pairs::{flips_high, flips_low, mark, pair_of};
+use crate::pairs::{PlainCell, form_of, pair_of};
 use sheets::kinds::Edition;
 
 // One byte at a place of the room; the place after it.
@@ -46,19 +46,21 @@ pub fn write(
     if x < n {
         return put(room, from, b'a' + x as u8);
     }
-    let c = pair_of(e, s, x - n);
-    if c.two {
-        let left = put(room, from, b'(');
-        let middle = write(e, n, s, c.low, flips_low(c.table), room, left);
-        let right = put(room, middle, mark(c.table));
-        let end = write(e, n, s, c.high, flips_high(c.table), room, right);
-        return put(room, end, b')');
+    match pair_of(e, s, x - n) {
+        PlainCell::One { signal, table } => match table {
+            0 => put(room, from, b'0'),
+            3 => put(room, from, b'1'),
+            _ => write(e, n, s, signal, table == 1, room, from),
+        },
+        PlainCell::Two { low, high, table } => {
+            let Some(form) = form_of(table) else {
+                unreachable!()
+            };
+            let left = put(room, from, b'(');
+            let middle = write(e, n, s, low, form.not_low, room, left);
+            let right = put(room, middle, form.mark);
+            let end = write(e, n, s, high, form.not_high, room, right);
+            put(room, end, b')')
+        }
     }
-    if c.table == 0 {
-        return put(room, from, b'0');
-    }
-    if c.table == 3 {
-        return put(room, from, b'1');
-    }
-    write(e, n, s, c.low, c.table == 1, room, from)
 }

@@ -59,7 +59,7 @@ pub fn write_in(e: Edition, d: u8, n: u64, s: &[u8], room: &mut [u8]) -> WriteAn
     let length = write(e, inputs, s, inputs + last, false, room, 0);
     WriteAnswer {
         verdict: Verdict::Fine,
-        length: length,
+        length,
     }
 }
 

@@ -16,21 +16,14 @@ pub struct TurnAnswer {
 pub fn turn(first: u8, second: u8) -> TurnAnswer
     ensures { result ≡ turn_outcome first second }
 {
-    let i = first_way(first, second);
-    if i < 96 {
-        return TurnAnswer {
+    match first_way(first, second) {
+        Some(i) => TurnAnswer {
             verdict: Verdict::Fine,
             way: way_at(i),
-        };
-    }
-    TurnAnswer {
-        verdict: refuse(Refusal::TURN),
-        way: Way {
-            flip: false,
-            mask: 0,
-            p0: 0,
-            p1: 0,
-            p2: 0,
+        },
+        None => TurnAnswer {
+            verdict: refuse(Refusal::TURN),
+            way: Way::default(),
         },
     }
 }

@@ -1,11 +1,13 @@
 -- `&`, `|`, `^` and `!` on the words of bits that functions have, and on stretches of four words. Assumes nothing.
 use mathlib.Core.Path.{◌≡◌, refl, sym, ap, ap₂, ◌∙◌}
+use mathlib.Core.List.{[], ◌∷◌}
 use mathlib.Core.Bool.{Bool, true, false, not, ◌&&◌, ◌||◌}
 use Prim.Native.Nat.{ℕ, zero, suc, ◌+◌, ◌-◌, ◌*◌, ◌/◌, ◌%◌, ◌^◌, ◌<◌, ◌≤◌}
 use native.Mathlib.Nat.{pow-suc, add_comm}
 use native.Mathlib.Omega.{arith}
 use lib.Bits.{bit_and, bit_or, bit_xor, and_block, or_block, xor_block}
 use lib.Dec.{ltb}
+use lib.ListN.{get_or}
 use Rattle.bits.specs.Numbers.{bit, val, number}
 use Rattle.bits.proofs.Numbers.{bit_below, bit-number, bit-shr, number_ext, number_lt}
 use Rattle.tables.specs.Words.{gate_word}
@@ -13,7 +15,7 @@ use Rattle.runs.specs.Words.{input_word}
 use Rattle.runs.proofs.Choosing.{first_of}
 use Rattle.values.specs.declared.stretches.Stretch.{Stretch}
 use Rattle.values.specs.Formula.{Formula, letter, constant, negated, joined, one_of, join, value}
-use Rattle.values.specs.Stretches.{word_of, four, stretch_of, alike, in_each, in_both, word_in}
+use Rattle.values.specs.Stretches.{word_of, four, stretch_of, alike, in_each, in_both, joined_by, word_in}
 
 and-val : (s t : Bool) → bit_and (val s) (val t) ≡ val (s && t)
 and-val true true = refl
@@ -75,21 +77,27 @@ number-not n f = omega (arith, not-sum n f)
 
 pub four-of : (f : ℕ → ℕ) (w : ℕ) {x₀ x₁ x₂ x₃ : ℕ} → x₀ ≡ f (4 * w + 0) → x₁ ≡ f (4 * w + 1) → x₂ ≡ f (4 * w + 2) → x₃
     ≡ f (4 * w + 3)
-    → ◌≡◌ {A = Stretch} (record { a = x₀; b = x₁; c = x₂; d = x₃ }) (four f w)
+    → ◌≡◌ {A = Stretch} (record { words = x₀ ∷ x₁ ∷ x₂ ∷ x₃ ∷ [] }) (four f w)
 four-of f w {x₀} {x₁} {x₂} {x₃} e₀ e₁ e₂ e₃ =
-    ap₂ (λ (x y : ℕ). record { a = x; b = y; c = x₂; d = x₃ }) e₀ e₁
-    ∙ ap₂ (λ (x y : ℕ). record { a = f (4 * w + 0); b = f (4 * w + 1); c = x; d = y }) e₂ e₃
+    ap₂ (λ (x y : ℕ). record { words = x ∷ y ∷ x₂ ∷ x₃ ∷ [] }) e₀ e₁
+    ∙ ap₂ (λ (x y : ℕ). record { words = f (4 * w + 0) ∷ f (4 * w + 1) ∷ x ∷ y ∷ [] }) e₂ e₃
 
 -- what holds of words holds of stretches
 words_of : {f g : ℕ → ℕ} → ((i : ℕ) → f i ≡ g i) → (w : ℕ) → four f w ≡ four g w
 words_of {f} {g} h w = four-of g w (h (4 * w + 0)) (h (4 * w + 1)) (h (4 * w + 2)) (h (4 * w + 3))
 
-pub joined_stretch : (k : ℕ) (op : ℕ → ℕ → ℕ)
+joined_words : (k : ℕ) (op : ℕ → ℕ → ℕ)
     → ((f g : ℕ → Bool) → op (number 64 f) (number 64 g) ≡ number 64 (λ i. join k (f i) (g i)))
     → (F G : Formula) (w : ℕ) → in_both op (stretch_of (value F) w) (stretch_of (value G) w)
     ≡ stretch_of (value (joined k F G)) w
 unfolding stretch_of value
-joined_stretch k op h F G w = words_of (λ i. h (λ x. value F (64 * i + x)) (λ x. value G (64 * i + x))) w
+joined_words k op h F G w = words_of (λ i. h (λ x. value F (64 * i + x)) (λ x. value G (64 * i + x))) w
+
+pub joined_stretch : (k : ℕ) (F G : Formula) (w : ℕ) → joined_by k (stretch_of (value F) w) (stretch_of (value G) w)
+    ≡ stretch_of (value (joined k F G)) w
+joined_stretch zero = joined_words 0 bit_and (number-and 64)
+joined_stretch (suc zero) = joined_words 1 bit_xor (number-xor 64)
+joined_stretch (suc (suc k)) = joined_words (suc (suc k)) bit_or (number-or 64)
 
 pub not_stretch : (F : Formula) (w : ℕ) → in_each (λ x. 2 ^ 64 - 1 - x) (stretch_of (value F) w)
     ≡ stretch_of (value (negated F)) w
@@ -136,11 +144,13 @@ word-of f w (suc (suc zero)) h = refl
 word-of f w (suc (suc (suc zero))) h = refl
 word-of f w (suc (suc (suc (suc k)))) h = absurd (omega arith)
 
-pub word_last : (v : Stretch) (k : ℕ) → (k ≡ 0 → ⊥) → (k ≡ 1 → ⊥) → (k ≡ 2 → ⊥) → v.d ≡ word_in v k
-word_last v zero a b c = absurd (a refl)
-word_last v (suc zero) a b c = absurd (b refl)
-word_last v (suc (suc zero)) a b c = absurd (c refl)
-word_last v (suc (suc (suc k))) a b c = refl
+-- the word that stands at a place below four
+pub word_at : (v : Stretch) (k : ℕ) → k < 4 → get_or v.words k 0 ≡ word_in v k
+word_at v zero h = refl
+word_at v (suc zero) h = refl
+word_at v (suc (suc zero)) h = refl
+word_at v (suc (suc (suc zero))) h = refl
+word_at v (suc (suc (suc (suc k)))) h = absurd (omega arith)
 
 -- the word of byte i of a table, from the stretch of that byte
 pub table-word : (n i : ℕ) (F : ℕ → Bool) {v : Stretch} {y o : ℕ} → 64 * (i / 8) < 2 ^ n → v ≡ stretch_of F (i / 32) → y

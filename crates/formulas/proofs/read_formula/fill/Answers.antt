@@ -1,7 +1,7 @@
 -- `fill` meets its contract. The loop's invariant: the bytes passed are the table's, and within a stretch v is that
 -- stretch. Assumes nothing.
 use mathlib.Core.Path.{◌≡◌, refl, ap, ◌∙◌}
-use Prim.Native.Nat.{ℕ, ◌+◌, ◌-◌, ◌/◌}
+use Prim.Native.Nat.{ℕ, ◌+◌, ◌-◌, ◌/◌, ◌%◌}
 use native.Mathlib.Omega.{arith}
 use lib.Pow.{pow_mono}
 use Rattle.bits.proofs.Filling.{filled_none, filled_more, filled_whole}
@@ -10,7 +10,7 @@ use Rattle.tables.proofs.Pieces.{word_byte}
 use Rattle.runs.proofs.Choosing.{word_starts}
 use Rattle.formulas.specs.Reading.{text_of, value_in}
 use Rattle.values.specs.Stretches.{stretch_of}
-use Rattle.values.proofs.Bitwise.{table-word}
+use Rattle.values.proofs.Bitwise.{table-word, word_at}
 use Rattle.formulas.proofs.read_formula.fill.Invariants.{bits}
 use Rattle.formulas.proofs.read_formula.fill.Goals as goal
 use Rattle.formulas.proofs.read_formula.fill.Goals.{then-i-eq0, else-i-eq0}
@@ -36,7 +36,7 @@ loop-i-preserved c =
     ] in (
       filled_more c.loop-i.invariant.0 (omega arith) (omega arith)
           (word_byte (bits a.n a.t.now) i _ (table-word a.n i (value_in (text_of a.n a.t.now))
-          (word_starts a.n i (omega (arith, c.requires.1))) w c.word_in.ensures
+          (word_starts a.n i (omega (arith, c.requires.1))) w (word_at c.if-i-eq0.v (i / 8 % 4) (omega arith))
           c.first_bits-o.ensures)),
       λ h. let e : i / 32 ≡ (i + 1) / 32 = omega arith in w ∙ ap (stretch_of (value_in (text_of a.n a.t.now))) e,
     )

@@ -1,7 +1,7 @@
 use mathlib.Core.Path.{◌≡◌}
 use mathlib.Core.Bool.{Bool, ◌&&◌}
 use mathlib.Core.List.{List}
-use Prim.Native.Nat.{ℕ, ◌+◌, ◌-◌, ◌*◌, ◌/◌, ◌%◌, ◌^◌}
+use Prim.Native.Nat.{ℕ, ◌+◌, ◌*◌, ◌/◌, ◌%◌, ◌^◌}
 use lib.Dec.{ltb}
 use lib.ListN.{length}
 use Rattle.bits.specs.Numbers.{number}
@@ -17,6 +17,3 @@ abbrev pub invariant-loop-i : goal.invariant-loop-i
 invariant-loop-i l =
     Filled 0 (length l.initial.table) (λ k. number 8 (λ j. bits l.n l.t (k * 8 + j))) l.initial.table l.table l.i
     × ((l.i % 32 ≡ 0 → ⊥) → l.v ≡ stretch_of (value_in (text_of l.n l.t)) (l.i / 32))
-
-abbrev pub decreases-loop-i : goal.decreases-loop-i
-decreases-loop-i l = length l.initial.table - l.i

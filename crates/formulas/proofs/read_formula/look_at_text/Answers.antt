@@ -7,24 +7,25 @@ use Rattle.formulas.proofs.read_formula.look_at_text.Goals as goal
 pub returns-then-len-gt-MOST_TEXT : goal.returns-then-len-gt-MOST_TEXT
 returns-then-len-gt-MOST_TEXT c =
     let a = c.args in
-    c.refuse_at.ensures ∙ text_refused a.n a.t.now (too_long_lem a.n a.t.now c.if-len-gt-MOST_TEXT.true)
+    c.refuse_at.ensures
+    ∙ text_refused a.inputs a.bytes.now (too_long_lem a.inputs a.bytes.now c.if-len-gt-MOST_TEXT.true)
 
-pub returns-in-Stuck : goal.returns-in-Stuck
-returns-in-Stuck c =
+pub returns-in-Err : goal.returns-in-Err
+returns-in-Err c =
     let a = c.args in
-    c.refuse_at-in-Stuck.ensures
-    ∙ text_refused a.n a.t.now (text_bad a.n a.t.now c.if-len-gt-MOST_TEXT.false c.in-Stuck.is
-    c.sum.ensures)
+    c.refuse_at-in-Err.ensures
+    ∙ text_refused a.inputs a.bytes.now (text_bad a.inputs a.bytes.now c.if-len-gt-MOST_TEXT.false c.in-Err.is
+    c.joined.ensures)
 
-pub returns-then-q-len : goal.returns-then-q-len
-returns-then-q-len c =
+pub returns-in-Ok : goal.returns-in-Ok
+returns-in-Ok c =
     let a = c.args in
-    c.refuse_at-then-q-len.ensures
-    ∙ text_refused a.n a.t.now (text_left a.n a.t.now c.if-len-gt-MOST_TEXT.false c.in-Read.is
-    c.sum.ensures c.if-q-len.true)
+    c.refuse_at-in-Ok.ensures
+    ∙ text_refused a.inputs a.bytes.now (text_left a.inputs a.bytes.now c.if-len-gt-MOST_TEXT.false c.in-Ok.is
+    c.joined.ensures c.if-read-len.true)
 
-pub returns-in-Read : goal.returns-in-Read
-returns-in-Read c =
+pub returns-in-Ok-2 : goal.returns-in-Ok-2
+returns-in-Ok-2 c =
     let a = c.args in
-    text_fine a.n a.t.now (text_good a.n a.t.now c.if-len-gt-MOST_TEXT.false c.in-Read.is c.sum.ensures
-    c.if-q-len.false)
+    text_fine a.inputs a.bytes.now (text_good a.inputs a.bytes.now c.if-len-gt-MOST_TEXT.false c.in-Ok.is
+    c.joined.ensures c.if-read-len.false)

@@ -2,14 +2,12 @@
 use Rattle.formulas.proofs.Table.{good_text, stretch_stuck, stretch_found}
 use Rattle.formulas.proofs.read_formula.text_stretch.Goals as goal
 
-pub returns-in-Stuck : goal.returns-in-Stuck
-returns-in-Stuck c =
+pub unreachable-requires : goal.unreachable-requires
+unreachable-requires c =
     let a = c.args in
-    absurd (stretch_stuck a.n a.t.now (good_text a.n a.t.now c.requires.1) c.in-Stuck.is
-    c.sum.ensures)
+    stretch_stuck a.inputs a.bytes.now (good_text a.inputs a.bytes.now c.requires.1) c.in-Err.is c.joined.ensures
 
-pub returns-in-Read : goal.returns-in-Read
-returns-in-Read c =
+pub returns : goal.returns
+returns c =
     let a = c.args in
-    stretch_found a.n a.t.now (good_text a.n a.t.now c.requires.1) c.in-Read.is
-    c.sum.ensures
+    stretch_found a.inputs a.bytes.now (good_text a.inputs a.bytes.now c.requires.1) c.in-Ok.is c.joined.ensures

@@ -1,19 +1,17 @@
 -- `plain` meets its contract. Assumes nothing.
 use mathlib.Core.Path.{ap, ◌∙◌}
-use lib.Dec.{ltb}
-use Rattle.printing.proofs.Cells.{plain-one, plain-two, plain_other, start_within}
+use native.Mathlib.Omega.{arith}
+use Rattle.std.specs.Option.{is_some}
+use Rattle.printing.proofs.Cells.{plain-one, plain-two, plain_other}
+use Rattle.printing.proofs.Forms.{form_some}
 use Rattle.printing.proofs.pairs.plain.Goals as goal
 
-pub returns : goal.returns
-returns c = ap (ltb 0) c.mark.ensures ∙ plain-two _ _ c.if-k-ne2.false
+pub returns-in-1 : goal.returns-in-1
+returns-in-1 c = plain-one _ _ c.in-1.is
 
-pub returns-then-k-eq1 : goal.returns-then-k-eq1
-returns-then-k-eq1 c = plain-one _ _ c.if-k-eq1.true
+pub returns-in-2 : goal.returns-in-2
+returns-in-2 c =
+    c.is_some.ensures ∙ ap is_some c.form_of.ensures ∙ form_some _ ∙ plain-two _ _ c.in-2.is
 
-pub returns-then-k-ne2 : goal.returns-then-k-ne2
-returns-then-k-ne2 c = plain_other _ _ c.if-k-eq1.false c.if-k-ne2.true
-
-pub bounds-b-start : goal.bounds-b-start
-bounds-b-start c =
-    start_within c.args.b.now
-    c.requires.0 c.requires.1
+pub returns-in_default : goal.returns-in_default
+returns-in_default c = plain_other _ _ (λ e. omega arith) (λ e. omega arith)

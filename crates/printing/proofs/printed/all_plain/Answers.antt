@@ -5,7 +5,6 @@ use mathlib.Core.List.{List}
 use Prim.Native.Nat.{ℕ}
 use native.Mathlib.Omega.{arith}
 use lib.ListN.{length}
-use borrow.Author.Tests.{not-true, not-false}
 use Rattle.sheets.specs.Record.{byte_at, cell_of}
 use Rattle.sheets.proofs.Places.{record_within, record_length}
 use Rattle.printing.specs.Printable.{plain_cell, all_plain}
@@ -13,7 +12,7 @@ use Rattle.printing.proofs.Cells.{cells_all, plain_stops, plain_goes, plain_ends
 use Rattle.printing.proofs.printed.all_plain.Goals as goal
 
 pub loop-i-init : goal.loop-i-init
-loop-i-init c = let a = c.args in (omega arith, ap all_plain (cells_all a.e a.s.now a.m))
+loop-i-init c = let a = c.args in ap all_plain (cells_all a.e a.s.now a.m)
 
 pub record_of-requires : goal.record_of-requires
 record_of-requires c =
@@ -37,21 +36,19 @@ pub returns-then-not-plain : goal.returns-then-not-plain
 returns-then-not-plain c =
     let a = c.args in
     let bad : c.plain.result ≡ false = c.if-not-plain.true in
-    plain_stops a.e a.s.now c.loop-i.i a.m _ c.loop-i.invariant.1 (omega arith)
+    plain_stops a.e a.s.now c.loop-i.i a.m _ c.loop-i.invariant (omega arith)
     (sym (c.plain.ensures ∙ ap (λ (r : List ℕ). plain_cell (cell_of a.e (byte_at r))) c.record_of.ensures)
     ∙ bad)
 
 pub loop-i-preserved : goal.loop-i-preserved
 loop-i-preserved c =
     let a = c.args in
-    let is : c.plain.result ≡ true = c.if-not-plain.false in (
-      omega arith,
-      plain_goes a.e a.s.now c.loop-i.i a.m _ c.loop-i.invariant.1 (omega arith)
-          (sym (c.plain.ensures ∙ ap (λ (r : List ℕ). plain_cell (cell_of a.e (byte_at r)))
-          c.record_of.ensures) ∙ is),
-    )
+    let is : c.plain.result ≡ true = c.if-not-plain.false in
+    plain_goes a.e a.s.now c.loop-i.i a.m _ c.loop-i.invariant (omega arith)
+    (sym (c.plain.ensures ∙ ap (λ (r : List ℕ). plain_cell (cell_of a.e (byte_at r)))
+    c.record_of.ensures) ∙ is)
 
 pub returns : goal.returns
 returns c =
     let a = c.args in
-    plain_ends a.e a.s.now c.loop-i.i a.m _ c.loop-i.invariant.1 (omega arith)
+    plain_ends a.e a.s.now c.loop-i.i a.m _ c.loop-i.invariant (omega arith)

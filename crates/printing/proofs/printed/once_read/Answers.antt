@@ -1,6 +1,5 @@
 -- `once_read` meets its contract. The loop's invariant: the records before i are each read once. Assumes nothing.
 use mathlib.Core.Path.{◌≡◌, sym, ap, ◌∙◌}
-use mathlib.Core.Bool.{true}
 use Prim.Native.Nat.{ℕ, ◌-◌}
 use native.Mathlib.Omega.{arith}
 use lib.Dec.{eqb}
@@ -13,9 +12,6 @@ use Rattle.sheets.proofs.Wiring.{cells_length}
 use Rattle.printing.proofs.printed.once_read.Invariants.{once}
 use Rattle.printing.proofs.printed.once_read.Goals as goal
 
-pub overflow_sub-last : goal.overflow_sub-last
-overflow_sub-last c = c.requires.le_m.0
-
 pub reads_in-requires : goal.reads_in-requires
 reads_in-requires c = c.requires.edition
 
@@ -24,23 +20,20 @@ returns-then-reads_in-ne1 c =
     let a = c.args in
     let cs = sheet_cells a.e a.s.now a.m in
     sym (every_stop (length cs - 1) (once a.e a.n a.s.now a.m) c.loop-i.i
-    (omega (arith, cells_length a.e a.s.now 0 a.m, c.loop-i.invariant.1))
+    (omega (arith, cells_length a.e a.s.now 0 a.m))
     (ap (λ (k : ℕ). eqb k 1) (sym c.reads_in.ensures)
     ∙ ne_eqb c.reads_in.result 1 c.if-reads_in-ne1.true))
 
 pub loop-i-preserved : goal.loop-i-preserved
 loop-i-preserved c =
-    let a = c.args in (
-      omega arith,
-      c.loop-i.invariant.1,
-      every_more c.loop-i.i (once a.e a.n a.s.now a.m) c.loop-i.invariant.2
-          (ap (λ (k : ℕ). eqb k 1) (sym c.reads_in.ensures)
-          ∙ eq-eqb c.reads_in.result 1 c.if-reads_in-ne1.false),
-    )
+    let a = c.args in
+    every_more c.loop-i.i (once a.e a.n a.s.now a.m) c.loop-i.invariant
+    (ap (λ (k : ℕ). eqb k 1) (sym c.reads_in.ensures)
+    ∙ eq-eqb c.reads_in.result 1 c.if-reads_in-ne1.false)
 
 pub returns : goal.returns
 returns c =
     let a = c.args in
     let e : c.loop-i.i ≡ length (sheet_cells a.e a.s.now a.m) - 1 = omega
-    (arith, cells_length a.e a.s.now 0 a.m, c.loop-i.invariant.1) in
-    sym c.loop-i.invariant.2 ∙ ap (λ (k : ℕ). every k (once a.e a.n a.s.now a.m)) e
+    (arith, cells_length a.e a.s.now 0 a.m) in
+    sym c.loop-i.invariant ∙ ap (λ (k : ℕ). every k (once a.e a.n a.s.now a.m)) e

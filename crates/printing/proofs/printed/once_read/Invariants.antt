@@ -1,7 +1,7 @@
 use mathlib.Core.Path.{◌≡◌}
 use mathlib.Core.Bool.{Bool, true}
 use mathlib.Core.List.{List}
-use Prim.Native.Nat.{ℕ, ◌+◌, ◌-◌, ◌≤◌}
+use Prim.Native.Nat.{ℕ, ◌+◌}
 use lib.Dec.{eqb}
 use Rattle.bits.specs.Below.{every}
 use Rattle.sheets.specs.declared.kinds.Edition.{Edition}
@@ -13,7 +13,4 @@ abbrev pub once : Edition → ℕ → List ℕ → ℕ → ℕ → Bool
 once e n s m i = eqb (reads (n + i) (sheet_cells e s m)) 1
 
 abbrev pub invariant-loop-i : goal.invariant-loop-i
-invariant-loop-i l = (l.i ≤ l.last) × (l.last + 1 ≡ l.m) × (every l.i (once l.e l.n l.s l.m) ≡ true)
-
-abbrev pub decreases-loop-i : goal.decreases-loop-i
-decreases-loop-i l = l.last - l.i
+invariant-loop-i l = every l.i (once l.e l.n l.s l.m) ≡ true

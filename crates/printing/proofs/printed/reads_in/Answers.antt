@@ -12,7 +12,7 @@ use Rattle.printing.proofs.printed.reads_in.Goals as goal
 pub loop-i-init : goal.loop-i-init
 loop-i-init c =
     let a = c.args in
-    (omega arith, omega (arith, ap (reads a.x) (cells_all a.e a.s.now a.m)), omega arith)
+    (omega (arith, ap (reads a.x) (cells_all a.e a.s.now a.m)), omega arith)
 
 pub pair_of-requires : goal.pair_of-requires
 pair_of-requires c =
@@ -25,19 +25,18 @@ pair_of-requires c =
     )
 
 pub overflow_add-c : goal.overflow_add-c
-overflow_add-c c = omega (arith, c.loop-i.invariant.2, c.times_in-c.ensures.1, c.requires.1)
+overflow_add-c c = omega (arith, c.loop-i.invariant.1, c.times-c.ensures.1, c.requires.1)
 
 pub loop-i-preserved : goal.loop-i-preserved
 loop-i-preserved c =
     let a = c.args in
     let i = c.loop-i.i in
-    let r = c.times_in-c.ensures.0 ∙ ap (λ (k : Cell). times a.x k.signals) c.pair_of.ensures.0 in (
-      omega arith,
-      omega (arith, c.loop-i.invariant.1, r, ap (reads a.x) (cells_next a.e a.s.now i a.m (omega arith))),
-      omega (arith, c.loop-i.invariant.2, c.times_in-c.ensures.1),
+    let r = c.times-c.ensures.0 ∙ ap (λ (k : Cell). times a.x k.signals) c.pair_of.ensures.0 in (
+      omega (arith, c.loop-i.invariant.0, r, ap (reads a.x) (cells_next a.e a.s.now i a.m (omega arith))),
+      omega (arith, c.loop-i.invariant.1, c.times-c.ensures.1),
     )
 
 pub returns : goal.returns
 returns c =
     let a = c.args in
-    omega (arith, c.loop-i.invariant.1, ap (reads a.x) (cells_end a.e a.s.now c.loop-i.i a.m (omega arith)))
+    omega (arith, c.loop-i.invariant.0, ap (reads a.x) (cells_end a.e a.s.now c.loop-i.i a.m (omega arith)))

@@ -6,8 +6,5 @@ use Rattle.printing.proofs.printed.reads_in.Given as goal
 
 abbrev pub invariant-loop-i : goal.invariant-loop-i
 invariant-loop-i l =
-    (l.i ≤ l.m) × (l.c + reads l.x (cells_from l.e l.s l.i (l.m - l.i)) ≡ reads l.x (sheet_cells l.e l.s l.m))
+    (l.c + reads l.x (cells_from l.e l.s l.i (l.m - l.i)) ≡ reads l.x (sheet_cells l.e l.s l.m))
     × (l.c ≤ 2 * l.i)
-
-abbrev pub decreases-loop-i : goal.decreases-loop-i
-decreases-loop-i l = l.m - l.i

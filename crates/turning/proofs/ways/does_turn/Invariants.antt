@@ -1,12 +1,8 @@
 use mathlib.Core.Path.{◌≡◌}
 use mathlib.Core.Bool.{true}
-use Prim.Native.Nat.{◌-◌, ◌≤◌}
 use Rattle.bits.specs.Below.{every}
 use Rattle.turning.specs.Listing.{agrees}
 use Rattle.turning.proofs.ways.does_turn.Given as goal
 
 abbrev pub invariant-loop-x : goal.invariant-loop-x
-invariant-loop-x l = (l.x ≤ 8) × (every l.x (agrees l.w l.f l.g) ≡ true)
-
-abbrev pub decreases-loop-x : goal.decreases-loop-x
-decreases-loop-x l = 8 - l.x
+invariant-loop-x l = every l.x (agrees l.w l.f l.g) ≡ true
