@@ -37,6 +37,7 @@ module _ (e : Edition) (d : ℕ) (sheet work : List ℕ) where
     pub stuck_written : (r : Option ChainEnd) (x : Made) → Tells r x → r ≡ None → v ≡ Refused (refusal 8 0)
         → none v l ≡ chain_written e d x sheet work
     stuck_written None stuck w h q = ap₂ none q cleared
+    stuck_written None (made cs) w h q = absurd w
     stuck_written (Some r) x w h q = cc
 
     -- it is longer than a sheet

@@ -61,8 +61,9 @@ pub fn cofactor_sheet(t: &[u8], n: u32, l: Signals, k: u32) -> Sheet
     let at = k as usize;
     let left = l.count as u32 - k;
     let many: u32 = 1 << left;
+    let places = l.at;
     let read = Signals {
-        at: l.at,
+        at: places,
         count: at,
     };
     let mut stand = Stand {

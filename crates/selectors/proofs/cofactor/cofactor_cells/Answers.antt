@@ -1,7 +1,7 @@
 -- The loop keeps that the sheet holds the cells of the first parts. Assumes nothing.
 use mathlib.Core.Path.{◌≡◌, sym, ap, ◌∙◌}
-use Prim.Native.Nat.{ℕ, ◌^◌}
-use native.Mathlib.Nat.{suc-mul, mul-le-mul_right}
+use Prim.Native.Nat.{ℕ, ◌+◌, ◌^◌}
+use native.Mathlib.Nat.{add-mul, one-mul, mul-le-mul_right}
 use native.Mathlib.Omega.{arith}
 use lib.Pow.{pow_mono}
 use Rattle.bits.specs.Lists.{list_of}
@@ -23,7 +23,7 @@ part_table-requires c =
     let q = c.loop-v in
     let a = c.args in (
       c.requires.0,
-      omega (arith, c.requires.1, suc-mul q.v (2 ^ a.k), mul-le-mul_right (2 ^ a.k) (omega arith)),
+      omega (arith, c.requires.1, add-mul q.v 1 (2 ^ a.k), one-mul (2 ^ a.k), mul-le-mul_right {m = q.v + 1} {n = a.many} (2 ^ a.k) (omega arith)),
       c.requires.2,
     )
 
@@ -46,7 +46,6 @@ loop-v-preserved c =
           ∙ words_joined 4 a.k (part_bit a.t.now a.k q.v) (pow_mono {i = a.k} {j = 8} c.requires.0)))
           ∙ sym (list_more q.v f),
       omega (arith, c.with_cell-sheet.ensures.count, q.invariant.1),
-      omega (arith, (omega arith)),
     )
 
 pub returns : goal.returns
