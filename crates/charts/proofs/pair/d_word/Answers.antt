@@ -62,8 +62,11 @@ overflow_add-r c =
     let q = c.loop-i in
     let inside : 64 * a.w + q.i < c.parts-many.result = omega (arith, c.min-i-end.ensures) in
     let gives = c.d_bit.ensures ∙ ap (D a.t.now a.s a.which) (read a.s c.requires.held.0 q.invariant.1 inside) in
-    omega (arith, summed_fits 64 (λ j. D a.t.now a.s a.which (64 * a.w + j)) (omega (arith, c.min-i-end.ensures))
-    q.invariant.0 (bool_digit gives))
+    omega (
+      arith,
+      summed_fits 64 (λ j. D a.t.now a.s a.which (64 * a.w + j)) (omega (arith, c.min-i-end.ensures))
+          q.invariant.0 (bool_digit gives),
+    )
 
 pub loop-i-preserved : goal.loop-i-preserved
 loop-i-preserved c =

@@ -58,5 +58,8 @@ pub unwrap-requires : goal.unwrap-requires
 unwrap-requires c =
     let a = c.args in
     ap is_some (c.look_through.ensures.counted ∙ sym (found_some _ _
-    (omega (arith, columns_most a.s.n (table_bit a.t.now) (bit a.s.own) (bit a.s.shared)
-    (gather a.s.n (bit a.s.shared) c.spread_out-base.result) c.requires.held.1))))
+    (omega (
+      arith,
+      columns_most a.s.n (table_bit a.t.now) (bit a.s.own) (bit a.s.shared)
+          (gather a.s.n (bit a.s.shared) c.spread_out-base.result) c.requires.held.1,
+    ))))

@@ -9,7 +9,14 @@ use Rattle.bits.proofs.Masks.{mask_most}
 use Rattle.bits.proofs.Walking.{walked_none, walked_more, walked_lt, walked_end, walked_within}
 use Rattle.tables.specs.Table.{table_bit}
 use Rattle.columns.proofs.Looking.{
-  SoFar, looking_starts, looking_old, looking_new, looking_stops, looking_ends, counted_few, counted_over
+  SoFar,
+  looking_starts,
+  looking_old,
+  looking_new,
+  looking_stops,
+  looking_ends,
+  counted_few,
+  counted_over,
 }
 use Rattle.columns.proofs.columns.look_through.Goals as goal
 use Rattle.columns.proofs.columns.look_through.Goals.{then-is_none+else-k-limit, else-is_none}

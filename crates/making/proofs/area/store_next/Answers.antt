@@ -27,7 +27,10 @@ use Rattle.making.proofs.Halves.{half_whole}
 use Rattle.making.proofs.area.store_next.Goals as goal
 use Rattle.making.proofs.area.store_next.Goals.{then-s-eq0, else-s-eq0, then-by_words+then-i-eq0, else-by_words}
 use Rattle.making.proofs.area.store_next.Goals.{
-  else-by_words-via-then-by_words+else-i-eq0, else-by_words-via-else-by_words, then-by_words-2, else-by_words-2
+  else-by_words-via-then-by_words+else-i-eq0,
+  else-by_words-via-else-by_words,
+  then-by_words-2,
+  else-by_words-2,
 }
 
 pub parts-requires : goal.parts-requires
