@@ -1,13 +1,13 @@
 -- What is written of a chain, from what the code holds of it: nothing where it is stuck or longer than a sheet, else
 -- its cells as records. Assumes nothing.
 use mathlib.Core.Path.{◌≡◌, refl, sym, ap, ap₂, ◌∙◌}
-use mathlib.Core.Bool.{Bool, true, false, cond}
+use mathlib.Core.Bool.{Bool, cond}
 use mathlib.Core.List.{List, [], ◌∷◌, ◌++◌}
 use Prim.Native.Nat.{ℕ, ◌*◌, ◌<◌, ◌≤◌}
 use native.Mathlib.Omega.{arith}
 use lib.ListN.{length, drop, replicate}
 use borrow.Author.Tests.{le-leb, lt-leb}
-use Rattle.bits.proofs.Bools.{clash}
+use Rattle.std.proofs.Common.{Option, Some, None}
 use Rattle.tables.specs.Table.{table_bit}
 use Rattle.sheets.specs.declared.kinds.Edition.{Edition}
 use Rattle.sheets.specs.Edition.{most_records}
@@ -31,20 +31,22 @@ module _ (e : Edition) (d : ℕ) (sheet work : List ℕ) where
   abbrev none : Verdict → List ℕ → MakeOutcome
   none v l = record { answer = record { verdict = v; count = 0 }; sheet = sheet; work = l }
 
-  module _ (r : ChainEnd) (v : Verdict) (l : List ℕ) (cleared : l ≡ replicate (length work) 0) where
+  module _ (v : Verdict) (l : List ℕ) (cleared : l ≡ replicate (length work) 0) where
     -- it is stuck
-    pub stuck_written : (x : Made) → Tells r x → r.finished ≡ false → v ≡ Refused (refusal 8 0) → none v l
-        ≡ chain_written e d x sheet work
-    stuck_written stuck w h q = ap₂ none q cleared
-    stuck_written (made cs) w h q = absurd (clash w.0 h)
+    pub stuck_written : (r : Option ChainEnd) (x : Made) → Tells r x → r ≡ None → v ≡ Refused (refusal 8 0)
+        → none v l ≡ chain_written e d x sheet work
+    stuck_written None stuck w h q = ap₂ none q cleared
+    stuck_written None (made cs) w h q = absurd w
+    stuck_written (Some r) x w h q = cc
 
     -- it is longer than a sheet
-    pub long_written : (x : Made) → Tells r x → r.finished ≡ true → most_records < r.count → v ≡ Refused (refusal 17 0)
+    pub long_written : (r : ChainEnd) (x : Made) → Tells (Some r) x → most_records < r.count
+        → v ≡ Refused (refusal 17 0)
         → none v l ≡ chain_written e d x sheet work
-    long_written stuck w h l q = absurd (clash h w.0)
-    long_written (made cs) w h l q =
+    long_written r stuck w l q = absurd w
+    long_written r (made cs) w l q =
         ap₂ none q cleared ∙ ap (λ (b : Bool). cond b (make_done e d cs sheet work)
-        (make_not sheet work (refusal 17 0))) (sym (lt-leb (length cs) most_records (omega (arith, w.1))))
+        (make_not sheet work (refusal 17 0))) (sym (lt-leb (length cs) most_records (omega (arith, w.0))))
 
   module _ (r : ChainEnd) where
     -- a sheet has room: the cells are held, and their records go over the first bytes
@@ -57,11 +59,11 @@ module _ (e : Edition) (d : ℕ) (sheet work : List ℕ) where
         work = replicate (length work) 0;
       } ≡ chain_written e d x sheet work
 
-    pub fits : (x : Made) → Tells r x → r.finished ≡ true → r.count ≤ most_records → Fits x
-    fits stuck w h l = absurd (clash h w.0)
-    fits (made cs) w h l =
-        let few : length cs ≤ most_records = omega (arith, w.1) in
-        let cells = w.2 few in
+    pub fits : (x : Made) → Tells (Some r) x → r.count ≤ most_records → Fits x
+    fits stuck w l = absurd w
+    fits (made cs) w l =
+        let few : length cs ≤ most_records = omega (arith, w.0) in
+        let cells = w.1 few in
         let held = cells_of r.sheet in
         let count : length held ≡ r.sheet.count = cells_count r.sheet in
         record {
@@ -72,7 +74,7 @@ module _ (e : Edition) (d : ℕ) (sheet work : List ℕ) where
             sheet = sheet_bytes e d held ++ drop m sheet;
             work = replicate (length work) 0;
           })
-              (w.1 ∙ sym (ap length cells)) (sym (length-sheet e d held ∙ ap (λ (k : ℕ). e.size * k) count))
+              (w.0 ∙ sym (ap length cells)) (sym (length-sheet e d held ∙ ap (λ (k : ℕ). e.size * k) count))
               ∙ ap (λ (l : List Cell). make_done e d l sheet work) cells
               ∙ ap (λ (b : Bool). cond b (make_done e d cs sheet work) (make_not sheet work (refusal 17 0)))
               (sym (le-leb (length cs) most_records few));

@@ -71,25 +71,22 @@ pub fn write_chain(
         ≡ chain_written e d (cells_aside most n k (number (2 ^ n) (table_bit t.now))) sheet.old
         work.old }
 {
-    let chain = chain_upto(t, n, most, k, work);
-    if !chain.finished {
+    let Some(chain) = chain_upto(t, n, most, k, work) else {
         return MakeAnswer {
             verdict: refuse(Refusal::SPLIT),
             count: 0,
         };
-    }
-    let cells = chain.count;
-    if Sheet::RECORDS < cells {
+    };
+    if Sheet::RECORDS < chain.count {
         return MakeAnswer {
             verdict: refuse(Refusal::LONG),
             count: 0,
         };
     }
-    let held = chain.sheet;
-    put_all(e, d, held, sheet);
+    put_all(e, d, chain.sheet, sheet);
     MakeAnswer {
         verdict: Verdict::Fine,
-        count: cells,
+        count: chain.count,
     }
 }
 

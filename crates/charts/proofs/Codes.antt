@@ -5,13 +5,16 @@ use mathlib.Core.List.{List, [], ◌∷◌, map}
 use Prim.Native.Nat.{ℕ, zero, suc, ◌+◌, ◌-◌, ◌*◌, ◌^◌, ◌<◌, ◌≤◌}
 use native.Mathlib.Nat.{not-suc-le-zero}
 use native.Mathlib.Omega.{arith}
+use Rattle.std.proofs.Common.{Option, Some}
 use lib.Bits.{bit_and}
 use lib.Dec.{eqb}
 use lib.ListN.{length, get_or, take, drop, length-drop}
 use lib.Seq.{get_or-take, get_or-drop, length-take-le}
 use borrow.Author.Tests.{leb-true, eq-eqb}
 use Rattle.bits.specs.Numbers.{bit}
+use Rattle.bits.specs.Places.{found_below}
 use Rattle.bits.specs.Sets.{size, gather, spread}
+use Rattle.bits.proofs.Places.{found_some}
 use Rattle.bits.proofs.Below.{every_at}
 use Rattle.bits.proofs.Machine.{and-spread}
 use Rattle.bits.proofs.Spreading.{gather-lt, gather-spread, spread-lt}
@@ -117,22 +120,16 @@ module _ (s : Split) (h : Held s) (F : ℕ → Bool) (x base : ℕ) (at : x ≡ 
     stands b = map (column_at s F b) (take limit row)
 
     -- the column's place among those that the row stands for is its number
-    pub code_found : few_columns s.n F (bit s.own) (bit s.shared) limit ≡ true → (r : ℕ)
-        → r ≡ index (column_at s F (shared_part s base) (x - base))
-        (map (column_at s F (shared_part s base)) (take limit (take m (drop from seen))))
-        → r ≡ code_at s.n F (bit s.own) (bit s.shared) (gather s.n (first_reads s) x)
+    pub code_found : few_columns s.n F (bit s.own) (bit s.shared) limit ≡ true → {o : Option ℕ}
+        → o ≡ found_below limit (index (column_at s F (shared_part s base) (x - base))
+        (map (column_at s F (shared_part s base)) (take limit (take m (drop from seen)))))
+        → o ≡ Some (code_at s.n F (bit s.own) (bit s.shared) (gather s.n (first_reads s) x))
     unfolding code columns
-    code_found few r e =
-        e ∙ ap (λ (b : ℕ). index (column_at s F b (x - base)) (stands b)) b_is
-        ∙ same_place (column_at s F b (x - base)) (stands b) (columns_of s F b) (column_at s F b 0)
-        (omega (arith, long, few_at s.n F (bit s.own) (bit s.shared) limit few b small))
-        (λ i l. let g : i < limit = omega (arith, long) in
-        rep_at (column_at s F b) row limit (omega (arith, row_length)) i g ∙ ap (column_at s F b) (row_at i g)
-        ∙ chart.stands b i small g)
-        (firsts_has (column_of s F b) (2 ^ size s.n (bit s.own)) (own_part s (x - base))
-        (gather-lt s.n (bit s.own) (x - base)))
-        ∙ ap (code s.n F (bit s.own) (bit s.shared) b) a_is
-        ∙ sym (code_at_gather s.n F (bit s.own) (bit s.shared) x)
+    code_found few e =
+        e ∙ sym (found_some limit _ (omega (arith, place_is, index-lt (column_at s F b (x - base)) (columns_of s F b) here, most)))
+        ∙ ap (λ (i : ℕ). Some i)
+        (place_is ∙ ap (code s.n F (bit s.own) (bit s.shared) b) a_is
+        ∙ sym (code_at_gather s.n F (bit s.own) (bit s.shared) x))
       where
         b : ℕ
         b = shared_part s x
@@ -142,3 +139,20 @@ module _ (s : Split) (h : Held s) (F : ℕ → Bool) (x base : ℕ) (at : x ≡ 
 
         long : length (stands (shared_part s x)) ≡ limit
         long = reps_len (column_at s F (shared_part s x)) row limit (omega (arith, row_length))
+
+        here : member (column_at s F b (x - base)) (columns_of s F b) ≡ true
+        here = firsts_has (column_of s F b) (2 ^ size s.n (bit s.own)) (own_part s (x - base))
+            (gather-lt s.n (bit s.own) (x - base))
+
+        most : length (columns_of s F b) ≤ limit
+        most = few_at s.n F (bit s.own) (bit s.shared) limit few b small
+
+        place_is : index (column_at s F (shared_part s base) (x - base)) (stands (shared_part s base))
+            ≡ index (column_at s F b (x - base)) (columns_of s F b)
+        place_is =
+            ap (λ (b : ℕ). index (column_at s F b (x - base)) (stands b)) b_is
+            ∙ same_place (column_at s F b (x - base)) (stands b) (columns_of s F b) (column_at s F b 0)
+            (omega (arith, long, most))
+            (λ i l. let g : i < limit = omega (arith, long) in
+            rep_at (column_at s F b) row limit (omega (arith, row_length)) i g ∙ ap (column_at s F b) (row_at i g)
+            ∙ chart.stands b i small g) here

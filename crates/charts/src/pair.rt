@@ -17,7 +17,8 @@ use tables::bit_at;
 use tables::cell::CellTable;
 use tables::fixed::word_over;
 
-// The tables of 1, 2 or 3 first cells; those that are not there are 0.
+// The tables of 1, 2 or 3 first cells; those that are not there are 0. What C is handed and what is claimed of it names
+// the three (TrySeveral, pelzurivan; TrySplit, claims), so they are three fields and no array.
 #[derive(Clone, Copy)]
 pub struct FirstCells {
     pub first: CellTable,
@@ -57,16 +58,12 @@ pub fn chart(t: &[u8], s: Split, limit: usize, seen: &mut [u16])
     requires limit_value { few_columns s.n (table_bit t.now) (bit s.own) (bit s.shared) limit ≡ true }
     ensures { Chart s (table_bit t.now) limit seen.new }
 {
-    let many = parts(s.n, s.shared);
     let mut base: u32 = 0;
-    let mut from: usize = 0;
-    let mut b: u32 = 0;
-    while b < many {
+    for b in 0..parts(s.n, s.shared) {
+        let from = b as usize * limit;
         let end = from + limit;
         look_through(t, s, base, limit, &mut seen[from..end]);
         base = next(s.n, s.shared, base);
-        from = end;
-        b += 1;
     }
 }
 
@@ -79,9 +76,9 @@ fn code_at<'a>(t: &'a [u8], s: Split, limit: usize, seen: &'a [u16], x: u32) -> 
     ensures { result ≡ code_at s.n (table_bit t.now) (bit s.own) (bit s.shared) (gather s.n (first_reads s) x) }
 {
     let base = x & (s.shared as u32);
-    let from = (gather_in(s.n, s.shared, x) as usize) * limit;
+    let from = gather_in(s.n, s.shared, x) as usize * limit;
     let end = from + limit;
-    place(t, s, base, x - base, &seen[from..end], limit)
+    place(t, s, base, x - base, &seen[from..end], limit).unwrap()
 }
 
 // First cell `which` at the assignment x of own and shared inputs: that bit of the number of its column.
@@ -94,18 +91,6 @@ fn d_bit<'a>(t: &'a [u8], s: Split, limit: usize, seen: &'a [u16], which: u32, x
 {
     let code = code_at(t, s, limit, seen, x);
     (code >> which) & 1 == 1
-}
-
-// How many of `many` bits stand in the word that starts at bit `from`.
-fn bits_left(many: u32, from: u32) -> u32
-    requires { from ≤ many }
-    ensures { (result ≤ 64) × (from + result ≤ many) × (result < 64 → many ≤ from + result) }
-{
-    let left = many - from;
-    if 64 <= left {
-        return 64;
-    }
-    left
 }
 
 // Word w of the table of first cell `which`, read with the chart of the columns.
@@ -122,14 +107,11 @@ fn d_word<'a>(t: &'a [u8], s: Split, limit: usize, seen: &'a [u16], which: u32, 
     if many <= from {
         return 0;
     }
-    let here = bits_left(many, from);
     let mut r: u64 = 0;
     let mut x = spread_out(s.n, both, from);
-    let mut i: u32 = 0;
-    while i < here {
+    for i in 0..(many - from).min(64) {
         r += (d_bit(t, s, limit, seen, which, x) as u64) << i;
         x = next(s.n, both, x);
-        i += 1;
     }
     r
 }
@@ -141,14 +123,11 @@ fn table_of<'a>(t: &'a [u8], s: Split, limit: usize, seen: &'a [u16], which: u32
     requires limit_value { few_columns s.n (table_bit t.now) (bit s.own) (bit s.shared) limit ≡ true }
     ensures { result ≡ held_d s.n (table_bit t.now) (bit s.own) (bit s.shared) which }
 {
-    CellTable {
-        words: [
-            d_word(t, s, limit, seen, which, 0),
-            d_word(t, s, limit, seen, which, 1),
-            d_word(t, s, limit, seen, which, 2),
-            d_word(t, s, limit, seen, which, 3),
-        ],
+    let mut words = [0; CellTable::WORDS];
+    for w in 0..CellTable::WORDS {
+        words[w] = d_word(t, s, limit, seen, which, w as u32);
     }
+    CellTable { words }
 }
 
 // The same, or 0 where there are only r first cells.
@@ -194,7 +173,7 @@ pub fn h_bit<'a>(t: &'a [u8], s: Split, limit: usize, seen: &'a [u16], i: u32) -
     let x = spread_out(s.n, beside, i % many);
     let b = gather_in(s.n, s.shared, x) as usize;
     let at = b * limit + d;
-    bit_at(t, x + (seen[at] as u32))
+    bit_at(t, x + seen[at] as u32)
 }
 
 // Byte i of the last cell's table, spare bits zero, for 2 ^ r columns at most.
@@ -206,10 +185,8 @@ pub fn h_byte<'a>(t: &'a [u8], s: Split, limit: usize, seen: &'a [u16], i: u32) 
         (bit_h s.n (table_bit t.now) (bit s.own) (bit s.shared)) i }
 {
     let mut b: u8 = 0;
-    let mut j: u32 = 0;
-    while j < 8 {
+    for j in 0..8 {
         b += (h_bit(t, s, limit, seen, i * 8 + j) as u8) << j;
-        j += 1;
     }
     b
 }

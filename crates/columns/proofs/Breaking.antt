@@ -1,6 +1,6 @@
 -- Where the column test fails: the least b that breaks decides the test, and its columns are told apart by so many own
 -- assignments. Assumes nothing.
-use mathlib.Core.Path.{◌≡◌, refl, sym, ap, ◌∙◌}
+use mathlib.Core.Path.{◌≡◌, refl, sym, ap, ap₂, ◌∙◌}
 use mathlib.Core.Bool.{Bool, true, false, not, cond}
 use mathlib.Core.List.{[], ◌∷◌, ◌++◌}
 use Prim.Native.Nat.{ℕ, zero, suc, ◌-◌, ◌^◌, ◌<◌, ◌≤◌}
@@ -10,19 +10,36 @@ use native.Mathlib.Omega.{arith}
 use lib.Dec.{eqb, leb, ltb}
 use lib.ListN.{length, length-append}
 use borrow.Author.Tests.{eq-eqb, ne_eqb, lt-ltb, le-ltb, le-leb, lt-leb, ltb-true, ltb-false}
+use Rattle.bits.specs.Places.{found_below}
 use Rattle.bits.specs.Sets.{size}
 use Rattle.bits.proofs.Bools.{clash}
 use Rattle.bits.proofs.Below.{every_all, every_stop}
 use Rattle.bits.proofs.Least.{is_least}
 use Rattle.splits.specs.Columns.{member, firsts, column, columns, few_columns, first_broken}
 use Rattle.columns.specs.declared.columns.Broken.{Broken}
-use Rattle.columns.specs.Broken.{broken_at, Several}
+use Rattle.columns.specs.Broken.{broken_at, found_break, Several}
 use Rattle.splits.proofs.Firsts.{firsts_has}
+use Rattle.columns.proofs.Places.{below_of_some, above_of_none, below_of_no_none, above_of_is_none}
+use Rattle.std.proofs.Common.{Option, Some, None}
+use Rattle.std.specs.Option.{is_some}
 
 module _ (n : ℕ) (F : ℕ → Bool) (A B : ℕ → Bool) (m : ℕ) where
   -- how many columns b has
   abbrev many : ℕ → ℕ
   many b = length (columns n F A B b)
+
+  -- what is told where the test fails, and by whether it does
+  abbrev here : Broken
+  here = record { b = first_broken n F A B m; columns = many (first_broken n F A B m) }
+
+  abbrev at : Bool → Broken
+  at few = cond few (record { b = 0; columns = 0 }) here
+
+  abbrev found : ℕ → ℕ → Option Broken
+  found b k = Some (record { b = b; columns = k })
+
+  abbrev by : Bool → Option Broken
+  by few = found_break (at few)
 
   pub broken_before : (b : ℕ) → b < first_broken n F A B m → length (columns n F A B b) ≤ m
   unfolding first_broken
@@ -55,18 +72,51 @@ module _ (n : ℕ) (F : ℕ → Bool) (A B : ℕ → Bool) (m : ℕ) where
         (sym broken_few ∙ e))
   ]
 
-  -- some columns are counted exactly where it fails
-  pub broken_some : ltb 0 (broken_at n F A B m).columns ≡ not (few_columns n F A B m)
-  broken_some = go (few_columns n F A B m) refl
-    where
-      b : ℕ
-      b = first_broken n F A B m
+  -- so it is asked for by looking for one
+  module _ {o : Option ℕ} (told : o ≡ found_below (2 ^ size n B) (first_broken n F A B m)) where
+    pub few_by : {none : Bool} → is_some o ≡ not none → none ≡ few_columns n F A B m
+    few_by {none = true} e =
+        sym (broken_few ∙ eq-eqb _ _ (omega (arith, above_of_is_none told e refl, broken_most)))
+    few_by {none = false} e =
+        sym (broken_few ∙ ne_eqb _ _ (λ q. omega (arith, below_of_no_none told e refl)))
 
-      go : (t : Bool) → few_columns n F A B m ≡ t
-          → ltb 0 (cond {A = Broken} t (record { b = 0; columns = 0 })
-          (record { b = first_broken n F A B m; columns = many (first_broken n F A B m) })).columns ≡ not t
-      go true e = refl
-      go false e = lt-ltb 0 (many b) (omega (arith, broken_there (broken_within e)))
+    -- where it breaks, and that it doesn't
+    pub break_some : {b k : ℕ} → o ≡ Some b → k ≡ length (columns n F A B b)
+        → found b k ≡ found_break (broken_at n F A B m)
+    break_some {b} {k} e q = let w = below_of_some (sym told ∙ e) in
+        ap₂ found w.1
+        (q ∙ ap many w.1)
+        ∙ sym (ap (λ (t : Bool). cond t (Some here) None)
+        (lt-ltb 0 (many (first_broken n F A B m)) (omega (arith, broken_there w.0))))
+        ∙ sym (ap by (broken_few ∙ ne_eqb _ _ (λ q. omega (arith, w.0))))
+
+    pub break_none : o ≡ None → None ≡ found_break (broken_at n F A B m)
+    break_none e =
+        sym (ap by (broken_few ∙ eq-eqb _ _ (omega (arith, above_of_none (sym told ∙ e), broken_most))))
+
+  -- a break that was found is that one, and the test fails
+  pub break_is : {w : Broken} → Some w ≡ found_break (broken_at n F A B m)
+      → (w ≡ broken_at n F A B m) × (few_columns n F A B m ≡ false)
+  break_is {w} e = go (few_columns n F A B m) e
+    where
+      go : (t : Bool) → Some w ≡ by t → (w ≡ at t) × (t ≡ false)
+      go true e = cc
+      go false e = go' (ltb 0 (many (first_broken n F A B m))) e
+        where
+          go' : (t : Bool) → Some w ≡ cond t (Some here) None → (w ≡ here) × (false ≡ false)
+          go' true e = (cc, refl)
+          go' false e = cc
+
+  pub no_break : None ≡ found_break (broken_at n F A B m) → few_columns n F A B m ≡ true
+  no_break e = go (few_columns n F A B m) refl e
+    where
+      go : (t : Bool) → few_columns n F A B m ≡ t → None ≡ by t → t ≡ true
+      go true q e = refl
+      go false q e =
+          let there = broken_there (broken_within q) in
+          let some = e ∙ ap (λ (t : Bool). cond t (Some here) None)
+          (lt-ltb 0 (many (first_broken n F A B m)) (omega (arith, there))) in
+          cc
 
 -- ---- so many different values come from so many places
 

@@ -1,5 +1,6 @@
 -- The laws of reading columns.
 pub mod Reading
 pub mod ByWords
+pub mod Places
 pub mod Looking
 pub mod Breaking

@@ -31,10 +31,10 @@ impl Split {
         let left = all - own as u32 - shared as u32;
         let free = left as u16;
         Split {
-            n: n,
-            own: own,
-            shared: shared,
-            free: free,
+            n,
+            own,
+            shared,
+            free,
             words: parts(n, free / 64 * 64),
             low: subsets(free),
         }

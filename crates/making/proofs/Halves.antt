@@ -2,13 +2,13 @@
 -- hand. Assumes nothing.
 use mathlib.Core.Path.{◌≡◌, ap, ◌∙◌}
 use mathlib.Core.Bool.{Bool, ◌&&◌}
-use mathlib.Core.List.{List}
+use mathlib.Core.List.{List, ◌++◌}
 use Prim.Native.Nat.{ℕ, ◌+◌, ◌*◌, ◌/◌, ◌%◌, ◌^◌, ◌<◌, ◌≤◌}
 use native.Mathlib.Nat.{mod-lt}
 use native.Mathlib.Omega.{arith}
 use lib.Dec.{ltb, lit<}
-use lib.ListN.{length, get_or, take}
-use lib.Seq.{get_or-take, length-take-le}
+use lib.ListN.{length, get_or, take, drop, length-append, length-drop, get_or-append}
+use lib.Seq.{get_or-take, get_or-drop, length-take-le}
 use lib.Pow.{pow_mono}
 use borrow.Author.Tests.{lt-ltb}
 use Rattle.bits.specs.Numbers.{bit, number}
@@ -53,3 +53,32 @@ taken_back s r len before stored after e small w back long = record { long = lon
         ap (λ (y : ℕ). bit y (x % 8)) (get_or-take half after (x / 8) 0 (omega arith) ∙ back (x / 8) l
         ∙ w.bytes (x / 8) l)
         ∙ byte-bit (next_inputs s r before) (next_bit s before) x h
+
+-- the first len bytes behind the first half, copied over its first
+pub taken_front : {len : ℕ} (work : List ℕ) {front back copy : List ℕ} → len ≤ half → work_length ≤ length work
+    → front ≡ take half work → back ≡ drop half work → copy ≡ take len back
+    → ((i : ℕ) → i < len → get_or ((copy ++ drop len front) ++ back) i 0 ≡ get_or work (half + i) 0)
+    × (length ((copy ++ drop len front) ++ back) ≡ length work)
+taken_front {len} work {front} {back} {copy} small long f b e = (at, whole)
+  where
+    front_long : length front ≡ half
+    front_long = ap length f ∙ length-take-le half work (omega arith)
+
+    back_long : length back + half ≡ length work
+    back_long = omega (arith, ap length b, length-drop half work)
+
+    copy_long : length copy ≡ len
+    copy_long = ap length e ∙ length-take-le len back (omega (arith, back_long))
+
+    hand_long : length (copy ++ drop len front) ≡ half
+    hand_long = omega (arith, length-append copy (drop len front), length-drop len front, copy_long, front_long)
+
+    whole : length ((copy ++ drop len front) ++ back) ≡ length work
+    whole = omega (arith, length-append (copy ++ drop len front) back, hand_long, back_long)
+
+    at : (i : ℕ) → i < len → get_or ((copy ++ drop len front) ++ back) i 0 ≡ get_or work (half + i) 0
+    at i h =
+        get_or-append (copy ++ drop len front) back 0 i (omega (arith, hand_long))
+        ∙ get_or-append copy (drop len front) 0 i (omega (arith, copy_long))
+        ∙ ap (λ (l : List ℕ). get_or l i 0) e ∙ get_or-take len back i 0 h
+        ∙ ap (λ (l : List ℕ). get_or l i 0) b ∙ get_or-drop half work i 0

@@ -1,10 +1,9 @@
 -- A pile that grows, and grows again, holds what was put on it in turn. Assumes nothing.
-use mathlib.Core.Path.{◌≡◌, refl, sym, ap, ap₂, ◌∙◌, subst}
-use mathlib.Core.List.{List, [], ◌∷◌, ◌++◌, append_assoc}
-use Prim.Native.Nat.{ℕ, ◌+◌, ◌≤◌}
+use mathlib.Core.Path.{◌≡◌, refl, sym, ap, ◌∙◌, subst}
+use mathlib.Core.List.{List, [], ◌∷◌, ◌++◌, append_assoc, append-nil}
+use Prim.Native.Nat.{◌+◌, ◌≤◌}
 use native.Mathlib.Omega.{arith}
 use lib.ListN.{length, get_or, length-append}
-use Rattle.bits.specs.Lists.{list_of}
 use Rattle.bits.proofs.Lists.{length-list}
 use Rattle.sheets.specs.declared.kinds.Sheet.{Sheet}
 use Rattle.sheets.specs.declared.kinds.HeldCell.{HeldCell}
@@ -17,6 +16,14 @@ use Rattle.making.specs.Pile.{Piled, Grown}
 -- a sheet has as many cells as it counts
 pub cells_count : (s : Sheet) → length (cells_of s) ≡ s.count
 cells_count s = length-list s.count (λ i. network_cell (get_or s.cells i no_cell))
+
+-- ---- none more
+pub grown_none : (p : Pile) → p.sheet.count ≤ p.count → Grown p [] p
+grown_none p w = record {
+  count = omega arith;
+  within = w;
+  held = λ cs k few. k.held few ∙ sym (append-nil cs);
+}
 
 -- ---- one cell more
 
@@ -54,20 +61,3 @@ module _ {p q : Pile} {more : List Cell} (g : Grown p more q) where
 -- the same cells under another name
 pub grown_same : {p q : Pile} {more others : List Cell} → more ≡ others → Grown p more q → Grown p others q
 grown_same {p} {q} e g = subst (λ (l : List Cell). Grown p l q) e g
-
--- ---- the first one, two or three values of a function
-module _ {A : Type 0} (f : ℕ → A) (r : ℕ) (x : A) (e : x ≡ f 0) where
-  pub firsts-one : r ≡ 1 → (x ∷ []) ≡ list_of r f
-  unfolding list_of
-  firsts-one h = ap (λ (y : A). y ∷ []) e ∙ ap (λ (k : ℕ). list_of k f) (sym h)
-
-  module _ (y : A) (e' : y ≡ f 1) where
-    pub firsts-two : r ≡ 2 → (x ∷ []) ++ (y ∷ []) ≡ list_of r f
-    unfolding list_of
-    firsts-two h = ap₂ (λ (a b : A). a ∷ b ∷ []) e e' ∙ ap (λ (k : ℕ). list_of k f) (sym h)
-
-    pub firsts_three : (z : A) → z ≡ f 2 → r ≡ 3 → ((x ∷ []) ++ (y ∷ [])) ++ (z ∷ []) ≡ list_of r f
-    unfolding list_of
-    firsts_three z e'' h =
-        ap₂ (λ (a b : A). a ∷ b ∷ z ∷ []) e e' ∙ ap (λ (c : A). f 0 ∷ f 1 ∷ c ∷ []) e''
-        ∙ ap (λ (k : ℕ). list_of k f) (sym h)

@@ -1,5 +1,5 @@
 -- What the code that makes a sheet holds and promises.
-use Rattle.std.specs.Prelude.{◌≡◌, Bool, true, false, List, [], ◌++◌, ℕ, ◌+◌, ◌^◌, ◌≤◌, length, replicate}
+use Rattle.std.specs.Prelude.{◌≡◌, Bool, List, ◌++◌, ℕ, ◌+◌, ◌^◌, ◌≤◌, length, replicate, Option, Some, None}
 use Rattle.bits.specs.Numbers.{bit, number}
 use Rattle.bits.specs.Lists.{list_of}
 use Rattle.tables.specs.Table.{table_bit}
@@ -33,12 +33,15 @@ pub record Stepped (g : Stage) (next r : ℕ) (s : Split) (before : List ℕ) (q
       (signals_of g.signals) ++ list_of r (λ t. next + t)
   pub table : NextTable s r before after
 
--- what is told of a chain: that it is stuck; or how many cells it has, and these where a sheet has room for them
-abbrev pub Tells : ChainEnd → Made → Type 0
-Tells r stuck = (r.finished ≡ false) × (r.sheet.count ≡ 0) × (cells_of r.sheet ≡ [])
-Tells r (made cs) = (r.finished ≡ true) × (r.count ≡ length cs) × (length cs ≤ most_records → cells_of r.sheet ≡ cs)
+-- what is told of a chain: nothing where it is stuck; or how many cells it has, and these where a sheet has room for
+-- them
+abbrev pub Tells : Option ChainEnd → Made → Type 0
+Tells None stuck = Unit {0}
+Tells None (made cs) = ⊥
+Tells (Some e) stuck = ⊥
+Tells (Some e) (made cs) = (e.count ≡ length cs) × (length cs ≤ most_records → cells_of e.sheet ≡ cs)
 
 -- the cells of a gate's table, with up to m first cells at each step; the work area is zeros
-pub record ChainedUpTo (m n K : ℕ) (t work : List ℕ) (r : ChainEnd) (work' : List ℕ) : Type 0 where
+pub record ChainedUpTo (m n K : ℕ) (t work : List ℕ) (r : Option ChainEnd) (work' : List ℕ) : Type 0 where
   pub told : Tells r (cells_aside m n K (number (2 ^ n) (table_bit t)))
   pub cleared : work' ≡ replicate (length work) 0

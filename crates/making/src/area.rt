@@ -14,55 +14,27 @@ use columns::split::Split;
 use tables::fixed::byte_in;
 use tables::{HALF, length_for};
 
-// The first len bytes of H's table, with r first cells, into the second half: byte by byte.
-fn store_bytes(work: &mut [u8], s: Split, r: u32, seen: &[u16], len: usize)
-    requires { Held s × (len ≤ half) × (work_length ≤ length work.old) × Chart s (at_hand work.old) (2 ^ r) seen.now
-        × (r ≤ most_first) }
-    ensures { NextStored s r len work.old work.new }
-{
-    let limit: usize = 1 << r;
-    let mut i: usize = 0;
-    while i < len {
-        let b = h_byte(&work[..HALF], s, limit, seen, i as u32);
-        let at = HALF + i;
-        work[at] = b;
-        i += 1;
-    }
-}
-
-// The same by words, where nothing is shared and the free inputs make whole words.
-fn store_words(work: &mut [u8], s: Split, r: u32, seen: &[u16], len: usize)
-    requires held { Held s × (len ≤ half) × (work_length ≤ length work.old) × Chart s (at_hand work.old) (2 ^ r) seen.now
-        × (r ≤ most_first) }
-    requires shared_value { (s.shared ≡ 0) × (64 ≤ 2 ^ size s.n (bit s.free)) }
-    ensures { NextStored s r len work.old work.new }
-{
-    let limit: usize = 1 << r;
-    let mut w: u64 = 0;
-    let mut i: usize = 0;
-    while i < len {
-        if i % 8 == 0 {
-            w = h_word(&work[..HALF], s, limit, seen, (i / 8) as u32);
-        }
-        let at = HALF + i;
-        work[at] = byte_in(w, i);
-        i += 1;
-    }
-}
-
-// The same, by words where it can be.
+// The first len bytes of H's table, with r first cells, into the second half: by words where nothing is shared and the
+// free inputs make whole words, else byte by byte.
 fn store_next(work: &mut [u8], s: Split, r: u32, seen: &[u16], len: usize)
     requires { Held s × (len ≤ half) × (work_length ≤ length work.old) × Chart s (at_hand work.old) (2 ^ r) seen.now
         × (r ≤ most_first) }
     ensures { NextStored s r len work.old work.new }
 {
-    if s.shared == 0 {
-        if 64 <= parts(s.n, s.free) {
-            store_words(work, s, r, seen, len);
-            return;
+    let limit: usize = 1 << r;
+    let by_words = s.shared == 0 && 64 <= parts(s.n, s.free);
+    let mut w: u64 = 0;
+    for i in 0..len {
+        if by_words && i % 8 == 0 {
+            w = h_word(&work[..HALF], s, limit, seen, (i / 8) as u32);
         }
+        let b = if by_words {
+            byte_in(w, i)
+        } else {
+            h_byte(&work[..HALF], s, limit, seen, i as u32)
+        };
+        work[HALF + i] = b;
     }
-    store_bytes(work, s, r, seen, len);
 }
 
 // The first len bytes of the second half, back to the first.
@@ -71,12 +43,8 @@ fn take_next(work: &mut [u8], len: usize)
     ensures { ((i : ℕ) → i < len → get_or work.new i 0 ≡ get_or work.old (half + i) 0)
         × (length work.new ≡ length work.old) }
 {
-    let mut i: usize = 0;
-    while i < len {
-        let from = HALF + i;
-        work[i] = work[from];
-        i += 1;
-    }
+    let (hand, next) = work.split_at_mut(HALF);
+    hand[..len].copy_from_slice(&next[..len]);
 }
 
 // H becomes the table at hand, by the chart of the columns; it has m inputs.

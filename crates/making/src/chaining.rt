@@ -26,10 +26,9 @@ use tables::cell::CellTable;
 use tables::counting::kept_of;
 use tables::{HALF, clear};
 
-// Whether the chain came to its end; how many cells it has, and a sheet of them, if it has room for them.
+// Of a chain that came to its end: how many cells it has, and a sheet of them, if it has room for them.
 #[derive(Clone, Copy)]
 pub struct ChainEnd {
-    pub finished: bool,
     pub count: usize,
     pub sheet: Sheet,
 }
@@ -71,69 +70,47 @@ fn step(stage: Stage, next: u8, s: Split, r: u32, work: &mut [u8]) -> Stage
         × (few_columns s.n (at_hand work.old) (bit s.own) (bit s.shared) (2 ^ r) ≡ true) }
     ensures { Stepped stage next r s work.old result work.new }
 {
-    let pile = stage.pile;
-    let signals = stage.signals;
     let mut seen = blank();
     chart(&work[..HALF], s, 1 << r, &mut seen);
-    let more = pile_first(pile, &work[..HALF], signals, s, r, &seen);
-    let left = signals.pick(s.shared + s.free);
-    let after = left.with_next(next, r);
-    next_table(work, s, r, &seen, after.count as u32);
-    Stage {
-        pile: more,
-        signals: after,
-    }
-}
-
-// A chain that is stuck.
-fn no_end() -> ChainEnd
-    ensures { Tells result stuck }
-{
-    ChainEnd {
-        finished: false,
-        count: 0,
-        sheet: Sheet::empty(),
-    }
+    let pile = pile_first(stage.pile, &work[..HALF], stage.signals, s, r, &seen);
+    let left = stage.signals.pick(s.shared + s.free);
+    let signals = left.with_next(next, r);
+    next_table(work, s, r, &seen, signals.count as u32);
+    Stage { pile, signals }
 }
 
 // The chain of the table in the work area over some of a gate's n signals, with up to `most` first cells at each step.
-fn follow(n: u32, start: Signals, most: u32, k: u32, work: &mut [u8]) -> ChainEnd
+fn follow(n: u32, start: Signals, most: u32, k: u32, work: &mut [u8]) -> Option<ChainEnd>
     requires n_le_most_inputs { (n ≤ most_inputs) × (most ≤ most_first) × (2 ≤ k) × (k ≤ largest_cell) × (work_length ≤ length work.old) }
     requires listed { Listed start × (1 ≤ start.count) × (start.count ≤ n) }
     ensures { Tells result (chain most n k n (signals_of start) (number (2 ^ start.count) (at_hand work.old))) }
 {
-    let few = k as usize;
     let mut pile = Pile::empty();
     let mut signals = start;
-    while few < signals.count {
+    while (k as usize) < signals.count {
         let m = signals.count as u32;
         let found = find_upto(&work[..HALF], m, most, k);
         if found.first == 0 {
-            return no_end();
+            return None;
         }
         let s = Split::of(m, found.own, found.shared);
         let next = n as usize + pile.count;
-        let stage = Stage {
-            pile: pile,
-            signals: signals,
-        };
+        let stage = Stage { pile, signals };
         let stepped = step(stage, next as u8, s, found.first, work);
         pile = stepped.pile;
         signals = stepped.signals;
     }
     let last = signals.cell(CellTable::first_of(&work[..HALF], signals.count as u32));
     let whole = pile.with_cell(last);
-    let sheet = whole.sheet;
-    ChainEnd {
-        finished: true,
+    Some(ChainEnd {
         count: whole.count,
-        sheet: sheet,
-    }
+        sheet: whole.sheet,
+    })
 }
 
 // The cells of a gate's table, with up to `most` first cells at each step: the inputs that do not count are set aside,
 // once, since every later table counts all of its own.
-pub fn chain_upto(t: &[u8], n: u32, most: u32, k: u32, work: &mut [u8]) -> ChainEnd
+pub fn chain_upto(t: &[u8], n: u32, most: u32, k: u32, work: &mut [u8]) -> Option<ChainEnd>
     requires { (1 ≤ n) × (n ≤ most_inputs) × (most ≤ most_first) × (2 ≤ k) × (k ≤ largest_cell)
         × (length t.now ≡ table_length n) × (work_length ≤ length work.old) }
     ensures { ChainedUpTo most n k t.now work.old result work.new }

@@ -35,17 +35,14 @@ impl Pile {
         requires { (self.sheet.count ≤ self.count) × (self.count ≤ most_piled) }
         ensures { Grown self (network_cell c ∷ []) result }
     {
-        let sheet = self.sheet;
-        let count = self.count;
-        if Sheet::RECORDS <= count {
-            return Pile {
-                sheet: sheet,
-                count: count + 1,
-            };
-        }
+        let sheet = if self.count < Sheet::RECORDS {
+            self.sheet.with_cell(c)
+        } else {
+            self.sheet
+        };
         Pile {
-            sheet: sheet.with_cell(c),
-            count: count + 1,
+            sheet,
+            count: self.count + 1,
         }
     }
 
@@ -55,17 +52,11 @@ impl Pile {
         requires listed { Listed read × (read.count ≤ largest_cell) }
         ensures { Grown self (list_of r (λ t. last_cell (signals_of read) (table_in d t))) result }
     {
-        let first = d.first;
-        let second = d.second;
-        let third = d.third;
-        let one = self.with_cell(read.cell(first));
-        if r < 2 {
-            return one;
+        let tables = [d.first, d.second, d.third];
+        let mut pile = self;
+        for t in 0..r as usize {
+            pile = pile.with_cell(read.cell(tables[t]));
         }
-        let two = one.with_cell(read.cell(second));
-        if r < 3 {
-            return two;
-        }
-        two.with_cell(read.cell(third))
+        pile
     }
 }

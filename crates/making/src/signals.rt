@@ -40,19 +40,15 @@ impl Signals {
         requires { Listed self }
         ensures { Listed result × (signals_of result ≡ pick self.count (bit set) (signals_of self)) }
     {
-        let from = self.at;
-        let count = self.count;
         let mut at = [0u8; Signals::MOST];
-        let mut m: usize = 0;
-        let mut j: usize = 0;
-        while j < count {
+        let mut count: usize = 0;
+        for j in 0..self.count {
             if (set >> j) & 1 == 1 {
-                at[m] = from[j];
-                m += 1;
+                at[count] = self.at[j];
+                count += 1;
             }
-            j += 1;
         }
-        Signals { at: at, count: m }
+        Signals { at, count }
     }
 
     // One more, appended.
@@ -60,9 +56,8 @@ impl Signals {
         requires { Listed self × (self.count < most_inputs) }
         ensures { Listed result × (signals_of result ≡ signals_of self ++ (signal ∷ [])) × (result.count ≡ self.count + 1) }
     {
-        let i = self.count;
-        self.at[i] = signal;
-        self.count = i + 1;
+        self.at[self.count] = signal;
+        self.count += 1;
         self
     }
 
@@ -71,15 +66,11 @@ impl Signals {
         requires { Listed self × (1 ≤ many) × (many ≤ most_first) × (self.count + many ≤ most_inputs) × (from + many ≤ 255) }
         ensures { Listed result × (signals_of result ≡ signals_of self ++ list_of many (λ t. from + t)) × (result.count ≡ self.count + many) }
     {
-        let one = self.with(from);
-        if many < 2 {
-            return one;
+        let mut signals = self;
+        for t in 0..many {
+            signals = signals.with(from + t as u8);
         }
-        let two = one.with(from + 1);
-        if many < 3 {
-            return two;
-        }
-        two.with(from + 2)
+        signals
     }
 
     // A cell that reads them all.
@@ -87,18 +78,12 @@ impl Signals {
         requires { Listed self × (self.count ≤ largest_cell) }
         ensures { (network_cell result ≡ last_cell (signals_of self) (table_number table)) × (result.k ≡ self.count) }
     {
-        let from = self.at;
-        let count = self.count;
         let mut signals = [HeldCell::UNUSED; HeldCell::MOST];
-        let mut j: usize = 0;
-        while j < count {
-            signals[j] = from[j];
-            j += 1;
-        }
+        signals[..self.count].copy_from_slice(&self.at[..self.count]);
         HeldCell {
-            k: count,
-            signals: signals,
-            table: table,
+            k: self.count,
+            signals,
+            table,
         }
     }
 }

@@ -9,7 +9,8 @@ use lib.ListN.{length, get_or}
 use borrow.Author.Tests.{le-leb, lt-leb, leb-true, leb-false}
 use Rattle.bits.specs.Numbers.{bit, number}
 use Rattle.bits.specs.Sets.{size}
-use Rattle.bits.proofs.Bools.{clash}
+use Rattle.std.proofs.Common.{Option, Some, None}
+use Rattle.std.specs.Option.{IsSomeAnd}
 use Rattle.bits.proofs.Lists.{length-list}
 use Rattle.bits.proofs.Sizes.{size-le}
 use Rattle.tables.specs.Table.{most_inputs, table_bit}
@@ -63,50 +64,51 @@ module _ (n k : ℕ) (F : ℕ → Bool) (m : ℕ) (s : Signals) (picked : signal
       ∙ ap (λ (c : ℕ). number (2 ^ c) (table_bit work)) count ∙ over)
 
 -- ---- the one with fewer cells
-module _ (a : ChainEnd) (other : Sheet) where
-  pub tells_first : a.finished ≡ true → a.count ≤ other.count → (x : Made) (cs : List Cell) → Tells a x
-      → cells_of other ≡ cs → Tells a (shorter x (made cs))
-  tells_first f h stuck cs w e = absurd (clash f w.0)
-  tells_first f h (made xs) cs w e =
-      subst (λ (t : Bool). Tells a (made (cond t xs cs))) (sym (le-leb (length xs) (length cs)
-      (omega (arith, w.1, ap length e, cells_count other)))) w
+module _ (other : Sheet) where
+  pub tells_first : (a : ChainEnd) → a.count ≤ other.count → (x : Made) (cs : List Cell) → Tells (Some a) x
+      → cells_of other ≡ cs → Tells (Some a) (shorter x (made cs))
+  tells_first a h stuck cs w e = absurd w
+  tells_first a h (made xs) cs w e =
+      subst (λ (t : Bool). Tells (Some a) (made (cond t xs cs))) (sym (le-leb (length xs) (length cs)
+      (omega (arith, w.0, ap length e, cells_count other)))) w
 
-  abbrev its : ChainEnd
-  its = record { finished = true; count = other.count; sheet = other }
+  abbrev its : Option ChainEnd
+  its = Some (record { count = other.count; sheet = other })
 
   its_told : (cs : List Cell) → cells_of other ≡ cs → Tells its (made cs)
-  its_told cs e = (refl, sym (cells_count other) ∙ ap length e, λ few. e)
+  its_told cs e = (sym (cells_count other) ∙ ap length e, λ few. e)
 
-  pub tells_longer : other.count < a.count → (x : Made) (cs : List Cell) → Tells a x → cells_of other ≡ cs
-      → Tells its (shorter x (made cs))
-  tells_longer h stuck cs w e = its_told cs e
-  tells_longer h (made xs) cs w e =
+  pub tells_longer : (a : ChainEnd) → other.count < a.count → (x : Made) (cs : List Cell) → Tells (Some a) x
+      → cells_of other ≡ cs → Tells its (shorter x (made cs))
+  tells_longer a h stuck cs w e = its_told cs e
+  tells_longer a h (made xs) cs w e =
       subst (λ (t : Bool). Tells its (made (cond t xs cs))) (sym (lt-leb (length xs) (length cs)
-      (omega (arith, w.1, ap length e, cells_count other)))) (its_told cs e)
+      (omega (arith, w.0, ap length e, cells_count other)))) (its_told cs e)
 
-  pub tells_stuck : a.finished ≡ false → (x : Made) (cs : List Cell) → Tells a x → cells_of other ≡ cs
-      → Tells its (shorter x (made cs))
-  tells_stuck f stuck cs w e = its_told cs e
-  tells_stuck f (made xs) cs w e = absurd (clash w.0 f)
+  pub tells_stuck : (x : Made) (cs : List Cell) → Tells None x → cells_of other ≡ cs → Tells its (shorter x (made cs))
+  tells_stuck stuck cs w e = its_told cs e
+  tells_stuck (made xs) cs w e = absurd w
 
 -- ---- three cells or fewer are as few as a sheet of cofactors has
-pub tells_three : (n K : ℕ) (F : ℕ → Bool) → 1 ≤ n → 2 ≤ K → (a : ChainEnd) → (a.finished ≡ true) × (a.count ≤ 3)
+pub tells_three : (n K : ℕ) (F : ℕ → Bool) → 1 ≤ n → 2 ≤ K → (a : Option ChainEnd) → IsSomeAnd a (λ e. e.count ≤ 3)
     → Tells a (cells_aside most_first n K (number (2 ^ n) F)) → Tells a (otherwise n K (number (2 ^ n) F))
 unfolding otherwise
-tells_three n K F p two a f w = go (cells_aside most_first n K T) w (cofactors_aside n K T) refl
+tells_three n K F p two None few w = absurd few
+tells_three n K F p two (Some a) few w = go (cells_aside most_first n K T) w (cofactors_aside n K T) refl
   where
     T : ℕ
     T = number (2 ^ n) F
 
-    go : (x : Made) → Tells a x → (y : Made) → cofactors_aside n K (number (2 ^ n) F) ≡ y → Tells a (shorter x y)
-    go stuck w y e = absurd (clash f.0 w.0)
+    go : (x : Made) → Tells (Some a) x → (y : Made) → cofactors_aside n K (number (2 ^ n) F) ≡ y
+        → Tells (Some a) (shorter x y)
+    go stuck w y e = absurd w
     go (made xs) w stuck e = w
     go (made xs) w (made ys) e =
-        subst (λ (t : Bool). Tells a (made (cond t xs ys))) (sym (le-leb (length xs) (length ys)
-        (omega (arith, w.1, f.1, (aside_few n K F two p ys e).0)))) w
+        subst (λ (t : Bool). Tells (Some a) (made (cond t xs ys))) (sym (le-leb (length xs) (length ys)
+        (omega (arith, w.0, few, (aside_few n K F two p ys e).0)))) w
 
 -- ---- with and without a sheet of cofactors
-module _ (n K T : ℕ) (a : ChainEnd) where
+module _ (n K T : ℕ) (a : Option ChainEnd) where
   pub tells_alone : cofactors_aside n K T ≡ stuck → Tells a (cells_aside most_first n K T) → Tells a (otherwise n K T)
   unfolding otherwise
   tells_alone e w = subst (λ (y : Made). Tells a (shorter (cells_aside most_first n K T) y)) (sym e)

@@ -28,8 +28,7 @@ fn part_word(t: &[u8], k: u32, v: u32, w: u32) -> u64
     if 6 <= k {
         return word;
     }
-    let one: u64 = 1;
-    word % (one << end)
+    word % (1u64 << end)
 }
 
 // Part v of a table, as a cell's.
@@ -37,14 +36,11 @@ fn part_table(t: &[u8], k: u32, v: u32) -> CellTable
     requires { (k ≤ largest_cell) × (v * 2 ^ k + 2 ^ k ≤ 2 ^ most_inputs) × (length t.now ≡ half) }
     ensures { result ≡ held_table k (part_bit t.now k v) }
 {
-    CellTable {
-        words: [
-            part_word(t, k, v, 0),
-            part_word(t, k, v, 1),
-            part_word(t, k, v, 2),
-            part_word(t, k, v, 3),
-        ],
+    let mut words = [0; CellTable::WORDS];
+    for w in 0..CellTable::WORDS {
+        words[w] = part_word(t, k, v, w as u32);
     }
+    CellTable { words }
 }
 
 // A cell for each of the first `many` parts, over the same k signals.
@@ -54,10 +50,8 @@ pub fn cofactor_cells(t: &[u8], k: u32, read: Signals, many: u32) -> Sheet
     ensures { (cells_of result ≡ list_of many (part_cell (signals_of read) t.now k)) × (result.count ≡ many) }
 {
     let mut sheet = Sheet::empty();
-    let mut v: u32 = 0;
-    while v < many {
+    for v in 0..many {
         sheet = sheet.with_cell(read.cell(part_table(t, k, v)));
-        v += 1;
     }
     sheet
 }

@@ -32,13 +32,7 @@ fn width(k: u32, left: u32) -> u32
     requires { (1 ≤ left) × (left ≤ 3) }
     ensures { NextWidth k left result }
 {
-    if k < 6 {
-        return 1;
-    }
-    if left < 2 {
-        return 1;
-    }
-    2
+    if k < 6 || left < 2 { 1 } else { 2 }
 }
 
 // One level more.
@@ -46,20 +40,16 @@ fn one_level(k: u32, l: Signals, s: Stand) -> Stand
     requires { (2 ≤ k) × Listed l × InRoom k l s × (1 ≤ s.left) }
     ensures { OneLevel k l s result }
 {
-    let left = s.left;
-    let w = width(k, left);
-    let many: u8 = 1 << (left - w);
+    let w = width(k, s.left);
+    let many: u8 = 1 << (s.left - w);
     let each = cells_each(k);
-    let held = s.sheet;
-    let next = s.next;
-    let at = s.at;
     Stand {
-        sheet: level(held, k, w, next, l, at, s.base, s.step, many),
-        at: at + w as usize,
-        left: left - w,
-        base: next + each - 1,
+        sheet: level(s.sheet, k, w, s.next, l, s.at, s.base, s.step, many),
+        at: s.at + w as usize,
+        left: s.left - w,
+        base: s.next + each - 1,
         step: each,
-        next: next + each * many,
+        next: s.next + each * many,
     }
 }
 
@@ -78,8 +68,8 @@ pub fn cofactor_sheet(t: &[u8], n: u32, l: Signals, k: u32) -> Sheet
     };
     let mut stand = Stand {
         sheet: cofactor_cells(t, k, read, many),
-        at: at,
-        left: left,
+        at,
+        left,
         base: n as u8,
         step: 1,
         next: (n + many) as u8,

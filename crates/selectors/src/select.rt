@@ -27,8 +27,8 @@ fn word_cell(k: usize, signals: [u8; HeldCell::MOST], table: u64) -> HeldCell
     ensures { network_cell result ≡ word_cell k signals table }
 {
     HeldCell {
-        k: k,
-        signals: signals,
+        k,
+        signals,
         table: CellTable {
             words: [table, 0, 0, 0],
         },
@@ -59,10 +59,7 @@ fn by_three(sheet: Sheet, next: u8, p: u8, x: u8, y: u8) -> Sheet
 pub fn cells_each(k: u32) -> u8
     ensures { (result ≡ cells_each (leb 3 k)) × (1 ≤ result) × (result ≤ 3) }
 {
-    if k < 3 {
-        return 3;
-    }
-    1
+    if k < 3 { 3 } else { 1 }
 }
 
 // Of the signals base + step * x, base + step * (x + 1), .. the one that w signals of l select, from the place `at` on.
@@ -82,8 +79,7 @@ fn select(
     ensures { (cells_of result ≡ cells_of sheet ++ selecting (leb 3 k) w next (from (signals_of l) at) (λ t. spaced base step (x + t)))
         × (result.count ≡ sheet.count + cells_each (leb 3 k)) }
 {
-    let q = l.at;
-    let p = q[at];
+    let p = l.at[at];
     let a = base + step * x;
     let b = base + step * (x + 1);
     if k < 3 {
@@ -93,8 +89,7 @@ fn select(
     if w == 1 {
         return sheet.with_cell(word_cell(3, [p, a, b, none, none, none, none, none], OF_TWO));
     }
-    let after = at + 1;
-    let second = q[after];
+    let second = l.at[at + 1];
     let c = base + step * (x + 2);
     let d = base + step * (x + 3);
     sheet.with_cell(word_cell(6, [p, second, a, b, c, d, none, none], OF_FOUR))
@@ -120,10 +115,8 @@ pub fn level(
 {
     let each = cells_each(k);
     let mut sheet = held;
-    let mut g: u8 = 0;
-    while g < many {
+    for g in 0..many {
         sheet = select(sheet, k, w, next + each * g, l, at, base, step, g << w);
-        g += 1;
     }
     sheet
 }

@@ -1,5 +1,5 @@
 // The sheet for a gate that make has none for: the chain with several first cells or the sheet of cofactors.
-ghost use Rattle.std.specs.Prelude.{◌≡◌, true, false, List, ◌^◌, ◌≤◌, length, replicate};
+ghost use Rattle.std.specs.Prelude.{◌≡◌, true, false, List, ◌^◌, ◌≤◌, length, replicate, IsSomeAnd};
 ghost use Rattle.bits.specs.Numbers.{bit, number};
 ghost use Rattle.bits.specs.Sets.{size};
 ghost use Rattle.tables.specs.Table.{most_inputs, table_length, table_bit};
@@ -29,13 +29,8 @@ fn is_near(k: u32, many: u32) -> bool
     requires { k ≤ largest_cell }
     ensures { (result ≡ true → Near k many) × (result ≡ false → Near k many → ⊥) }
 {
-    if many <= k {
-        return false;
-    }
-    if k < 3 {
-        return many <= k + 2;
-    }
-    many <= k + 3
+    let most = if k < 3 { 2 } else { 3 };
+    k < many && many <= k + most
 }
 
 // The sheet of cofactors of a gate's table, with what does not count set aside; the work area is cleared.
@@ -54,35 +49,34 @@ fn cofactors_of(t: &[u8], n: u32, mask: u16, k: u32, work: &mut [u8]) -> Sheet
 }
 
 // The chain, or the other sheet where it has fewer cells or the chain has no end.
-fn fewer(chain: ChainEnd, other: Sheet) -> ChainEnd
-    ensures { (x : Made) (cs : List Cell) → Tells chain x → cells_of other ≡ cs → Tells result (shorter x (made cs)) }
+fn fewer(chain: Option<ChainEnd>, other: Sheet) -> ChainEnd
+    ensures { (x : Made) (cs : List Cell) → Tells chain x → cells_of other ≡ cs
+        → Tells (Some result) (shorter x (made cs)) }
 {
-    let count = other.count;
-    if chain.finished {
-        if chain.count <= count {
-            return chain;
+    if let Some(end) = chain {
+        if end.count <= other.count {
+            return end;
         }
     }
     ChainEnd {
-        finished: true,
-        count: count,
+        count: other.count,
         sheet: other,
     }
 }
 
 // Whether a chain came to its end with three cells or fewer: no sheet of cofactors has fewer.
-fn few_cells(chain: ChainEnd) -> bool
-    ensures { result ≡ true → (chain.finished ≡ true) × (chain.count ≤ 3) }
+fn few_cells(chain: Option<ChainEnd>) -> bool
+    ensures { result ≡ true → IsSomeAnd chain (λ end. end.count ≤ 3) }
 {
-    if chain.finished {
-        return chain.count <= 3;
+    match chain {
+        Some(end) => end.count <= 3,
+        None => false,
     }
-    false
 }
 
 // What is made of a gate's table with up to three first cells at each step, or from its cofactors, whichever has fewer
 // cells; the work area is cleared.
-pub fn several_or_cofactors(t: &[u8], n: u32, k: u32, work: &mut [u8]) -> ChainEnd
+pub fn several_or_cofactors(t: &[u8], n: u32, k: u32, work: &mut [u8]) -> Option<ChainEnd>
     requires { (1 ≤ n) × (n ≤ most_inputs) × (2 ≤ k) × (k ≤ largest_cell) × (length t.now ≡ table_length n)
         × (work_length ≤ length work.old) }
     ensures { Tells result (otherwise n k (number (2 ^ n) (table_bit t.now)))
@@ -97,5 +91,5 @@ pub fn several_or_cofactors(t: &[u8], n: u32, k: u32, work: &mut [u8]) -> ChainE
         return chain;
     }
     let cofactors = cofactors_of(t, n, kept, k, work);
-    fewer(chain, cofactors)
+    Some(fewer(chain, cofactors))
 }

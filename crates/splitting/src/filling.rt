@@ -23,10 +23,8 @@ fn store_h<'a>(t: &'a [u8], s: Split, r: u32, seen: &'a [u16], end: usize, room:
         ≡ into (bytes_h s.n (table_bit t.now) (bit s.own) (bit s.shared) r) room.old }
 {
     let limit: usize = 1 << r;
-    let mut i = 0;
-    while i < end {
+    for i in 0..end {
         room[i] = pair::h_byte(t, s, limit, seen, i as u32);
-        i += 1;
     }
 }
 

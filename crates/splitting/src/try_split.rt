@@ -101,8 +101,7 @@ fn pair_of(t: &[u8], s: Split, r: u32, room: &mut [u8]) -> TryAnswer
         (try_done s.n r s.own s.shared t.now room.old)
         (try_not s.n s.own s.shared t.now room.old) }
 {
-    let broken = break_of(t, s, 1 << r);
-    if 0 < broken.columns {
+    if let Some(broken) = break_of(t, s, 1 << r) {
         return TryAnswer {
             verdict: refuse_at(Refusal::SPLIT, broken.b as u64),
             d: FirstCells::none(),

@@ -1,5 +1,3 @@
-use mathlib.Core.Path.{◌≡◌}
-use Prim.Native.Nat.{◌-◌, ◌*◌}
 use Rattle.bits.proofs.Walking.{Walked}
 use Rattle.tables.specs.Table.{table_bit}
 use Rattle.charts.proofs.Charts.{Charted}
@@ -7,7 +5,4 @@ use Rattle.charts.proofs.pair.chart.Given as goal
 
 abbrev pub invariant-loop-b : goal.invariant-loop-b
 invariant-loop-b l =
-    Charted l.s (table_bit l.t) l.limit l.initial.seen l.seen l.b × Walked l.s.n l.s.shared l.many l.base l.b × (l.from ≡ l.b * l.limit)
-
-abbrev pub decreases-loop-b : goal.decreases-loop-b
-decreases-loop-b l = l.many - l.b
+    Charted l.s (table_bit l.t) l.limit l.initial.seen l.seen l.b × Walked l.s.n l.s.shared l.b-end l.base l.b

@@ -1,5 +1,6 @@
 -- The column is looked for in its shared assignment's row of the chart. Assumes nothing.
-use mathlib.Core.Path.{◌≡◌, refl, ap}
+use mathlib.Core.Path.{◌≡◌, refl, sym, ap, ◌∙◌}
+use Rattle.std.specs.Option.{is_some}
 use Prim.Native.Nat.{ℕ, ◌+◌, ◌-◌, ◌*◌, ◌≤◌}
 use native.Mathlib.Omega.{arith}
 use lib.Bits.{bit_and}
@@ -58,13 +59,22 @@ place-requires c =
       );
     }
 
+pub unwrap-requires : goal.unwrap-requires
+unwrap-requires c =
+    let a = c.args in
+    let p = c.requires.held in
+    ap is_some (code_found a.s p.0 (table_bit a.t.now) a.x (bit_and a.x a.s.shared) p.1 refl c.requires.chart (c.gather_in.result * a.limit)
+    (c.gather_in.result * a.limit + a.limit - c.gather_in.result * a.limit) (ap (λ (b : ℕ). b * a.limit) c.gather_in.ensures.0)
+    (omega arith) c.requires.limit_value c.place.ensures)
+
 pub returns : goal.returns
 returns c =
-    let a = (g c.before.before.before).args in
-    let p = (g c.before.before.before).requires.held in
-    code_found a.s p.0 (table_bit a.t.now) a.x (base c.before.before.before) p.1 refl (g c.before.before.before).requires.chart (from c.before.before.before)
-    (from c.before.before.before + a.limit - from c.before.before.before) (start c.before.before.before) (omega arith)
-    (g c.before.before.before).requires.limit_value _ c.place.ensures
+    let a = c.args in
+    let p = c.requires.held in
+    let found = code_found a.s p.0 (table_bit a.t.now) a.x (bit_and a.x a.s.shared) p.1 refl c.requires.chart (c.gather_in.result * a.limit)
+    (c.gather_in.result * a.limit + a.limit - c.gather_in.result * a.limit) (ap (λ (b : ℕ). b * a.limit) c.gather_in.ensures.0)
+    (omega arith) c.requires.limit_value c.place.ensures in
+    let e = sym c.unwrap.ensures ∙ found in cc
 
 pub overflow_mul-from : goal.overflow_mul-from
 overflow_mul-from c = omega (arith, there c.before)

@@ -14,9 +14,6 @@ use Rattle.splits.specs.Split.{reads_d}
 use Rattle.columns.specs.Reading.{Held}
 use Rattle.columns.proofs.Reading.{below_mask}
 use Rattle.charts.proofs.pair.d_word.Invariants.{M, D}
-use Rattle.charts.proofs.pair.d_word.Lts as lts
-use Rattle.charts.proofs.pair.d_word.Reads as reads
-use Rattle.charts.proofs.pair.d_word.Tie as tie
 use Rattle.charts.proofs.pair.d_word.Goals as goal
 
 -- what the first cells read, as a set and as a mask, and the bit of one at v
@@ -56,46 +53,32 @@ loop-i-init c =
         upto = omega (arith, c.if-many-from.false);
         at = c.spread_out-x.ensures.0 ∙ ap (spread c.args.s.n (bit (M c.args.s))) e;
       },
-      omega arith,
-      c.bits_left-here.ensures.0,
-      c.bits_left-here.ensures.1,
     )
 
 -- bit i comes in
-module _ (c : lts.After-d_bit tie.the-claims reads.Pre reads.Post goal.the-invariant-loop-i goal.the-decreases-loop-i tie.handed_clauses) where
-  abbrev g : lts.Start tie.the-claims reads.Pre reads.Post goal.the-invariant-loop-i goal.the-decreases-loop-i tie.handed_clauses
-  g = c.before.before.before.before.before.before.before.before.before.before
-
-  abbrev f : ℕ → Bool
-  f j = D g.args.t.now g.args.s g.args.which (64 * g.args.w + j)
-
-  inside : 64 * g.args.w + c.loop-i.i
-      < c.parts-many.result
-  inside = let q = c.loop-i.invariant in omega (arith, q.4, c.loop-i-test.true)
-
-  gives : c.d_bit.result ≡ f c.loop-i.i
-  gives = c.d_bit.ensures ∙ ap (D g.args.t.now g.args.s g.args.which)
-      (read g.args.s g.requires.held.0 c.loop-i.invariant.1 inside)
-
-  turn : c.loop-i.i < 64
-  turn = let q = c.loop-i.invariant in omega (arith, q.3, c.loop-i-test.true)
-
 pub overflow_add-r : goal.overflow_add-r
 overflow_add-r c =
-    omega (arith, summed_fits 64 (f c.before) (turn c.before) c.loop-i.invariant.0 (bool_digit (gives c.before)))
+    let a = c.args in
+    let q = c.loop-i in
+    let inside : 64 * a.w + q.i < c.parts-many.result = omega (arith, c.min-i-end.ensures) in
+    let gives = c.d_bit.ensures ∙ ap (D a.t.now a.s a.which) (read a.s c.requires.held.0 q.invariant.1 inside) in
+    omega (
+      arith,
+      summed_fits 64 (λ j. D a.t.now a.s a.which (64 * a.w + j)) (omega (arith, c.min-i-end.ensures))
+          q.invariant.0 (bool_digit gives),
+    )
 
 pub loop-i-preserved : goal.loop-i-preserved
 loop-i-preserved c =
+    let a = c.args in
     let q = c.loop-i in
-    let a = (g c.before.before).args in
+    let inside : 64 * a.w + q.i < c.parts-many.result = omega (arith, c.min-i-end.ensures) in
+    let gives = c.d_bit.ensures ∙ ap (D a.t.now a.s a.which) (read a.s c.requires.held.0 q.invariant.1 inside) in
     let e : 64 * a.w + q.i + 1 ≡ 64 * a.w + (q.i + 1) = omega arith in (
-      summed 64 (f c.before.before) (turn c.before.before) q.invariant.0 (bool_digit (gives c.before.before)),
-      subst (λ (v : ℕ). Walked a.s.n (M a.s) c.parts-many.result
-          c.next-x.result v) e
-          (walked_more q.invariant.1 (inside c.before.before) c.next-x.ensures.1),
-      omega (arith, c.loop-i-test.true),
-      q.invariant.3,
-      q.invariant.4,
+      summed 64 (λ j. D a.t.now a.s a.which (64 * a.w + j)) (omega (arith, c.min-i-end.ensures)) q.invariant.0
+          (bool_digit gives),
+      subst (λ (v : ℕ). Walked a.s.n (M a.s) c.parts-many.result c.next-x.result v) e
+          (walked_more q.invariant.1 inside c.next-x.ensures.1),
     )
 
 pub returns : goal.returns
@@ -105,11 +88,11 @@ returns c =
     let k = size a.s.n (S a.s) in
     let F = D a.t.now a.s a.which in
     let many = all a.s c.requires.held.0 c.parts-many.ensures.0 in
-    let e : q.i ≡ c.bits_left-here.result = omega (arith, q.invariant.2, c.loop-i-test.false) in
+    let e : q.i ≡ c.min-i-end.result = omega arith in
     q.invariant.0 ∙ ap (λ (m : ℕ). number m (λ j. F (64 * a.w + j))) e
-    ∙ part-word k a.w c.bits_left-here.result F c.bits_left-here.ensures.0
-    (omega (arith, many, c.bits_left-here.ensures.1))
-    (λ l. let r = c.bits_left-here.ensures.2 l in omega (arith, many))
+    ∙ part-word k a.w c.min-i-end.result F (omega (arith, c.min-i-end.ensures))
+    (omega (arith, many, c.min-i-end.ensures))
+    (λ l. omega (arith, many, c.min-i-end.ensures))
 
 pub overflow_add-both : goal.overflow_add-both
 overflow_add-both c =
@@ -122,21 +105,21 @@ parts-many-requires c = (c.requires.held.0.most, below c.args.s c.requires.held.
 pub overflow_mul-from : goal.overflow_mul-from
 overflow_mul-from c = omega (arith, c.requires.held.1)
 
-pub bits_left-here-requires : goal.bits_left-here-requires
-bits_left-here-requires c = omega (arith, c.if-many-from.false)
-
 pub spread_out-x-requires : goal.spread_out-x-requires
 spread_out-x-requires c = c.requires.held.0.most
 
 pub d_bit-requires : goal.d_bit-requires
 d_bit-requires c =
-    let q = c.loop-i.invariant in
-    let s = itself c.args.s c.requires.held.0 q.1 (omega (arith, q.4, c.loop-i-test.true)) in
-    record { held = (c.requires.held.0, s, c.requires.held.2, c.requires.held.3); chart = c.requires.chart; limit_value = c.requires.limit_value }
+    let s = itself c.args.s c.requires.held.0 c.loop-i.invariant.1 (omega (arith, c.min-i-end.ensures)) in
+    record {
+      held = (c.requires.held.0, s, c.requires.held.2, c.requires.held.3);
+      chart = c.requires.chart;
+      limit_value = c.requires.limit_value;
+    }
 
 pub overflow_shl-r : goal.overflow_shl-r
-overflow_shl-r c = let t = turn c.before in omega arith
+overflow_shl-r c = omega (arith, c.min-i-end.ensures)
 
 pub next-x-requires : goal.next-x-requires
 next-x-requires c =
-    ((g c.before).requires.held.0.most, below (g c.before).args.s (g c.before).requires.held.0, walked_lt c.loop-i.invariant.1)
+    let h = c.requires.held.0 in (h.most, below c.args.s h, walked_lt c.loop-i.invariant.1)

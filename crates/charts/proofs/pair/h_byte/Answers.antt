@@ -13,7 +13,7 @@ use Rattle.charts.proofs.pair.h_byte.Goals as goal
 
 pub loop-j-init : goal.loop-j-init
 unfolding number
-loop-j-init c = (refl, omega arith)
+loop-j-init c = refl
 
 pub h_bit-requires : goal.h_bit-requires
 h_bit-requires c = let p = c.requires in (p.0, p.1, p.2, p.3)
@@ -23,21 +23,21 @@ overflow_add-b c =
     let q = c.loop-j in
     let a = c.args in
     let f = H a.t.now a.s (end a.s a.limit) a.i in
-    omega (arith, summed_fits 8 f c.loop-j-test.true q.invariant.0 (bool_digit c.h_bit.ensures))
+    omega (arith, summed_fits 8 f (omega arith) q.invariant (bool_digit c.h_bit.ensures))
 
 pub loop-j-preserved : goal.loop-j-preserved
 loop-j-preserved c =
     let q = c.loop-j in
     let a = c.args in
     let f = H a.t.now a.s (end a.s a.limit) a.i in
-    (summed 8 f c.loop-j-test.true q.invariant.0 (bool_digit c.h_bit.ensures), omega arith)
+    summed 8 f (omega arith) q.invariant (bool_digit c.h_bit.ensures)
 
 pub returns : goal.returns
 returns c r e =
     let q = c.loop-j in
     let a = c.args in
     let k = size a.s.n (reads_h (bit a.s.own) (bit a.s.shared)) in
-    let eight : q.j ≡ 8 = omega (arith, q.invariant.1) in
+    let eight : q.j ≡ 8 = omega arith in
     let all : end a.s a.limit ≡ 2 ^ (k + r) =
     ap (λ (m : ℕ). m * 2 ^ k) e ∙ mul_comm (2 ^ r) (2 ^ k) ∙ sym (pow-add 2 k r) in
-    q.invariant.0 ∙ ap₂ (λ (m l : ℕ). number m (H a.t.now a.s l a.i)) eight all
+    q.invariant ∙ ap₂ (λ (m l : ℕ). number m (H a.t.now a.s l a.i)) eight all

@@ -21,7 +21,4 @@ abbrev pub end : Split → ℕ → ℕ
 end s limit = limit * 2 ^ size s.n (reads_h (bit s.own) (bit s.shared))
 
 abbrev pub invariant-loop-j : goal.invariant-loop-j
-invariant-loop-j l = (l.b ≡ number l.j (H l.t l.s (end l.s l.limit) l.i)) × (l.j ≤ 8)
-
-abbrev pub decreases-loop-j : goal.decreases-loop-j
-decreases-loop-j l = 8 - l.j
+invariant-loop-j l = l.b ≡ number l.j (H l.t l.s (end l.s l.limit) l.i)

@@ -1,16 +1,33 @@
 -- Each word by itself. Assumes nothing.
-use Rattle.bits.specs.Numbers.{bit}
-use Rattle.bits.specs.Sets.{size}
-use Rattle.tables.specs.Table.{table_bit}
-use Rattle.tables.specs.Words.{gate_word}
-use Rattle.tables.proofs.CellTables.{four_words}
-use Rattle.charts.specs.Cells.{bit_d}
-use Rattle.columns.specs.Reading.{first_reads}
+use mathlib.Core.Path.{refl, sym, ap, ◌∙◌}
+use mathlib.Core.List.{List}
+use Prim.Native.Nat.{ℕ, ◌<◌}
+use lib.ListN.{length, length-set}
+use native.Mathlib.Omega.{arith}
+use borrow.Author.Count.{below_more, below_none}
+use lib.Seq.{get_or-set_same, get_or-set_other}
+use Rattle.bits.proofs.Lists.{list-of}
+use Rattle.tables.specs.Cells.{cell_words}
+use Rattle.tables.specs.declared.cell.CellTable.{CellTable}
+use Rattle.charts.proofs.pair.table_of.Invariants.{word}
 use Rattle.charts.proofs.pair.table_of.Goals as goal
+
+pub loop-w-preserved : goal.loop-w-preserved
+loop-w-preserved c =
+    let q = c.loop-w in
+    let l : q.w < length q.words = omega arith in (
+      length-set q.words q.w c.d_word.result ∙ q.invariant.0,
+      below_more _ _
+          (λ j h. q.invariant.1 j h ∙ sym (get_or-set_other q.words q.w j c.d_word.result 0 (λ e. omega arith)))
+          (sym (get_or-set_same q.words q.w c.d_word.result 0 l ∙ c.d_word.ensures)),
+    )
+
+pub loop-w-init : goal.loop-w-init
+loop-w-init c = (refl, below_none _)
 
 pub returns : goal.returns
 returns c =
     let a = c.args in
-    four_words (gate_word (size a.s.n (first_reads a.s))
-    (bit_d a.s.n (table_bit a.t.now) (bit a.s.own) (bit a.s.shared) a.which))
-    c.d_word.ensures c.d_word-2.ensures c.d_word-3.ensures c.d_word-4.ensures
+    ap (λ (ws : List ℕ). record { words = ws })
+    (sym (list-of cell_words (word a.t.now a.s a.which) c.loop-w.words 0 c.loop-w.invariant.0
+    (λ j h. c.loop-w.invariant.1 j (omega arith))))

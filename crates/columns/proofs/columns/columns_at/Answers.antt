@@ -2,23 +2,25 @@
 use mathlib.Core.Path.{◌≡◌, sym, ap, ◌∙◌, subst}
 use mathlib.Core.Bool.{Bool}
 use Prim.Native.Nat.{ℕ, ◌^◌, ◌≤◌}
-use native.Mathlib.Decide.{dec_lt}
 use native.Mathlib.Omega.{arith}
 use lib.Pow.{pow_mono}
 use lib.ListN.{length}
 use Rattle.bits.specs.Numbers.{bit}
 use Rattle.bits.specs.Sets.{size, gather}
 use Rattle.bits.proofs.Spreading.{gather-spread}
+use Rattle.std.specs.Option.{is_some}
+use Rattle.bits.proofs.Places.{found_some}
 use Rattle.tables.specs.Table.{table_bit}
 use Rattle.splits.specs.Columns.{most_own, columns, column}
 use Rattle.columns.specs.Reading.{Within, columns_of}
 use Rattle.columns.proofs.Reading.{within_spread}
 use Rattle.columns.proofs.Breaking.{firsts_most}
+use Rattle.columns.proofs.Places.{below_of_some}
 use Rattle.columns.proofs.columns.columns_at.Goals as goal
 
 pub look_through-requires : goal.look_through-requires
 look_through-requires c =
-    let o = c.spread_out.ensures in
+    let o = c.spread_out-base.ensures in
     let p = c.requires in record {
       held = (
         p.held.0,
@@ -43,21 +45,21 @@ columns_most n F A B b h = omega (
 
 pub returns : goal.returns
 returns c =
-    let o = c.spread_out.ensures in
+    let o = c.spread_out-base.ensures in
     let a = c.args in
     let F = table_bit a.t.now in
-    let at : gather a.s.n (bit a.s.shared) c.spread_out.result ≡ a.b =
+    let at : gather a.s.n (bit a.s.shared) c.spread_out-base.result ≡ a.b =
     ap (gather a.s.n (bit a.s.shared)) o.0 ∙ gather-spread a.s.n (bit a.s.shared) a.b c.requires.b_bound
     in
-    let w = c.look_through.ensures in
-    let few : c.look_through.result ≤ 2 ^ most_own = elim (dec_lt (2 ^ most_own) c.look_through.result) [
-      | yes g ↦ absurd (omega (
-        arith,
-        w.many (λ m. omega arith),
-        columns_most a.s.n F (bit a.s.own)
-            (bit a.s.shared) (gather a.s.n (bit a.s.shared) c.spread_out.result)
-            c.requires.held.1,
-      ))
-      | no g ↦ omega arith
-    ] in
-    w.few few ∙ ap (λ (b : ℕ). length (columns_of a.s F b)) at
+    (below_of_some (sym c.look_through.ensures.counted ∙ c.unwrap.ensures)).1
+    ∙ ap (λ (b : ℕ). length (columns_of a.s F b)) at
+
+pub unwrap-requires : goal.unwrap-requires
+unwrap-requires c =
+    let a = c.args in
+    ap is_some (c.look_through.ensures.counted ∙ sym (found_some _ _
+    (omega (
+      arith,
+      columns_most a.s.n (table_bit a.t.now) (bit a.s.own) (bit a.s.shared)
+          (gather a.s.n (bit a.s.shared) c.spread_out-base.result) c.requires.held.1,
+    ))))

@@ -1,7 +1,7 @@
 use mathlib.Core.Path.{◌≡◌}
 use mathlib.Core.Bool.{Bool}
 use mathlib.Core.List.{List}
-use Prim.Native.Nat.{ℕ, ◌-◌}
+use Prim.Native.Nat.{ℕ}
 use lib.Dec.{ltb}
 use lib.ListN.{length}
 use Rattle.bits.specs.Below.{least}
@@ -18,7 +18,4 @@ many t s limit b = ltb limit (length (columns_of s (table_bit t) b))
 
 abbrev pub invariant-loop-b : goal.invariant-loop-b
 invariant-loop-b l =
-    (least l.b (many l.t l.s l.limit) ≡ l.b) × Walked l.s.n l.s.shared l.many l.base l.b × (length l.seen ≡ most_columns)
-
-abbrev pub decreases-loop-b : goal.decreases-loop-b
-decreases-loop-b l = l.many - l.b
+    (least l.b (many l.t l.s l.limit) ≡ l.b) × Walked l.s.n l.s.shared l.b-end l.base l.b × (length l.seen ≡ most_columns)

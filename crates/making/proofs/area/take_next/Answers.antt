@@ -1,31 +1,17 @@
--- The loop keeps that the first i bytes are those of the second half. Assumes nothing.
-use mathlib.Core.Path.{sym, ap, ◌∙◌}
-use Prim.Native.Nat.{ℕ, ◌+◌}
-use native.Mathlib.Nat.{zero-add}
+-- The second half's bytes are copied over the first's. Assumes nothing.
+use mathlib.Core.Path.{sym, ◌∙◌}
 use native.Mathlib.Omega.{arith}
-use lib.ListN.{get_or}
-use Rattle.bits.proofs.Filling.{filled_none, filled_more}
-use Rattle.tables.specs.Work.{half}
+use lib.Seq.{length-take-le}
+use Rattle.making.proofs.Halves.{taken_front}
 use Rattle.making.proofs.area.take_next.Goals as goal
 
-pub loop-i-preserved : goal.loop-i-preserved
-loop-i-preserved c =
-    let q = c.loop-i in
-    filled_more q.invariant (omega arith) (omega arith) (q.invariant.high (half + q.i) (omega arith))
+pub copy_from_slice-requires : goal.copy_from_slice-requires
+copy_from_slice-requires c =
+    let w = c.split_at_mut-hand.ensures in
+    length-take-le c.args.len _ (omega (arith, w.front_len, c.requires.0))
+    ∙ sym (length-take-le c.args.len _ (omega (arith, w.back_len, c.requires.0, c.requires.1)))
 
 pub returns : goal.returns
 returns c =
-    let q = c.loop-i in
-    (λ k l. ap (λ (m : ℕ). get_or q.work m 0) (sym (zero-add k)) ∙ q.invariant.new k (omega arith), q.invariant.long)
-
-pub loop-i-init : goal.loop-i-init
-loop-i-init c = filled_none (omega arith)
-
-pub bounds-work-from : goal.bounds-work-from
-bounds-work-from c = omega (arith, c.loop-i.invariant.long)
-
-pub bounds-work-i : goal.bounds-work-i
-bounds-work-i c = omega (arith, c.loop-i.invariant.long)
-
-pub shape_of-work : goal.shape_of-work
-shape_of-work c = c.loop-i.invariant.long
+    let w = c.split_at_mut-hand.ensures in
+    taken_front c.args.work.now c.requires.0 c.requires.1 w.front w.back c.copy_from_slice.ensures.after

@@ -1,6 +1,6 @@
 -- The loop keeps that behind the cells so far stands the chain of the table at hand. Assumes nothing.
 use mathlib.Core.Path.{◌≡◌, refl, sym, ap, ap₂, ◌∙◌, subst}
-use mathlib.Core.Bool.{Bool, true}
+use Rattle.std.proofs.Common.{Bool, Some, None}
 use mathlib.Core.List.{[], ◌∷◌, ◌++◌}
 use Prim.Native.Nat.{ℕ, ◌^◌}
 use native.Mathlib.Omega.{arith}
@@ -59,9 +59,9 @@ shape_of-work-then-found-eq0 c = c.loop-signals.invariant.1
 pub returns-then-found-eq0 : goal.returns-then-found-eq0
 returns-then-found-eq0 c =
     let q = c.loop-signals in
-    subst (Tells c.no_end.result) (sym (following_stops c.args.n c.args.most c.args.k _ q.pile
+    subst (Tells None) (sym (following_stops c.args.n c.args.most c.args.k _ q.pile
     q.signals q.work q.invariant.0 c.loop-signals-test.true
-    (sym c.find_upto-found.ensures.0 ∙ is_nothing_lem c.find_upto-found.result c.if-found-eq0.true))) c.no_end.ensures
+    (sym c.find_upto-found.ensures.0 ∙ is_nothing_lem c.find_upto-found.result c.if-found-eq0.true))) tt
 
 pub of-s-requires : goal.of-s-requires
 of-s-requires c =
@@ -162,8 +162,8 @@ returns c =
     c.cell-last.ensures.0 ∙ ap (last_cell (signals_of q.signals)) (ap table_number c.first_of.ensures ∙ held)
     in
     let p = grown_piled c.with_cell-whole.ensures u.piled in
-    subst (Tells (record { finished = true; count = c.with_cell-whole.result.count; sheet = c.with_cell-whole.result.sheet }))
+    subst (Tells (Some (record { count = c.with_cell-whole.result.count; sheet = c.with_cell-whole.result.sheet })))
     (ap (λ (d : Cell). made (u.written ++ (d ∷ []))) cell
     ∙ sym (following_ends c.args.n c.args.most c.args.k _ q.pile q.signals q.work u
     c.loop-signals-test.false))
-    (refl, p.count, λ few. p.held (omega (arith, p.count)))
+    (p.count, λ few. p.held (omega (arith, p.count)))

@@ -50,8 +50,8 @@ slice_bounds-pile_first-end-2 c = sym (half_whole c.args.work.now c.requires.hel
 pub slice_bounds-pile_first-end-3 : goal.slice_bounds-pile_first-end-3
 slice_bounds-pile_first-end-3 c = sym (c.chart.auto.seen ∙ c.blank-seen.ensures.0)
 
-pub pile_first-more-requires : goal.pile_first-more-requires
-pile_first-more-requires c =
+pub pile_first-pile-requires : goal.pile_first-pile-requires
+pile_first-pile-requires c =
     let p = c.requires.held in record { held = (p.0, p.1, p.2, half-bits c.args.work.now p.3 c.args.s.n p.0.most, p.4, p.5, p.6); chart = charted p.5 c.chart.ensures; count_le_count = (c.requires.count_le_count.0, c.requires.count_le_count.1, c.requires.count_le_count.3) }
 
 pub overflow_add-s : goal.overflow_add-s
@@ -77,24 +77,24 @@ module _ (s : Split) (h : Held s) (l q : Signals) (n : s.n ≡ l.count)
   left_few : q.count + size s.n (bit s.own) ≡ s.n
   left_few = omega (arith, left-count, reads-H s.n (bit s.own) (bit s.shared) h.apart)
 
-pub with_next-after-requires : goal.with_next-after-requires
-with_next-after-requires c =
+pub with_next-signals-requires : goal.with_next-signals-requires
+with_next-signals-requires c =
     let p = c.requires.held in
     (c.pick-left.ensures.0, p.4, p.5, omega (arith, left_few c.args.s c.requires.held.0 c.args.stage.signals c.pick-left.result c.requires.held.2 c.pick-left.ensures.1, p.6.more, p.0.most), c.requires.count_le_count.2)
 
 pub slice_bounds-next_table-end : goal.slice_bounds-next_table-end
 slice_bounds-next_table-end c = sym (c.chart.auto.seen ∙ c.blank-seen.ensures.0)
 
-pub overflow_cast-after : goal.overflow_cast-after
-overflow_cast-after c = omega (arith, c.with_next-after.ensures.0.few)
+pub overflow_cast-signals : goal.overflow_cast-signals
+overflow_cast-signals c = omega (arith, c.with_next-signals.ensures.0.few)
 
 pub next_table-requires : goal.next_table-requires
 next_table-requires c =
     let k = c.requires.held in (
       k.0,
       k.3,
-      c.with_next-after.ensures.0.few,
-      c.with_next-after.ensures.2 ∙ ap (λ (m : ℕ). m + c.args.r) (left-count c.args.s c.requires.held.0 c.args.stage.signals c.pick-left.result c.requires.held.2 c.pick-left.ensures.1),
+      c.with_next-signals.ensures.0.few,
+      c.with_next-signals.ensures.2 ∙ ap (λ (m : ℕ). m + c.args.r) (left-count c.args.s c.requires.held.0 c.args.stage.signals c.pick-left.result c.requires.held.2 c.pick-left.ensures.1),
       charted k.5 c.chart.ensures,
       k.5,
     )
@@ -106,9 +106,9 @@ pub returns : goal.returns
 returns c =
     let s = c.args.s in
     record {
-      cells = c.pile_first-more.ensures;
-      listed = c.with_next-after.ensures.0;
-      signals = c.with_next-after.ensures.1 ∙ ap (λ (l : List ℕ). l ++ list_of c.args.r (λ t. c.args.next + t))
+      cells = c.pile_first-pile.ensures;
+      listed = c.with_next-signals.ensures.0;
+      signals = c.with_next-signals.ensures.1 ∙ ap (λ (l : List ℕ). l ++ list_of c.args.r (λ t. c.args.next + t))
           (picked_set s.n (s.shared + s.free) (reads_h (bit s.own) (bit s.shared))
           (beside_mask s c.requires.held.0) c.args.stage.signals.count
           c.requires.held.2 (signals_of c.args.stage.signals) c.pick-left.result c.pick-left.ensures.1);

@@ -9,7 +9,4 @@ use Rattle.selectors.proofs.cofactor.cofactor_cells.Given as goal
 abbrev pub invariant-loop-v : goal.invariant-loop-v
 invariant-loop-v l =
     (cells_of l.sheet ≡ list_of l.v (part_cell (signals_of l.read) l.t l.k))
-    × (l.sheet.count ≡ l.v) × (l.v ≤ l.many)
-
-abbrev pub decreases-loop-v : goal.decreases-loop-v
-decreases-loop-v l = l.many - l.v
+    × (l.sheet.count ≡ l.v)

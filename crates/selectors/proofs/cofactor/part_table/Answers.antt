@@ -1,11 +1,32 @@
 -- Each word by itself. Assumes nothing.
-use Rattle.tables.specs.Words.{gate_word}
-use Rattle.tables.proofs.CellTables.{four_words}
-use Rattle.selectors.specs.Standing.{part_bit}
+use mathlib.Core.Path.{refl, sym, ap, ◌∙◌}
+use mathlib.Core.List.{List}
+use Prim.Native.Nat.{ℕ, ◌<◌}
+use native.Mathlib.Omega.{arith}
+use borrow.Author.Count.{below_more, below_none}
+use lib.ListN.{length, length-set}
+use lib.Seq.{get_or-set_same, get_or-set_other}
+use Rattle.bits.proofs.Lists.{list-of}
+use Rattle.tables.specs.Cells.{cell_words}
+use Rattle.selectors.proofs.cofactor.part_table.Invariants.{word}
 use Rattle.selectors.proofs.cofactor.part_table.Goals as goal
+
+pub loop-w-init : goal.loop-w-init
+loop-w-init c = (refl, below_none _)
+
+pub loop-w-preserved : goal.loop-w-preserved
+loop-w-preserved c =
+    let q = c.loop-w in
+    let l : q.w < length q.words = omega arith in (
+      length-set q.words q.w c.part_word.result ∙ q.invariant.0,
+      below_more _ _
+          (λ j h. q.invariant.1 j h ∙ sym (get_or-set_other q.words q.w j c.part_word.result 0 (λ e. omega arith)))
+          (sym (get_or-set_same q.words q.w c.part_word.result 0 l ∙ c.part_word.ensures)),
+    )
 
 pub returns : goal.returns
 returns c =
     let a = c.args in
-    four_words (gate_word a.k (part_bit a.t.now a.k a.v)) c.part_word.ensures c.part_word-2.ensures
-    c.part_word-3.ensures c.part_word-4.ensures
+    ap (λ (ws : List ℕ). record { words = ws })
+    (sym (list-of cell_words (word a.t.now a.k a.v) c.loop-w.words 0 c.loop-w.invariant.0
+    (λ j h. c.loop-w.invariant.1 j (omega arith))))

@@ -9,5 +9,5 @@ pub returns-then-k-lt3 : goal.returns-then-k-lt3
 returns-then-k-lt3 c =
     (sym (ap cells_each (lt-leb 3 c.args.k (omega arith))), omega arith, omega arith)
 
-pub returns : goal.returns
-returns c = (sym (ap cells_each (le-leb 3 c.args.k (omega arith))), omega arith, omega arith)
+pub returns-else-k-lt3 : goal.returns-else-k-lt3
+returns-else-k-lt3 c = (sym (ap cells_each (le-leb 3 c.args.k (omega arith))), omega arith, omega arith)

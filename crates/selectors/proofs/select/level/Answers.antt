@@ -25,7 +25,7 @@ join_more g h = ap (λ (m : ℕ). join_of m h) (add-one g)
 pub loop-g-init : goal.loop-g-init
 unfolding join_of
 loop-g-init c =
-    (sym (append-nil _), omega (arith, mul-zero (cells_each (leb 3 c.args.k))), omega arith)
+    (sym (append-nil _), omega (arith, mul-zero (cells_each (leb 3 c.args.k))))
 
 -- a group within the level
 module _ (c : lts.In-loop tie.the-claims reads.Pre reads.Post goal.the-invariant-loop-g goal.the-decreases-loop-g) where
@@ -39,7 +39,7 @@ module _ (c : lts.In-loop tie.the-claims reads.Pre reads.Post goal.the-invariant
   p = cells_each (leb 3 s.args.k)
 
   less : q < s.args.many
-  less = c.loop-g-test.true
+  less = omega arith
 
   each : p * q + p ≤ p * s.args.many
   each = omega (arith, mul-suc p q, mul-le-mul_left p less)
@@ -90,14 +90,13 @@ loop-g-preserved c =
           ∙ append_assoc (cells_of a.held) (join_of (q c.before) h) (h (q c.before))
           ∙ ap (λ (l : List Cell). cells_of a.held ++ l) (sym (join_more (q c.before) h)),
       omega (arith, c.select-sheet.ensures.1, i.1, mul-suc (p c.before) (q c.before), ap (λ (m : ℕ). p c.before * m) (add-one (q c.before))),
-      omega (arith, less c.before),
     )
 
 pub returns : goal.returns
 returns c =
     let i = c.loop-g.invariant in
     let a = c.args in
-    let e : c.loop-g.g ≡ a.many = omega (arith, i.2, c.loop-g-test.false) in
+    let e : c.loop-g.g ≡ a.many = omega arith in
     let h = group_of a.k a.w a.next (signals_of a.l) a.at a.base a.step in (
       i.0 ∙ ap (λ (m : ℕ). cells_of a.held ++ join_of m h) e,
       i.1 ∙ ap (λ (m : ℕ). a.held.count + cells_each (leb 3 a.k) * m) e,

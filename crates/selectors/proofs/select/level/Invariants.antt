@@ -17,7 +17,4 @@ group_of k w next l at base step g = selecting (leb 3 k) w (next + cells_each (l
 abbrev pub invariant-loop-g : goal.invariant-loop-g
 invariant-loop-g l =
     (cells_of l.sheet ≡ cells_of l.initial.sheet ++ join_of l.g (group_of l.k l.w l.next (signals_of l.l) l.at l.base l.step))
-    × (l.sheet.count ≡ l.initial.sheet.count + cells_each (leb 3 l.k) * l.g) × (l.g ≤ l.many)
-
-abbrev pub decreases-loop-g : goal.decreases-loop-g
-decreases-loop-g l = l.many - l.g
+    × (l.sheet.count ≡ l.initial.sheet.count + cells_each (leb 3 l.k) * l.g)

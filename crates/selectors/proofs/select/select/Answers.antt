@@ -52,8 +52,8 @@ module _ (g : lts.Start tie.the-claims reads.Pre reads.Post) where
   two : (g.args.w ≡ 1 → ⊥) → g.args.w ≡ 2
   two h = ⊎_elim (λ e. absurd (h e)) (λ e. e.0) g.requires.1
 
-pub bounds-q-at : goal.bounds-q-at
-bounds-q-at c = omega (arith, place c.before, c.requires.2.few, c.requires.2.places)
+pub bounds-l-at : goal.bounds-l-at
+bounds-l-at c = omega (arith, place c, c.requires.2.few, c.requires.2.places)
 
 pub by_three-requires : goal.by_three-requires
 by_three-requires c =
@@ -85,13 +85,13 @@ returns-then-w-eq1 c =
       omega (arith, c.with_cell.ensures.count, each_one a.k h),
     )
 
-pub bounds-q-after : goal.bounds-q-after
-bounds-q-after c =
+pub bounds-l-at-2 : goal.bounds-l-at-2
+bounds-l-at-2 c =
     omega (arith, two c.before.before.before c.if-w-eq1.false, c.requires.3, c.requires.2.few, c.requires.2.places)
 
 pub with_cell-requires-2 : goal.with_cell-requires-2
 with_cell-requires-2 c =
-    omega (arith, wide c.before.before.before.before (omega (arith, c.if-k-lt3.false)))
+    omega (arith, wide c.before.before.before.before.before (omega (arith, c.if-k-lt3.false)))
 
 pub returns : goal.returns
 returns c =
@@ -100,9 +100,9 @@ returns c =
     let h : 3 ≤ a.k = omega (arith, c.if-k-lt3.false) in (
       one_more c.with_cell-2.ensures refl c.word_cell-2.ensures
           ∙ ap (λ (l : List Cell). cells_of a.sheet ++ l)
-          (of_four (signals_of a.l) a.next a.at a.base a.step a.x _ (first c.before.before.before.before.before) _
-          (listed c.before.before.before.before.before (a.at + 1) (omega (arith, two c.before.before.before.before.before c.if-w-eq1.false, c.requires.3))) (u ∷ u ∷ [])
-          ∙ ap₂ (chosen c.before.before.before.before.before) (sym (le-leb 3 a.k h)) (sym (two c.before.before.before.before.before c.if-w-eq1.false))),
+          (of_four (signals_of a.l) a.next a.at a.base a.step a.x _ (first c.before.before.before.before.before.before) _
+          (listed c.before.before.before.before.before.before (a.at + 1) (omega (arith, two c.before.before.before.before.before.before c.if-w-eq1.false, c.requires.3))) (u ∷ u ∷ [])
+          ∙ ap₂ (chosen c.before.before.before.before.before.before) (sym (le-leb 3 a.k h)) (sym (two c.before.before.before.before.before.before c.if-w-eq1.false))),
       omega (arith, c.with_cell-2.ensures.count, each_one a.k h),
     )
 
@@ -119,13 +119,13 @@ pub overflow_add-b-2 : goal.overflow_add-b-2
 overflow_add-b-2 c = omega (arith, far c.before 1 (omega arith), c.requires.4.base)
 
 pub overflow_mul-c : goal.overflow_mul-c
-overflow_mul-c c = omega (arith, far c.before.before.before 2 (omega arith))
+overflow_mul-c c = omega (arith, far c.before.before.before.before 2 (omega arith))
 
 pub overflow_add-c-2 : goal.overflow_add-c-2
-overflow_add-c-2 c = omega (arith, far c.before.before.before 2 (omega arith), c.requires.4.base)
+overflow_add-c-2 c = omega (arith, far c.before.before.before.before 2 (omega arith), c.requires.4.base)
 
 pub overflow_mul-d : goal.overflow_mul-d
-overflow_mul-d c = omega (arith, far c.before.before.before 3 (omega arith))
+overflow_mul-d c = omega (arith, far c.before.before.before.before 3 (omega arith))
 
 pub overflow_add-d-2 : goal.overflow_add-d-2
-overflow_add-d-2 c = omega (arith, far c.before.before.before 3 (omega arith), c.requires.4.base)
+overflow_add-d-2 c = omega (arith, far c.before.before.before.before 3 (omega arith), c.requires.4.base)

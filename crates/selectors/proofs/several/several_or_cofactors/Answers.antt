@@ -4,6 +4,7 @@ use mathlib.Core.Bool.{Bool, true, false}
 use Prim.Native.Nat.{ℕ, ◌^◌, ◌<◌, ◌≤◌}
 use native.Mathlib.Omega.{arith}
 use lib.ListN.{replicate}
+use Rattle.std.proofs.Common.{Some}
 use Rattle.bits.specs.Numbers.{bit, number}
 use Rattle.bits.specs.Sets.{size}
 use Rattle.tables.specs.Table.{table_bit}
@@ -68,7 +69,7 @@ returns c =
     let near = subst (Near a.k) many (c.is_near.ensures.0 c.if-not-is_near.false) in
     let cells = cofactor_cells a.k a.n (pick a.n (bit (kept a.n F)) (inputs a.n))
     (table_over a.n (bit (kept a.n F)) F) in (
-      tells_both a.n a.k T c.fewer.result cells (kept-made a.n a.k F c.requires.2 near)
+      tells_both a.n a.k T (Some c.fewer.result) cells (kept-made a.n a.k F c.requires.2 near)
           (c.fewer.ensures (cells_aside most_first a.n a.k T) cells c.chain_upto-chain.ensures.told
           (c.cofactors_of-cofactors.ensures.0 ∙ ap (λ (x : ℕ). cofactor_cells a.k a.n (pick a.n (bit x) (inputs a.n))
           (table_over a.n (bit x) F)) is)),

@@ -18,7 +18,7 @@ use Rattle.splitting.proofs.filling.store_h.Goals as goal
 
 pub loop-i-init : goal.loop-i-init
 unfolding list_of
-loop-i-init c = (omega arith, refl, refl)
+loop-i-init c = (refl, refl)
 
 pub h_byte-requires : goal.h_byte-requires
 h_byte-requires c =
@@ -35,10 +35,9 @@ pub loop-i-preserved : goal.loop-i-preserved
 loop-i-preserved c =
     let q = c.loop-i in
     let a = c.args in (
-      omega arith,
-      length-set q.room q.i c.h_byte.result ∙ q.invariant.1,
+      length-set q.room q.i c.h_byte.result ∙ q.invariant.0,
       written_more q.i (bits a.t.now a.s a.r) q.room a.room.now c.h_byte.result (omega arith)
-          q.invariant.2 (c.h_byte.ensures a.r (sym (power c.requires.held.3))),
+          q.invariant.1 (c.h_byte.ensures a.r (sym (power c.requires.held.3))),
     )
 
 pub returns : goal.returns
@@ -50,6 +49,6 @@ returns c =
     let e : q.i ≡ a.end = omega arith in
     let l = length_bytes (table_length (inputs_h a.s.n (table_bit a.t.now) (bit a.s.own) (bit a.s.shared)
     a.r)) f in
-    q.invariant.2 ∙ ap (λ (m : ℕ). bytes_of m f ++ drop m a.room.now) (e ∙ c.requires.end_value)
+    q.invariant.1 ∙ ap (λ (m : ℕ). bytes_of m f ++ drop m a.room.now) (e ∙ c.requires.end_value)
     ∙ ap (λ (m : ℕ). bytes_of (table_length (inputs_h a.s.n (table_bit a.t.now) (bit a.s.own)
     (bit a.s.shared) a.r)) f ++ drop m a.room.now) (sym l)

@@ -3,12 +3,11 @@
 use mathlib.Core.Path.{◌≡◌, sym, ap, ap₂, ◌∙◌}
 use mathlib.Core.Bool.{Bool, true, false, not, cond}
 use mathlib.Core.List.{List, [], ◌∷◌}
-use Prim.Native.Nat.{ℕ, ◌*◌, ◌%◌, ◌^◌, ◌<◌, ◌≤◌}
+use Prim.Native.Nat.{ℕ, ◌*◌, ◌%◌, ◌^◌, ◌≤◌}
 use native.Mathlib.Omega.{arith}
-use lib.Dec.{ltb}
 use lib.ListN.{length}
 use lib.Pow.{pow_mono}
-use borrow.Author.Tests.{lt-ltb, le-ltb, not-true, not-false}
+use Rattle.std.proofs.Common.{Option, Some, None}
 use Rattle.bits.specs.Numbers.{bit}
 use Rattle.bits.proofs.Machine.{shl_one}
 use Rattle.tables.specs.Table.{table_bit}
@@ -17,9 +16,10 @@ use Rattle.columns.specs.declared.split.Split.{Split}
 use Rattle.charts.specs.declared.pair.FirstCells.{FirstCells}
 use Rattle.columns.specs.declared.columns.Broken.{Broken}
 use Rattle.splits.specs.Columns.{most_first, columns, few_columns, first_broken}
-use Rattle.columns.specs.Broken.{broken_at}
-use Rattle.columns.proofs.Breaking.{broken_some}
-use Rattle.refusals.specs.Verdicts.{Verdict, Fine, Refused}
+use Rattle.columns.specs.Broken.{broken_at, found_break}
+use Rattle.columns.proofs.Breaking.{break_is, no_break}
+use Rattle.refusals.specs.declared.verdicts.Verdict.{Verdict}
+use Rattle.refusals.specs.declared.verdicts.Verdict.TheVariants.{Fine, Refused}
 use Rattle.refusals.specs.Lines.{refusal, naming, verdict, reply}
 use Rattle.splitting.specs.TrySplit.{TryOutcome, try_done, try_not}
 use Rattle.splitting.proofs.Sets.{bytes_H}
@@ -44,26 +44,26 @@ module _ (s : Split) (r : ℕ) (t : List ℕ) where
       (record { b = first; columns = length (columns s.n (table_bit t) (bit s.own) (bit s.shared) first) })
 
   -- the limit as the code makes it
-  module _ (most : r ≤ most_first) (w : Broken) (told : w
-      ≡ broken_at s.n (table_bit t) (bit s.own) (bit s.shared) (1 * 2 ^ r % 2 ^ 64)) where
-    is : w ≡ broken_at s.n (table_bit t) (bit s.own) (bit s.shared) (2 ^ r)
-    is = told ∙ ap (broken_at s.n (table_bit t) (bit s.own) (bit s.shared)) (shl_one 64 r (omega arith))
+  module _ (most : r ≤ most_first) where
+    limit_is : found_break (broken_at s.n (table_bit t) (bit s.own) (bit s.shared) (1 * 2 ^ r % 2 ^ 64))
+        ≡ found_break (broken_at s.n (table_bit t) (bit s.own) (bit s.shared) (2 ^ r))
+    limit_is = ap (λ (m : ℕ). found_break (broken_at s.n (table_bit t) (bit s.own) (bit s.shared) m))
+        (shl_one 64 r (omega arith))
 
-    test : ltb 0 w.columns ≡ not few
-    test = ap (λ (w : Broken). ltb 0 w.columns) is
-        ∙ broken_some s.n (table_bit t) (bit s.own) (bit s.shared) (2 ^ r)
+    breaks : {w : Broken} {o : Option Broken} → o ≡ Some w
+        → o ≡ found_break (broken_at s.n (table_bit t) (bit s.own) (bit s.shared) (1 * 2 ^ r % 2 ^ 64))
+        → (w ≡ broken false) × (few ≡ false)
+    breaks e told =
+        let q = break_is s.n (table_bit t) (bit s.own) (bit s.shared) (2 ^ r) (sym e ∙ told ∙ limit_is) in
+        (q.0 ∙ ap broken q.1, q.1)
 
-    breaks : 0 < w.columns → few ≡ false
-    breaks h = not-true few (sym test ∙ lt-ltb 0 w.columns h)
+    holds : {o : Option Broken} → o ≡ None
+        → o ≡ found_break (broken_at s.n (table_bit t) (bit s.own) (bit s.shared) (1 * 2 ^ r % 2 ^ 64))
+        → few ≡ true
+    holds e told = no_break s.n (table_bit t) (bit s.own) (bit s.shared) (2 ^ r) (sym e ∙ told ∙ limit_is)
 
-    holds : w.columns ≤ 0 → few ≡ true
-    holds h = not-false few (sym test ∙ le-ltb 0 w.columns h)
-
-    named : few ≡ false → w ≡ broken false
-    named e = is ∙ ap broken e
-
-pub break_of-broken-requires : goal.break_of-broken-requires
-break_of-broken-requires c =
+pub break_of-requires : goal.break_of-requires
+break_of-requires c =
     let p = c.requires.held in record {
       held = (
         p.0,
@@ -78,11 +78,12 @@ break_of-broken-requires c =
       own_bound = omega (arith, p.1.most);
     }
 
-pub returns-then-broken-gt0 : goal.returns-then-broken-gt0
-returns-then-broken-gt0 c =
+pub returns-in-Some : goal.returns-in-Some
+returns-in-Some c =
     let a = c.args in
-    let e = breaks a.s a.r a.t.now c.requires.held.3 _ c.break_of-broken.ensures c.if-broken-gt0.true in
-    let q = named a.s a.r a.t.now c.requires.held.3 _ c.break_of-broken.ensures e in
+    let w = breaks a.s a.r a.t.now c.requires.held.3 c.in-Some.is c.break_of.ensures in
+    let e = w.1 in
+    let q = w.0 in
     ap₂ (λ (v : Verdict) (k : ℕ). record {
       answer = record { verdict = v; d = c.none.result; columns = k };
       room = a.room.now;
@@ -108,8 +109,7 @@ put_pair-requires c =
     let p = c.requires.held in record {
       held = (p.0, omega (arith, p.2, length-holds c.args.s.n), p.1, p.3, omega (arith, b.0, c.requires.own_in_bounds), b.1);
       end_value = b.0 ∙ bytes_H p.1 (table_bit c.args.t.now);
-      r_value = holds c.args.s c.args.r c.args.t.now p.3 _
-          c.break_of-broken.ensures (omega arith);
+      r_value = holds c.args.s c.args.r c.args.t.now p.3 c.in_default.is c.break_of.ensures;
     }
 
 pub returns : goal.returns
@@ -118,4 +118,4 @@ returns c =
     ap₂ (λ (d : FirstCells) (l : List ℕ). record { answer = record { verdict = Fine; d = d; columns = 0 }; room = l })
     c.put_pair.ensures.0 c.put_pair.ensures.1
     ∙ ap (answered a.s a.r a.t.now a.room.now)
-    (sym (holds a.s a.r a.t.now c.requires.held.3 _ c.break_of-broken.ensures (omega (arith, c.if-broken-gt0.false))))
+    (sym (holds a.s a.r a.t.now c.requires.held.3 c.in_default.is c.break_of.ensures))

@@ -1,44 +1,30 @@
--- The loop keeps that the first j places are the signals. Assumes nothing.
+-- The first places are the signals. Assumes nothing.
 use mathlib.Core.Path.{◌≡◌, refl, sym, ap, ◌∙◌}
-use mathlib.Core.List.{List, [], ◌∷◌, ◌++◌}
-use Prim.Native.Nat.{ℕ}
+use mathlib.Core.List.{List, ◌++◌}
+use Prim.Native.Nat.{ℕ, ◌≤◌}
 use native.Mathlib.Omega.{arith}
-use lib.ListN.{get_or, length-set}
+use lib.ListN.{get_or, take, drop, length, get_or-append}
+use lib.Seq.{get_or-take, length-take-le}
 use Rattle.tables.specs.Cells.{table_number}
 use Rattle.bits.specs.Lists.{list_of}
-use Rattle.bits.proofs.Lists.{list_set, list_more}
-use Rattle.making.proofs.signals.Signals.cell.Invariants.{first}
+use Rattle.bits.proofs.Lists.{list_ext}
 use Rattle.making.proofs.signals.Signals.cell.Goals as goal
 
-pub loop-j-init : goal.loop-j-init
-unfolding list_of
-loop-j-init c = (refl, omega arith, c.requires.1, refl)
+-- the places copied over those of a blank array
+copied : {k : ℕ} (at blank : List ℕ) {copy : List ℕ} → k ≤ length at → copy ≡ take k at
+    → list_of k (λ j. get_or (copy ++ drop k blank) j 0) ≡ list_of k (λ j. get_or at j 0)
+copied {k} at blank {copy} h e = list_ext k _ _ (λ j l.
+    get_or-append copy (drop k blank) 0 j (omega (arith, ap length e, length-take-le k at h))
+    ∙ ap (λ (l : List ℕ). get_or l j 0) e ∙ get_or-take k at j 0 l)
 
-pub bounds-from-j : goal.bounds-from-j
-bounds-from-j c = let q = c.loop-j in omega (arith, q.invariant.2, c.loop-j-test.true)
-
-pub bounds-signals-j : goal.bounds-signals-j
-bounds-signals-j c = let q = c.loop-j in omega (arith, q.invariant.2, c.loop-j-test.true)
-
-pub loop-j-preserved : goal.loop-j-preserved
-loop-j-preserved c =
-    let q = c.loop-j in
-    let from = c.args.self.at in (
-      list_set (λ x. x) q.signals q.j (get_or from q.j 0) 0
-          (omega (arith, q.invariant.2, q.invariant.3, c.loop-j-test.true))
-          ∙ ap (λ (l : List ℕ). l ++ (get_or from q.j 0 ∷ [])) q.invariant.0
-          ∙ sym (list_more q.j (λ j. get_or from j 0)),
-      omega (arith, c.loop-j-test.true),
-      q.invariant.2,
-      length-set q.signals q.j _ ∙ q.invariant.3,
-    )
+pub copy_from_slice-requires : goal.copy_from_slice-requires
+copy_from_slice-requires c =
+    length-take-le c.args.self.count _ (omega (arith, c.requires.1))
+    ∙ sym (length-take-le c.args.self.count c.args.self.at (omega (arith, c.requires.0.places, c.requires.0.few)))
 
 pub returns : goal.returns
-returns c =
-    let q = c.loop-j in
-    let a = c.args in
-    let e : q.j ≡ a.self.count = omega (arith, q.invariant.1, c.loop-j-test.false) in (
-      ap (λ (l : List ℕ). record { signals = l; table = table_number a.table })
-          (sym (ap (λ (m : ℕ). first m q.signals) e) ∙ q.invariant.0 ∙ ap (λ (m : ℕ). first m a.self.at) e),
-      refl,
-    )
+returns c = (
+  ap (λ (l : List ℕ). record { signals = l; table = table_number c.args.table })
+      (copied c.args.self.at _ (omega (arith, c.requires.0.places, c.requires.0.few)) c.copy_from_slice.ensures.after),
+  refl,
+)

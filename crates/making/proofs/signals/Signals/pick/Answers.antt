@@ -32,40 +32,36 @@ pick_takes j m s from at count l h e ih =
 
 pub loop-j-init : goal.loop-j-init
 unfolding list_of pick
-loop-j-init c = (refl, omega arith, omega arith, c.requires.few, refl, c.requires.places)
+loop-j-init c = (refl, omega arith, refl)
 
-pub bounds-from-j : goal.bounds-from-j
-bounds-from-j c = let q = c.loop-j in omega (arith, q.invariant.3, c.loop-j-test.true)
+pub bounds-self-j : goal.bounds-self-j
+bounds-self-j c = omega (arith, c.requires.few)
 
-pub bounds-at-m : goal.bounds-at-m
-bounds-at-m c = let q = c.loop-j in omega (arith, q.invariant.1, q.invariant.3, c.loop-j-test.true)
+pub bounds-at-count : goal.bounds-at-count
+bounds-at-count c = omega (arith, c.loop-j.invariant.1, c.requires.few)
+
+pub overflow_add-count : goal.overflow_add-count
+overflow_add-count c = omega (arith, c.loop-j.invariant.1, c.requires.few)
 
 pub loop-j-preserved : goal.loop-j-preserved
 loop-j-preserved c =
     let q = c.loop-j in
     let a = c.args in
-    let l = c.loop-j-test.true in
     elim c.if-set-j-eq1.branch [
       | then-set-j-eq1 u ↦ (
-        ap₂ first u.m-is u.at-is
-            ∙ pick_takes q.j q.m (bit a.set) a.self.at q.at a.self.count l
-            (omega (arith, q.invariant.1, q.invariant.3, q.invariant.4))
+        ap₂ first u.count-is u.at-is
+            ∙ pick_takes q.j q.count (bit a.set) a.self.at q.at a.self.count (omega arith)
+            (omega (arith, q.invariant.1, q.invariant.2, c.requires.few))
             (bit-set a.set q.j u.if-set-j-eq1.true) q.invariant.0,
-        omega (arith, u.m-is, q.invariant.1),
-        omega (arith, l),
-        q.invariant.3,
-        ap length u.at-is ∙ length-set q.at q.m _ ∙ q.invariant.4,
-        q.invariant.5,
+        omega (arith, u.count-is, q.invariant.1),
+        ap length u.at-is ∙ length-set q.at q.count _ ∙ q.invariant.2,
       )
       | else-set-j-eq1 u ↦ (
-        ap₂ first u.m-is u.at-is ∙ q.invariant.0
+        ap₂ first u.count-is u.at-is ∙ q.invariant.0
             ∙ sym (pick_more q.j (bit a.set) (first a.self.count a.self.at) false
             (bit-clear a.set q.j u.if-set-j-eq1.false)),
-        omega (arith, u.m-is, q.invariant.1),
-        omega (arith, l),
-        q.invariant.3,
-        ap length u.at-is ∙ q.invariant.4,
-        q.invariant.5,
+        omega (arith, u.count-is, q.invariant.1),
+        ap length u.at-is ∙ q.invariant.2,
       )
     ]
 
@@ -73,8 +69,8 @@ pub returns : goal.returns
 returns c =
     let q = c.loop-j in
     let a = c.args in
-    let e : q.j ≡ a.self.count = omega (arith, q.invariant.2, c.loop-j-test.false) in (
-      record { places = q.invariant.4; few = omega (arith, q.invariant.1, q.invariant.2, q.invariant.3) },
+    let e : q.j ≡ a.self.count = omega arith in (
+      record { places = q.invariant.2; few = omega (arith, q.invariant.1, c.requires.few) },
       q.invariant.0
           ∙ ap (λ (m : ℕ). pick m (bit a.set) (first a.self.count a.self.at)) e,
     )

@@ -1,7 +1,7 @@
 use mathlib.Core.Path.{◌≡◌}
 use mathlib.Core.List.{List}
-use Prim.Native.Nat.{ℕ, ◌-◌, ◌≤◌}
-use lib.ListN.{length, get_or, set}
+use Prim.Native.Nat.{ℕ, ◌≤◌}
+use lib.ListN.{length, get_or}
 use Rattle.bits.specs.Numbers.{bit}
 use Rattle.tables.specs.Table.{most_inputs}
 use Rattle.bits.specs.Lists.{list_of}
@@ -14,9 +14,5 @@ first m l = list_of m (λ j. get_or l j 0)
 
 abbrev pub invariant-loop-j : goal.invariant-loop-j
 invariant-loop-j l =
-    (first l.m l.at ≡ pick l.j (bit l.set) (first l.count l.from)) × (l.m ≤ l.j) × (l.j ≤ l.count)
-    × (l.count ≤ most_inputs)
-    × (length l.at ≡ most_inputs) × (length l.from ≡ most_inputs)
-
-abbrev pub decreases-loop-j : goal.decreases-loop-j
-decreases-loop-j l = l.count - l.j
+    (first l.count l.at ≡ pick l.j (bit l.set) (first l.self.count l.self.at)) × (l.count ≤ l.j)
+    × (length l.at ≡ most_inputs)

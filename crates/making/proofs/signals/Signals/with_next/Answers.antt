@@ -1,52 +1,39 @@
 -- The signals are appended in turn. Assumes nothing.
-use mathlib.Core.Path.{◌≡◌, refl, sym, ap, ◌∙◌}
-use mathlib.Core.List.{List, [], ◌∷◌, ◌++◌, append_assoc}
+use mathlib.Core.Path.{◌≡◌, sym, ap, ◌∙◌}
+use mathlib.Core.List.{List, [], ◌∷◌, ◌++◌, append_assoc, append-nil}
 use Prim.Native.Nat.{ℕ, ◌+◌}
-use native.Mathlib.Nat.{add-zero}
 use native.Mathlib.Omega.{arith}
+use Rattle.bits.specs.Lists.{list_of}
+use Rattle.bits.proofs.Lists.{list_more}
 use Rattle.making.specs.Stage.{signals_of}
-use Rattle.making.proofs.Piling.{firsts-one, firsts-two, firsts_three}
 use Rattle.making.proofs.signals.Signals.with_next.Goals as goal
 
-pub returns-then-many-lt2 : goal.returns-then-many-lt2
-returns-then-many-lt2 c =
-    let a = c.args in
-    let w = c.with-one.ensures in
-    let h : a.many ≡ 1 = omega (arith, c.requires.1, c.if-many-lt2.true) in (
-      w.0,
-      w.1 ∙ ap (λ (l : List ℕ). signals_of a.self ++ l)
-          (firsts-one (λ t. a.from + t) a.many a.from (sym (add-zero a.from)) h),
-      omega (arith, w.2),
-    )
+pub loop-t-init : goal.loop-t-init
+unfolding list_of
+loop-t-init c = (c.requires.0, sym (append-nil (signals_of c.args.self)), omega arith)
 
-pub returns-then-many-lt3 : goal.returns-then-many-lt3
-returns-then-many-lt3 c =
+pub with-signals-requires : goal.with-signals-requires
+with-signals-requires c = let i = c.loop-t.invariant in (i.0, omega (arith, i.2, c.requires.3))
+
+pub loop-t-preserved : goal.loop-t-preserved
+loop-t-preserved c =
+    let i = c.loop-t.invariant in
     let a = c.args in
-    let v = c.with-one.ensures in
-    let w = c.with-two.ensures in
-    let h : a.many ≡ 2 = omega (arith, c.if-many-lt2.false, c.if-many-lt3.true) in (
+    let t = c.loop-t.t in
+    let w = c.with-signals.ensures in (
       w.0,
-      w.1 ∙ ap (λ (l : List ℕ). l ++ ((a.from + 1) ∷ [])) v.1
-          ∙ append_assoc (signals_of a.self) (a.from ∷ []) ((a.from + 1) ∷ [])
-          ∙ ap (λ (l : List ℕ). signals_of a.self ++ l)
-          (firsts-two (λ t. a.from + t) a.many a.from (sym (add-zero a.from)) (a.from + 1) refl h),
-      omega (arith, v.2, w.2),
+      w.1 ∙ ap (λ (l : List ℕ). l ++ ((a.from + t) ∷ [])) i.1
+          ∙ append_assoc (signals_of a.self) (list_of t (λ t. a.from + t)) ((a.from + t) ∷ [])
+          ∙ ap (λ (l : List ℕ). signals_of a.self ++ l) (sym (list_more t (λ t. a.from + t))),
+      omega (arith, w.2, i.2),
     )
 
 pub returns : goal.returns
 returns c =
+    let i = c.loop-t.invariant in
     let a = c.args in
-    let u = c.with-one.ensures in
-    let v = c.with-two.ensures in
-    let w = c.with.ensures in
-    let h : a.many ≡ 3 = omega (arith, c.requires.2, c.if-many-lt3.false) in (
-      w.0,
-      w.1 ∙ ap (λ (l : List ℕ). l ++ ((a.from + 2) ∷ []))
-          (v.1 ∙ ap (λ (l : List ℕ). l ++ ((a.from + 1) ∷ [])) u.1
-          ∙ append_assoc (signals_of a.self) (a.from ∷ []) ((a.from + 1) ∷ []))
-          ∙ append_assoc (signals_of a.self) ((a.from ∷ []) ++ ((a.from + 1) ∷ [])) ((a.from + 2) ∷ [])
-          ∙ ap (λ (l : List ℕ). signals_of a.self ++ l)
-          (firsts_three (λ t. a.from + t) a.many a.from (sym (add-zero a.from)) (a.from + 1) refl
-          (a.from + 2) refl h),
-      omega (arith, u.2, v.2, w.2),
+    let e : c.loop-t.t ≡ a.many = omega arith in (
+      i.0,
+      i.1 ∙ ap (λ (k : ℕ). signals_of a.self ++ list_of k (λ t. a.from + t)) e,
+      omega (arith, i.2),
     )
