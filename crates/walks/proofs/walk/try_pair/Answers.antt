@@ -35,27 +35,9 @@ pub attempt-requires : goal.attempt-requires
 attempt-requires c =
     record { r_le_most_first = (c.requires.known.first, c.requires.known.long); n_le_most_inputs = (c.requires.known.most, c.requires.own_bound.0, c.requires.own_bound.1, c.requires.own_bound.2) }
 
-pub ruled-requires : goal.ruled-requires
-ruled-requires c = c.requires.known.learned.long
-
-pub shape_of-notes-then-ruled : goal.shape_of-notes-then-ruled
-shape_of-notes-then-ruled c =
-    (asked c.before.before.before.before).learned.long
-    ∙ sym c.requires.known.learned.long
-
 pub learn-requires : goal.learn-requires
 learn-requires c =
     record { known = asked c.before.before.before.before.before; own_bound = c.requires.own_bound }
-
-pub shape_of-notes-then-learn : goal.shape_of-notes-then-learn
-shape_of-notes-then-learn c =
-    c.learn.ensures.1.learned.long
-    ∙ sym c.requires.known.learned.long
-
-pub shape_of-notes : goal.shape_of-notes
-shape_of-notes c =
-    c.learn.ensures.1.learned.long
-    ∙ sym c.requires.known.learned.long
 
 pub returns : goal.returns
 returns c = (c.attempt.ensures, c.learn.ensures.1)
