@@ -8,8 +8,8 @@ use Rattle.witness.proofs.Points.{said_no}
 use Rattle.walks.proofs.Learning.{learned_one}
 use Rattle.walks.proofs.walk.learn.Goals as goal
 
-pub look-found-requires : goal.look-found-requires
-look-found-requires c =
+pub look-requires : goal.look-requires
+look-requires c =
     let e = sym c.of.ensures.1 in (
       subst (λ (n : ℕ). n ≤ most_inputs) e c.requires.known.most,
       subst (λ (n : ℕ). 2 ^ n ≤ 8 * length c.args.t.now) e c.requires.known.long,

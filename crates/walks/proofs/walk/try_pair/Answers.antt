@@ -2,17 +2,9 @@
 use mathlib.Core.Path.{sym, ◌∙◌}
 use Rattle.tables.specs.Table.{table_bit}
 use Rattle.known.proofs.Keeping.{skips_fails}
-use Rattle.walks.specs.Known.{Known}
 use Rattle.walks.proofs.Learning.{still_known}
 use Rattle.walks.proofs.Pruning.{try_b_never}
-use Rattle.walks.proofs.walk.try_pair.Lts as lts
-use Rattle.walks.proofs.walk.try_pair.Reads as reads
-use Rattle.walks.proofs.walk.try_pair.Tie as tie
 use Rattle.walks.proofs.walk.try_pair.Goals as goal
-
--- what was asked of the notes leaves them true
-asked : (c : lts.After-ruled tie.the-claims reads.Pre reads.Post tie.handed_clauses) → Known c.args.n c.args.r c.args.t.now c.ruled.new.notes
-asked c = still_known c.requires.known c.ruled.ensures.stays_learned
 
 pub returns-then-ruled : goal.returns-then-ruled
 returns-then-ruled c =
@@ -20,7 +12,7 @@ returns-then-ruled c =
       sym (try_b_never a.n a.r (table_bit a.t.now) _ a.own a.shared (λ z apart.
           skips_fails a.notes.now a.own a.shared c.requires.known.learned
           (c.ruled.ensures.skips c.if-ruled.true) apart)),
-      asked c.before.before.before.before,
+      still_known c.requires.known c.ruled.ensures.stays_learned,
     )
 
 pub returns-then-learn : goal.returns-then-learn
@@ -37,7 +29,7 @@ attempt-requires c =
 
 pub learn-requires : goal.learn-requires
 learn-requires c =
-    record { known = asked c.before.before.before.before.before; own_bound = c.requires.own_bound }
+    record { known = still_known c.requires.known c.ruled.ensures.stays_learned; own_bound = c.requires.own_bound }
 
 pub returns : goal.returns
 returns c = (c.attempt.ensures, c.learn.ensures.1)
