@@ -64,4 +64,4 @@ pub record Dead (mask i j k : ℕ) : Type 0 where
 
 -- so of every two inputs
 abbrev pub AllDead : List (List ℕ) → ℕ → ℕ → Type 0
-AllDead l n k = (i j : ℕ) → i < n → j < i → Dead (of_pair l i j) i j k
+AllDead l n k = (i : ℕ) → i < n → (j : ℕ) → j < i → Dead (of_pair l i j) i j k

@@ -174,7 +174,7 @@ module _ {n : ℕ} {F : ℕ → Bool} (k : ℕ) (l : List (List ℕ)) (most : n 
                 c.apart
               where
                 d : Dead (of_pair l i j) i j k
-                d = dead i j q p
+                d = dead i q j p
 
                 needs : Needs n F 2 (both i j) (of_pair l i j)
                 needs = w.each i j (omega (arith, most)) (omega (arith, most))

@@ -11,7 +11,7 @@ pub returns-in-Some : goal.returns-in-Some
 returns-in-Some c =
     let a = c.args in (
       refl,
-      ap₂ split c.spread_mask.ensures c.spread_mask-2.ensures
+      ap₂ split c.spread_mask.ensures c.spread_mask-in-Some.ensures
           ∙ sym (ap (λ (f : Option Masks). spread_answer a.n (bit a.mask) (answer_of f))
           c.in-Some.is),
     )

@@ -28,8 +28,8 @@ none_owns-requires t c =
     (omega (arith, c.decreases, c.if-left-p.false, c.if-left-eq0.false), (h.0, h.1, h.2, h.3, h.4, omega (arith, h.5)))
 
 -- with it
-pub none_owns-requires-2 : goal.none_owns-requires-2
-none_owns-requires-2 t c =
+pub none_owns-requires-then-none_owns : goal.none_owns-requires-then-none_owns
+none_owns-requires-then-none_owns t c =
     let a = c.args in
     let h = c.requires in
     let d : 0 < a.p = omega (arith, c.if-left-p.false, c.if-left-eq0.false) in (
@@ -54,4 +54,4 @@ returns-then-none_owns t c e =
     let h = c.requires in
     let d : 0 < a.p = omega (arith, c.if-left-p.false, c.if-left-eq0.false) in
     owns_next (a.p - 1) a.p a.left _ (omega (arith, d)) (ap (bit_or a.acc) (one a.n a.p h.0 h.5 d))
-    (c.none_owns.ensures c.if-none_owns.true) (c.none_owns-2.ensures e)
+    (c.none_owns.ensures c.if-none_owns.true) (c.none_owns-then-none_owns.ensures e)

@@ -37,14 +37,14 @@ told c =
 pub returns-in-Some : goal.returns-in-Some
 returns-in-Some c = (
   yet_stops c.loop-q.invariant.0 (omega arith)
-      (told c.before.before.before.before ∙ ap answer_of c.in-Some.is),
+      (told c.before.before ∙ ap answer_of c.in-Some.is),
   c.walk_own.ensures.1,
 )
 
 pub loop-q-preserved : goal.loop-q-preserved
 loop-q-preserved c = (
   yet_goes c.loop-q.invariant.0 (omega arith)
-      (told c.before.before.before.before ∙ ap answer_of c.in_default.is),
+      (told c.before.before ∙ ap answer_of c.in_default.is),
   c.walk_own.ensures.1,
 )
 
