@@ -53,21 +53,21 @@ find_over-requires c =
 
 pub returns-in_default : goal.returns-in_default
 returns-in_default c =
-    let a = (g c.before.before.before.before.before.before.before.before.before.before.before).args in
+    let a = (g c.before.before.before.before.before.before.before.before.before.before).args in
     ap₂ (λ (x : FindSeveralAnswer) (l : List ℕ). record { answer = x; work = l })
     (c.without-in_default.ensures ∙ ap refused c.refuse-in_default.ensures) c.find_over.ensures.1
     ∙ ap₂ (answered a.work.now)
-    (sym (lt-leb (count c.before.before.before.before.before.before.before.before.before.before.before) a.k (omega (arith, c.counting_inputs-counting.ensures.count, c.if-counting-k.false))))
+    (sym (lt-leb (count c.before.before.before.before.before.before.before.before.before.before) a.k (omega (arith, c.counting_inputs-counting.ensures.count, c.if-counting-k.false))))
     (ap choice_of (sym c.in_default.is) ∙ c.find_over.ensures.0)
 
 pub returns : goal.returns
 returns c =
-    let a = (g c.before.before.before.before.before.before.before.before.before).args in
+    let a = (g c.before.before.before.before.before.before.before.before).args in
     let r = c.in-Some.found in
     ap (λ (l : List ℕ). record {
       answer = record { verdict = Fine; first = r.first; own = r.own; shared = r.shared };
       work = l;
     }) c.find_over.ensures.1
     ∙ ap₂ (answered a.work.now)
-    (sym (lt-leb (count c.before.before.before.before.before.before.before.before.before) a.k (omega (arith, c.counting_inputs-counting.ensures.count, c.if-counting-k.false))))
+    (sym (lt-leb (count c.before.before.before.before.before.before.before.before) a.k (omega (arith, c.counting_inputs-counting.ensures.count, c.if-counting-k.false))))
     (ap choice_of (sym c.in-Some.is) ∙ c.find_over.ensures.0)
