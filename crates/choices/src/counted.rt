@@ -28,7 +28,13 @@ fn spread_back(n: u32, mask: u16, found: Option<Chosen>) -> Option<Chosen>
 
 // The best split with 1, 2 or 3 first cells of k inputs over the inputs that count, in a work area, which is then
 // cleared.
-pub fn find_over(t: &[u8], n: u32, counting: CountingInputs, k: u32, work: &mut [u8]) -> Option<Chosen>
+pub fn find_over(
+    t: &[u8],
+    n: u32,
+    counting: CountingInputs,
+    k: u32,
+    work: &mut [u8],
+) -> Option<Chosen>
     requires { (length t.now ≡ table_length n) × (n ≤ most_inputs) × CountingIn n (table_bit t.now) counting
         × (k ≤ most_inputs) × (length t.now ≤ length work.old) }
     ensures { (choice_of result ≡ best_over n (table_bit t.now) k most_first)

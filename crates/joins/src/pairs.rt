@@ -34,7 +34,11 @@ fn value_by(t: &[u8], s: Split, a: u32, b: u32, c: u32, d: u32) -> Option<bool>
     ensures { result ≡ value_by (alike s.n (table_bit t.now) s.free) a b c d }
 {
     if same_column(t, s, a, b) {
-        if among(t, s, a, c, d) { Some(true) } else { None }
+        if among(t, s, a, c, d) {
+            Some(true)
+        } else {
+            None
+        }
     } else if among(t, s, d, a, b) && among(t, s, c, a, b) {
         Some(false)
     } else {

@@ -29,7 +29,10 @@ fn spread_back(n: u32, mask: u16, found: Option<Masks>) -> Counted
     ensures { (is_few result ≡ false) × (split_in result ≡ spread_answer n (bit mask) (answer_of found)) }
 {
     match found {
-        Some(masks) => Counted::Split(spread_mask(n, mask, masks.own), spread_mask(n, mask, masks.shared)),
+        Some(masks) => Counted::Split(
+            spread_mask(n, mask, masks.own),
+            spread_mask(n, mask, masks.shared),
+        ),
         None => Counted::Nothing,
     }
 }

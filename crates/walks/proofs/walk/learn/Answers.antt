@@ -43,4 +43,3 @@ returns-then-not-shows c = (
   said_no,
   c.requires.known,
 )
-
