@@ -72,6 +72,16 @@ module _ {n : ℕ} {F : ℕ → Bool} {m : ℕ} where
         (clash (free 0 refl) (ap (λ (t : Bool). not (t || B 0)) (own 0 refl)));
   }
 
+  -- a pair that rules out takes the place of one that did
+  pub learned_put : (l : Notes) (at kept : ℕ) (note : Note) → Learned n F m l → Rules n F m note
+      → Learned n F m (record { list = set l.list at note; kept = kept })
+  learned_put l at kept note w r = record { each = All-set (Rules n F m) l.list at note r w.each }
+
+  -- two pairs change places
+  pub learned_swap : (l : Notes) (i k : ℕ) → i < length l.list → k < length l.list → Learned n F m l
+      → Learned n F m (record { list = swap l.list i k; kept = l.kept })
+  learned_swap l i k li lk w = record { each = all_swap (Rules n F m) l.list i k li lk w.each }
+
   -- ---- the inputs that cannot be free
   pub needs_none : (P : ℕ → Bool) → Needs n F m P 0
   needs_none P c e = absurd (clash e (bit-zero c))
