@@ -1,16 +1,12 @@
 -- The loop keeps what is left reduced, and the partner of j that was found there. Assumes nothing.
-use mathlib.Core.Path.{sym, ap, subst}
+use mathlib.Core.Path.{sym, subst}
 use mathlib.Core.Bool.{Bool}
-use Prim.Native.Nat.{ℕ, ◌+◌, ◌<◌}
-use native.Mathlib.Omega.{arith}
-use lib.Pow.{pow_pos}
-use Rattle.bits.specs.Numbers.{bit}
+use Prim.Native.Nat.{ℕ}
 use Rattle.tables.specs.Table.{table_bit}
 use Rattle.joins.specs.declared.pairs.Left.{Left}
 use Rattle.joins.specs.declared.deciding.Partner.{Partner}
-use Rattle.joins.specs.Left.{gate_left, Unfixed, one_fixed, Partners, Partnered, Reduced, DecidedFrom}
-use Rattle.joins.proofs.Leaving.{less_sum}
-use Rattle.joins.proofs.Turns.{reduced_fixed, from_fixed, open_fixed, undecided, reduced_decided, from_decided}
+use Rattle.joins.specs.Left.{gate_left, one_fixed, Partners, Reduced, DecidedFrom}
+use Rattle.joins.proofs.Turns.{reduced_fixed, from_fixed, open_fixed, reduced_decided, from_decided}
 use Rattle.joins.proofs.deciding.decide.Invariants.{Looked}
 use Rattle.joins.proofs.deciding.decide.Goals as goal
 
