@@ -1,73 +1,38 @@
 -- The choice as the code holds it, and what a split found with r first cells makes of it. Assumes nothing.
 use mathlib.Core.Path.{◌≡◌, refl, sym, ap, ◌∙◌, subst}
 use mathlib.Core.Bool.{Bool, cond}
+use Rattle.std.proofs.Common.{Option, Some, None}
 use Prim.Native.Nat.{ℕ, ◌+◌, ◌-◌, ◌^◌, ◌<◌, ◌≤◌}
 use native.Mathlib.Decide.{dec_lt}
 use native.Mathlib.Omega.{arith}
-use borrow.Author.Tests.{eq-eqb, ne_eqb, lt-ltb, le-ltb}
+use borrow.Author.Tests.{lt-ltb, le-ltb}
 use Rattle.bits.specs.Numbers.{bit}
 use Rattle.bits.specs.Sets.{size}
-use Rattle.splits.specs.Columns.{most_first}
 use Rattle.best.specs.Search.{Answer, none, split, above, best}
 use Rattle.best.proofs.Best.{best_split, is_above, not-above}
 use Rattle.choices.specs.declared.over.Chosen.{Chosen}
 use Rattle.choices.specs.Search.{Choice, nothing, choice, better, sparing, first_over, best_up_to}
-use Rattle.choices.specs.Chosen.{choice_of, OwnBelow, SplitBelow, Spares, Floor}
+use Rattle.choices.specs.Chosen.{choice_of, FewFirst, OwnBelow, SplitBelow, Spares, Floor}
 use Rattle.choices.proofs.Best.{upto_best}
-use Rattle.choices.proofs.Sparing.{is_sparing, not-sparing, spare_better, floor_beside, one_more}
+use Rattle.choices.proofs.Sparing.{is_sparing, not-sparing, spare_better, one_more}
 
--- without first cells it is nothing, else a choice
-pub is_nothing_lem : (c : Chosen) → c.first ≡ 0 → choice_of c ≡ nothing
-is_nothing_lem c h = ap (λ (b : Bool). cond b nothing (choice c.first c.own c.shared)) (eq-eqb c.first 0 h)
+-- a split A, B with r first cells comes in beside a choice
+module _ (n r : ℕ) (c : Chosen) (A B : ℕ) where
+  abbrev by : Bool → Choice
+  by b = cond b (choice r A B) (choice c.first c.own c.shared)
 
-pub is_choice : (c : Chosen) → (c.first ≡ 0 → ⊥) → choice_of c ≡ choice c.first c.own c.shared
-is_choice c h = ap (λ (b : Bool). cond b nothing (choice c.first c.own c.shared)) (ne_eqb c.first 0 h)
+  -- it is taken where its |A| - r is larger
+  pub taken : size n (bit c.own) + r < size n (bit A) + c.first
+      → choice r A B ≡ better n r (choice c.first c.own c.shared) (split A B)
+  taken l = ap by (sym (lt-ltb (size n (bit c.own) + r) (size n (bit A) + c.first) l))
 
-pub own_below : (n : ℕ) (c : Chosen) → (c.first ≡ 0 → ⊥) → OwnBelow n (choice_of c) → c.own < 2 ^ n
-own_below n c h w = subst (OwnBelow n) (is_choice c h) w
-
--- ---- a split A, B with r first cells comes in
-module _ (n r : ℕ) (some : 1 ≤ r) (c : Chosen) (A B : ℕ) where
-  abbrev fresh : Chosen
-  fresh = record { first = r; own = A; shared = B }
-
-  is_fresh : choice_of fresh ≡ choice r A B
-  is_fresh = is_choice fresh (λ z. omega arith)
-
-  -- where there was nothing it is taken
-  pub taken_first : c.first ≡ 0 → choice_of (record { first = r; own = A; shared = B })
-      ≡ better n r (choice_of c) (split A B)
-  taken_first h = is_fresh ∙ ap (λ (c : Choice). better n r c (split A B)) (sym (is_nothing_lem c h))
-
-  module _ (h : c.first ≡ 0 → ⊥) where
-    abbrev by : Bool → Choice
-    by b = cond b (choice r A B) (choice c.first c.own c.shared)
-
-    -- else where its |A| - r is larger
-    pub taken : size n (bit c.own) + r < size n (bit A) + c.first
-        → choice_of (record { first = r; own = A; shared = B }) ≡ better n r (choice_of c) (split A B)
-    taken l =
-        is_fresh ∙ ap by (sym (lt-ltb (size n (bit c.own) + r) (size n (bit A) + c.first) l))
-        ∙ ap (λ (c : Choice). better n r c (split A B)) (sym (is_choice c h))
-
-    -- and where not, the choice so far stays
-    pub stays : size n (bit A) + c.first ≤ size n (bit c.own) + r → choice_of c ≡ better n r (choice_of c) (split A B)
-    stays l =
-        is_choice c h ∙ ap by (sym (le-ltb (size n (bit c.own) + r) (size n (bit A) + c.first) l))
-        ∙ ap (λ (c : Choice). better n r c (split A B)) (sym (is_choice c h))
-
--- ---- how many own inputs a split must have more than, beside it
-module _ (n r low : ℕ) (c : Chosen) (h : c.first ≡ 0 → ⊥) (s : Spares n low (choice_of c)) where
-  pub kept_spares : low + c.first < size n (bit c.own)
-  kept_spares = subst (Spares n low) (is_choice c h) s
-
-  pub floor-kept : Floor n r low (choice_of c) (size n (bit c.own) - c.first + r)
-  floor-kept =
-      subst (λ (d : Choice). Floor n r low d (size n (bit c.own) - c.first + r)) (sym (is_choice c h))
-      (floor_beside n r low c.first c.own c.shared kept_spares)
+  -- and where not, the choice so far stays
+  pub stays : size n (bit A) + c.first ≤ size n (bit c.own) + r
+      → choice c.first c.own c.shared ≡ better n r (choice c.first c.own c.shared) (split A B)
+  stays l = ap by (sym (le-ltb (size n (bit c.own) + r) (size n (bit A) + c.first) l))
 
 -- what is kept of the best over r names n positions at most, and spares enough
-module _ (n K low : ℕ) (F : ℕ → Bool) (m : ℕ) (c : Chosen) (is : choice_of c ≡ sparing n low (best_up_to n F K m)) where
+module _ (n K low : ℕ) (F : ℕ → Bool) (m : ℕ) (c : Option Chosen) (is : choice_of c ≡ sparing n low (best_up_to n F K m)) where
   abbrev Held : Choice → Type 0
   Held d = OwnBelow n d × Spares n low d
 
@@ -83,17 +48,17 @@ module _ (n K low : ℕ) (F : ℕ → Bool) (m : ℕ) (c : Chosen) (is : choice_
       ]
 
 -- ---- the loop over r: the best over those before r, if its |A| - r is more than `low`
-pub record Chose (n K m low : ℕ) (F : ℕ → Bool) (c : Chosen) (r : ℕ) : Type 0 where
+pub record Chose (n K m low : ℕ) (F : ℕ → Bool) (c : Option Chosen) (r : ℕ) : Type 0 where
   pub best : choice_of c ≡ sparing n low (best_up_to n F K (r - 1))
-  pub few : c.first ≤ most_first
+  pub few : FewFirst c
   pub some : 1 ≤ r
   pub most : r ≤ m + 1
 
-pub chose_none : {n K m low : ℕ} {F : ℕ → Bool} → Chose n K m low F (record { first = 0; own = 0; shared = 0 }) 1
+pub chose_none : {n K m low : ℕ} {F : ℕ → Bool} → Chose n K m low F None 1
 unfolding first_over
-chose_none = record { best = refl; few = omega arith; some = omega arith; most = omega arith }
+chose_none = record { best = refl; few = tt; some = omega arith; most = omega arith }
 
-module _ {n K m low : ℕ} {F : ℕ → Bool} {c : Chosen} {r : ℕ} (w : Chose n K m low F c r) where
+module _ {n K m low : ℕ} {F : ℕ → Bool} {c : Option Chosen} {r : ℕ} (w : Chose n K m low F c r) where
   pub chose_below : OwnBelow n (choice_of c) × Spares n low (choice_of c)
   chose_below = held n K low F (r - 1) c w.best
 
@@ -109,8 +74,8 @@ module _ {n K m low : ℕ} {F : ℕ → Bool} {c : Chosen} {r : ℕ} (w : Chose 
           | no l ↦ subst (SplitBelow n) (sym (not-above n f A B (omega arith))) tt
         ]
 
-    pub chose_more : Floor n r low (choice_of c) f → (c' : Chosen) → r ≤ m → (choice_of c' ≡ better n r (choice_of c) a)
-        × (c'.first ≤ most_first)
+    pub chose_more : Floor n r low (choice_of c) f → (c' : Option Chosen) → r ≤ m → (choice_of c' ≡ better n r (choice_of c) a)
+        × FewFirst c'
         → Chose n K m low F c' (r + 1)
     chose_more fl c' h e = let q : r ≡ r + 1 - 1 = omega arith in record {
       best = e.0 ∙ ap (better n r (choice_of c)) is ∙ fl.enough (best n r F K)

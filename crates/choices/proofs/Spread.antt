@@ -4,7 +4,7 @@ use mathlib.Core.Path.{◌≡◌, refl, sym, ap, ap₂, ◌∙◌, fun_ext}
 use mathlib.Core.Bool.{Bool, true, false, cond}
 use mathlib.Core.List.{List}
 use Prim.Native.Nat.{ℕ, zero, suc, ◌+◌, ◌^◌}
-use lib.Dec.{ltb, eqb}
+use lib.Dec.{ltb}
 use Rattle.bits.specs.Numbers.{bit, number}
 use Rattle.bits.specs.Sets.{size, spread}
 use Rattle.bits.proofs.Members.{size-spread}
@@ -14,9 +14,7 @@ use Rattle.tables.specs.Counting.{CountingIn, table_over}
 use Rattle.best.specs.Search.{Answer, none, split, best}
 use Rattle.best.specs.Counting.{spread_answer}
 use Rattle.best.proofs.Counting.{counting_found}
-use Rattle.choices.specs.declared.over.Chosen.{Chosen}
 use Rattle.choices.specs.Search.{Choice, nothing, choice, better, first_over, best_up_to, best_over, spread_choice}
-use Rattle.choices.specs.Chosen.{choice_of}
 
 module _ (n : ℕ) (s : ℕ → Bool) where
   spread-cond : (t : Bool) (c d : Choice) → spread_choice n s (cond t c d)
@@ -41,12 +39,6 @@ module _ (n : ℕ) (s : ℕ → Bool) where
   spread-first f (suc m) =
       spread-better (suc m) (first_over (size n s) f m) (f (suc m))
       ∙ ap (λ (c : Choice). better n (suc m) c (spread_answer n s (f (suc m)))) (spread-first f m)
-
-  -- a choice as the code holds it, spread
-  pub spread-chosen : (c : Chosen)
-      → choice_of (record { first = c.first; own = spread n s c.own; shared = spread n s c.shared })
-      ≡ spread_choice n s (choice_of c)
-  spread-chosen c = sym (spread-cond (eqb c.first 0) nothing (choice c.first c.own c.shared))
 
 -- where the table over the inputs that count stands in front of a list of bytes, the search there finds it
 pub over_found : (n m K : ℕ) (F : ℕ → Bool) (c : CountingInputs) (work : List ℕ) → CountingIn n F c

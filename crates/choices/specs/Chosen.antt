@@ -1,14 +1,21 @@
 -- What the code that looks for the best over r holds.
-use Rattle.std.specs.Prelude.{◌≡◌, Bool, cond, ℕ, ◌+◌, ◌^◌, ◌<◌, ◌≤◌, eqb}
+use Rattle.std.specs.Prelude.{◌≡◌, Bool, ℕ, ◌+◌, ◌^◌, ◌<◌, ◌≤◌, Option, Some, None}
 use Rattle.bits.specs.Numbers.{bit}
 use Rattle.bits.specs.Sets.{size}
+use Rattle.splits.specs.Columns.{most_first}
 use Rattle.best.specs.Search.{Answer, none, split, above, best}
 use Rattle.choices.specs.declared.over.Chosen.{Chosen}
 use Rattle.choices.specs.Search.{Choice, nothing, choice, better}
 
--- how many first cells and the masks, or that there is nothing: no first cells
-abbrev pub choice_of : Chosen → Choice
-choice_of c = cond (eqb c.first 0) nothing (choice c.first c.own c.shared)
+-- how many first cells and the masks, or that there is nothing
+abbrev pub choice_of : Option Chosen → Choice
+choice_of (Some c) = choice c.first c.own c.shared
+choice_of None = nothing
+
+-- it has one first cell at least, and not too many
+abbrev pub FewFirst : Option Chosen → Type 0
+FewFirst (Some c) = (1 ≤ c.first) × (c.first ≤ most_first)
+FewFirst None = Unit {0}
 
 -- its own mask names n positions at most
 abbrev pub OwnBelow : ℕ → Choice → Type 0

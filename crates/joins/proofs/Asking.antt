@@ -2,6 +2,7 @@
 -- Assumes nothing.
 use mathlib.Core.Path.{◌≡◌, sym, ap, ap₂, ◌∙◌, subst}
 use mathlib.Core.Bool.{Bool, false, ◌||◌}
+use Rattle.std.proofs.Common.{Option}
 use Prim.Native.Nat.{ℕ, ◌+◌, ◌*◌, ◌%◌, ◌^◌, ◌<◌, ◌≤◌}
 use native.Mathlib.Nat.{add-zero}
 use native.Mathlib.Omega.{arith}
@@ -77,7 +78,7 @@ module _ (n : ℕ) (g : Left) (X : Fixing n g) (most : n ≤ mask_width) (i j : 
     without-none = subst (Without s.n s.free) (add-zero g.at)
         (start s h (λ x. false) g.at within 0 (within_zero s.n s.own))
 
-    pub asked : (F : ℕ → Bool) (v x y z : ℕ) → x ≡ spread n (bit own) 1 → y ≡ spread n (bit own) 2
+    pub asked : (F : ℕ → Bool) (v : Option Bool) (x y z : ℕ) → x ≡ spread n (bit own) 1 → y ≡ spread n (bit own) 2
         → z ≡ spread n (bit own) 3 → v ≡ value_by (alike s.n F s.free) g.at (g.at + x) (g.at + y) (g.at + z)
         → Valued n (gate_left n F g) i j v
     asked F v x y z ex ey ez e =

@@ -1,10 +1,11 @@
 -- What is left of a gate as one input more is fixed: it is what was left with that input at its value. Assumes nothing.
 use mathlib.Core.Path.{◌≡◌, refl, sym, ap, ap₂, ◌∙◌, fun_ext}
 use mathlib.Core.Bool.{Bool, true, false, cond, not, ◌&&◌, ◌||◌, and-true, and-false, or-false}
-use Prim.Native.Nat.{ℕ, zero, suc, ◌+◌, ◌-◌, ◌*◌, ◌%◌, ◌^◌, ◌<◌}
+use Prim.Native.Nat.{ℕ, ◌+◌, ◌-◌, ◌*◌, ◌%◌, ◌^◌, ◌<◌}
 use native.Mathlib.Omega.{arith}
 use lib.Dec.{eqb}
 use borrow.Author.Tests.{eqb-true}
+use mir.Val.{bool_byte}
 use Rattle.bits.specs.Numbers.{bit, val, number}
 use Rattle.bits.specs.Sets.{gather}
 use Rattle.bits.proofs.Bools.{clash, false_of}
@@ -57,10 +58,9 @@ module _ (n m i : ℕ) (h : m < 2 ^ n) (l : i < n) (e : bit m i ≡ true) where
       ap (λ (y : ℕ). bit y p) is ∙ bit-number n (λ p. bit m p && not (eqb p i)) p b
 
 -- `v << i` for a value v
-pub value-shl : (v i : ℕ) → v < 2 → i < 32 → v * 2 ^ i % 2 ^ 32 ≡ val (bit v 0) * 2 ^ i
-value-shl zero i h l = omega arith
-value-shl (suc zero) i h l = shl_one 32 i l ∙ omega arith
-value-shl (suc (suc v)) i h l = absurd (omega arith)
+pub value-shl : (v : Bool) (i : ℕ) → i < 32 → bool_byte v * 2 ^ i % 2 ^ 32 ≡ val v * 2 ^ i
+value-shl false i l = omega arith
+value-shl true i l = shl_one 32 i l ∙ omega arith
 
 -- ---- input i, which is not fixed yet, at v
 module _ (n : ℕ) (F : ℕ → Bool) (f a : ℕ) (below : f < 2 ^ n) (within : Within n f a) (i : ℕ) (l : i < n)

@@ -3,6 +3,7 @@
 use mathlib.Core.Path.{◌≡◌, refl, sym, ap, ap₂, ◌∙◌, subst}
 use mathlib.Core.Logic.{◌⊎◌, inl, inr, ⊎_elim}
 use mathlib.Core.Bool.{Bool, true, false, cond, ◌||◌}
+use Rattle.std.proofs.Common.{Option, Some, None}
 use Prim.Native.Nat.{ℕ, ◌+◌, ◌^◌, ◌<◌}
 use native.Mathlib.Nat.{add-zero}
 use native.Mathlib.Omega.{arith}
@@ -31,15 +32,18 @@ neither : (x y z : ℕ) → (eqb x y || eqb x z) ≡ false → (x ≡ y) ⊎ (x 
 neither x y z e = ⊎_elim (λ f. clash (or_left (eqb x y) (eqb x z) (eq-eqb x y f)) e)
     (λ f. clash (or_right (eqb x y) (eqb x z) (eq-eqb x z f)) e)
 
+-- what the four tests tell
+abbrev by : Bool → Bool → Bool → Bool → Option Bool
+by s t u w = cond s (cond t (Some true) None) (cond u (cond w (Some false) None) None)
+
 -- a test that is one of numbers tells what these tell
 pub value_as : (same : ℕ → ℕ → Bool) (pt c : ℕ → ℕ)
     → ((k l : ℕ) → k < 4 → l < 4 → same (pt k) (pt l) ≡ eqb (c k) (c l))
     → value_by same (pt 0) (pt 1) (pt 2) (pt 3) ≡ value_by eqb (c 0) (c 1) (c 2) (c 3)
 value_as same pt c is =
-    ap₂ (λ (s t : Bool). cond s (cond t 1 2) (cond (or 3 0 1) (cond (or 2 0 1) 0 2) 2)) (is 0 1 l0 l1)
+    ap₂ (λ (s t : Bool). by s t (or 3 0 1) (or 2 0 1)) (is 0 1 l0 l1)
     (ap₂ ◌||◌ (is 0 2 l0 l2) (is 0 3 l0 l3))
-    ∙ ap₂ (λ (s t : Bool).
-    cond (eqb (c 0) (c 1)) (cond (eqb (c 0) (c 2) || eqb (c 0) (c 3)) 1 2) (cond s (cond t 0 2) 2))
+    ∙ ap₂ (by (eqb (c 0) (c 1)) (eqb (c 0) (c 2) || eqb (c 0) (c 3)))
     (ap₂ ◌||◌ (is 3 0 l3 l0) (is 3 1 l3 l1)) (ap₂ ◌||◌ (is 2 0 l2 l0) (is 2 1 l2 l1))
   where
     or : ℕ → ℕ → ℕ → Bool
@@ -56,26 +60,6 @@ value_as same pt c is =
 
     l3 : 3 < 4
     l3 = omega arith
-
--- the ways out of telling: r tells a from b, q the fourth column and p the third
-module _ (same : ℕ → ℕ → Bool) (a b c d : ℕ) {r : Bool} (is : r ≡ same a b) where
-  abbrev told : Bool → Bool → Bool → Bool → ℕ
-  told s t u w = cond s (cond t 1 2) (cond u (cond w 0 2) 2)
-
-  pub value_high : (t : Bool) {q : Bool} → r ≡ true → q ≡ (same a c || same a d) → q ≡ t → cond t 1 2
-      ≡ value_by same a b c d
-  value_high t e f g = sym (ap₂ (λ (x y : Bool). told x y (same d a || same d b) (same c a || same c b)) (sym is ∙ e)
-      (sym f ∙ g))
-
-  pub value_fourth : {q : Bool} → r ≡ false → q ≡ (same d a || same d b) → q ≡ false → 2 ≡ value_by same a b c d
-  value_fourth e f g = sym (ap₂ (λ (x y : Bool). told x (same a c || same a d) y (same c a || same c b)) (sym is ∙ e)
-      (sym f ∙ g))
-
-  pub value_low : (t : Bool) {q p : Bool} → r ≡ false → q ≡ (same d a || same d b) → q ≡ true
-      → p ≡ (same c a || same c b) → p ≡ t → cond t 0 2 ≡ value_by same a b c d
-  value_low t e f g h k =
-      sym (ap₂ (λ (x y : Bool). told x (same a c || same a d) y (same c a || same c b)) (sym is ∙ e) (sym f ∙ g)
-      ∙ ap (λ (x : Bool). cond x 0 2) (sym h ∙ k))
 
 module _ (s : Split) (h : Held s) (F : ℕ → Bool) (at i j : ℕ) (li : i < s.n) (lt : j < i)
     (is : (p : ℕ) → p < s.n → bit s.own p ≡ (eqb p j || eqb p i)) where
@@ -94,7 +78,7 @@ module _ (s : Split) (h : Held s) (F : ℕ → Bool) (at i j : ℕ) (li : i < s.
   abbrev d : ℕ
   d = col s h F at i j li lt is true true
 
-  abbrev Told : ℕ → Type 0
+  abbrev Told : Option Bool → Type 0
   Told = Valued s.n left i j
 
   abbrev J : Bool → Type 0
@@ -107,34 +91,23 @@ module _ (s : Split) (h : Held s) (F : ℕ → Bool) (at i j : ℕ) (li : i < s.
   at_high : J true → ((a ≡ c) ⊎ (a ≡ d)) × ((b ≡ c) ⊎ (b ≡ d))
   at_high w = let f = stands_covers s h F at i j li lt is true w in (f false, f true)
 
-  low : (c ≡ a) ⊎ (c ≡ b) → (d ≡ a) ⊎ (d ≡ b) → Told 0
-  low p q = record {
-    most = omega arith;
-    joins = λ _. stands_when s h F at i j li lt is false each;
-    none = λ e. absurd (omega arith);
-  }
+  low : (c ≡ a) ⊎ (c ≡ b) → (d ≡ a) ⊎ (d ≡ b) → J false
+  low p q = stands_when s h F at i j li lt is false each
     where
       each : (u : Bool) → (col s h F at i j li lt is u true ≡ a) ⊎ (col s h F at i j li lt is u true ≡ b)
       each false = p
       each true = q
 
-  high : (a ≡ c) ⊎ (a ≡ d) → a ≡ b → Told 1
-  high p e = record {
-    most = omega arith;
-    joins = λ _. stands_when s h F at i j li lt is true each;
-    none = λ z. absurd (omega arith);
-  }
+  high : (a ≡ c) ⊎ (a ≡ d) → a ≡ b → J true
+  high p e = stands_when s h F at i j li lt is true each
     where
       each : (u : Bool) → (col s h F at i j li lt is u false ≡ c) ⊎ (col s h F at i j li lt is u false ≡ d)
       each false = p
       each true = ⊎_elim {C = (b ≡ c) ⊎ (b ≡ d)} (λ f. inl (sym e ∙ f)) (λ f. inr (sym e ∙ f)) p
 
-  no_value : (J false → ⊥) → (J true → ⊥) → Told 2
-  no_value f g = record { most = omega arith; joins = λ l. absurd (omega arith); none = λ _ u. go u }
-    where
-      go : (u : Bool) → J u → ⊥
-      go true = g
-      go false = f
+  no_value : (J false → ⊥) → (J true → ⊥) → Told None
+  no_value f g true = g
+  no_value f g false = f
 
   pub told-value : Told (value_by eqb a b c d)
   told-value = go (eqb a b) (eqb a c || eqb a d) (eqb d a || eqb d b) (eqb c a || eqb c b) refl refl refl refl
@@ -148,7 +121,7 @@ module _ (s : Split) (h : Held s) (F : ℕ → Bool) (at i j : ℕ) (li : i < s.
           q.0
 
       go : (t u v w : Bool) → eqb a b ≡ t → (eqb a c || eqb a d) ≡ u → (eqb d a || eqb d b) ≡ v
-          → (eqb c a || eqb c b) ≡ w → Told (cond t (cond u 1 2) (cond v (cond w 0 2) 2))
+          → (eqb c a || eqb c b) ≡ w → Told (by t u v w)
       go true true v w p q r z = high (either a c d q) (eqb-true a b p)
       go true false v w p q r z =
           let e = eqb-true a b p in
@@ -184,7 +157,7 @@ module _ (s : Split) (h : Held s) (F : ℕ → Bool) (at i j : ℕ) (li : i < s.
         (column_of s F (gather n (bit s.shared) at) y))
         (gather-spread n (bit s.own) k p') (gather-spread n (bit s.own) l q')
 
-    pub valued : (v x y z : ℕ) → x ≡ spread n (bit s.own) 1 → y ≡ spread n (bit s.own) 2
+    pub valued : (v : Option Bool) (x y z : ℕ) → x ≡ spread n (bit s.own) 1 → y ≡ spread n (bit s.own) 2
         → z ≡ spread n (bit s.own) 3 → v ≡ value_by (alike n F s.free) at (at + x) (at + y) (at + z) → Told v
     unfolding point
     valued v x y z ex ey ez e = subst Told (sym (

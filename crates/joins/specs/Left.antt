@@ -1,5 +1,6 @@
 -- What is left of a gate while the code fixes one input after the other.
 use Rattle.std.specs.Prelude.{◌≡◌, ◌↔◌, Bool, true, false, cond, ◌||◌, ℕ, ◌+◌, ◌-◌, ◌*◌, ◌^◌, ◌<◌, ◌≤◌}
+use Rattle.std.specs.Prelude.{Option, Some, None}
 use Rattle.bits.specs.Numbers.{bit, val, number}
 use Rattle.tables.specs.Depends.{DependsOn}
 use Rattle.columns.specs.Reading.{Within}
@@ -38,23 +39,26 @@ abbrev pub one_decided : Left → ℕ → Left
 one_decided g j = record { fixed = g.fixed; at = g.at; decided = g.decided + 2 ^ j }
 
 -- how four columns are told apart, by a test of two of them: those where input i is 0, j being 0 (a) and 1 (b), and
--- those where it is 1 (c and d). 0 and 1: at that value of i there are all of them; 2: at neither
-abbrev pub value_by : (ℕ → ℕ → Bool) → ℕ → ℕ → ℕ → ℕ → ℕ
+-- those where it is 1 (c and d). The value of i at which there are all of them
+abbrev pub value_by : (ℕ → ℕ → Bool) → ℕ → ℕ → ℕ → ℕ → Option Bool
 value_by same a b c d =
-    cond (same a b) (cond (same a c || same a d) 1 2) (cond (same d a || same d b) (cond (same c a || same c b) 0 2) 2)
+    cond (same a b) (cond (same a c || same a d) (Some true) None)
+    (cond (same d a || same d b) (cond (same c a || same c b) (Some false) None) None)
 
--- a value at which i can be fixed so that j stands for both, or 2 where there is none
-pub record Valued (n : ℕ) (G : ℕ → Bool) (i j v : ℕ) : Type 0 where
-  pub most : v ≤ 2
-  pub joins : v < 2 → StandsFor n G i j (bit v 0)
-  pub none : v ≡ 2 → (u : Bool) → StandsFor n G i j u → ⊥
+-- a value at which i can be fixed so that j stands for both, or that there is none
+abbrev pub Valued : ℕ → (ℕ → Bool) → ℕ → ℕ → Option Bool → Type 0
+Valued n G i j (Some v) = StandsFor n G i j v
+Valued n G i j None = (u : Bool) → StandsFor n G i j u → ⊥
 
--- the same for some decided i
-pub record Partnered (n : ℕ) (G : ℕ → Bool) (decided j : ℕ) (p : Partner) : Type 0 where
-  pub most : p.value ≤ 2
-  pub member : p.value < 2 → bit decided p.input ≡ true
-  pub joins : p.value < 2 → StandsFor n G p.input j (bit p.value 0)
-  pub none : p.value ≡ 2 → (i : ℕ) → bit decided i ≡ true → (u : Bool) → StandsFor n G i j u → ⊥
+-- a decided input, and such a value
+pub record Partners (n : ℕ) (G : ℕ → Bool) (decided j : ℕ) (p : Partner) : Type 0 where
+  pub member : bit decided p.input ≡ true
+  pub joins : StandsFor n G p.input j p.value
+
+-- these, or that there are none
+abbrev pub Partnered : ℕ → (ℕ → Bool) → ℕ → ℕ → Option Partner → Type 0
+Partnered n G decided j (Some p) = Partners n G decided j p
+Partnered n G decided j None = (i : ℕ) → bit decided i ≡ true → (u : Bool) → StandsFor n G i j u → ⊥
 
 -- what is left is a tree exactly if F is; each input that is not fixed counts; and of the decided ones, which are not
 -- fixed, none can stand for another

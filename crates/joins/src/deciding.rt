@@ -9,42 +9,39 @@ ghost use Rattle.joins.specs.Left.{gate_left, Unfixed, Fixing, one_fixed, one_de
 use crate::pairs::{Left, joint};
 use bits::sets::members;
 
-// An input and the value at which it can be fixed; 2 for none.
-#[derive(Clone, Copy)]
+// An input and the value at which it can be fixed.
+#[derive(Clone, Copy, Debug, PartialEq, Eq)]
 pub struct Partner {
     pub input: u32,
-    pub value: u32,
+    pub value: bool,
 }
 
 // A decided input for which j, a lower one, can stand too: the highest one.
-fn partner_of(t: &[u8], n: u32, g: Left, j: u32) -> Partner
+fn partner_of(t: &[u8], n: u32, g: Left, j: u32) -> Option<Partner>
     requires { (n ≤ most_inputs) × Reduced n (table_bit t.now) g × DecidedFrom n g (j + 1) × Unfixed n g j
         × (2 ^ n ≤ 8 * length t.now) }
     ensures { Partnered n (gate_left n (table_bit t.now) g) g.decided j result }
 {
-    let mut i = n;
-    while i > 0 {
-        i -= 1;
+    for i in (0..n).rev() {
         if (g.decided >> i) & 1 == 1 {
-            let v = joint(t, n, g, i, j);
-            if v < 2 {
-                return Partner { input: i, value: v };
+            if let Some(value) = joint(t, n, g, i, j) {
+                return Some(Partner { input: i, value });
             }
         }
     }
-    Partner { input: 0, value: 2 }
+    None
 }
 
 // Input i, one of the decided, is fixed at v.
-fn fix(n: u32, g: Left, i: u32, v: u32) -> Left
+fn fix(n: u32, g: Left, i: u32, v: bool) -> Left
     requires n_le_most_inputs { (n ≤ most_inputs) × Fixing n g × Unfixed n g i × (g.decided < 2 ^ n) }
-    requires i_value { (bit g.decided i ≡ true) × (v < 2) }
-    ensures { result ≡ one_fixed g i (bit v 0) }
+    requires decided { bit g.decided i ≡ true }
+    ensures { result ≡ one_fixed g i v }
 {
     let one: u16 = 1 << i;
     Left {
         fixed: g.fixed + one,
-        at: g.at + (v << i),
+        at: g.at + ((v as u32) << i),
         decided: g.decided - one,
     }
 }
@@ -55,9 +52,8 @@ fn with_decided(n: u32, g: Left, j: u32) -> Left
     ensures { result ≡ one_decided g j }
 {
     Left {
-        fixed: g.fixed,
-        at: g.at,
         decided: g.decided + (1 << j),
+        ..g
     }
 }
 
@@ -68,10 +64,8 @@ fn decide(t: &[u8], n: u32, start: Left, j: u32) -> Left
     ensures { Reduced n (table_bit t.now) result × DecidedFrom n result j }
 {
     let mut g = start;
-    let mut p = partner_of(t, n, g, j);
-    while p.value < 2 {
+    while let Some(p) = partner_of(t, n, g, j) {
         g = fix(n, g, p.input, p.value);
-        p = partner_of(t, n, g, j);
     }
     with_decided(n, g, j)
 }
@@ -89,9 +83,7 @@ pub fn is_tree(t: &[u8], n: u32, counting: u16) -> bool
         at: 0,
         decided: 0,
     };
-    let mut j = n;
-    while j > 0 {
-        j -= 1;
+    for j in (0..n).rev() {
         if (g.fixed >> j) & 1 != 1 {
             g = decide(t, n, g, j);
         }

@@ -10,7 +10,7 @@ use columns::split::Split;
 
 // The inputs of a gate that are fixed, and the values at which they are; of the others, those of which none can stand
 // for another.
-#[derive(Clone, Copy)]
+#[derive(Clone, Copy, Debug, PartialEq, Eq)]
 pub struct Left {
     pub fixed: u16,
     pub at: u32,
@@ -24,35 +24,30 @@ fn among(t: &[u8], s: Split, x: u32, y: u32, z: u32) -> bool
     ensures { result ≡ (alike s.n (table_bit t.now) s.free x y
         || alike s.n (table_bit t.now) s.free x z) }
 {
-    if same_column(t, s, x, y) {
-        return true;
-    }
-    same_column(t, s, x, z)
+    same_column(t, s, x, y) || same_column(t, s, x, z)
 }
 
-// The value of the input at which its two columns, a and b or c and d, are all four; 2 where neither are.
-fn value_by(t: &[u8], s: Split, a: u32, b: u32, c: u32, d: u32) -> u32
+// The value of the input at which its two columns, a and b or c and d, are all four.
+fn value_by(t: &[u8], s: Split, a: u32, b: u32, c: u32, d: u32) -> Option<bool>
     requires { Held s × Without s.n s.free a × Without s.n s.free b × Without s.n s.free c
         × Without s.n s.free d × (2 ^ s.n ≤ 8 * length t.now) }
     ensures { result ≡ value_by (alike s.n (table_bit t.now) s.free) a b c d }
 {
     if same_column(t, s, a, b) {
         if among(t, s, a, c, d) {
-            return 1;
+            Some(true)
+        } else {
+            None
         }
-        return 2;
+    } else if among(t, s, d, a, b) && among(t, s, c, a, b) {
+        Some(false)
+    } else {
+        None
     }
-    if !among(t, s, d, a, b) {
-        return 2;
-    }
-    if !among(t, s, c, a, b) {
-        return 2;
-    }
-    0
 }
 
-// The value at which input i can be fixed so that j, a lower one, stands for both; 2 where there is none.
-pub fn joint(t: &[u8], n: u32, g: Left, i: u32, j: u32) -> u32
+// The value at which input i can be fixed so that j, a lower one, stands for both.
+pub fn joint(t: &[u8], n: u32, g: Left, i: u32, j: u32) -> Option<bool>
     requires { (n ≤ most_inputs) × Fixing n g × (j < i) × Unfixed n g i × Unfixed n g j × (2 ^ n ≤ 8 * length t.now) }
     ensures { Valued n (gate_left n (table_bit t.now) g) i j result }
 {

@@ -2,13 +2,13 @@
 -- nothing.
 use mathlib.Core.Path.{◌≡◌, refl, sym, ap, ◌∙◌, subst}
 use mathlib.Core.Bool.{Bool, true, false, not, ◌&&◌, ◌||◌}
-use mathlib.Core.List.{List}
+use mathlib.Core.List.{List, [], ◌∷◌}
 use Prim.Native.Nat.{ℕ, ◌+◌, ◌-◌, ◌*◌, ◌/◌, ◌%◌, ◌^◌, ◌<◌}
 use native.Mathlib.Decide.{ℕ_discrete, dec_lt}
 use native.Mathlib.Omega.{arith}
 use lib.Dec.{eqb}
 use lib.Bits.{bit_and, bit_or}
-use lib.ListN.{get_or, set, replicate, length-set, length-replicate, get_or-replicate}
+use lib.ListN.{length, get_or, set, replicate, length-set, length-replicate, get_or-replicate}
 use lib.Seq.{get_or-set_same, get_or-set_other}
 use borrow.Author.Tests.{eqb-true, not-false}
 use Rattle.bits.specs.Numbers.{bit}
@@ -20,8 +20,21 @@ use Rattle.bits.proofs.Machine.{bit-and, bit-or}
 use Rattle.splits.specs.Columns.{few_columns}
 use Rattle.best.specs.Moves.{both}
 use Rattle.witness.specs.Witness.{Inside, single, RulesOut}
-use Rattle.known.specs.Notes.{Learned, Meets, Skips, Needs, BadPairs, Adds}
+use Rattle.std.specs.List.{All, swap}
+use Rattle.std.proofs.lemmas.List.Elements.{All-contains, All-set, All-get_or}
+use Rattle.known.specs.declared.notes.Note.{Note}
+use Rattle.known.specs.declared.notes.Notes.{Notes}
+use Rattle.known.specs.Notes.{Rules, Learned, Meets, Skips, Needs, of_pair, BadPairs, Adds}
 use Rattle.witness.proofs.Members.{power_bit, rules_more}
+
+-- two elements change places
+pub all_swap : {X : Type 0} (P : X → Type 0) (xs : List X) (i j : ℕ) → i < length xs → j < length xs → All P xs
+    → All P (swap xs i j)
+all_swap P [] i j li lj h = h
+all_swap P (d ∷ ys) i j li lj h =
+    let xs = d ∷ ys in
+    All-set P (set xs i (get_or xs j d)) j (get_or xs i d) (All-get_or P xs i d li h)
+    (All-set P xs i (get_or xs j d) (All-get_or P xs j d lj h) h)
 
 -- ---- masks
 pub and-off : (p q j : ℕ) → bit_and p q ≡ 0 → bit p j ≡ true → bit q j ≡ false
@@ -46,11 +59,11 @@ module _ {n : ℕ} {F : ℕ → Bool} {m : ℕ} where
   meets_fails p q own shared w x apart =
       w.fails (bit own) (bit shared) apart x.inside (λ j e. ap not (sym (bit-or own shared j) ∙ x.outside j e))
 
-  pub skips_fails : (l : List ℕ) (own shared : ℕ) → Learned n F m l → Skips l own (bit_or own shared)
+  pub skips_fails : (l : Notes) (own shared : ℕ) → Learned n F m l → Skips l own (bit_or own shared)
       → Apart n (bit own) (bit shared)
       → few_columns n F (bit own) (bit shared) m ≡ false
-  skips_fails l own shared w s apart = meets_fails (get_or l s.at 0) (get_or l (64 + s.at) 0) own shared
-      (w.each s.at s.below) s.meets apart
+  skips_fails l own shared w s apart = meets_fails s.note.own s.note.free own shared
+      (All-contains (Rules n F m) l.list s.note w.each s.kept) s.meets apart
 
   -- ---- the pairs learned
   pub rules_nothing : RulesOut n F m (bit 1) (bit 1)
@@ -59,56 +72,15 @@ module _ {n : ℕ} {F : ℕ → Bool} {m : ℕ} where
         (clash (free 0 refl) (ap (λ (t : Bool). not (t || B 0)) (own 0 refl)));
   }
 
-  rules_at : {p q u v : ℕ} → p ≡ u → q ≡ v → RulesOut n F m (bit u) (bit v) → RulesOut n F m (bit p) (bit q)
-  rules_at {q = q} {u = u} e f w = subst (λ (p : ℕ). RulesOut n F m (bit p) (bit q)) (sym e)
-      (subst (λ (q : ℕ). RulesOut n F m (bit u) (bit q)) (sym f) w)
-
-  pub learned_blank : Learned n F m (replicate 130 1)
-  learned_blank = record {
-    long = length-replicate {A = ℕ} 130 1;
-    each = λ i l.
-        rules_at (get_or-replicate 130 i 1 0 (omega arith)) (get_or-replicate 130 (64 + i) 1 0 (omega arith)) rules_nothing;
-  }
-
   -- a pair that rules out takes the place of one that did
-  pub learned_put : (l : List ℕ) (at p q : ℕ) → at < 64 → Learned n F m l → RulesOut n F m (bit p) (bit q)
-      → Learned n F m (set (set l at p) (64 + at) q)
-  learned_put l at p q h w r = record { long = length-set l₁ (64 + at) q ∙ length-set l at p ∙ w.long; each = each }
-    where
-      l₁ : List ℕ
-      l₁ = set l at p
-
-      l₂ : List ℕ
-      l₂ = set l₁ (64 + at) q
-
-      each : (i : ℕ) → i < 64 → RulesOut n F m (bit (get_or l₂ i 0)) (bit (get_or l₂ (64 + i) 0))
-      each i g =
-          let own : get_or l₂ i 0 ≡ get_or l₁ i 0 = get_or-set_other l₁ (64 + at) i q 0 (λ d. omega (arith, d)) in
-          elim (ℕ_discrete i at) [
-            | yes e ↦ rules_at
-                (own ∙ ap (λ (m : ℕ). get_or l₁ m 0) e ∙ get_or-set_same l at p 0 (omega (arith, w.long)))
-                (ap (λ (m : ℕ). get_or l₂ (64 + m) 0) e ∙ get_or-set_same l₁ (64 + at) q 0
-                (omega (arith, w.long, length-set l at p))) r
-            | no e ↦ rules_at (own ∙ get_or-set_other l at i p 0 e)
-                (get_or-set_other l₁ (64 + at) (64 + i) q 0 (λ d. e (omega (arith, d)))
-                ∙ get_or-set_other l at (64 + i) p 0 (λ d. omega (arith, d))) (w.each i g)
-          ]
-
-  -- what stands behind the pairs is free
-  pub learned_count : (l : List ℕ) (kept : ℕ) → Learned n F m l → Learned n F m (set l 128 kept)
-  learned_count l kept w = record {
-    long = length-set l 128 kept ∙ w.long;
-    each = λ i g.
-        rules_at (get_or-set_other l 128 i kept 0 (λ d. omega (arith, d)))
-        (get_or-set_other l 128 (64 + i) kept 0 (λ d. omega (arith, d))) (w.each i g);
-  }
+  pub learned_put : (l : Notes) (at kept : ℕ) (note : Note) → Learned n F m l → Rules n F m note
+      → Learned n F m (record { list = set l.list at note; kept = kept })
+  learned_put l at kept note w r = record { each = All-set (Rules n F m) l.list at note r w.each }
 
   -- two pairs change places
-  pub learned_swap : (l : List ℕ) (i k : ℕ) → i < 64 → k < 64 → Learned n F m l
-      → Learned n F m (set (set (set (set l i (get_or l k 0)) (64 + i) (get_or l (64 + k) 0)) k (get_or l i 0)) (64 + k)
-      (get_or l (64 + i) 0))
-  learned_swap l i k h g w = learned_put _ k (get_or l i 0) (get_or l (64 + i) 0) g
-      (learned_put l i (get_or l k 0) (get_or l (64 + k) 0) h w (w.each k g)) (w.each i h)
+  pub learned_swap : (l : Notes) (i k : ℕ) → i < length l.list → k < length l.list → Learned n F m l
+      → Learned n F m (record { list = swap l.list i k; kept = l.kept })
+  learned_swap l i k li lk w = record { each = all_swap (Rules n F m) l.list i k li lk w.each }
 
   -- ---- the inputs that cannot be free
   pub needs_none : (P : ℕ → Bool) → Needs n F m P 0
@@ -125,28 +97,54 @@ module _ {n : ℕ} {F : ℕ → Bool} {m : ℕ} where
   needs_power P c d q w x e = subst (λ (y : ℕ). RulesOut n F m P (single y))
       (sym (eqb-true x c (sym (ap (λ (m : ℕ). bit m x) q ∙ power_bit c x) ∙ e))) w
 
-  pub pairs-blank : BadPairs n F m (replicate 256 0)
+  pub pairs-blank : BadPairs n F m (replicate 16 (replicate 16 0))
   pairs-blank = record {
-    long = length-replicate {A = ℕ} 256 0;
-    each = λ at l. subst (λ (u : ℕ). Needs n F m (both (at / 16) (at % 16)) u) (sym (get_or-replicate 256 at 0 0 l))
-        (needs_none (both (at / 16) (at % 16)));
+    rows = length-replicate {A = List ℕ} 16 (replicate {A = ℕ} 16 0);
+    row = λ i l. ap length (blank i l) ∙ length-replicate {A = ℕ} 16 0;
+    each = λ i j li lj. subst (Needs n F m (both i j))
+        (sym (ap (λ (row : List ℕ). get_or row j 0) (blank i li) ∙ get_or-replicate 16 j 0 0 lj))
+        (needs_none (both i j));
   }
+    where
+      blank : (i : ℕ) → i < 16 → get_or (replicate 16 (replicate {A = ℕ} 16 0)) i [] ≡ replicate {A = ℕ} 16 0
+      blank i l = get_or-replicate 16 i (replicate {A = ℕ} 16 0) [] l
 
-  pub pairs_more : (l : List ℕ) (at u : ℕ) → BadPairs n F m l → at < 256 → Needs n F m (both (at / 16) (at % 16)) u
-      → BadPairs n F m (set l at u)
-  pairs_more l at u w h x = record {
-    long = length-set l at u ∙ w.long;
-    each = λ i g. elim (ℕ_discrete i at) [
-      | yes e ↦ subst (λ (i : ℕ). Needs n F m (both (i / 16) (i % 16)) (get_or (set l at u) i 0)) (sym e)
-          (subst (λ (v : ℕ). Needs n F m (both (at / 16) (at % 16)) v)
-          (sym (get_or-set_same l at u 0 (omega (arith, w.long)))) x)
-      | no e ↦ subst (λ (v : ℕ). Needs n F m (both (i / 16) (i % 16)) v) (sym (get_or-set_other l at i u 0 e))
-          (w.each i g)
+  -- one true mask is put into the table
+  pub pairs_more : (l : List (List ℕ)) (i j u : ℕ) → i < 16 → j < 16 → BadPairs n F m l → Needs n F m (both i j) u
+      → BadPairs n F m (set l i (set (get_or l i []) j u))
+  pairs_more l i j u li lj w x = record {
+    rows = length-set l i row ∙ w.rows;
+    row = λ k h. elim (ℕ_discrete k i) [
+      | yes e ↦ ap (λ (k : ℕ). length (get_or (set l i row) k [])) e ∙ ap length at-row
+          ∙ length-set (get_or l i []) j u ∙ w.row i li
+      | no e ↦ ap length (get_or-set_other l i k row [] e) ∙ w.row k h
     ];
+    each = each;
   }
+    where
+      row : List ℕ
+      row = set (get_or l i []) j u
+
+      at-row : get_or (set l i row) i [] ≡ row
+      at-row = get_or-set_same l i row [] (omega (arith, w.rows))
+
+      here : (h : ℕ) → h < 16 → Needs n F m (both i h) (get_or row h 0)
+      here h lh = elim (ℕ_discrete h j) [
+        | yes e ↦ subst (λ (h : ℕ). Needs n F m (both i h) (get_or row h 0)) (sym e)
+            (subst (Needs n F m (both i j)) (sym (get_or-set_same (get_or l i []) j u 0 (omega (arith, w.row i li)))) x)
+        | no e ↦ subst (Needs n F m (both i h)) (sym (get_or-set_other (get_or l i []) j h u 0 e)) (w.each i h li lh)
+      ]
+
+      each : (k h : ℕ) → k < 16 → h < 16 → Needs n F m (both k h) (of_pair (set l i row) k h)
+      each k h lk lh = elim (ℕ_discrete k i) [
+        | yes e ↦ subst (λ (k : ℕ). Needs n F m (both k h) (of_pair (set l i row) k h)) (sym e)
+            (subst (λ (r : List ℕ). Needs n F m (both i h) (get_or r h 0)) (sym at-row) (here h lh))
+        | no e ↦ subst (λ (r : List ℕ). Needs n F m (both k h) (get_or r h 0))
+            (sym (get_or-set_other l i k row [] e)) (w.each k h lk lh)
+      ]
 
 -- ---- the needed inputs, as an own mask grows
-module _ (l : List ℕ) (acc j : ℕ) where
+module _ (l : List (List ℕ)) (acc j : ℕ) where
   pub adds_none : (need : ℕ) → Adds l acc j need need
   adds_none need = record { needs = λ n m F P w in-acc has x. x }
 
@@ -157,28 +155,22 @@ module _ (l : List ℕ) (acc j : ℕ) where
   }
 
   pub adds_pair : (i need : ℕ) → i < 16 → j < 16 → bit acc i ≡ true
-      → Adds l acc j need (bit_or need (get_or l (i * 16 + j) 0))
+      → Adds l acc j need (bit_or need (of_pair l i j))
   adds_pair i need p q e = record {
-    needs = λ n m F P w in-acc has x. needs_or P need (get_or l (i * 16 + j) 0) x
+    needs = λ n m F P w in-acc has x. needs_or P need (of_pair l i j) x
         (at n m F P w in-acc has);
   }
     where
-      high : (i * 16 + j) / 16 ≡ i
-      high = omega arith
-
-      low : (i * 16 + j) % 16 ≡ j
-      low = omega arith
-
       at : (n m : ℕ) (F P : ℕ → Bool) → BadPairs n F m l → Inside (bit acc) P → P j ≡ true
-          → Needs n F m P (get_or l (i * 16 + j) 0)
-      at n m F P w in-acc has c f = rules_more (w.each (i * 16 + j) (omega arith) c f) inside (λ x h. h)
+          → Needs n F m P (of_pair l i j)
+      at n m F P w in-acc has c f = rules_more (w.each i j p q c f) inside (λ x h. h)
         where
-          inside : Inside (both ((i * 16 + j) / 16) ((i * 16 + j) % 16)) P
-          inside x h = go (eqb x ((i * 16 + j) / 16)) refl h
+          inside : Inside (both i j) P
+          inside x h = go (eqb x i) refl h
             where
-              go : (t : Bool) → eqb x ((i * 16 + j) / 16) ≡ t → (t || eqb x ((i * 16 + j) % 16)) ≡ true → P x ≡ true
-              go true u v = ap P (eqb-true x ((i * 16 + j) / 16) u ∙ high) ∙ in-acc i e
-              go false u v = ap P (eqb-true x ((i * 16 + j) % 16) v ∙ low) ∙ has
+              go : (t : Bool) → eqb x i ≡ t → (t || eqb x j) ≡ true → P x ≡ true
+              go true u v = ap P (eqb-true x i u) ∙ in-acc i e
+              go false u v = ap P (eqb-true x j v) ∙ has
 
 -- a part of the needed inputs
 pub needs_part : {n : ℕ} {F : ℕ → Bool} {m : ℕ} (P : ℕ → Bool) (need other : ℕ) → Needs n F m P need

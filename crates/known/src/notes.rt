@@ -1,95 +1,75 @@
 // What was learned: pairs of masks, each of which rules out splits.
-ghost use Rattle.std.specs.Prelude.{◌≡◌, Bool, true, ℕ, ◌+◌, ◌<◌, length, get_or};
-ghost use Rattle.bits.specs.Numbers.{bit};
-ghost use Rattle.witness.specs.Witness.{RulesOut};
-ghost use Rattle.known.specs.Notes.{Learned, StaysLearned, Meets, Skips};
+ghost use Rattle.std.specs.Prelude.{◌≡◌, true, ℕ, Bool, ◌<◌};
+ghost use Rattle.known.specs.Notes.{Rules, Learned, StaysLearned, Meets, Skips};
 
-// Room for 64 pairs, the own masks and then the free ones, and the place of the next pair. At first all are 1: a pair
-// with a position both own and free rules out nothing, and the first that is kept goes to place 1.
-pub fn blank() -> [u32; 130]
-    ensures { (n m : ℕ) (F : ℕ → Bool) → Learned n F m result }
-{
-    [1; 130]
+// A pair of masks: with all of `own` among the own inputs, those of `free` cannot all be free.
+#[derive(Clone, Copy, Debug, PartialEq, Eq)]
+pub struct Note {
+    pub own: u32,
+    pub free: u32,
 }
 
-// Whether the mask `p` is inside `own` and `q` outside `both`.
-pub fn meets(p: u32, q: u32, own: u32, both: u32) -> bool
-    ensures { result ≡ true → Meets p q own both }
-{
-    if p & !own != 0 {
-        return false;
+impl Note {
+    // Whether its own inputs are inside `own` and its free ones outside `both`.
+    pub fn meets(self, own: u32, both: u32) -> bool
+        ensures { result ≡ true → Meets self.own self.free own both }
+    {
+        self.own & !own == 0 && self.free & both == 0
     }
-    q & both == 0
 }
 
-// Moves pair i halfway to the front, and the pair that was there to its place: what helped comes first.
-fn raise(notes: &mut [u32], i: usize)
-    requires { (length notes.old ≡ 130) × (i < 64) }
-    ensures { StaysLearned notes.old notes.new }
-{
-    let k = i / 2;
-    let own = notes[i];
-    let free = notes[64 + i];
-    let other_own = notes[k];
-    let other_free = notes[64 + k];
-    notes[i] = other_own;
-    notes[64 + i] = other_free;
-    notes[k] = own;
-    notes[64 + k] = free;
+// Room for 64 notes, of which the first `kept` hold what was learned.
+#[derive(Drop)]
+pub struct Notes {
+    pub list: [Note; 64],
+    pub kept: u32,
 }
 
-// The first pair that rules out the own mask with these own and shared inputs; 64 where there is none.
-fn ruling(notes: &[u32], own: u32, both: u32) -> usize
-    requires { length notes.now ≡ 130 }
-    ensures { result < 64 → Meets (get_or notes.now result 0) (get_or notes.now (64 + result) 0) own both }
-{
-    let kept = notes[128] as usize;
-    let mut i: usize = 0;
-    while i < 64 {
-        if kept <= i {
-            return 64;
+impl Notes {
+    // At first all are the same: a note with a position both own and free rules out nothing. The first that is kept
+    // goes to place 1.
+    pub fn blank() -> Notes
+        ensures { (n m : ℕ) (F : ℕ → Bool) → Learned n F m result }
+    {
+        Notes {
+            list: [Note { own: 1, free: 1 }; 64],
+            kept: 1,
         }
-        if meets(notes[i], notes[64 + i], own, both) {
-            return i;
+    }
+
+    // Whether what was learned rules out the own mask with these own and shared inputs. The note that does so moves
+    // halfway to the front: what helped comes first.
+    pub fn ruled(&mut self, own: u32, both: u32) -> bool
+        ensures skips { result ≡ true → Skips self.old own both }
+        ensures stays_learned { StaysLearned self.old self.new }
+    {
+        let used = self.list.len().min(self.kept as usize);
+        for i in 0..used {
+            if self.list[i].meets(own, both) {
+                self.list.swap(i, i / 2);
+                return true;
+            }
         }
-        i += 1;
+        false
     }
-    64
-}
 
-// Whether what was learned rules out the own mask with these own and shared inputs.
-pub fn ruled(notes: &mut [u32], own: u32, both: u32) -> bool
-    requires { length notes.old ≡ 130 }
-    ensures skips { result ≡ true → Skips notes.old own both }
-    ensures stays_learned { StaysLearned notes.old notes.new }
-{
-    let i = ruling(notes, own, both);
-    if i >= 64 {
-        return false;
+    // The place of the next note: after the first 64 the second half is used in turn.
+    fn place(&self) -> usize
+        ensures { result < 64 }
+    {
+        if self.kept < 64 {
+            self.kept as usize
+        } else {
+            (32 + self.kept % 32) as usize
+        }
     }
-    raise(notes, i);
-    true
-}
 
-// The place of the next pair: after the first 64 the second half is used in turn.
-fn place(kept: u32) -> usize
-    ensures { result < 64 }
-{
-    if kept < 64 {
-        return kept as usize;
+    // Keeps a note.
+    pub fn keep(&mut self, note: Note)
+        ensures { (n m : ℕ) (F : ℕ → Bool) → Learned n F m self.old → Rules n F m note → Learned n F m self.new }
+    {
+        let at = self.place();
+        self.list[at] = note;
+        self.kept = self.kept % 65536 + 1;
     }
-    (32 + kept % 32) as usize
-}
-
-// Keeps a pair of masks.
-pub fn keep(notes: &mut [u32], own: u32, free: u32)
-    requires { length notes.old ≡ 130 }
-    ensures { (n m : ℕ) (F : ℕ → Bool) → Learned n F m notes.old → RulesOut n F m (bit own) (bit free)
-        → Learned n F m notes.new }
-{
-    let kept = notes[128];
-    let at = place(kept);
-    notes[at] = own;
-    notes[64 + at] = free;
-    notes[128] = kept % 65536 + 1;
 }

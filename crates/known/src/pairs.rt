@@ -8,11 +8,15 @@ ghost use Rattle.witness.specs.Points.{Wide, Off};
 use bits::sets::members;
 use witness::triple::{bad, off};
 
-// Room for 16 times 16 masks, nothing known yet.
-pub fn unknown() -> [u16; 256]
+// For each two inputs the mask of those that cannot be free where the two are own. The larger input is the row; what is
+// on no row's left stays empty.
+pub type Pairs = [[u16; 16]; 16];
+
+// Nothing known yet.
+pub fn unknown() -> Pairs
     ensures { (n m : ℕ) (F : ℕ → Bool) → BadPairs n F m result }
 {
-    [0; 256]
+    [[0; 16]; 16]
 }
 
 // How far a triple is looked for where so many inputs may be needed. Where none may, two own inputs are ended by one
@@ -21,10 +25,7 @@ pub fn unknown() -> [u16; 256]
 fn reach_for(most: u32) -> u32
     ensures { Unit {0} }
 {
-    if most == 0 {
-        return 4;
-    }
-    1024
+    if most == 0 { 4 } else { 1024 }
 }
 
 // The mask, and c besides where it cannot be free.
@@ -33,16 +34,11 @@ fn with_bad(t: &[u8], n: u32, places: u64, i: u32, j: u32, c: u32, reach: u32, m
     requires needs { Needs n (table_bit t.now) 2 (both i j) mask }
     ensures { Needs n (table_bit t.now) 2 (both i j) result }
 {
-    if c == i {
-        return mask;
+    if c != i && c != j && bad(t, n, places, i, j, c, reach) {
+        mask | (1 << c)
+    } else {
+        mask
     }
-    if c == j {
-        return mask;
-    }
-    if bad(t, n, places, i, j, c, reach) {
-        return mask | (1 << c);
-    }
-    mask
 }
 
 // The inputs that cannot be free where i and j are own; no more of them than one above `most`.
@@ -53,9 +49,7 @@ fn bad_inputs(t: &[u8], n: u32, most: u32, i: u32, j: u32) -> u16
     let places = off(i) & off(j);
     let reach = reach_for(most);
     let mut mask: u16 = 0;
-    let mut c: u32 = n;
-    while c > 0 {
-        c -= 1;
+    for c in (0..n).rev() {
         mask = with_bad(t, n, places, i, j, c, reach, mask);
         if members(mask) > most {
             return mask;
@@ -64,28 +58,14 @@ fn bad_inputs(t: &[u8], n: u32, most: u32, i: u32, j: u32) -> u16
     mask
 }
 
-// The same, for each two inputs once: the larger first.
-fn entry(t: &[u8], n: u32, most: u32, i: u32, j: u32) -> u16
-    requires { Wide n t.now }
-    ensures { Needs n (table_bit t.now) 2 (both i j) result }
+// Fills the table of pairs, each two inputs once: the larger first.
+pub fn fill(t: &[u8], n: u32, most: u32, pairs: &mut Pairs)
+    requires { Wide n t.now × BadPairs n (table_bit t.now) 2 pairs.old }
+    ensures { BadPairs n (table_bit t.now) 2 pairs.new }
 {
-    if i <= j {
-        return 0;
-    }
-    if n <= i {
-        return 0;
-    }
-    bad_inputs(t, n, most, i, j)
-}
-
-// Fills the table of pairs.
-pub fn fill(t: &[u8], n: u32, most: u32, table: &mut [u16])
-    requires { Wide n t.now × BadPairs n (table_bit t.now) 2 table.old }
-    ensures { BadPairs n (table_bit t.now) 2 table.new }
-{
-    let mut at: usize = 0;
-    while at < 256 {
-        table[at] = entry(t, n, most, (at / 16) as u32, (at % 16) as u32);
-        at += 1;
+    for i in 0..n {
+        for j in 0..i {
+            pairs[i as usize][j as usize] = bad_inputs(t, n, most, i, j);
+        }
     }
 }

@@ -89,10 +89,9 @@ fn follow(n: u32, start: Signals, most: u32, k: u32, work: &mut [u8]) -> Option<
     let mut signals = start;
     while (k as usize) < signals.count {
         let m = signals.count as u32;
-        let found = find_upto(&work[..HALF], m, most, k);
-        if found.first == 0 {
+        let Some(found) = find_upto(&work[..HALF], m, most, k) else {
             return None;
-        }
+        };
         let s = Split::of(m, found.own, found.shared);
         let next = n as usize + pile.count;
         let stage = Stage { pile, signals };

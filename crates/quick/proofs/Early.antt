@@ -29,7 +29,7 @@ use Rattle.best.specs.Search.{Answer, none, split, above, first, try_b, of_sizes
 use Rattle.best.proofs.Tries.{try_b_split}
 use Rattle.best.proofs.Best.{best_split, best_answer, above_best}
 use Rattle.witness.specs.Witness.{Inside}
-use Rattle.known.specs.Notes.{Needs, BadPairs, Dead, AllDead}
+use Rattle.known.specs.Notes.{Needs, of_pair, BadPairs, Dead, AllDead}
 use Rattle.witness.proofs.Members.{power_bit}
 use Rattle.walks.proofs.Pruning.{crowded, wide_size, lacks}
 
@@ -159,7 +159,8 @@ pair_size (suc n) i j l h = ⊎_elim (λ g. omega (arith, pair_size n i j l g))
             or-true true t e = refl
             or-true false t e = e
 
-module _ {n : ℕ} {F : ℕ → Bool} (k : ℕ) (l : List ℕ) (most : n ≤ 16) (w : BadPairs n F 2 l) (dead : AllDead l n k 256)
+module _ {n : ℕ} {F : ℕ → Bool} (k : ℕ) (l : List (List ℕ)) (most : n ≤ 16) (w : BadPairs n F 2 l)
+    (dead : AllDead l n k)
   where
     fails : (A B : ℕ) → Candidate n k 1 A B → few_columns n F (bit A) (bit B) 2 ≡ false
     fails A B c = go (two-members n (bit A) c.more)
@@ -172,24 +173,11 @@ module _ {n : ℕ} {F : ℕ → Bool} (k : ℕ) (l : List ℕ) (most : n ≤ 16)
             at i j p q has_i has_j = lacks n 1 F (both i j) A B x.0 (needs x.0 (d.part x.0 x.2)) own x.3
                 c.apart
               where
-                m : ℕ
-                m = i * 16 + j
+                d : Dead (of_pair l i j) i j k
+                d = dead i q j p
 
-                high : m / 16 ≡ i
-                high = omega arith
-
-                low : m % 16 ≡ j
-                low = omega (arith, most)
-
-                d : Dead (get_or l m 0) i j k
-                d = subst (λ (b : ℕ). Dead (get_or l m 0) i b k) low
-                    (subst (λ (a : ℕ). Dead (get_or l m 0) a (m % 16) k) high
-                    (dead m (omega (arith, most)) (omega (arith, high, low)) (omega (arith, high))))
-
-                needs : Needs n F 2 (both i j) (get_or l m 0)
-                needs = subst (λ (b : ℕ). Needs n F 2 (both i b) (get_or l m 0)) low
-                    (subst (λ (a : ℕ). Needs n F 2 (both a (m % 16)) (get_or l m 0)) high
-                    (w.each m (omega (arith, most))))
+                needs : Needs n F 2 (both i j) (of_pair l i j)
+                needs = w.each i j (omega (arith, most)) (omega (arith, most))
 
                 own : Inside (both i j) (bit A)
                 own y e = pick (eqb y i) refl e

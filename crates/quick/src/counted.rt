@@ -9,14 +9,14 @@ ghost use Rattle.best.specs.Walk.{most_first};
 ghost use Rattle.quick.specs.Counted.{is_few, split_in, FoundCounting};
 
 use crate::search::find_with;
-use best::Found;
+use best::Masks;
 use tables::aside::{set_aside, spread_mask};
 use tables::clear;
 use tables::counting::{CountingInputs, counting_inputs};
 
 // What a search over the inputs that count finds: that at most k of them do; an own and a shared mask in the caller's
 // positions; or nothing.
-#[derive(Clone, Copy)]
+#[derive(Clone, Copy, Debug, PartialEq, Eq)]
 pub enum Counted {
     Few,
     Split(u16, u16),
@@ -24,16 +24,17 @@ pub enum Counted {
 }
 
 // Masks over the members of a mask, spread back to the members.
-fn spread_back(n: u32, mask: u16, found: Found) -> Counted
+fn spread_back(n: u32, mask: u16, found: Option<Masks>) -> Counted
     requires { n ≤ most_inputs }
     ensures { (is_few result ≡ false) × (split_in result ≡ spread_answer n (bit mask) (answer_of found)) }
 {
-    let Found::Split(own, shared) = found else {
-        return Counted::Nothing;
-    };
-    let a = spread_mask(n, mask, own);
-    let b = spread_mask(n, mask, shared);
-    Counted::Split(a, b)
+    match found {
+        Some(masks) => Counted::Split(
+            spread_mask(n, mask, masks.own),
+            spread_mask(n, mask, masks.shared),
+        ),
+        None => Counted::Nothing,
+    }
 }
 
 // The best split with r first cells of k inputs over the inputs that count, in a work area, which is then cleared.

@@ -1,8 +1,9 @@
 // Whether no two inputs can be own: then there is no split, and no walk is needed.
-ghost use Rattle.std.specs.Prelude.{◌≡◌, true, ◌/◌, ◌%◌, ◌<◌, length, get_or};
+ghost use Rattle.std.specs.Prelude.{◌≡◌, true, ◌<◌, ◌≤◌};
 ghost use Rattle.known.specs.Notes.{Dead, AllDead};
 
 use bits::sets::members;
+use known::pairs::Pairs;
 
 // Whether more inputs than k - 2 beside i and j are in the mask.
 fn dead(mask: u16, i: u32, j: u32, k: u32) -> bool
@@ -13,33 +14,17 @@ fn dead(mask: u16, i: u32, j: u32, k: u32) -> bool
     k < 2 + members(other)
 }
 
-// The same of a place of the table of pairs, and yes where it stands for no two inputs.
-fn dead_at(pairs: &[u16], n: u32, k: u32, at: usize) -> bool
-    requires { (length pairs.now ≡ 256) × (at < 256) }
-    ensures { result ≡ true → at % 16 < at / 16 → at / 16 < n
-        → Dead (get_or pairs.now at 0) (at / 16) (at % 16) k }
+// So it is of each two of the n inputs.
+pub fn all_dead(pairs: &Pairs, n: u32, k: u32) -> bool
+    requires { n ≤ 16 }
+    ensures { result ≡ true → AllDead pairs.now n k }
 {
-    let i = (at / 16) as u32;
-    let j = (at % 16) as u32;
-    if i <= j {
-        return true;
-    }
-    if n <= i {
-        return true;
-    }
-    dead(pairs[at], i, j, k)
-}
-
-pub fn all_dead(pairs: &[u16], n: u32, k: u32) -> bool
-    requires { length pairs.now ≡ 256 }
-    ensures { result ≡ true → AllDead pairs.now n k 256 }
-{
-    let mut at: usize = 0;
-    while at < 256 {
-        if !dead_at(pairs, n, k, at) {
-            return false;
+    for i in 0..n {
+        for j in 0..i {
+            if !dead(pairs[i as usize][j as usize], i, j, k) {
+                return false;
+            }
         }
-        at += 1;
     }
     true
 }

@@ -13,10 +13,7 @@ fn bad_two(t: &[u8], n: u32, r: u32, own: u16, used: u32, e: u32, f: u32) -> boo
     requires { (n ≤ most_inputs) × (r ≤ most_first) × (2 ^ n ≤ 8 * length t.now) }
     ensures { result ≡ true → Bad n r (table_bit t.now) own used (bit_or e f) }
 {
-    if used & (e | f) != 0 {
-        return false;
-    }
-    many_somewhere(t, n, 1 << r, own, e, f)
+    used & (e | f) == 0 && many_somewhere(t, n, 1 << r, own, e, f)
 }
 
 // Whether no split has these inputs among its own: of each two others that cannot both be free one is own or shared,
@@ -68,8 +65,5 @@ pub fn none_owns(t: &[u8], n: u32, r: u32, k: u32, p: u32, acc: u16, left: u32) 
     let j = p - 1;
     let taken = acc | (1 << j);
     let fewer = left - 1;
-    if !none_owns(t, n, r, k, j, acc, left) {
-        return false;
-    }
-    none_owns(t, n, r, k, j, taken, fewer)
+    none_owns(t, n, r, k, j, acc, left) && none_owns(t, n, r, k, j, taken, fewer)
 }

@@ -45,10 +45,9 @@ fn search(n: u32, k: u32, t: &[u8], work: &mut [u8]) -> FindSeveralAnswer
     if counting.many <= k {
         return without(refuse(Refusal::NOTHING));
     }
-    let found = find_over(t, n, counting, k, work);
-    if found.first == 0 {
+    let Some(found) = find_over(t, n, counting, k, work) else {
         return without(refuse(Refusal::SPLIT));
-    }
+    };
     FindSeveralAnswer {
         verdict: Verdict::Fine,
         first: found.first,

@@ -8,12 +8,13 @@ use Rattle.bits.specs.Numbers.{bit}
 use Rattle.bits.specs.Sets.{Apart}
 use Rattle.tables.specs.Table.{table_bit}
 use Rattle.splits.specs.Columns.{few_columns}
-use Rattle.witness.specs.Witness.{RulesOut}
-use Rattle.known.specs.Notes.{Learned, StaysLearned, Meets}
+use Rattle.known.specs.declared.notes.Note.{Note}
+use Rattle.known.specs.declared.notes.Notes.{Notes}
+use Rattle.known.specs.Notes.{Rules, Learned, StaysLearned, Meets}
 use Rattle.known.proofs.Keeping.{meets_fails}
 use Rattle.walks.specs.Known.{Known}
 
-module _ {n r : ℕ} {t notes left : List ℕ} (w : Known n r t notes) where
+module _ {n r : ℕ} {t : List ℕ} {notes left : Notes} (w : Known n r t notes) where
   -- only the notes have changed, and they say what is true
   known_left : Learned n (table_bit t) (2 ^ r) left → Known n r t left
   known_left l = record { most = w.most; first = w.first; long = w.long; learned = l }
@@ -22,11 +23,13 @@ module _ {n r : ℕ} {t notes left : List ℕ} (w : Known n r t notes) where
   still_known keeps = known_left (keeps n (2 ^ r) (table_bit t) w.learned)
 
   -- what rules out p own and q free was kept; where it meets the pair of masks, the pair is none
-  pub learned_one : (m p q own shared : ℕ) (met : Bool) → m ≡ 2 ^ r → RulesOut n (table_bit t) m (bit p) (bit q)
-      → ((n m : ℕ) (F : ℕ → Bool) → Learned n F m notes → RulesOut n F m (bit p) (bit q) → Learned n F m left)
-      → Apart n (bit own) (bit shared) → (met ≡ true → Meets p q own (bit_or own shared))
+  pub learned_one : (m : ℕ) (note : Note) (own shared : ℕ) (met : Bool) → m ≡ 2 ^ r → Rules n (table_bit t) m note
+      → ((n m : ℕ) (F : ℕ → Bool) → Learned n F m notes → Rules n F m note → Learned n F m left)
+      → Apart n (bit own) (bit shared) → (met ≡ true → Meets note.own note.free own (bit_or own shared))
       → (met ≡ true → few_columns n (table_bit t) (bit own) (bit shared) (2 ^ r) ≡ false) × Known n r t left
-  learned_one m p q own shared met e shown kept apart meets =
+  learned_one m note own shared met e shown kept apart meets =
       let F = table_bit t in
-      let rules = subst (λ (k : ℕ). RulesOut n F k (bit p) (bit q)) e shown in
-      (λ f. meets_fails p q own shared rules (meets f) apart, known_left (kept n (2 ^ r) F w.learned rules))
+      let rules = subst (λ (k : ℕ). Rules n F k note) e shown in (
+        λ f. meets_fails note.own note.free own shared rules (meets f) apart,
+        known_left (kept n (2 ^ r) F w.learned rules),
+      )

@@ -202,7 +202,7 @@ left-outside need acc h g c e = (left-off need acc g c
     (bit_within (bit_and need (65535 - acc)) 16 c (left_lt need acc h) e) e).1
 
 -- the needed inputs of a mask with one position more
-pub own_more : {n : ℕ} {F : ℕ → Bool} {m p acc k : ℕ} (r : Range n p acc) (d : Turn n p acc k) (l : List ℕ)
+pub own_more : {n : ℕ} {F : ℕ → Bool} {m p acc k : ℕ} (r : Range n p acc) (d : Turn n p acc k) (l : List (List ℕ))
     (need more : ℕ) → BadPairs n F m l
     → Needs n F m (bit acc) need → Adds l acc (p - 1) need more → Needs n F m (bit (acc + mask_of p)) more
 own_more {n} {F} {m} {p} {acc} r d l need more w x a = a.needs n m F (bit (acc + mask_of p)) w inside has

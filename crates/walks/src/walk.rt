@@ -11,21 +11,22 @@ ghost use Rattle.best.specs.Walk.{Range, SharedRange};
 ghost use Rattle.walks.specs.Known.{Known};
 ghost use Rattle.known.specs.Notes.{Needs, BadPairs, Outside};
 
-use best::Found;
+use best::Masks;
 use best::pair::attempt;
 use bits::sets::members;
 use columns::split::Split;
 use known::needed::needed;
-use known::notes::{keep, meets, ruled};
+use known::notes::{Note, Notes};
+use known::pairs::Pairs;
 use witness::crowd::many_somewhere;
-use witness::hint::{NONE, look};
+use witness::hint::look;
 use witness::pick::{highest, two};
 use witness::shrink::{own_of, shrink};
 use witness::six::shows;
 
 // Looks for many points, told apart at two free positions, against a pair of masks, and keeps what they rule out;
 // whether that is the pair itself. With nothing shared the test of the columns takes no longer than that.
-fn learn_many(t: &[u8], n: u32, r: u32, own: u16, shared: u16, notes: &mut [u32]) -> bool
+fn learn_many(t: &[u8], n: u32, r: u32, own: u16, shared: u16, notes: &mut Notes) -> bool
     requires known { Known n r t.now notes.old }
     requires own_bound { (own < 2 ^ n) × (shared < 2 ^ n) × Apart n (bit own) (bit shared) }
     ensures { (result ≡ true → few_columns n (table_bit t.now) (bit own) (bit shared) (2 ^ r) ≡ false)
@@ -36,32 +37,30 @@ fn learn_many(t: &[u8], n: u32, r: u32, own: u16, shared: u16, notes: &mut [u32]
     }
     let both = (own as u32) | (shared as u32);
     let p = highest(own, r + 1);
-    let q = two(n, p as u32, both);
-    if q == 0 {
+    let Some((e, f)) = two(n, p as u32, both) else {
         return false;
-    }
-    let f = q & (q - 1);
-    let e = q ^ f;
+    };
     if !many_somewhere(t, n, 1 << r, p, e, f) {
         return false;
     }
-    keep(notes, p as u32, e | f);
-    meets(p as u32, e | f, own as u32, both)
+    let note = Note {
+        own: p as u32,
+        free: e | f,
+    };
+    notes.keep(note);
+    note.meets(own as u32, both)
 }
 
 // Two own inputs and nothing shared: what six bits say of them tells of hardly another pair.
 fn two_alone(own: u16, shared: u16) -> bool
     ensures { Unit {0} }
 {
-    if shared != 0 {
-        return false;
-    }
-    members(own) == 2
+    shared == 0 && members(own) == 2
 }
 
 // Looks for six bits against a pair of masks, and keeps what they rule out, made small; whether that is the pair
 // itself. Of more first cells than one six bits say nothing: there many points are asked.
-fn learn(t: &[u8], n: u32, r: u32, own: u16, shared: u16, notes: &mut [u32]) -> bool
+fn learn(t: &[u8], n: u32, r: u32, own: u16, shared: u16, notes: &mut Notes) -> bool
     requires known { Known n r t.now notes.old }
     requires own_bound { (own < 2 ^ n) × (shared < 2 ^ n) × Apart n (bit own) (bit shared) }
     ensures { (result ≡ true → few_columns n (table_bit t.now) (bit own) (bit shared) (2 ^ r) ≡ false)
@@ -73,31 +72,31 @@ fn learn(t: &[u8], n: u32, r: u32, own: u16, shared: u16, notes: &mut [u32]) -> 
     if two_alone(own, shared) {
         return false;
     }
-    let found = look(t, Split::of(n, own, shared));
-    if found.d == NONE {
+    let Some(found) = look(t, Split::of(n, own, shared)) else {
         return false;
-    }
+    };
     let w = shrink(t, n, found);
     let p = own_of(w);
     if !shows(t, n, w, p) {
         return false;
     }
-    keep(notes, p, w.d);
-    meets(p, w.d, own as u32, (own as u32) | (shared as u32))
+    let note = Note { own: p, free: w.d };
+    notes.keep(note);
+    note.meets(own as u32, (own as u32) | (shared as u32))
 }
 
 // The pair of masks, if it is possible: what is known is asked first, then what can be learned.
-fn try_pair(t: &[u8], n: u32, r: u32, own: u16, shared: u16, notes: &mut [u32]) -> Found
+fn try_pair(t: &[u8], n: u32, r: u32, own: u16, shared: u16, notes: &mut Notes) -> Option<Masks>
     requires known { Known n r t.now notes.old }
     requires own_bound { (own < 2 ^ n) × (shared < 2 ^ n) × Apart n (bit own) (bit shared) }
     ensures { (answer_of result ≡ try_b n r (table_bit t.now) (size n (bit shared)) own shared)
         × Known n r t.now notes.new }
 {
-    if ruled(notes, own as u32, (own as u32) | (shared as u32)) {
-        return Found::Nothing;
+    if notes.ruled(own as u32, (own as u32) | (shared as u32)) {
+        return None;
     }
     if learn(t, n, r, own, shared, notes) {
-        return Found::Nothing;
+        return None;
     }
     attempt(t, n, r, own, shared)
 }
@@ -106,10 +105,7 @@ fn try_pair(t: &[u8], n: u32, r: u32, own: u16, shared: u16, notes: &mut [u32]) 
 fn too_many(left: u16, room: u32) -> bool
     ensures { result ≡ true → room < size 16 (bit left) }
 {
-    if left == 0 {
-        return false;
-    }
-    members(left) > room
+    left != 0 && members(left) > room
 }
 
 // The first possible shared mask for the own mask among those that add k positions below p to acc; each has every
@@ -123,22 +119,22 @@ fn walk_shared(
     p: u32,
     acc: u16,
     k: u32,
-    notes: &mut [u32],
-) -> Found
+    notes: &mut Notes,
+) -> Option<Masks>
     requires known { Known n r t.now notes.old }
     requires shared_range { SharedRange n own p acc × Needs n (table_bit t.now) (2 ^ r) (bit own) need × Outside need own }
     ensures { (answer_of result ≡ over_masks p acc (try_b n r (table_bit t.now) (size n (bit acc) + k) own))
         × Known n r t.now notes.new }
 {
     if k > p {
-        return Found::Nothing;
+        return None;
     }
     let left = need & !acc;
     if too_many(left, k) {
-        return Found::Nothing;
+        return None;
     }
     if ((left as u32) >> p) & 1 == 1 {
-        return Found::Nothing;
+        return None;
     }
     if k == 0 {
         return try_pair(t, n, r, own, acc, notes);
@@ -147,11 +143,11 @@ fn walk_shared(
     let taken = acc + (1 << j);
     let fewer = k - 1;
     let without = walk_shared(t, n, r, own, need, j, acc, k, notes);
-    if let Found::Split(a, b) = without {
-        return Found::Split(a, b);
+    if let Some(found) = without {
+        return Some(found);
     }
     if (own >> j) & 1 == 1 {
-        return Found::Nothing;
+        return None;
     }
     walk_shared(t, n, r, own, need, j, taken, fewer, notes)
 }
@@ -161,25 +157,25 @@ pub fn walk_own<'a>(
     t: &'a [u8],
     n: u32,
     r: u32,
-    pairs: &'a [u16],
+    pairs: &'a Pairs,
     q: u32,
     need: u16,
     p: u32,
     acc: u16,
     k: u32,
-    notes: &mut [u32],
-) -> Found
+    notes: &mut Notes,
+) -> Option<Masks>
     requires known { Known n r t.now notes.old × BadPairs n (table_bit t.now) (2 ^ r) pairs.now }
     requires range { Range n p acc × Needs n (table_bit t.now) (2 ^ r) (bit acc) need × (q ≤ most_inputs) }
     ensures { (answer_of result ≡ over_masks p acc (try_a n r (table_bit t.now) (size n (bit acc) + k) q))
         × Known n r t.now notes.new }
 {
     if k > p {
-        return Found::Nothing;
+        return None;
     }
     let left = need & !acc;
     if too_many(left, q + k) {
-        return Found::Nothing;
+        return None;
     }
     if k == 0 {
         return walk_shared(t, n, r, acc, left, n, 0, q, notes);
@@ -188,8 +184,8 @@ pub fn walk_own<'a>(
     let taken = acc + (1 << j);
     let fewer = k - 1;
     let without = walk_own(t, n, r, pairs, q, need, j, acc, k, notes);
-    if let Found::Split(a, b) = without {
-        return Found::Split(a, b);
+    if let Some(found) = without {
+        return Some(found);
     }
     let more = needed(pairs, acc, j, need);
     walk_own(t, n, r, pairs, q, more, j, taken, fewer, notes)

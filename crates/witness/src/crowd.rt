@@ -7,12 +7,11 @@ ghost use Rattle.witness.specs.Witness.{RulesOut};
 ghost use Rattle.witness.specs.Crowd.{column_over, Seen};
 
 use bits::sets::{members, next, parts};
-use std::num::wrapping_sub_u32;
 use tables::bit_at;
 use tables::words::table_word;
 
 // All the points that differ from `base` at positions of `own` alone, and two offsets.
-#[derive(Clone, Copy)]
+#[derive(Clone, Copy, Debug, PartialEq, Eq)]
 pub struct Crowd {
     pub base: u32,
     pub own: u16,
@@ -47,19 +46,17 @@ fn near(t: &[u8], x: u32, e: u32, f: u32) -> u16
         + 8 * ((w >> (by ^ f)) & 1))
 }
 
-// The same of any offsets.
+// The same of any offsets. `near` and `far` stay two functions: which one is quicker depends on the offsets, and one
+// body for both would read the bits one by one where a word has them all.
 fn mark(t: &[u8], n: u32, x: u32, e: u32, f: u32) -> u16
     requires { (n ≤ most_inputs) × (2 ^ n ≤ 8 * length t.now) × (x < 2 ^ n) × (e < 2 ^ n) × (f < 2 ^ n) }
     ensures { result ≡ 2 ^ column_over (table_bit t.now) e f x }
 {
-    if n >= 6 {
-        if e < 64 {
-            if f < 64 {
-                return near(t, x, e, f);
-            }
-        }
+    if n >= 6 && e < 64 && f < 64 {
+        near(t, x, e, f)
+    } else {
+        far(t, n, x, e, f)
     }
-    far(t, n, x, e, f)
 }
 
 // The columns of all the points, as a mask.
@@ -71,11 +68,9 @@ fn seen(t: &[u8], n: u32, w: Crowd) -> u16
     let many = parts(n, w.own);
     let mut r: u16 = 0;
     let mut x: u32 = 0;
-    let mut v: u32 = 0;
-    while v < many {
+    for _v in 0..many {
         r |= mark(t, n, w.base ^ x, w.e, w.f);
         x = next(n, w.own, x);
-        v += 1;
     }
     r
 }
@@ -86,16 +81,7 @@ fn placed(n: u32, w: Crowd) -> bool
     ensures { result ≡ true → (w.base < 2 ^ n) × (w.own < 2 ^ n) × (w.e < 2 ^ n) × (w.f < 2 ^ n) }
 {
     let all: u32 = 1 << n;
-    if w.base >= all {
-        return false;
-    }
-    if w.own as u32 >= all {
-        return false;
-    }
-    if w.e >= all {
-        return false;
-    }
-    w.f < all
+    w.base < all && (w.own as u32) < all && w.e < all && w.f < all
 }
 
 // Whether the points show more than m columns over the offsets.
@@ -103,13 +89,7 @@ pub fn shows_many(t: &[u8], n: u32, m: u32, w: Crowd) -> bool
     requires { (n ≤ most_inputs) × (2 ^ n ≤ 8 * length t.now) }
     ensures { result ≡ true → RulesOut n (table_bit t.now) m (bit w.own) (bit (bit_or w.e w.f)) }
 {
-    if !placed(n, w) {
-        return false;
-    }
-    if members(seen(t, n, w)) <= m {
-        return false;
-    }
-    true
+    placed(n, w) && members(seen(t, n, w)) > m
 }
 
 // Whether the points from one of a few places on show more than m columns over the offsets.
@@ -119,15 +99,13 @@ pub fn many_somewhere(t: &[u8], n: u32, m: u32, own: u16, e: u32, f: u32) -> boo
 {
     let all: u32 = 1 << n;
     let mut base: u32 = 0;
-    let mut left: u32 = 4;
-    while left > 0 {
+    for _place in 0..4 {
         let w = Crowd { base, own, e, f };
         if shows_many(t, n, m, w) {
             return true;
         }
         // A fifth of the largest table further, and odd, so that the places lie apart whatever n is.
-        base = wrapping_sub_u32(base, 13721) & (all - 1);
-        left -= 1;
+        base = base.wrapping_sub(13721) & (all - 1);
     }
     false
 }

@@ -14,10 +14,7 @@ use tables::words::bits_from;
 pub fn off(j: u32) -> u64
     ensures { Off j result }
 {
-    if j < 6 {
-        return !of_input(j);
-    }
-    0xFFFF_FFFF_FFFF_FFFF
+    if j < 6 { !of_input(j) } else { u64::MAX }
 }
 
 // The positions that step from word to word, without those of `own`.
@@ -68,16 +65,11 @@ pub fn bad(t: &[u8], n: u32, places: u64, i: u32, j: u32, c: u32, reach: u32) ->
     let high = steps(n, p | q | d);
     let many = parts(n, high);
     let mut x: u32 = 0;
-    let mut v: u32 = 0;
-    while v < many {
-        if v == reach {
-            return false;
-        }
+    for _v in 0..many.min(reach) {
         if clash(t, n, x, d, p, q) & here != 0 {
             return true;
         }
         x = next(n, high, x);
-        v += 1;
     }
     false
 }

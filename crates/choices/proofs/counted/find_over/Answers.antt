@@ -31,8 +31,9 @@ pub returns : goal.returns
 returns c =
     let a = c.args in
     let x = a.counting in (
-      c.spread_back.ensures ∙ ap (spread_choice a.n (bit x.mask)) c.find_upto-found.ensures.0
+      c.spread_back.ensures.0 ∙ ap (spread_choice a.n (bit x.mask)) c.find_upto-found.ensures.0
           ∙ over_found a.n most_first a.k (table_bit a.t.now) x c.set_aside.new.room c.requires.2
           c.set_aside.ensures,
       c.clear.ensures ∙ ap (λ (z : ℕ). replicate z 0) c.set_aside.auto.room,
+      c.spread_back.ensures.1,
     )

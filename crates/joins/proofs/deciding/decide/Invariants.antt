@@ -2,7 +2,7 @@ use mathlib.Core.Bool.{Bool}
 use Prim.Native.Nat.{ℕ, ◌+◌}
 use Rattle.tables.specs.Table.{table_bit}
 use Rattle.joins.specs.declared.pairs.Left.{Left}
-use Rattle.joins.specs.Left.{gate_left, Unfixed, Partnered, Reduced, DecidedFrom}
+use Rattle.joins.specs.Left.{Unfixed, Reduced, DecidedFrom}
 use Rattle.joins.proofs.deciding.decide.Given as goal
 
 -- what holds of what is left while j is looked at
@@ -12,8 +12,7 @@ pub record Looked (n : ℕ) (F : ℕ → Bool) (g : Left) (j : ℕ) : Type 0 whe
   pub unfixed : Unfixed n g j
 
 abbrev pub invariant-loop-p : goal.invariant-loop-p
-invariant-loop-p l =
-    Looked l.n (table_bit l.t) l.g l.j × Partnered l.n (gate_left l.n (table_bit l.t) l.g) l.g.decided l.j l.p
+invariant-loop-p l = Looked l.n (table_bit l.t) l.g l.j
 
 abbrev pub decreases-loop-p : goal.decreases-loop-p
 decreases-loop-p l = l.g.decided

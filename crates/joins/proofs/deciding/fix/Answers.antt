@@ -3,6 +3,7 @@ use mathlib.Core.Path.{◌≡◌, ap₂}
 use Prim.Native.Nat.{ℕ, ◌+◌, ◌-◌, ◌*◌, ◌%◌, ◌^◌, ◌<◌, ◌≤◌}
 use native.Mathlib.Omega.{arith}
 use lib.Pow.{pow_mono}
+use mir.Val.{bool_byte}
 use Rattle.bits.specs.Numbers.{bit, val}
 use Rattle.bits.proofs.Machine.{shl_one}
 use Rattle.bits.proofs.Single.{plus_lt}
@@ -20,16 +21,16 @@ module _ (c : lts.Start reads.Pre reads.Post tie.handed_clauses) where
   one : 1 * 2 ^ c.args.i % 2 ^ 16 ≡ 2 ^ c.args.i
   one = shl_one 16 c.args.i (omega (arith, c.requires.n_le_most_inputs.0, c.requires.n_le_most_inputs.2.0))
 
-  value : c.args.v * 2 ^ c.args.i % 2 ^ 32 ≡ val (bit c.args.v 0) * 2 ^ c.args.i
-  value = value-shl c.args.v c.args.i c.requires.i_value.1 (omega (arith, c.requires.n_le_most_inputs.0, c.requires.n_le_most_inputs.2.0))
+  value : bool_byte c.args.v * 2 ^ c.args.i % 2 ^ 32 ≡ val c.args.v * 2 ^ c.args.i
+  value = value-shl c.args.v c.args.i (omega (arith, c.requires.n_le_most_inputs.0, c.requires.n_le_most_inputs.2.0))
 
   mask_lt : c.args.g.fixed + 2 ^ c.args.i < 2 ^ c.args.n
   mask_lt = plus_lt c.args.n c.args.g.fixed c.args.i c.requires.n_le_most_inputs.1.below c.requires.n_le_most_inputs.2.0
       c.requires.n_le_most_inputs.2.1
 
-  at_lt : c.args.g.at + val (bit c.args.v 0) * 2 ^ c.args.i < 2 ^ c.args.n
+  at_lt : c.args.g.at + val c.args.v * 2 ^ c.args.i < 2 ^ c.args.n
   at_lt = value-lt c.args.n (λ x. bit 0 0) c.args.g.fixed c.args.g.at c.requires.n_le_most_inputs.1.below
-      c.requires.n_le_most_inputs.1.within c.args.i c.requires.n_le_most_inputs.2.0 c.requires.n_le_most_inputs.2.1 (bit c.args.v 0)
+      c.requires.n_le_most_inputs.1.within c.args.i c.requires.n_le_most_inputs.2.0 c.requires.n_le_most_inputs.2.1 c.args.v
 
 pub overflow_add-result : goal.overflow_add-result
 overflow_add-result c =
@@ -44,7 +45,7 @@ overflow_sub-result c =
     omega (
       arith,
       one c.before.before.before,
-      less_sum c.args.n c.args.g.decided c.args.i c.requires.n_le_most_inputs.3 c.requires.n_le_most_inputs.2.0 c.requires.i_value.0,
+      less_sum c.args.n c.args.g.decided c.args.i c.requires.n_le_most_inputs.3 c.requires.n_le_most_inputs.2.0 c.requires.decided,
     )
 
 pub returns : goal.returns

@@ -12,8 +12,4 @@ abbrev pub NoneFrom : ℕ → (ℕ → Bool) → ℕ → ℕ → ℕ → Type 0
 NoneFrom n G mask j i = (k : ℕ) → i ≤ k → bit mask k ≡ true → (v : Bool) → StandsFor n G k j v → ⊥
 
 abbrev pub invariant-loop-i : goal.invariant-loop-i
-invariant-loop-i l =
-    (l.i ≤ l.n) × NoneFrom l.n (gate_left l.n (table_bit l.t) l.g) l.g.decided l.j l.i
-
-abbrev pub decreases-loop-i : goal.decreases-loop-i
-decreases-loop-i l = l.i
+invariant-loop-i l = NoneFrom l.n (gate_left l.n (table_bit l.t) l.g) l.g.decided l.j l.i

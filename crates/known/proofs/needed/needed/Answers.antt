@@ -1,23 +1,18 @@
 -- Each turn adds what the table says of one pair; a member less is left. Assumes nothing.
-use Prim.Native.Nat.{◌-◌}
-use Rattle.known.proofs.Keeping.{adds_none, adds_both}
-use lib.Bits.{and_le_r}
-use native.Mathlib.Omega.{arith}
+use Rattle.std.proofs.Common.{ℕ, sym, subst, arith}
+use Rattle.bits.proofs.Machine.{bit-set}
+use Rattle.known.specs.Notes.{Adds}
+use Rattle.known.proofs.Keeping.{adds_both, adds_pair}
 use Rattle.known.proofs.needed.needed.Goals as goal
-
-pub loop-x-init : goal.loop-x-init
-loop-x-init c = adds_none _ _ _ _
-
-pub loop-x-smaller : goal.loop-x-smaller
-loop-x-smaller c =
-    omega (
-      arith,
-      and_le_r c.loop-x.x (c.loop-x.x - 1),
-      c.loop-x-test.true,
-    )
+use Rattle.known.proofs.needed.needed.Goals.{then-acc-i-eq1, else-acc-i-eq1}
 
 pub loop-x-preserved : goal.loop-x-preserved
-loop-x-preserved c = adds_both _ _ _ c.loop-x.invariant c.with_pair-more.ensures
-
-pub returns : goal.returns
-returns c = c.loop-x.invariant
+loop-x-preserved c =
+    let a = c.args in
+    let l = c.loop-x in
+    let adds : ℕ → Type 0 = Adds a.pairs.now a.acc a.j a.need in
+    elim c.if-acc-i-eq1.branch [
+      | then-acc-i-eq1 w ↦ subst adds (sym w.more-is) (adds_both _ _ _ l.invariant (adds_pair _ a.acc a.j _ l.more
+          (omega arith) c.requires (bit-set a.acc _ w.if-acc-i-eq1.true)))
+      | else-acc-i-eq1 w ↦ subst adds (sym w.more-is) l.invariant
+    ]

@@ -3,4 +3,4 @@ use Rattle.known.proofs.Keeping.{pairs-blank}
 use Rattle.known.proofs.pairs.unknown.Goals as goal
 
 pub returns : goal.returns
-returns = (λ c n m F. pairs-blank)
+returns c n m F = pairs-blank

@@ -1,5 +1,5 @@
 -- `known::pairs::with_bad` meets its contract: what the triple rules out joins the mask. Assumes nothing.
-use native.Mathlib.Omega.{arith}
+use Rattle.std.proofs.Common.{arith}
 use Rattle.bits.proofs.Machine.{shl_one}
 use Rattle.best.specs.Moves.{both}
 use Rattle.known.proofs.Keeping.{needs_or, needs_power}
@@ -11,12 +11,3 @@ returns-then-bad c =
     needs_or (both a.i a.j) _ _ c.requires.needs
     (needs_power (both a.i a.j) a.c _ (shl_one 16 a.c (omega (arith, c.requires.wide.0.most, c.requires.wide.3)))
     (c.bad.ensures c.if-bad.true))
-
-pub returns-then-c-i : goal.returns-then-c-i
-returns-then-c-i c = c.requires.needs
-
-pub returns-then-c-j : goal.returns-then-c-j
-returns-then-c-j c = c.requires.needs
-
-pub returns : goal.returns
-returns c = c.requires.needs

@@ -1,6 +1,7 @@
 -- The loop keeps that behind the cells so far stands the chain of the table at hand. Assumes nothing.
 use mathlib.Core.Path.{◌≡◌, refl, sym, ap, ap₂, ◌∙◌, subst}
-use Rattle.std.proofs.Common.{Bool, Some, None}
+use mathlib.Core.Bool.{Bool, true}
+use Rattle.std.proofs.Common.{Option, Some}
 use mathlib.Core.List.{[], ◌∷◌, ◌++◌}
 use Prim.Native.Nat.{ℕ, ◌^◌}
 use native.Mathlib.Omega.{arith}
@@ -13,7 +14,6 @@ use Rattle.choices.specs.declared.over.Chosen.{Chosen}
 use Rattle.choices.specs.Chosen.{choice_of}
 use Rattle.choices.specs.Search.{choice, best_up_to}
 use Rattle.choices.proofs.Best.{upto_best}
-use Rattle.choices.proofs.Choosing.{is_nothing_lem, is_choice}
 use Rattle.sheets.specs.Network.{Cell}
 use Rattle.sheets.specs.Held.{network_cell}
 use Rattle.chains.specs.Chain.{made, last_cell}
@@ -44,8 +44,8 @@ pub slice_bounds-find_upto-end-in-loop-signals : goal.slice_bounds-find_upto-end
 slice_bounds-find_upto-end-in-loop-signals c =
     let q = c.loop-signals in sym (half_whole q.work q.invariant.0.long)
 
-pub find_upto-found-requires : goal.find_upto-found-requires
-find_upto-found-requires c =
+pub find_upto-requires : goal.find_upto-requires
+find_upto-requires c =
     let q = c.loop-signals in (
       q.invariant.0.listed.few,
       c.requires.n_le_most_inputs.1,
@@ -53,29 +53,29 @@ find_upto-found-requires c =
       omega (arith, c.requires.n_le_most_inputs.3),
     )
 
-pub shape_of-work-then-found-eq0 : goal.shape_of-work-then-found-eq0
-shape_of-work-then-found-eq0 c = c.loop-signals.invariant.1
+pub shape_of-work-in_default : goal.shape_of-work-in_default
+shape_of-work-in_default c = c.loop-signals.invariant.1
 
-pub returns-then-found-eq0 : goal.returns-then-found-eq0
-returns-then-found-eq0 c =
+pub returns-in_default : goal.returns-in_default
+returns-in_default c =
     let q = c.loop-signals in
     subst (Tells None) (sym (following_stops c.args.n c.args.most c.args.k _ q.pile
     q.signals q.work q.invariant.0 c.loop-signals-test.true
-    (sym c.find_upto-found.ensures.0 ∙ is_nothing_lem c.find_upto-found.result c.if-found-eq0.true))) tt
+    (sym c.find_upto.ensures.0 ∙ ap choice_of c.in_default.is))) tt
 
 pub of-s-requires : goal.of-s-requires
 of-s-requires c =
-    let f = c.find_upto-found.result in
+    let f = c.in-Some.found in
     let q = c.loop-signals in
-    let found_split = sym c.find_upto-found.ensures.0 ∙ is_choice f c.if-found-eq0.false in
+    let found_split = sym c.find_upto.ensures.0 ∙ ap choice_of c.in-Some.is in
     let b = (upto_best q.signals.count c.args.k (at_hand q.work) c.args.most f.first f.own
     f.shared).0 found_split in
     (q.invariant.0.listed.few, b.works.candidate.below_a, b.works.candidate.below_b, b.works.candidate.apart)
 
 -- what was found, of the split that the code made of it
-made_split : (n k most : ℕ) (F : ℕ → Bool) (f : Chosen) (s : Split) → choice_of f ≡ best_up_to n F k most
-    → (f.first ≡ 0 → ⊥) → s.own ≡ f.own → s.shared ≡ f.shared → best_up_to n F k most ≡ choice f.first s.own s.shared
-made_split n k most F f s e g own shared = sym e ∙ is_choice f g ∙ ap₂ (choice f.first) (sym own) (sym shared)
+made_split : (n k most : ℕ) (F : ℕ → Bool) (r : Option Chosen) (f : Chosen) (s : Split) → choice_of r ≡ best_up_to n F k most
+    → r ≡ Some f → s.own ≡ f.own → s.shared ≡ f.shared → best_up_to n F k most ≡ choice f.first s.own s.shared
+made_split n k most F r f s e g own shared = sym e ∙ ap choice_of g ∙ ap₂ (choice f.first) (sym own) (sym shared)
 
 pub overflow_add-next : goal.overflow_add-next
 overflow_add-next c =
@@ -92,10 +92,10 @@ step-stepped-requires c =
     let q = c.loop-signals in
     let e = c.of-s.ensures in
     let w = split_sound c.of-s.result q.signals.count c.args.most c.args.k
-    c.find_upto-found.result.first (at_hand q.work)
+    c.in-Some.found.first (at_hand q.work)
     c.of-s.ensures.1 c.requires.n_le_most_inputs.3 c.requires.n_le_most_inputs.1
-    (made_split c.loop-signals.signals.count c.args.k c.args.most (at_hand c.loop-signals.work) c.find_upto-found.result
-    c.of-s.result c.find_upto-found.ensures.0 c.if-found-eq0.false c.of-s.ensures.2 c.of-s.ensures.3) in
+    (made_split c.loop-signals.signals.count c.args.k c.args.most (at_hand c.loop-signals.work) _ c.in-Some.found
+    c.of-s.result c.find_upto.ensures.0 c.in-Some.is c.of-s.ensures.2 c.of-s.ensures.3) in
     let u = q.invariant.0 in record {
       held = (e.0, u.listed, e.1, u.long, w.some, w.most, w.candidate);
       count_le_count = (
@@ -111,16 +111,16 @@ loop-signals-smaller c =
     let q = c.loop-signals in
     following_shrinks c.args.n c.args.most c.args.k _ q.pile q.signals q.work q.invariant.0
     c.of-s.result _ c.of-s.ensures.1 c.loop-signals-test.true
-    c.requires.n_le_most_inputs.1 (made_split c.loop-signals.signals.count c.args.k c.args.most (at_hand c.loop-signals.work) c.find_upto-found.result
-    c.of-s.result c.find_upto-found.ensures.0 c.if-found-eq0.false c.of-s.ensures.2 c.of-s.ensures.3) c.step-stepped.result _ c.step-stepped.ensures
+    c.requires.n_le_most_inputs.1 (made_split c.loop-signals.signals.count c.args.k c.args.most (at_hand c.loop-signals.work) _ c.in-Some.found
+    c.of-s.result c.find_upto.ensures.0 c.in-Some.is c.of-s.ensures.2 c.of-s.ensures.3) c.step-stepped.result _ c.step-stepped.ensures
 
 pub loop-signals-preserved : goal.loop-signals-preserved
 loop-signals-preserved c =
     let q = c.loop-signals in (
       following_goes c.args.n c.args.most c.args.k _ q.pile q.signals q.work q.invariant.0
           c.of-s.result _ c.of-s.ensures.1 c.loop-signals-test.true
-          c.requires.n_le_most_inputs.1 (made_split c.loop-signals.signals.count c.args.k c.args.most (at_hand c.loop-signals.work) c.find_upto-found.result
-          c.of-s.result c.find_upto-found.ensures.0 c.if-found-eq0.false c.of-s.ensures.2 c.of-s.ensures.3) c.step-stepped.result _ c.step-stepped.ensures,
+          c.requires.n_le_most_inputs.1 (made_split c.loop-signals.signals.count c.args.k c.args.most (at_hand c.loop-signals.work) _ c.in-Some.found
+          c.of-s.result c.find_upto.ensures.0 c.in-Some.is c.of-s.ensures.2 c.of-s.ensures.3) c.step-stepped.result _ c.step-stepped.ensures,
       c.step-stepped.ensures.table.long ∙ q.invariant.1,
     )
 

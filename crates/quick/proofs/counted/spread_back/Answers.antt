@@ -1,17 +1,17 @@
 -- Each mask is spread by itself. Assumes nothing.
-use mathlib.Core.Path.{refl, sym, ap, ap₂, ◌∙◌}
+use Rattle.std.proofs.Common.{Option, refl, sym, ap, ap₂, ◌∙◌}
 use Rattle.bits.specs.Numbers.{bit}
-use Rattle.best.specs.declared.Found.{Found}
+use Rattle.best.specs.declared.Masks.{Masks}
 use Rattle.best.specs.Answers.{answer_of}
 use Rattle.best.specs.Search.{split}
 use Rattle.best.specs.Counting.{spread_answer}
 use Rattle.quick.proofs.counted.spread_back.Goals as goal
 
-pub returns : goal.returns
-returns c =
+pub returns-in-Some : goal.returns-in-Some
+returns-in-Some c =
     let a = c.args in (
       refl,
-      ap₂ split c.spread_mask-a.ensures c.spread_mask-b.ensures
-          ∙ sym (ap (λ (f : Found). spread_answer a.n (bit a.mask) (answer_of f))
-          c.in-Split.is),
+      ap₂ split c.spread_mask.ensures c.spread_mask-in-Some.ensures
+          ∙ sym (ap (λ (f : Option Masks). spread_answer a.n (bit a.mask) (answer_of f))
+          c.in-Some.is),
     )

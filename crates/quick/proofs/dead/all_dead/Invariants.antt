@@ -1,9 +1,9 @@
-use Prim.Native.Nat.{◌-◌, ◌≤◌}
-use Rattle.known.specs.Notes.{AllDead}
+use Rattle.std.proofs.Common.{ℕ, ◌<◌}
+use Rattle.known.specs.Notes.{of_pair, Dead, AllDead}
 use Rattle.quick.proofs.dead.all_dead.Given as goal
 
-abbrev pub invariant-loop-at : goal.invariant-loop-at
-invariant-loop-at l = (l.at ≤ 256) × AllDead l.pairs l.n l.k l.at
+abbrev pub invariant-loop-i : goal.invariant-loop-i
+invariant-loop-i l = AllDead l.pairs l.i l.k
 
-abbrev pub decreases-loop-at : goal.decreases-loop-at
-decreases-loop-at l = 256 - l.at
+abbrev pub invariant-loop-j : goal.invariant-loop-j
+invariant-loop-j l = (j : ℕ) → j < l.j → Dead (of_pair l.pairs l.i j) l.i j l.k

@@ -6,7 +6,6 @@ use lib.Bits.{bit_or, or_lt}
 use lib.Pow.{pow-lt}
 use Rattle.bits.proofs.Machine.{shl_one}
 use Rattle.tables.specs.Table.{most_inputs}
-use Rattle.witness.proofs.Points.{said_no}
 use Rattle.quick.proofs.Taking.{owns_big, owns_leaf, owns_next}
 use Rattle.quick.proofs.owning.+none_owns.Goals as goal
 
@@ -28,12 +27,9 @@ none_owns-requires t c =
     let h = c.requires in
     (omega (arith, c.decreases, c.if-left-p.false, c.if-left-eq0.false), (h.0, h.1, h.2, h.3, h.4, omega (arith, h.5)))
 
-pub returns-then-not-none_owns : goal.returns-then-not-none_owns
-returns-then-not-none_owns t c = said_no
-
 -- with it
-pub none_owns-requires-2 : goal.none_owns-requires-2
-none_owns-requires-2 t c =
+pub none_owns-requires-then-none_owns : goal.none_owns-requires-then-none_owns
+none_owns-requires-then-none_owns t c =
     let a = c.args in
     let h = c.requires in
     let d : 0 < a.p = omega (arith, c.if-left-p.false, c.if-left-eq0.false) in (
@@ -52,10 +48,10 @@ none_owns-requires-2 t c =
       ),
     )
 
-pub returns : goal.returns
-returns t c e =
+pub returns-then-none_owns : goal.returns-then-none_owns
+returns-then-none_owns t c e =
     let a = c.args in
     let h = c.requires in
     let d : 0 < a.p = omega (arith, c.if-left-p.false, c.if-left-eq0.false) in
     owns_next (a.p - 1) a.p a.left _ (omega (arith, d)) (ap (bit_or a.acc) (one a.n a.p h.0 h.5 d))
-    (c.none_owns.ensures c.if-not-none_owns.false) (c.none_owns-2.ensures e)
+    (c.none_owns.ensures c.if-none_owns.true) (c.none_owns-then-none_owns.ensures e)

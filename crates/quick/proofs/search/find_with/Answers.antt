@@ -5,8 +5,8 @@ use Rattle.best.specs.Answers.{answer_of}
 use Rattle.best.proofs.Best.{above_all}
 use Rattle.quick.proofs.search.find_with.Goals as goal
 
-pub returns-in-Split : goal.returns-in-Split
-returns-in-Split c = sym (c.first_try-early.ensures _ _ (ap answer_of c.in-Split.is)).0
+pub returns-in-Some : goal.returns-in-Some
+returns-in-Some c = sym (c.first_try.ensures _ _ (ap answer_of c.in-Some.is)).0
 
 pub returns : goal.returns
 returns c =

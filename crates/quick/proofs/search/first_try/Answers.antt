@@ -70,8 +70,5 @@ returns c A B e =
 pub returns-then-k-r : goal.returns-then-k-r
 returns-then-k-r = (λ c A B e. absurd (found_none refl e))
 
-pub returns-then-n-k : goal.returns-then-n-k
-returns-then-n-k = (λ c A B e. absurd (found_none refl e))
-
 pub overflow_shl-all : goal.overflow_shl-all
 overflow_shl-all c = omega (arith, c.requires.0, c.if-n-k.false)

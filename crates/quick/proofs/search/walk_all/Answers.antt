@@ -20,24 +20,24 @@ loop-i-init c = (
   },
 )
 
-pub with_own-found-requires : goal.with_own-found-requires
-with_own-found-requires c =
+pub with_own-requires : goal.with_own-requires
+with_own-requires c =
     (c.loop-i.invariant.1, c.requires.bad_pairs, omega (arith, c.requires.n_le_most_inputs.3, c.loop-i-test.true))
 
-pub returns-in-Split : goal.returns-in-Split
-returns-in-Split c =
+pub returns-in-Some : goal.returns-in-Some
+returns-in-Some c =
     let a = c.args in
     yet_stops c.loop-i.invariant.0
     (omega (arith, c.loop-i-test.true))
-    (sym c.with_own-found.ensures.0 ∙ ap answer_of c.in-Split.is)
+    (sym c.with_own.ensures.0 ∙ ap answer_of c.in-Some.is)
     ∙ above_best a.n a.r (table_bit a.t.now) a.k a.low c.requires.n_le_most_inputs.4
 
 pub loop-i-preserved : goal.loop-i-preserved
 loop-i-preserved c = (
   yet_goes c.loop-i.invariant.0
       (omega (arith, c.loop-i-test.true))
-      (sym c.with_own-found.ensures.0 ∙ ap answer_of c.in_default.is),
-  c.with_own-found.ensures.1,
+      (sym c.with_own.ensures.0 ∙ ap answer_of c.in_default.is),
+  c.with_own.ensures.1,
 )
 
 pub returns : goal.returns
@@ -45,7 +45,3 @@ returns c =
     let a = c.args in
     yet_ends c.loop-i.invariant.0 (omega (arith, c.loop-i-test.false))
     ∙ above_best a.n a.r (table_bit a.t.now) a.k a.low c.requires.n_le_most_inputs.4
-
-pub overflow_add-i : goal.overflow_add-i
-overflow_add-i c =
-    omega (arith, c.requires.n_le_most_inputs.1, c.requires.n_le_most_inputs.3, c.loop-i.invariant.0.upto)

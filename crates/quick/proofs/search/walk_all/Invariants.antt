@@ -1,4 +1,4 @@
-use Prim.Native.Nat.{◌+◌, ◌-◌}
+use Rattle.std.proofs.Common.{◌+◌, ◌-◌}
 use Rattle.tables.specs.Table.{table_bit}
 use Rattle.best.specs.Search.{first, of_sizes}
 use Rattle.best.proofs.First.{NoneYet}
@@ -9,6 +9,3 @@ abbrev pub invariant-loop-i : goal.invariant-loop-i
 invariant-loop-i l =
     NoneYet (l.k - l.low) (λ j. first (j + 1) (of_sizes l.n l.r (table_bit l.t) (l.k - j)))
     l.i × Known l.n l.r l.t l.notes
-
-abbrev pub decreases-loop-i : goal.decreases-loop-i
-decreases-loop-i l = l.k - l.low - l.i

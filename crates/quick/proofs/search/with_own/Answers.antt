@@ -13,8 +13,8 @@ use Rattle.quick.proofs.search.with_own.Reads as reads
 use Rattle.quick.proofs.search.with_own.Tie as tie
 use Rattle.quick.proofs.search.with_own.Goals as goal
 
-pub walk_own-found-requires : goal.walk_own-found-requires
-walk_own-found-requires c =
+pub walk_own-requires : goal.walk_own-requires
+walk_own-requires c =
     let l = c.loop-q in record {
       known = (l.invariant.1, c.requires.1);
       range = (
@@ -28,35 +28,25 @@ walk_own-found-requires c =
 -- what the walk answers
 told : (c : lts.After-walk_own tie.the-claims reads.Pre reads.Post goal.the-invariant-loop-q goal.the-decreases-loop-q tie.handed_clauses)
     → let a = c.args in of_sizes a.n a.r (table_bit a.t.now) a.p c.loop-q.q
-    ≡ answer_of c.walk_own-found.result
+    ≡ answer_of c.walk_own.result
 told c =
     let a = c.args in
     sym (start_whole a.n a.p (λ p. try_a a.n a.r (table_bit a.t.now) p
-    c.loop-q.q)) ∙ sym c.walk_own-found.ensures.0
+    c.loop-q.q)) ∙ sym c.walk_own.ensures.0
 
-pub shape_of-notes-in-Split : goal.shape_of-notes-in-Split
-shape_of-notes-in-Split c =
-    c.walk_own-found.ensures.1.learned.long
-    ∙ sym c.requires.0.learned.long
-
-pub returns-in-Split : goal.returns-in-Split
-returns-in-Split c = (
+pub returns-in-Some : goal.returns-in-Some
+returns-in-Some c = (
   yet_stops c.loop-q.invariant.0 (omega arith)
-      (told c.before.before.before.before ∙ ap answer_of c.in-Split.is),
-  c.walk_own-found.ensures.1,
+      (told c.before.before ∙ ap answer_of c.in-Some.is),
+  c.walk_own.ensures.1,
 )
 
 pub loop-q-preserved : goal.loop-q-preserved
 loop-q-preserved c = (
   yet_goes c.loop-q.invariant.0 (omega arith)
-      (told c.before.before.before.before ∙ ap answer_of c.in_default.is),
-  c.walk_own-found.ensures.1,
+      (told c.before.before ∙ ap answer_of c.in_default.is),
+  c.walk_own.ensures.1,
 )
-
-pub shape_of-notes : goal.shape_of-notes
-shape_of-notes c =
-    c.loop-q.invariant.1.learned.long
-    ∙ sym c.requires.0.learned.long
 
 pub loop-q-init : goal.loop-q-init
 loop-q-init c = (yet_starts, c.requires.0)

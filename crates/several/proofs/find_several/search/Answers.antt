@@ -13,8 +13,8 @@ use Rattle.tables.proofs.Work.{half-holds}
 use Rattle.refusals.specs.Verdicts.{Verdict, Fine}
 use Rattle.refusals.specs.Lines.{line, verdict, reply}
 use Rattle.choices.specs.Search.{Choice}
-use Rattle.several.specs.FindSeveral.{FindSeveralAnswer, FindSeveralOutcome, best_several, none_several, several_done, several_not}
-use Rattle.choices.proofs.Choosing.{is_nothing_lem, is_choice}
+use Rattle.several.specs.FindSeveral.{FindSeveralOutcome, best_several, none_several, several_done, several_not}
+use Rattle.choices.specs.Chosen.{choice_of}
 use Rattle.several.proofs.find_several.search.Lts as lts
 use Rattle.several.proofs.find_several.search.Reads as reads
 use Rattle.several.proofs.find_several.search.Tie as tie
@@ -44,28 +44,28 @@ returns-then-counting-k c =
     ∙ ap (λ (few : Bool). answered a.work.now few (best_several a.n a.k a.t.now))
     (sym (le-leb (count c.before.before.before.before.before) a.k (omega (arith, c.counting_inputs-counting.ensures.count, c.if-counting-k.true))))
 
-pub find_over-found-requires : goal.find_over-found-requires
-find_over-found-requires c =
+pub find_over-requires : goal.find_over-requires
+find_over-requires c =
     let p = (g c.before.before.before.before).requires in
     (p.2, p.0, c.counting_inputs-counting.ensures, p.1, omega (arith, p.2, p.3, half-holds (g c.before.before.before.before).args.n p.0))
 
-pub returns-then-found-eq0 : goal.returns-then-found-eq0
-returns-then-found-eq0 c =
-    let a = (g c.before.before.before.before.before.before.before.before.before.before.before).args in
+pub returns-in_default : goal.returns-in_default
+returns-in_default c =
+    let a = (g c.before.before.before.before.before.before.before.before.before.before).args in
     ap₂ (λ (x : FindSeveralAnswer) (l : List ℕ). record { answer = x; work = l })
-    (c.without-then-found-eq0.ensures ∙ ap refused c.refuse-then-found-eq0.ensures) c.find_over-found.ensures.1
+    (c.without-in_default.ensures ∙ ap refused c.refuse-in_default.ensures) c.find_over.ensures.1
     ∙ ap₂ (answered a.work.now)
-    (sym (lt-leb (count c.before.before.before.before.before.before.before.before.before.before.before) a.k (omega (arith, c.counting_inputs-counting.ensures.count, c.if-counting-k.false))))
-    (sym (is_nothing_lem c.find_over-found.result c.if-found-eq0.true) ∙ c.find_over-found.ensures.0)
+    (sym (lt-leb (count c.before.before.before.before.before.before.before.before.before.before) a.k (omega (arith, c.counting_inputs-counting.ensures.count, c.if-counting-k.false))))
+    (ap choice_of (sym c.in_default.is) ∙ c.find_over.ensures.0)
 
 pub returns : goal.returns
 returns c =
-    let a = (g c.before.before.before.before.before.before.before.before.before).args in
-    let r = c.find_over-found.result in
+    let a = (g c.before.before.before.before.before.before.before.before).args in
+    let r = c.in-Some.found in
     ap (λ (l : List ℕ). record {
       answer = record { verdict = Fine; first = r.first; own = r.own; shared = r.shared };
       work = l;
-    }) c.find_over-found.ensures.1
+    }) c.find_over.ensures.1
     ∙ ap₂ (answered a.work.now)
-    (sym (lt-leb (count c.before.before.before.before.before.before.before.before.before) a.k (omega (arith, c.counting_inputs-counting.ensures.count, c.if-counting-k.false))))
-    (sym (is_choice r c.if-found-eq0.false) ∙ c.find_over-found.ensures.0)
+    (sym (lt-leb (count c.before.before.before.before.before.before.before.before) a.k (omega (arith, c.counting_inputs-counting.ensures.count, c.if-counting-k.false))))
+    (ap choice_of (sym c.in-Some.is) ∙ c.find_over.ensures.0)

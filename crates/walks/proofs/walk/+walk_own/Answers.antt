@@ -69,13 +69,13 @@ walk_own-without-requires t c =
     let d = turn c.args.k h.0 c.if-k-p.false c.if-k-eq0.false in
     (omega (arith, c.decreases, d.down), (c.requires.known, (d.out, h.1, h.2)))
 
-pub returns-in-Split : goal.returns-in-Split
-returns-in-Split t c =
+pub returns-in-Some : goal.returns-in-Some
+returns-in-Some t c =
     let a = c.args in
     let h = c.requires.range in (
       sym (walk_found (own_tries a.n a.r (table_bit a.t.now) a.q) h.0 a.k
           (turn a.k h.0 c.if-k-p.false c.if-k-eq0.false) _ _
-          (sym c.walk_own-without.ensures.0 ∙ ap answer_of c.in-Split.is)),
+          (sym c.walk_own-without.ensures.0 ∙ ap answer_of c.in-Some.is)),
       c.walk_own-without.ensures.1,
     )
 
@@ -84,7 +84,7 @@ pub needed-more-requires : goal.needed-more-requires
 needed-more-requires t c =
     let h = c.requires.range in
     let d = turn c.args.k h.0 c.if-k-p.false c.if-k-eq0.false in
-    (c.requires.known.1.long, omega (arith, d.inside, h.0.most))
+    omega (arith, d.inside, h.0.most)
 
 pub walk_own-requires : goal.walk_own-requires
 walk_own-requires t c =

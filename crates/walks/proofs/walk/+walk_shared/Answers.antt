@@ -56,13 +56,13 @@ overflow_add-taken t c =
     record { fits = mask_fits (turn c.args.k c.requires.shared_range.0.range c.if-k-p.false c.if-k-eq0.false).taken }
 
 -- the masks without the position: k is from 1 to p, and the highest open position is left out, then taken in
-pub returns-in-Split : goal.returns-in-Split
-returns-in-Split t c =
+pub returns-in-Some : goal.returns-in-Some
+returns-in-Some t c =
     let a = c.args in
     let w = c.requires.shared_range.0 in (
       sym (walk_found (shared_tries a.n a.r (table_bit a.t.now) a.own) w.range a.k
           (turn a.k w.range c.if-k-p.false c.if-k-eq0.false) _ _
-          (sym c.walk_shared-without.ensures.0 ∙ ap answer_of c.in-Split.is)),
+          (sym c.walk_shared-without.ensures.0 ∙ ap answer_of c.in-Some.is)),
       c.walk_shared-without.ensures.1,
     )
 

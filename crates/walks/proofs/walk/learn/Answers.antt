@@ -8,8 +8,8 @@ use Rattle.witness.proofs.Points.{said_no}
 use Rattle.walks.proofs.Learning.{learned_one}
 use Rattle.walks.proofs.walk.learn.Goals as goal
 
-pub look-found-requires : goal.look-found-requires
-look-found-requires c =
+pub look-requires : goal.look-requires
+look-requires c =
     let e = sym c.of.ensures.1 in (
       subst (λ (n : ℕ). n ≤ most_inputs) e c.requires.known.most,
       subst (λ (n : ℕ). 2 ^ n ≤ 8 * length c.args.t.now) e c.requires.known.long,
@@ -17,18 +17,13 @@ look-found-requires c =
 
 pub returns : goal.returns
 returns c =
-    learned_one c.requires.known 2 _ _ c.args.own c.args.shared _
+    learned_one c.requires.known 2 _ c.args.own c.args.shared _
     (sym (ap (λ (r : ℕ). 2 ^ r) c.if-r-ne1.false))
     (c.shows.ensures (c.if-not-shows.false)) c.keep.ensures c.requires.own_bound.2
     c.meets.ensures
 
 pub learn_many-requires : goal.learn_many-requires
 learn_many-requires c = c.requires
-
-pub shape_of-notes-then-r-ne1 : goal.shape_of-notes-then-r-ne1
-shape_of-notes-then-r-ne1 c =
-    c.learn_many.ensures.1.learned.long
-    ∙ sym c.requires.known.learned.long
 
 pub returns-then-r-ne1 : goal.returns-then-r-ne1
 returns-then-r-ne1 c = c.learn_many.ensures
@@ -40,14 +35,11 @@ pub of-requires : goal.of-requires
 of-requires c =
     (c.requires.known.most, c.requires.own_bound.0, c.requires.own_bound.1, c.requires.own_bound.2)
 
-pub returns-then-found : goal.returns-then-found
-returns-then-found c = (said_no, c.requires.known)
+pub returns-in_default : goal.returns-in_default
+returns-in_default c = (said_no, c.requires.known)
 
 pub returns-then-not-shows : goal.returns-then-not-shows
 returns-then-not-shows c = (
   said_no,
   c.requires.known,
 )
-
-pub keep-requires : goal.keep-requires
-keep-requires c = c.requires.known.learned.long

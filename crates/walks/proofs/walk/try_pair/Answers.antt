@@ -2,17 +2,9 @@
 use mathlib.Core.Path.{sym, ◌∙◌}
 use Rattle.tables.specs.Table.{table_bit}
 use Rattle.known.proofs.Keeping.{skips_fails}
-use Rattle.walks.specs.Known.{Known}
 use Rattle.walks.proofs.Learning.{still_known}
 use Rattle.walks.proofs.Pruning.{try_b_never}
-use Rattle.walks.proofs.walk.try_pair.Lts as lts
-use Rattle.walks.proofs.walk.try_pair.Reads as reads
-use Rattle.walks.proofs.walk.try_pair.Tie as tie
 use Rattle.walks.proofs.walk.try_pair.Goals as goal
-
--- what was asked of the notes leaves them true
-asked : (c : lts.After-ruled tie.the-claims reads.Pre reads.Post tie.handed_clauses) → Known c.args.n c.args.r c.args.t.now c.ruled.new.notes
-asked c = still_known c.requires.known c.ruled.ensures.stays_learned
 
 pub returns-then-ruled : goal.returns-then-ruled
 returns-then-ruled c =
@@ -20,7 +12,7 @@ returns-then-ruled c =
       sym (try_b_never a.n a.r (table_bit a.t.now) _ a.own a.shared (λ z apart.
           skips_fails a.notes.now a.own a.shared c.requires.known.learned
           (c.ruled.ensures.skips c.if-ruled.true) apart)),
-      asked c.before.before.before.before,
+      still_known c.requires.known c.ruled.ensures.stays_learned,
     )
 
 pub returns-then-learn : goal.returns-then-learn
@@ -35,27 +27,9 @@ pub attempt-requires : goal.attempt-requires
 attempt-requires c =
     record { r_le_most_first = (c.requires.known.first, c.requires.known.long); n_le_most_inputs = (c.requires.known.most, c.requires.own_bound.0, c.requires.own_bound.1, c.requires.own_bound.2) }
 
-pub ruled-requires : goal.ruled-requires
-ruled-requires c = c.requires.known.learned.long
-
-pub shape_of-notes-then-ruled : goal.shape_of-notes-then-ruled
-shape_of-notes-then-ruled c =
-    (asked c.before.before.before.before).learned.long
-    ∙ sym c.requires.known.learned.long
-
 pub learn-requires : goal.learn-requires
 learn-requires c =
-    record { known = asked c.before.before.before.before.before; own_bound = c.requires.own_bound }
-
-pub shape_of-notes-then-learn : goal.shape_of-notes-then-learn
-shape_of-notes-then-learn c =
-    c.learn.ensures.1.learned.long
-    ∙ sym c.requires.known.learned.long
-
-pub shape_of-notes : goal.shape_of-notes
-shape_of-notes c =
-    c.learn.ensures.1.learned.long
-    ∙ sym c.requires.known.learned.long
+    record { known = still_known c.requires.known c.ruled.ensures.stays_learned; own_bound = c.requires.own_bound }
 
 pub returns : goal.returns
 returns c = (c.attempt.ensures, c.learn.ensures.1)

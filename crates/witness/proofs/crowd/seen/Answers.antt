@@ -27,7 +27,7 @@ pub loop-v-preserved : goal.loop-v-preserved
 loop-v-preserved c =
     let l = c.loop-v in (
       walked_more l.invariant.0 c.loop-v-test.true c.next-x.ensures.1,
-      seen_more l.r c.mark-r.result l.x l.v l.invariant.1 c.requires.2 (walked_lt l.invariant.0)
+      seen_more l.r c.mark-r.result l.x l._v l.invariant.1 c.requires.2 (walked_lt l.invariant.0)
           l.invariant.0.at c.mark-r.ensures,
     )
 

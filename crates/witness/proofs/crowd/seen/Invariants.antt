@@ -1,4 +1,3 @@
-use Rattle.std.proofs.Common.{◌-◌}
 use Rattle.bits.proofs.Walking.{Walked}
 use Rattle.tables.specs.Table.{table_bit}
 use Rattle.witness.specs.Crowd.{Seen}
@@ -6,7 +5,4 @@ use Rattle.witness.proofs.crowd.seen.Given as goal
 
 abbrev pub invariant-loop-v : goal.invariant-loop-v
 invariant-loop-v l =
-    Walked l.n l.w.own l.many l.x l.v × Seen l.n (table_bit l.t) l.w.own l.w.base l.w.e l.w.f l.r
-
-abbrev pub decreases-loop-v : goal.decreases-loop-v
-decreases-loop-v l = l.many - l.v
+    Walked l.n l.w.own l.many l.x l._v × Seen l.n (table_bit l.t) l.w.own l.w.base l.w.e l.w.f l.r

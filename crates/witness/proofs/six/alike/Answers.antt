@@ -1,7 +1,6 @@
 -- `witness::six::alike` meets its contract: the four bits that it reads are those of `same_column`. Assumes nothing.
 use Rattle.std.proofs.Common.{arith}
 use lib.Bits.{xor_lt}
-use Rattle.witness.proofs.Points.{both-beq, not-beq}
 use Rattle.witness.proofs.six.alike.Goals as goal
 
 pub bit_at-requires-3 : goal.bit_at-requires-3
@@ -11,14 +10,3 @@ bit_at-requires-3 c =
 pub bit_at-requires-4 : goal.bit_at-requires-4
 bit_at-requires-4 c =
     omega (arith, xor_lt c.args.n c.args.y c.args.d c.requires.3 c.requires.4, c.requires.1)
-
-pub returns-then-here : goal.returns-then-here
-returns-then-here c =
-    both-beq _ _ _ _ _ _ _ _ c.bit_at.ensures
-    c.bit_at-2.ensures c.bit_at-3.ensures c.bit_at-4.ensures
-    c.if-here.true
-
-pub returns : goal.returns
-returns c =
-    not-beq _ _ _ _ _ c.bit_at.ensures
-    c.bit_at-2.ensures c.if-here.false

@@ -62,7 +62,7 @@ pub returns-then-clash-here-ne0 : goal.returns-then-clash-here-ne0
 returns-then-clash-here-ne0 c e =
     let q = c.loop-v in
     let a = c.args in
-    shown a.n (table_bit a.t.now) a.i a.j a.c q.x _ a.places _ _ q.v c.requires.0.least
+    shown a.n (table_bit a.t.now) a.i a.j a.c q.x _ a.places _ _ q._v c.requires.0.least
     c.requires.0.most c.requires.1 c.requires.2
     c.requires.3 c.requires.4 c.requires.5 c.off.ensures c.clash.ensures c.steps-high.ensures q.invariant.at
     c.if-clash-here-ne0.true
@@ -78,7 +78,7 @@ next-x-requires c = (
 pub loop-v-preserved : goal.loop-v-preserved
 loop-v-preserved c =
     walked_more c.loop-v.invariant
-    c.loop-v-test.true c.next-x.ensures.1
+    (omega (arith, c.loop-v-test.true, c.min-v-end.ensures)) c.next-x.ensures.1
 
 pub steps-high-requires : goal.steps-high-requires
 steps-high-requires c = (c.requires.0.least, c.requires.0.most)
@@ -88,9 +88,6 @@ parts-many-requires c = (c.requires.0.most, c.steps-high.ensures.below)
 
 pub loop-v-init : goal.loop-v-init
 loop-v-init c = walked_none c.requires.0.most c.parts-many.ensures.0
-
-pub returns-then-v-reach : goal.returns-then-v-reach
-returns-then-v-reach c = said_no
 
 pub returns : goal.returns
 returns c = said_no
