@@ -2,10 +2,11 @@
 ghost use Rattle.std.specs.Prelude.{◌≡◌};
 ghost use Rattle.sheets.specs.Edition.{first_edition};
 ghost use Rattle.any_gate.specs.MakeAny.{any_outcome};
+ghost use Rattle.bench.specs.MakeSheet.{make_answer};
 
-use bench::make_sheet::{MakeAnswer, make_for_desk, write_chain};
+use bench::make_sheet::{make_for_desk, write_chain};
 use columns::split::Split;
-use refusals::verdicts::{Refusal, number_of};
+use refusals::verdicts::Refusal;
 use sheets::kinds::Edition;
 
 // Makes a sheet for any gate for a desk, 0 being the bench's own: how many cells.
@@ -16,15 +17,14 @@ pub fn make_any(
     t: &[u8],
     sheet: &mut [u8],
     work: &mut [u8],
-) -> MakeAnswer
-    ensures { record { answer = result; sheet = sheet.new; work = work.new }
+) -> Result<usize, Refusal>
+    ensures { record { answer = make_answer result; sheet = sheet.new; work = work.new }
         ≡ any_outcome first_edition desk n k t.now sheet.old work.old }
 {
     let made = make_for_desk(n, k, desk, t, sheet, work);
-    let verdict = made.verdict;
-    if number_of(verdict) != Refusal::SPLIT {
+    let Err(Refusal::NoSplit) = made else {
         return made;
-    }
+    };
     write_chain(
         Edition::first(),
         desk as u8,

@@ -1,10 +1,11 @@
 // Making a sheet of best splits in a told edition.
 ghost use Rattle.std.specs.Prelude.{◌≡◌};
 ghost use Rattle.bench.specs.MakeTold.{make_told};
+ghost use Rattle.bench.specs.MakeSheet.{make_answer};
 
-use crate::make_sheet::{MakeAnswer, make_in};
+use crate::make_sheet::make_in;
 use refusals::form;
-use refusals::verdicts::Verdict;
+use refusals::verdicts::Refusal;
 use sheets::kinds::Edition;
 
 // Makes the sheet of a table in records of the edition with the number w, for a desk, 0 being the bench's own: how many
@@ -17,16 +18,10 @@ pub fn make_told(
     t: &[u8],
     sheet: &mut [u8],
     work: &mut [u8],
-) -> MakeAnswer
-    ensures { record { answer = result; sheet = sheet.new; work = work.new }
+) -> Result<usize, Refusal>
+    ensures { record { answer = make_answer result; sheet = sheet.new; work = work.new }
         ≡ make_told w desk n k t.now sheet.old work.old }
 {
-    let told = form::told(w, n);
-    let Verdict::Fine = told else {
-        return MakeAnswer {
-            verdict: told,
-            count: 0,
-        };
-    };
+    form::told(w, n)?;
     make_in(Edition::numbered(w), desk, n, k, t, sheet, work)
 }

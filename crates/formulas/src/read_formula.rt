@@ -1,6 +1,7 @@
 // Reading a formula into a table.
 ghost use Rattle.std.specs.Prelude.{◌≡◌, false, [], ◌∷◌, ◌≤◌, length};
 ghost use Rattle.tables.specs.Table.{most_inputs, table_length, table_of};
+ghost use Rattle.refusals.specs.Results.{verdict_of};
 ghost use Rattle.refusals.specs.Lines.{verdict};
 ghost use Rattle.formulas.specs.Reading.{text_of, value_in};
 ghost use Rattle.values.specs.Stretches.{stretch_of};
@@ -9,7 +10,7 @@ ghost use Rattle.formulas.specs.ReadFormula.{read_lines, read_outcome};
 
 use crate::reading::{Level, Text};
 use refusals::form;
-use refusals::verdicts::{Refusal, Verdict, refuse_at};
+use refusals::verdicts::Refusal;
 use runs::words::first_bits;
 use values::stretches::{Stretch, same};
 
@@ -19,13 +20,13 @@ pub const MOST_TEXT: usize = 1024;
 const MOST_LEVELS: usize = 32;
 
 // Line 16: the text is read once, at the first stretch.
-fn look_at_text(inputs: u32, bytes: &[u8]) -> Verdict
+fn look_at_text(inputs: u32, bytes: &[u8]) -> Result<(), Refusal>
     requires { inputs ≤ most_inputs }
-    ensures { result ≡ verdict (bad_text inputs bytes.now ∷ []) }
+    ensures { verdict_of result ≡ verdict (bad_text inputs bytes.now ∷ []) }
 {
     let len = bytes.len();
     if MOST_TEXT < len {
-        return refuse_at(Refusal::TEXT, len as u64);
+        return Err(Refusal::Text(len));
     }
     let text = Text {
         bytes,
@@ -33,9 +34,9 @@ fn look_at_text(inputs: u32, bytes: &[u8]) -> Verdict
         stretch: 0,
     };
     match text.joined(Level::Sum, 0, MOST_LEVELS) {
-        Err(stuck) => refuse_at(Refusal::TEXT, stuck.at as u64),
-        Ok(read) if read.at < len => refuse_at(Refusal::TEXT, read.at as u64),
-        Ok(_) => Verdict::Fine,
+        Err(stuck) => Err(Refusal::Text(stuck.at)),
+        Ok(read) if read.at < len => Err(Refusal::Text(read.at)),
+        Ok(_) => Ok(()),
     }
 }
 
@@ -71,24 +72,18 @@ fn fill(n: u32, t: &[u8], table: &mut [u8])
 }
 
 // Lines 1, 3 and 16.
-fn read_form<'a>(n: u64, t: &'a [u8], table: &'a [u8]) -> Verdict
-    ensures { result ≡ verdict (read_lines n t.now table.now) }
+fn read_form<'a>(n: u64, t: &'a [u8], table: &'a [u8]) -> Result<(), Refusal>
+    ensures { verdict_of result ≡ verdict (read_lines n t.now table.now) }
 {
-    let seen = form::sized(n, table);
-    let Verdict::Fine = seen else {
-        return seen;
-    };
+    form::sized(n, table)?;
     look_at_text(n as u32, t)
 }
 
 // Reads a formula of n inputs into a lent table.
-pub fn read_formula(n: u64, t: &[u8], table: &mut [u8]) -> Verdict
-    ensures { record { verdict = result; table = table.new } ≡ read_outcome n t.now table.old }
+pub fn read_formula(n: u64, t: &[u8], table: &mut [u8]) -> Result<(), Refusal>
+    ensures { record { verdict = verdict_of result; table = table.new } ≡ read_outcome n t.now table.old }
 {
-    let form = read_form(n, t, table);
-    let Verdict::Fine = form else {
-        return form;
-    };
+    read_form(n, t, table)?;
     fill(n as u32, t, table);
-    Verdict::Fine
+    Ok(())
 }

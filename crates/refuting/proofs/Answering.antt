@@ -13,9 +13,7 @@ use Rattle.bits.proofs.Bools.{clash}
 use Rattle.tables.specs.Table.{most_inputs, table_length}
 use Rattle.sheets.specs.declared.kinds.Edition.{Edition}
 use Rattle.sheets.specs.Edition.{IsEdition, most_records}
-use Rattle.refusals.specs.declared.verdicts.Verdict.{Verdict}
-use Rattle.refusals.specs.declared.verdicts.Verdict.TheVariants.{Fine, Refused}
-use Rattle.refusals.specs.declared.verdicts.Refusal.{Refusal}
+use Rattle.refusals.specs.Verdicts.{Refusal, Verdict, Fine, Refused}
 use Rattle.refusals.specs.Lines.{Line, verdict}
 use Rattle.refusals.specs.Lent.{work_after}
 use Rattle.refusals.proofs.Lines.{stops, in_order_lem, all_numbers}

@@ -2,6 +2,5 @@
 #![tactic(auto)]
 
 mod header;
-mod numbers;
 mod steps;
 pub mod too_few;

@@ -10,14 +10,14 @@ ghost use Rattle.following.specs.Following.{derived_in_order};
 ghost use Rattle.following.specs.Standing.{Clean, Kept, begun_in, Ready};
 ghost use Rattle.refuting.specs.Steps.{all_steps};
 ghost use Rattle.refuting.specs.Looking.{length_there, AllOf, shown_as};
+ghost use Rattle.refusals.specs.Results.{verdict_of};
 
-use crate::numbers::SHOWN;
 use clauses::fields::{given_at, length_of};
 use clauses::given::in_order;
 use clauses::numbers::{four_at, two_at};
 use clauses::variables::{Size, all_variables};
 use following::following::derived_in_order;
-use refusals::verdicts::{Verdict, refuse_at};
+use refusals::verdicts::Refusal;
 
 // The length of a step of kind 0, if all of it is there.
 fn derived_length(c: &[u8], at: usize) -> Option<usize>
@@ -80,28 +80,28 @@ fn is_empty(c: &[u8], at: usize) -> bool
 }
 
 // All steps: fine if they show it, else where they don't. Where each begins is marked in the work area.
-pub fn look_through<'a>(z: Size, t: &'a [u8], c: &'a [u8], work: &mut [u8]) -> Verdict
+pub fn look_through<'a>(z: Size, t: &'a [u8], c: &'a [u8], work: &mut [u8]) -> Result<(), Refusal>
     requires { IsSize z × HasRows z c.now × (length t.now ≡ table_length z.inputs) × Ready z t.now c.now work.old
         × ((j : ℕ) → begun_in (variables z) (length c.now) work.old j ≡ false) }
-    ensures { result ≡ shown_as (all_steps (question_in z t.now c.now) c.now) }
+    ensures { verdict_of result ≡ shown_as (all_steps (question_in z t.now c.now) c.now) }
 {
     let all = all_variables(z);
     let mut at = 2 + 2 * z.rows;
     let mut empty = false;
     while at < c.len() {
         let Some(length) = length_there(c, at) else {
-            return refuse_at(SHOWN, at as u64);
+            return Err(Refusal::NotShown(at));
         };
         if !is_in_order(z, t, c, at, work) {
-            return refuse_at(SHOWN, at as u64);
+            return Err(Refusal::NotShown(at));
         }
         work[all + at] = 1;
         empty = is_empty(c, at);
         at += length;
     }
     if empty {
-        Verdict::Fine
+        Ok(())
     } else {
-        refuse_at(SHOWN, c.len() as u64)
+        Err(Refusal::NotShown(c.len()))
     }
 }

@@ -2,31 +2,28 @@
 ghost use Rattle.std.specs.Prelude.{◌≡◌, ◌+◌, ◌*◌, ◌≤◌, ltb, length};
 ghost use Rattle.tables.specs.Table.{most_inputs, table_length};
 ghost use Rattle.sheets.specs.Edition.{IsEdition, most_records};
+ghost use Rattle.refusals.specs.Results.{verdict_of};
 ghost use Rattle.refusals.specs.Lines.{verdict};
 ghost use Rattle.refuting.specs.TooFew.{few_form, certificate_lines, few_in, few_after, too_few_outcome};
 
 use crate::header::header_in_order;
-use crate::numbers::{CELLS, SHOWN};
 use crate::steps::look_through;
 use clauses::numbers::two_at;
 use clauses::variables::{Size, all_variables};
 use refusals::form;
-use refusals::verdicts::{Refusal, Verdict, refuse, refuse_at};
+use refusals::verdicts::Refusal;
 use sheets::kinds::{Edition, Sheet};
 use tables::clear;
 
 // Lines 1 to 5.
-fn few_form(e: Edition, n: u64, k: u64, m: u64, t: &[u8]) -> Verdict
-    ensures { result ≡ verdict (few_form e n k m t.now) }
+fn few_form(e: Edition, n: u64, k: u64, m: u64, t: &[u8]) -> Result<(), Refusal>
+    ensures { verdict_of result ≡ verdict (few_form e n k m t.now) }
 {
-    let gate = form::gate(e, n, k, t);
-    let Verdict::Fine = gate else {
-        return gate;
-    };
+    form::gate(e, n, k, t)?;
     if form::outside(1, m, Sheet::RECORDS as u64) {
-        return refuse(CELLS);
+        return Err(Refusal::Cells);
     }
-    Verdict::Fine
+    Ok(())
 }
 
 // Whether a work area is shorter than V + 2 times the certificate's length.
@@ -37,14 +34,14 @@ fn is_short(all: usize, many: usize, room: usize) -> bool
 }
 
 // Lines 6 and 22, the others being in order.
-fn look_at<'a>(n: u64, k: u64, m: u64, t: &'a [u8], c: &'a [u8], work: &mut [u8]) -> Verdict
+fn look_at<'a>(n: u64, k: u64, m: u64, t: &'a [u8], c: &'a [u8], work: &mut [u8]) -> Result<(), Refusal>
     requires { (n ≤ most_inputs) × (k ≤ 8) × (1 ≤ m) × (m ≤ most_records) × (length t.now ≡ table_length n) }
-    ensures { record { verdict = result; work = work.new }
+    ensures { record { verdict = verdict_of result; work = work.new }
         ≡ few_after work.old (verdict (certificate_lines n k m t.now c.now work.old)) }
 {
     if !header_in_order(n as u32, c) {
         clear(work);
-        return refuse_at(SHOWN, 0);
+        return Err(Refusal::NotShown(0));
     }
     let z = Size {
         inputs: n as usize,
@@ -53,7 +50,7 @@ fn look_at<'a>(n: u64, k: u64, m: u64, t: &'a [u8], c: &'a [u8], work: &mut [u8]
         rows: two_at(c, 0),
     };
     if is_short(all_variables(z), c.len(), work.len()) {
-        return refuse(Refusal::ROOM);
+        return Err(Refusal::Room);
     }
     clear(work);
     let seen = look_through(z, t, c, work);
@@ -70,15 +67,12 @@ fn few_in<'a>(
     t: &'a [u8],
     c: &'a [u8],
     work: &mut [u8],
-) -> Verdict
+) -> Result<(), Refusal>
     requires { IsEdition e }
-    ensures { record { verdict = result; work = work.new }
+    ensures { record { verdict = verdict_of result; work = work.new }
         ≡ few_after work.old (verdict (few_in e n k m t.now c.now work.old)) }
 {
-    let form = few_form(e, n, k, m, t);
-    let Verdict::Fine = form else {
-        return form;
-    };
+    few_form(e, n, k, m, t)?;
     look_at(n, k, m, t, c, work)
 }
 
@@ -91,13 +85,10 @@ pub fn too_few<'a>(
     t: &'a [u8],
     c: &'a [u8],
     work: &mut [u8],
-) -> Verdict
-    ensures { record { verdict = result; work = work.new }
+) -> Result<(), Refusal>
+    ensures { record { verdict = verdict_of result; work = work.new }
         ≡ too_few_outcome w n k m t.now c.now work.old }
 {
-    let told = form::told(w, n);
-    let Verdict::Fine = told else {
-        return told;
-    };
+    form::told(w, n)?;
     few_in(Edition::numbered(w), n, k, m, t, c, work)
 }

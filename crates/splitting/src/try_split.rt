@@ -7,9 +7,10 @@ ghost use Rattle.splits.specs.Columns.{most_first};
 ghost use Rattle.columns.specs.Reading.{Held};
 ghost use Rattle.best.specs.Best.{Candidate};
 ghost use Rattle.sheets.specs.Edition.{IsEdition, largest_cell, first_edition};
+ghost use Rattle.refusals.specs.Results.{verdict_of};
 ghost use Rattle.refusals.specs.Lines.{verdict, reply};
 ghost use Rattle.refusals.specs.Refusals.{bad_sets, not_possible};
-ghost use Rattle.splitting.specs.TrySplit.{try_form, try_done, try_not, try_outcome};
+ghost use Rattle.splitting.specs.TrySplit.{try_answer, try_form, try_done, try_not, try_outcome};
 
 use crate::filling;
 use bits::sets::members;
@@ -17,17 +18,8 @@ use charts::pair::FirstCells;
 use columns::columns::break_of;
 use columns::split::Split;
 use refusals::form;
-use refusals::verdicts::{Refusal, Verdict, refuse, refuse_at};
+use refusals::verdicts::Refusal;
 use sheets::kinds::Edition;
-
-// The first cells' tables, if nothing is wrong; H is in the lent room. After 8, which names where the split breaks, how
-// many different columns there are.
-#[derive(Clone, Copy)]
-pub struct TryAnswer {
-    pub verdict: Verdict,
-    pub d: FirstCells,
-    pub columns: usize,
-}
 
 // Line 5: r outside 1 to 3; A or B names a position from n up; they overlap; A not above r; A and B together above K.
 fn bad_sets(n: u32, k: u32, r: u64, own: u64, shared: u64) -> bool
@@ -72,47 +64,36 @@ fn try_form<'a>(
     shared: u64,
     t: &'a [u8],
     room: &'a [u8],
-) -> Verdict
+) -> Result<(), Refusal>
     requires { IsEdition e }
-    ensures { result ≡ verdict (try_form e n k r own shared t.now room.now) }
+    ensures { verdict_of result ≡ verdict (try_form e n k r own shared t.now room.now) }
 {
-    let gate = form::gate(e, n, k, t);
-    let Verdict::Fine = gate else {
-        return gate;
-    };
+    form::gate(e, n, k, t)?;
     let inputs = n as u32;
     if bad_sets(inputs, k as u32, r, own, shared) {
-        return refuse(Refusal::SETS);
+        return Err(Refusal::Sets);
     }
     if room.len() < bytes_of_h(inputs, r as u32, own as u16) {
-        return refuse(Refusal::ROOM);
+        return Err(Refusal::Room);
     }
-    Verdict::Fine
+    Ok(())
 }
 
 // A split whose sets are good: the tables of r first cells, and H into a room that is long enough, or that it isn't
 // possible.
-fn pair_of(t: &[u8], s: Split, r: u32, room: &mut [u8]) -> TryAnswer
+fn pair_of(t: &[u8], s: Split, r: u32, room: &mut [u8]) -> Result<FirstCells, Refusal>
     requires held { Held s × Candidate s.n largest_cell r s.own s.shared × (length t.now ≡ table_length s.n)
         × (r ≤ most_first) }
     requires own_in_bounds { table_length (s.n + r - size s.n (bit s.own)) ≤ length room.old }
-    ensures { record { answer = result; room = room.new }
+    ensures { record { answer = try_answer result; room = room.new }
         ≡ reply (verdict (not_possible s.n r s.own s.shared t.now ∷ []))
         (try_done s.n r s.own s.shared t.now room.old)
         (try_not s.n s.own s.shared t.now room.old) }
 {
     if let Some(broken) = break_of(t, s, 1 << r) {
-        return TryAnswer {
-            verdict: refuse_at(Refusal::SPLIT, broken.b as u64),
-            d: FirstCells::none(),
-            columns: broken.columns,
-        };
+        return Err(Refusal::Broken(broken.b, broken.columns));
     }
-    TryAnswer {
-        verdict: Verdict::Fine,
-        d: filling::put_pair(t, s, r, bytes_of_h(s.n, r, s.own), room),
-        columns: 0,
-    }
+    Ok(filling::put_pair(t, s, r, bytes_of_h(s.n, r, s.own), room))
 }
 
 // Tries the split with the masks own and shared into r first cells of an edition.
@@ -125,19 +106,12 @@ pub fn try_in(
     shared: u64,
     t: &[u8],
     room: &mut [u8],
-) -> TryAnswer
+) -> Result<FirstCells, Refusal>
     requires { IsEdition e }
-    ensures { record { answer = result; room = room.new }
+    ensures { record { answer = try_answer result; room = room.new }
         ≡ try_outcome e n k r own shared t.now room.old }
 {
-    let form = try_form(e, n, k, r, own, shared, t, room);
-    let Verdict::Fine = form else {
-        return TryAnswer {
-            verdict: form,
-            d: FirstCells::none(),
-            columns: 0,
-        };
-    };
+    try_form(e, n, k, r, own, shared, t, room)?;
     pair_of(
         t,
         Split::of(n as u32, own as u16, shared as u16),
@@ -147,8 +121,8 @@ pub fn try_in(
 }
 
 // Tries the split with the masks own and shared: D, and H into the lent room.
-pub fn try_split(n: u64, k: u64, own: u64, shared: u64, t: &[u8], room: &mut [u8]) -> TryAnswer
-    ensures { record { answer = result; room = room.new }
+pub fn try_split(n: u64, k: u64, own: u64, shared: u64, t: &[u8], room: &mut [u8]) -> Result<FirstCells, Refusal>
+    ensures { record { answer = try_answer result; room = room.new }
         ≡ try_outcome first_edition n k 1 own shared t.now room.old }
 {
     try_in(Edition::first(), n, k, 1, own, shared, t, room)

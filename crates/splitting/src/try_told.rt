@@ -1,11 +1,12 @@
 // Trying a named split into cells of a told edition.
 ghost use Rattle.std.specs.Prelude.{◌≡◌};
 ghost use Rattle.splitting.specs.TryTold.{try_told};
+ghost use Rattle.splitting.specs.TrySplit.{try_answer};
 
-use crate::try_split::{TryAnswer, try_in};
+use crate::try_split::try_in;
 use charts::pair::FirstCells;
 use refusals::form;
-use refusals::verdicts::Verdict;
+use refusals::verdicts::Refusal;
 use sheets::kinds::Edition;
 
 // Tries the split with the masks own and shared into cells of the edition with the number w: D, and H into the lent
@@ -18,17 +19,10 @@ pub fn try_told(
     shared: u64,
     t: &[u8],
     room: &mut [u8],
-) -> TryAnswer
-    ensures { record { answer = result; room = room.new }
+) -> Result<FirstCells, Refusal>
+    ensures { record { answer = try_answer result; room = room.new }
         ≡ try_told w n k own shared t.now room.old }
 {
-    let told = form::told(w, n);
-    let Verdict::Fine = told else {
-        return TryAnswer {
-            verdict: told,
-            d: FirstCells::none(),
-            columns: 0,
-        };
-    };
+    form::told(w, n)?;
     try_in(Edition::numbered(w), n, k, 1, own, shared, t, room)
 }

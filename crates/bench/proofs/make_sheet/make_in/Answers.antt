@@ -12,6 +12,7 @@ use Rattle.refusals.proofs.Refusing.{form_refuses}
 use Rattle.bench.specs.MakeSheet.{MakeOutcome, sheet_for, cells_in, make_form, make_done, make_not, make_outcome}
 use Rattle.bench.proofs.Ready.{Ready, ready}
 use Rattle.bench.proofs.Written.{one_written}
+use Rattle.refusals.proofs.Results.{said_ok, said_err}
 use Rattle.bench.proofs.make_sheet.make_in.Goals as goal
 
 module _ (e : Edition) (d n k : ℕ) (t sheet work : List ℕ) where
@@ -29,45 +30,45 @@ module _ (e : Edition) (d n k : ℕ) (t sheet work : List ℕ) where
   through : (form : Verdict) → form ≡ verdict ls → form ≡ Fine → Ready e d n k t sheet work
   through form is fine = ready e d n k t sheet work (in_order_lem ls (sym is ∙ fine))
 
-pub returns-in_default : goal.returns-in_default
+pub returns-in_err-make_form : goal.returns-in_err-make_form
 unfolding make_outcome
-returns-in_default c =
+returns-in_err-make_form c =
     let a = c.args in
     form_refuses (ls a.e a.d a.n a.k a.t.now a.sheet.now a.work.now) (ms a.e a.d a.n a.k a.t.now a.sheet.now a.work.now) (done a.e a.d a.n a.k a.t.now a.sheet.now a.work.now) (λ (v : Verdict) (l : List ℕ). record {
       answer = record { verdict = v; count = 0 };
       sheet = a.sheet.now;
       work = l;
-    }) a.work.now refl c.make_form-form.result c.in_default.field-0 c.make_form-form.ensures
-    c.in_default.is
+    }) a.work.now refl c.make_form.result _ c.make_form.ensures
+    (said_err _ _ c.in_err-make_form.was)
 
 pub write_chain-requires : goal.write_chain-requires
 write_chain-requires c =
     let w = through c.args.e c.args.d c.args.n c.args.k c.args.t.now c.args.sheet.now c.args.work.now
-    c.make_form-form.result c.make_form-form.ensures c.in-Fine.is in record { edition = (c.requires, w.gate.some, w.gate.most, omega arith, w.gate.two, w.gate.largest); t_len = (w.gate.long, w.records, w.area) }
+    c.make_form.result c.make_form.ensures (said_ok _ _ c.in_ok-make_form.was) in record { edition = (c.requires, w.gate.some, w.gate.most, omega arith, w.gate.two, w.gate.largest); t_len = (w.gate.long, w.records, w.area) }
 
 pub returns : goal.returns
 unfolding make_outcome
 returns c =
     let a = c.args in
-    let fine = c.in-Fine.is in
+    let fine = (said_ok _ _ c.in_ok-make_form.was) in
     c.write_chain.ensures
     ∙ one_written a.e a.d a.sheet.now a.work.now a.n a.k a.t.now (through c.args.e c.args.d c.args.n c.args.k c.args.t.now c.args.sheet.now c.args.work.now
-    c.make_form-form.result c.make_form-form.ensures fine).gate
-    ∙ left_to (ls a.e a.d a.n a.k a.t.now a.sheet.now a.work.now) (ms a.e a.d a.n a.k a.t.now a.sheet.now a.work.now) (done a.e a.d a.n a.k a.t.now a.sheet.now a.work.now) (make_not a.sheet.now a.work.now) c.make_form-form.result
-    c.make_form-form.ensures fine
+    c.make_form.result c.make_form.ensures fine).gate
+    ∙ left_to (ls a.e a.d a.n a.k a.t.now a.sheet.now a.work.now) (ms a.e a.d a.n a.k a.t.now a.sheet.now a.work.now) (done a.e a.d a.n a.k a.t.now a.sheet.now a.work.now) (make_not a.sheet.now a.work.now) c.make_form.result
+    c.make_form.ensures fine
 
 pub overflow_cast-d : goal.overflow_cast-d
 overflow_cast-d c = omega (
   arith,
   (through c.args.e c.args.d c.args.n c.args.k c.args.t.now c.args.sheet.now c.args.work.now
-      c.make_form-form.result c.make_form-form.ensures c.in-Fine.is).desk,
+      c.make_form.result c.make_form.ensures (said_ok _ _ c.in_ok-make_form.was)).desk,
 )
 
 pub overflow_cast-n : goal.overflow_cast-n
 overflow_cast-n c = omega (
   arith,
   (through c.args.e c.args.d c.args.n c.args.k c.args.t.now c.args.sheet.now c.args.work.now
-      c.make_form-form.result c.make_form-form.ensures c.in-Fine.is).gate.most,
+      c.make_form.result c.make_form.ensures (said_ok _ _ c.in_ok-make_form.was)).gate.most,
 )
 
 pub overflow_cast-k : goal.overflow_cast-k
@@ -75,6 +76,6 @@ overflow_cast-k c =
     omega (
       arith,
       (through c.args.e c.args.d c.args.n c.args.k c.args.t.now c.args.sheet.now c.args.work.now
-          c.make_form-form.result c.make_form-form.ensures c.in-Fine.is).gate.largest,
+          c.make_form.result c.make_form.ensures (said_ok _ _ c.in_ok-make_form.was)).gate.largest,
       c.requires.eight,
     )

@@ -12,7 +12,7 @@ use Rattle.chains.specs.Chain.{Made}
 use Rattle.chains.specs.Aside.{cells_aside}
 use Rattle.chains.proofs.Aside.{cells_few}
 use Rattle.making.specs.Chaining.{Tells}
-use Rattle.refusals.specs.declared.verdicts.Verdict.TheVariants.{Fine}
+use Rattle.refusals.specs.Verdicts.{Fine}
 use Rattle.bench.proofs.Written.{stuck_written, long_written, fits}
 use Rattle.bench.proofs.make_sheet.write_chain.Goals as goal
 

@@ -10,10 +10,11 @@ use Rattle.refusals.specs.Refusals.{told_form}
 use Rattle.refusals.proofs.Lines.{left_to}
 use Rattle.refusals.proofs.Refusing.{form_refuses}
 use Rattle.bench.specs.MakeSheet.{sheet_for, cells_in, make_lines, make_done, make_not, make_outcome}
+use Rattle.refusals.proofs.Results.{said_ok, said_err}
 use Rattle.bench.proofs.make_told.make_told.Goals as goal
 
-pub returns-in_default : goal.returns-in_default
-returns-in_default c =
+pub returns-in_err-told : goal.returns-in_err-told
+returns-in_err-told c =
     let a = c.args in
     form_refuses (told_form a.w a.n)
     (make_lines (edition_of a.w) a.desk a.n a.k a.t.now a.sheet.now a.work.now)
@@ -22,7 +23,7 @@ returns-in_default c =
       answer = record { verdict = v; count = 0 };
       sheet = a.sheet.now;
       work = l;
-    }) a.work.now refl c.told-told.result c.in_default.field-0 c.told-told.ensures c.in_default.is
+    }) a.work.now refl c.told.result _ c.told.ensures (said_err _ _ c.in_err-told.was)
 
 pub make_in-requires : goal.make_in-requires
 make_in-requires c = subst IsEdition (sym c.numbered.ensures) (is_edition _)
@@ -37,4 +38,4 @@ returns c =
     a.work.now)
     (make_done (edition_of a.w) a.desk (cells_in (sheet_for a.n a.k a.t.now)) a.sheet.now
     a.work.now) (make_not a.sheet.now a.work.now)
-    c.told-told.result c.told-told.ensures c.in-Fine.is
+    c.told.result c.told.ensures (said_ok _ _ c.in_ok-told.was)

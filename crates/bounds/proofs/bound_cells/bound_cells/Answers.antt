@@ -11,17 +11,18 @@ use Rattle.refusals.proofs.Lines.{left_to}
 use Rattle.refusals.proofs.Refusing.{form_refuses}
 use Rattle.finding.specs.FindBest.{find_form}
 use Rattle.bounds.specs.BoundCells.{bound_done, bound_not, bound_in, bound_outcome}
+use Rattle.refusals.proofs.Results.{said_ok, said_err}
 use Rattle.bounds.proofs.bound_cells.bound_cells.Goals as goal
 
-pub returns-in_default : goal.returns-in_default
+pub returns-in_err-told : goal.returns-in_err-told
 unfolding bound_outcome
-returns-in_default c =
+returns-in_err-told c =
     let a = c.args in
     form_refuses (told_form a.w a.n) (find_form (edition_of a.w) a.n a.k a.t.now a.work.now)
     (bound_done a.n a.k a.t.now a.work.now) (λ (v : Verdict) (l : List ℕ). record {
       answer = record { verdict = v; least = 0 };
       work = l;
-    }) a.work.now refl c.told-told.result c.in_default.field-0 c.told-told.ensures c.in_default.is
+    }) a.work.now refl c.told.result _ c.told.ensures (said_err _ _ c.in_err-told.was)
 
 pub bound_in-requires : goal.bound_in-requires
 bound_in-requires c = subst IsEdition (sym c.numbered.ensures) (is_edition _)
@@ -34,4 +35,4 @@ returns c =
     c.numbered.ensures
     ∙ left_to (told_form a.w a.n) (find_form (edition_of a.w) a.n a.k a.t.now a.work.now)
     (bound_done a.n a.k a.t.now a.work.now)
-    (bound_not a.work.now) c.told-told.result c.told-told.ensures c.in-Fine.is
+    (bound_not a.work.now) c.told.result c.told.ensures (said_ok _ _ c.in_ok-told.was)

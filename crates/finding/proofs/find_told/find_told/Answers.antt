@@ -10,16 +10,17 @@ use Rattle.refusals.specs.Refusals.{told_form}
 use Rattle.refusals.proofs.Lines.{left_to}
 use Rattle.refusals.proofs.Refusing.{form_refuses}
 use Rattle.finding.specs.FindBest.{best_for, find_lines, find_done, find_not, find_outcome}
+use Rattle.refusals.proofs.Results.{said_ok, said_err}
 use Rattle.finding.proofs.find_told.find_told.Goals as goal
 
-pub returns-in_default : goal.returns-in_default
-returns-in_default c =
+pub returns-in_err-told : goal.returns-in_err-told
+returns-in_err-told c =
     let a = c.args in
     form_refuses (told_form a.w a.n) (find_lines (edition_of a.w) a.n a.k a.t.now a.work.now)
     (find_done (best_for a.n a.k a.t.now) a.work.now) (λ (v : Verdict) (l : List ℕ). record {
       answer = record { verdict = v; own = 0; shared = 0 };
       work = l;
-    }) a.work.now refl c.told-told.result c.in_default.field-0 c.told-told.ensures c.in_default.is
+    }) a.work.now refl c.told.result _ c.told.ensures (said_err _ _ c.in_err-told.was)
 
 pub find_in-requires : goal.find_in-requires
 find_in-requires c = subst IsEdition (sym c.numbered.ensures) (is_edition _)
@@ -32,4 +33,4 @@ returns c =
     c.numbered.ensures
     ∙ left_to (told_form a.w a.n) (find_lines (edition_of a.w) a.n a.k a.t.now a.work.now)
     (find_done (best_for a.n a.k a.t.now) a.work.now)
-    (find_not a.work.now) c.told-told.result c.told-told.ensures c.in-Fine.is
+    (find_not a.work.now) c.told.result c.told.ensures (said_ok _ _ c.in_ok-told.was)

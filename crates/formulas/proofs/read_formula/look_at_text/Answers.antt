@@ -7,8 +7,7 @@ use Rattle.formulas.proofs.read_formula.look_at_text.Goals as goal
 pub returns-then-len-gt-MOST_TEXT : goal.returns-then-len-gt-MOST_TEXT
 returns-then-len-gt-MOST_TEXT c =
     let a = c.args in
-    c.refuse_at.ensures
-    ∙ text_refused a.inputs a.bytes.now (too_long_lem a.inputs a.bytes.now c.if-len-gt-MOST_TEXT.true)
+    text_refused a.inputs a.bytes.now (too_long_lem a.inputs a.bytes.now c.if-len-gt-MOST_TEXT.true)
 
 pub returns-in-Err : goal.returns-in-Err
 returns-in-Err c =

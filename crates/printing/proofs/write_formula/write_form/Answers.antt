@@ -17,12 +17,13 @@ use Rattle.refusals.proofs.Sheets.{good_sheet}
 use Rattle.formulas.specs.Text.{most_text}
 use Rattle.printing.specs.Printable.{not_printed}
 use Rattle.printing.specs.WriteFormula.{short_text, write_lines}
+use Rattle.refusals.proofs.Results.{said_ok, handed_on, stopped_by}
 use Rattle.printing.proofs.write_formula.write_form.Goals as goal
 
 pub returns-then-bad_inputs : goal.returns-then-bad_inputs
 returns-then-bad_inputs c =
     let a = c.args in
-    c.refuse.ensures ∙ decides (write_lines a.e a.d a.n a.s.now a.room.now)
+    decides (write_lines a.e a.d a.n a.s.now a.room.now)
     (here (sym c.bad_inputs.ensures ∙ c.if-bad_inputs.true))
 
 pub returns-then-room-lt-MOST_TEXT : goal.returns-then-room-lt-MOST_TEXT
@@ -47,11 +48,11 @@ overflow_cast-inputs c =
 pub sheet-seen-requires : goal.sheet-seen-requires
 sheet-seen-requires c = (c.requires, few_inputs _ c.bad_inputs.ensures c.if-bad_inputs.false)
 
-pub returns-in_default : goal.returns-in_default
-returns-in_default c =
+pub returns-in_err-sheet : goal.returns-in_err-sheet
+returns-in_err-sheet c =
     let a = c.args in
-    stopped (sheet_lines a.e a.d a.n a.s.now) (not_printed a.e a.n a.s.now ∷ []) _ c.sheet-seen.ensures
-    c.in_default.field-0 c.in_default.is
+    handed_on _ _ c.from_residual.ensures.1
+    ∙ stopped_by (sheet_lines a.e a.d a.n a.s.now) (not_printed a.e a.n a.s.now ∷ []) _ c.sheet.ensures _ c.in_err-sheet.was
     ∙ behind a.e a.d a.n a.s.now a.room.now (sym c.bad_inputs.ensures ∙ c.if-bad_inputs.false)
     c.if-room-lt-MOST_TEXT.false
 
@@ -59,15 +60,14 @@ pub is_printed-requires : goal.is_printed-requires
 is_printed-requires c =
     let a = c.args in
     let g = good_sheet a.e a.d a.n a.s.now c.requires
-    (in_order_lem (sheet_lines a.e a.d a.n a.s.now) (sym c.sheet-seen.ensures ∙ c.in-Fine.is)) in
+    (in_order_lem (sheet_lines a.e a.d a.n a.s.now) (sym c.sheet.ensures ∙ (said_ok _ _ c.in_ok-sheet.was))) in
     let long : a.e.size * records a.e a.s.now ≤ length a.s.now = omega (arith, g.whole) in
     (c.requires, g.most, long, g.some, few_inputs _ c.bad_inputs.ensures c.if-bad_inputs.false)
 
 pub returns-then-not-is_printed : goal.returns-then-not-is_printed
 returns-then-not-is_printed c =
     let a = c.args in
-    c.refuse-then-not-is_printed.ensures
-    ∙ decided (sheet_lines a.e a.d a.n a.s.now) (not_printed a.e a.n a.s.now ∷ []) _ c.sheet-seen.ensures c.in-Fine.is
+    decided (sheet_lines a.e a.d a.n a.s.now) (not_printed a.e a.n a.s.now ∷ []) _ c.sheet.ensures (said_ok _ _ c.in_ok-sheet.was)
     (here (ap not (sym c.is_printed.ensures ∙ c.if-not-is_printed.true)))
     ∙ behind a.e a.d a.n a.s.now a.room.now (sym c.bad_inputs.ensures ∙ c.if-bad_inputs.false)
     c.if-room-lt-MOST_TEXT.false
@@ -75,7 +75,7 @@ returns-then-not-is_printed c =
 pub returns : goal.returns
 returns c =
     let a = c.args in
-    decided (sheet_lines a.e a.d a.n a.s.now) (not_printed a.e a.n a.s.now ∷ []) _ c.sheet-seen.ensures c.in-Fine.is
+    decided (sheet_lines a.e a.d a.n a.s.now) (not_printed a.e a.n a.s.now ∷ []) _ c.sheet.ensures (said_ok _ _ c.in_ok-sheet.was)
     (later (ap not (sym c.is_printed.ensures ∙ c.if-not-is_printed.false)) fine)
     ∙ behind a.e a.d a.n a.s.now a.room.now (sym c.bad_inputs.ensures ∙ c.if-bad_inputs.false)
     c.if-room-lt-MOST_TEXT.false

@@ -11,16 +11,17 @@ use Rattle.refusals.specs.Lines.{verdict, reply}
 use Rattle.refusals.proofs.Lines.{in_order_lem}
 use Rattle.printing.specs.WriteFormula.{write_lines, write_done, write_not, write_outcome}
 use Rattle.printing.proofs.Printing.{Sound, sound, ready, written}
+use Rattle.refusals.proofs.Results.{said_ok, said_err}
 use Rattle.printing.proofs.write_formula.write_in.Goals as goal
 
-pub returns-in_default : goal.returns-in_default
+pub returns-in_err-write_form : goal.returns-in_err-write_form
 unfolding write_outcome
-returns-in_default c =
+returns-in_err-write_form c =
     let a = c.args in
-    let e = c.in_default.is in
+    let e = (said_err _ _ c.in_err-write_form.was) in
     ap (λ (v : Verdict). record { answer = record { verdict = v; length = 0 }; room = a.room.now }) e
     ∙ ap (λ (v : Verdict). reply v (write_done a.e a.n a.s.now a.room.now) (write_not a.room.now))
-    (sym e ∙ c.write_form-form.ensures)
+    (sym e ∙ c.write_form.ensures)
 
 -- after the look at the form, which lets all through
 looked : (e : Edition) (d n : ℕ) (s room : List ℕ) (v : Verdict) → IsEdition e → v ≡ verdict (write_lines e d n s room)
@@ -31,23 +32,23 @@ pub returns : goal.returns
 unfolding write_outcome
 returns c =
     let a = c.args in
-    written (looked a.e a.d a.n a.s.now a.room.now _ c.requires c.write_form-form.ensures c.in-Fine.is)
+    written (looked a.e a.d a.n a.s.now a.room.now _ c.requires c.write_form.ensures (said_ok _ _ c.in_ok-write_form.was))
     c.write-length.ensures
     ∙ ap (λ (v : Verdict). reply v (write_done a.e a.n a.s.now a.room.now) (write_not a.room.now))
-    (sym c.in-Fine.is ∙ c.write_form-form.ensures)
+    (sym (said_ok _ _ c.in_ok-write_form.was) ∙ c.write_form.ensures)
 
 pub overflow_sub-last : goal.overflow_sub-last
 overflow_sub-last c =
     let a = c.args in
-    (looked a.e a.d a.n a.s.now a.room.now _ c.requires c.write_form-form.ensures c.in-Fine.is).good.some
+    (looked a.e a.d a.n a.s.now a.room.now _ c.requires c.write_form.ensures (said_ok _ _ c.in_ok-write_form.was)).good.some
 
 pub overflow_add-inputs : goal.overflow_add-inputs
 overflow_add-inputs c =
     let a = c.args in
-    let k = looked a.e a.d a.n a.s.now a.room.now _ c.requires c.write_form-form.ensures c.in-Fine.is in
+    let k = looked a.e a.d a.n a.s.now a.room.now _ c.requires c.write_form.ensures (said_ok _ _ c.in_ok-write_form.was) in
     omega (arith, k.inputs, k.good.most)
 
 pub write-length-requires : goal.write-length-requires
 write-length-requires c =
     let a = c.args in
-    ready (looked a.e a.d a.n a.s.now a.room.now _ c.requires c.write_form-form.ensures c.in-Fine.is)
+    ready (looked a.e a.d a.n a.s.now a.room.now _ c.requires c.write_form.ensures (said_ok _ _ c.in_ok-write_form.was))

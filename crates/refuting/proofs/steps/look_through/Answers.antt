@@ -20,11 +20,11 @@ loop-at-init c =
 
 pub returns-in_default : goal.returns-in_default
 returns-in_default c =
-    c.refuse_at.ensures ∙ ap shown_as (from-bad (question_in c.args.z c.args.t.now c.args.c.now) c.args.c.now c.loop-at.at (begun_in (variables c.args.z) (length c.args.c.now) c.loop-at.work) c.loop-at.empty c.loop-at.invariant.2 (omega arith) (order_not c.args.c.now c.loop-at.at (question_in c.args.z c.args.t.now c.args.c.now) (begun_in (variables c.args.z) (length c.args.c.now) c.loop-at.work) (not_by c.args.c.now c.loop-at.at c.in_default.ensures)))
+    ap shown_as (from-bad (question_in c.args.z c.args.t.now c.args.c.now) c.args.c.now c.loop-at.at (begun_in (variables c.args.z) (length c.args.c.now) c.loop-at.work) c.loop-at.empty c.loop-at.invariant.2 (omega arith) (order_not c.args.c.now c.loop-at.at (question_in c.args.z c.args.t.now c.args.c.now) (begun_in (variables c.args.z) (length c.args.c.now) c.loop-at.work) (not_by c.args.c.now c.loop-at.at c.in_default.ensures)))
 
 pub returns-then-not-is_in_order : goal.returns-then-not-is_in_order
 returns-then-not-is_in_order c =
-    c.refuse_at-then-not-is_in_order.ensures ∙ ap shown_as (from-bad (question_in c.args.z c.args.t.now c.args.c.now) c.args.c.now c.loop-at.at (begun_in (variables c.args.z) (length c.args.c.now) c.loop-at.work) c.loop-at.empty c.loop-at.invariant.2 (omega arith) (sym (order_is c.args.c.now c.loop-at.at (question_in c.args.z c.args.t.now c.args.c.now) (begun_in (variables c.args.z) (length c.args.c.now) c.loop-at.work) (there_by c.args.c.now c.loop-at.at c.in-Some.ensures)) ∙ sym c.is_in_order.ensures.0 ∙ c.if-not-is_in_order.true))
+    ap shown_as (from-bad (question_in c.args.z c.args.t.now c.args.c.now) c.args.c.now c.loop-at.at (begun_in (variables c.args.z) (length c.args.c.now) c.loop-at.work) c.loop-at.empty c.loop-at.invariant.2 (omega arith) (sym (order_is c.args.c.now c.loop-at.at (question_in c.args.z c.args.t.now c.args.c.now) (begun_in (variables c.args.z) (length c.args.c.now) c.loop-at.work) (there_by c.args.c.now c.loop-at.at c.in-Some.ensures)) ∙ sym c.is_in_order.ensures.0 ∙ c.if-not-is_in_order.true))
 
 pub loop-at-preserved : goal.loop-at-preserved
 loop-at-preserved c =

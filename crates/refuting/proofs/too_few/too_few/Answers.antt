@@ -8,12 +8,13 @@ use Rattle.refusals.specs.Refusals.{told_form}
 use Rattle.refuting.specs.TooFew.{few_in, few_after, too_few_outcome}
 use Rattle.refusals.proofs.Lines.{goes_on}
 use Rattle.refuting.proofs.Answering.{form_stops}
+use Rattle.refusals.proofs.Results.{said_ok, said_err}
 use Rattle.refuting.proofs.too_few.too_few.Goals as goal
 
-pub returns-in_default : goal.returns-in_default
+pub returns-in_err-told : goal.returns-in_err-told
 unfolding too_few_outcome
-returns-in_default c =
-    form_stops (told_form c.args.w c.args.n) (few_in (edition_of c.args.w) c.args.n c.args.k c.args.m c.args.t.now c.args.c.now c.args.work.now) c.args.work.now refl c.told-told.result c.in_default.field-0 c.told-told.ensures c.in_default.is
+returns-in_err-told c =
+    form_stops (told_form c.args.w c.args.n) (few_in (edition_of c.args.w) c.args.n c.args.k c.args.m c.args.t.now c.args.c.now c.args.work.now) c.args.work.now refl c.told.result _ c.told.ensures (said_err _ _ c.in_err-told.was)
 
 pub few_in-requires : goal.few_in-requires
 few_in-requires c = subst IsEdition (sym c.numbered.ensures) (is_edition _)
@@ -21,4 +22,4 @@ few_in-requires c = subst IsEdition (sym c.numbered.ensures) (is_edition _)
 pub returns : goal.returns
 unfolding too_few_outcome
 returns c =
-    c.few_in.ensures ∙ ap (λ (e : Edition). few_after c.args.work.now (verdict (few_in e c.args.n c.args.k c.args.m c.args.t.now c.args.c.now c.args.work.now))) c.numbered.ensures ∙ ap (few_after c.args.work.now) (goes_on (told_form c.args.w c.args.n) (few_in (edition_of c.args.w) c.args.n c.args.k c.args.m c.args.t.now c.args.c.now c.args.work.now) c.told-told.result c.told-told.ensures c.in-Fine.is refl)
+    c.few_in.ensures ∙ ap (λ (e : Edition). few_after c.args.work.now (verdict (few_in e c.args.n c.args.k c.args.m c.args.t.now c.args.c.now c.args.work.now))) c.numbered.ensures ∙ ap (few_after c.args.work.now) (goes_on (told_form c.args.w c.args.n) (few_in (edition_of c.args.w) c.args.n c.args.k c.args.m c.args.t.now c.args.c.now c.args.work.now) c.told.result c.told.ensures (said_ok _ _ c.in_ok-told.was) refl)

@@ -18,8 +18,7 @@ use Rattle.columns.specs.declared.columns.Broken.{Broken}
 use Rattle.splits.specs.Columns.{most_first, columns, few_columns, first_broken}
 use Rattle.columns.specs.Broken.{broken_at, found_break}
 use Rattle.columns.proofs.Breaking.{break_is, no_break}
-use Rattle.refusals.specs.declared.verdicts.Verdict.{Verdict}
-use Rattle.refusals.specs.declared.verdicts.Verdict.TheVariants.{Fine, Refused}
+use Rattle.refusals.specs.Verdicts.{Verdict, Fine, Refused}
 use Rattle.refusals.specs.Lines.{refusal, naming, verdict, reply}
 use Rattle.splitting.specs.TrySplit.{TryOutcome, try_done, try_not}
 use Rattle.splitting.proofs.Sets.{bytes_H}
@@ -88,7 +87,7 @@ returns-in-Some c =
       answer = record { verdict = v; d = c.none.result; columns = k };
       room = a.room.now;
     })
-    (c.refuse_at.ensures ∙ ap (λ (w : Broken). Refused (refusal 8 w.b)) q)
+    (ap (λ (w : Broken). Refused (refusal 8 w.b)) q)
     (ap (λ (w : Broken). w.columns) q)
     ∙ ap (λ (d : FirstCells). record {
       answer = record {

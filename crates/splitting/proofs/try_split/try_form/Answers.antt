@@ -19,6 +19,7 @@ use Rattle.splitting.proofs.Sets.{candidate, most_first_lem, bytes_H}
 use Rattle.splitting.proofs.try_split.try_form.Lts as lts
 use Rattle.splitting.proofs.try_split.try_form.Reads as reads
 use Rattle.splitting.proofs.try_split.try_form.Tie as tie
+use Rattle.refusals.proofs.Results.{said_ok, handed_on, stopped_by}
 use Rattle.splitting.proofs.try_split.try_form.Goals as goal
 
 module _ (c : lts.After-gate tie.the-claims reads.Pre reads.Post) where
@@ -36,37 +37,37 @@ module _ (c : lts.After-gate tie.the-claims reads.Pre reads.Post) where
   ms = bad_sets g.args.n g.args.k g.args.r g.args.own g.args.shared ∷ room
 
   -- the gate is in order: the sets and the room decide
-  module _ (fine : c.gate-gate.result ≡ Fine) where
+  module _ (fine : c.gate.result ≡ Fine) where
     looked : Sound g.args.e g.args.n g.args.k g.args.t.now
     looked = sound g.args.e g.args.n g.args.k g.args.t.now
-        (in_order_lem ls (sym c.gate-gate.ensures ∙ fine))
+        (in_order_lem ls (sym c.gate.ensures ∙ fine))
 
     past : {v : Verdict} → First ms v → v ≡ verdict (ls ++ ms)
-    past = decided ls ms _ c.gate-gate.ensures fine
+    past = decided ls ms _ c.gate.ensures fine
 
-pub returns-in_default : goal.returns-in_default
-returns-in_default c =
-    stopped (ls c.before.before) (ms c.before.before) _ c.gate-gate.ensures c.in_default.field-0 c.in_default.is
+pub returns-in_err-gate : goal.returns-in_err-gate
+returns-in_err-gate c =
+    handed_on _ _ c.from_residual.ensures.1
+    ∙ stopped_by (ls c.before.before) (ms c.before.before) _ c.gate.ensures _ c.in_err-gate.was
 
 pub bad_sets-requires : goal.bad_sets-requires
-bad_sets-requires c = (looked c.before.before c.in-Fine.is).most
+bad_sets-requires c = (looked c.before.before (said_ok _ _ c.in_ok-gate.was)).most
 
 pub overflow_cast-inputs : goal.overflow_cast-inputs
 overflow_cast-inputs c = omega (arith, bad_sets-requires c)
 
 pub overflow_cast-k : goal.overflow_cast-k
 overflow_cast-k c =
-    omega (arith, (looked c.before.before c.in-Fine.is).largest, (g c.before.before).requires.eight)
+    omega (arith, (looked c.before.before (said_ok _ _ c.in_ok-gate.was)).largest, (g c.before.before).requires.eight)
 
 pub returns-then-bad_sets : goal.returns-then-bad_sets
 returns-then-bad_sets c =
-    c.refuse.ensures
-    ∙ past c.before.before.before.before.before c.in-Fine.is (here (sym c.bad_sets.ensures ∙ c.if-bad_sets.true))
+    past c.before.before.before.before.before (said_ok _ _ c.in_ok-gate.was) (here (sym c.bad_sets.ensures ∙ c.if-bad_sets.true))
 
 pub bytes_of_h-requires : goal.bytes_of_h-requires
 bytes_of_h-requires c =
     let a = (g c.before.before.before.before).args in
-    let w = looked c.before.before.before.before c.in-Fine.is in
+    let w = looked c.before.before.before.before (said_ok _ _ c.in_ok-gate.was) in
     let good = sym c.bad_sets.ensures ∙ c.if-bad_sets.false in
     let s = candidate a.n a.k a.r a.own a.shared good a.e.most w.largest in
     (w.most, s.below_a, s.more, most_first_lem a.n a.k a.r a.own a.shared good)
@@ -98,13 +99,12 @@ module _ (c : lts.After-bytes_of_h tie.the-claims reads.Pre reads.Post) where
       (g f).args.k (omega arith)) F
 
   beyond : {v : Verdict} → First (room f) v → v ≡ verdict (ls f ++ ms f)
-  beyond h = past f c.in-Fine.is (later good h)
+  beyond h = past f (said_ok _ _ c.in_ok-gate.was) (later good h)
 
 pub returns-then-room-bytes_of_h : goal.returns-then-room-bytes_of_h
 returns-then-room-bytes_of_h c =
     let l = length (g (f c.before.before.before)).args.room.now in
-    c.refuse-then-room-bytes_of_h.ensures
-    ∙ beyond c.before.before.before (here (lt-ltb l _ (subst (λ (m : ℕ). l < m) (bytes c.before.before.before) c.if-room-bytes_of_h.true)))
+    beyond c.before.before.before (here (lt-ltb l _ (subst (λ (m : ℕ). l < m) (bytes c.before.before.before) c.if-room-bytes_of_h.true)))
 
 pub returns : goal.returns
 returns c =

@@ -20,6 +20,7 @@ use Rattle.splitting.specs.TrySplit.{try_form, try_done, try_not, try_outcome}
 use Rattle.refusals.proofs.Lines.{in_order_lem, left_to}
 use Rattle.refusals.proofs.Tests.{Sound, sound_before}
 use Rattle.splitting.proofs.Sets.{candidate, most_first_lem, carried, bytes_H, refused_before}
+use Rattle.refusals.proofs.Results.{said_ok, said_err}
 use Rattle.splitting.proofs.try_split.try_in.Goals as goal
 
 -- what form and room let through
@@ -42,20 +43,20 @@ through e n K r A B t room most h =
       long = subst (λ (m : ℕ). m ≤ length room) (sym (bytes_H s (table_bit t))) (ltb-false (length room) _ w.1.0);
     }
 
-pub returns-in_default : goal.returns-in_default
+pub returns-in_err-try_form : goal.returns-in_err-try_form
 unfolding try_outcome
-returns-in_default c =
+returns-in_err-try_form c =
     let a = c.args in
     refused_before (try_form a.e a.n a.k a.r a.own a.shared a.t.now a.room.now)
     (not_possible a.n a.r a.own a.shared a.t.now ∷ []) refl a.n a.own a.shared a.t.now
-    a.room.now (try_done a.n a.r a.own a.shared a.t.now a.room.now) c.try_form-form.result
-    c.in_default.field-0 c.none.result c.try_form-form.ensures c.in_default.is c.none.ensures
+    a.room.now (try_done a.n a.r a.own a.shared a.t.now a.room.now) c.try_form.result
+    _ c.none.result c.try_form.ensures (said_err _ _ c.in_err-try_form.was) c.none.ensures
 
 pub of-requires : goal.of-requires
 of-requires c =
     let a = c.args in
     let w = through a.e a.n a.k a.r a.own a.shared a.t.now a.room.now c.requires.eight
-    (sym c.try_form-form.ensures ∙ c.in-Fine.is) in
+    (sym c.try_form.ensures ∙ (said_ok _ _ c.in_ok-try_form.was)) in
     (w.gate.most, w.sets.below_a, w.sets.below_b, w.sets.apart)
 
 pub overflow_cast-own : goal.overflow_cast-own
@@ -74,7 +75,7 @@ overflow_cast-r c =
     omega (
       arith,
       (through a.e a.n a.k a.r a.own a.shared a.t.now a.room.now c.requires.eight
-          (sym c.try_form-form.ensures ∙ c.in-Fine.is)).most,
+          (sym c.try_form.ensures ∙ (said_ok _ _ c.in_ok-try_form.was))).most,
     )
 
 pub pair_of-requires : goal.pair_of-requires
@@ -82,7 +83,7 @@ pair_of-requires c =
     let o = c.of.ensures in
     let a = c.args in
     let w = through a.e a.n a.k a.r a.own a.shared a.t.now a.room.now c.requires.eight
-    (sym c.try_form-form.ensures ∙ c.in-Fine.is) in record {
+    (sym c.try_form.ensures ∙ (said_ok _ _ c.in_ok-try_form.was)) in record {
       held = (
         o.0,
         carried (λ (n A B : ℕ). Candidate n largest_cell a.r A B) (sym o.1) (sym o.2) (sym o.3)
@@ -108,8 +109,8 @@ returns c =
     ∙ left_to (try_form a.e a.n a.k a.r a.own a.shared a.t.now a.room.now)
     (not_possible a.n a.r a.own a.shared a.t.now ∷ [])
     (try_done a.n a.r a.own a.shared a.t.now a.room.now)
-    (try_not a.n a.own a.shared a.t.now a.room.now) c.try_form-form.result c.try_form-form.ensures
-    c.in-Fine.is
+    (try_not a.n a.own a.shared a.t.now a.room.now) c.try_form.result c.try_form.ensures
+    (said_ok _ _ c.in_ok-try_form.was)
 
 pub overflow_cast-n : goal.overflow_cast-n
 overflow_cast-n c = omega (arith, (of-requires c).0)

@@ -7,15 +7,16 @@ use Rattle.refusals.specs.Refusals.{told_form}
 use Rattle.refusals.proofs.Lines.{left_to}
 use Rattle.splitting.specs.TrySplit.{try_lines, try_done, try_not, try_outcome}
 use Rattle.splitting.proofs.Sets.{refused_before}
+use Rattle.refusals.proofs.Results.{said_ok, said_err}
 use Rattle.splitting.proofs.try_told.try_told.Goals as goal
 
-pub returns-in_default : goal.returns-in_default
-returns-in_default c =
+pub returns-in_err-told : goal.returns-in_err-told
+returns-in_err-told c =
     let a = c.args in
     refused_before (told_form a.w a.n)
     (try_lines (edition_of a.w) a.n a.k 1 a.own a.shared a.t.now a.room.now) refl a.n a.own
     a.shared a.t.now a.room.now (try_done a.n 1 a.own a.shared a.t.now a.room.now)
-    c.told-told.result c.in_default.field-0 c.none.result c.told-told.ensures c.in_default.is c.none.ensures
+    c.told.result _ c.none.result c.told.ensures (said_err _ _ c.in_err-told.was) c.none.ensures
 
 pub try_in-requires : goal.try_in-requires
 try_in-requires c = subst IsEdition (sym c.numbered.ensures) (is_edition _)
@@ -29,5 +30,5 @@ returns c =
     ∙ left_to (told_form a.w a.n) (try_lines (edition_of a.w) a.n a.k 1 a.own a.shared a.t.now
     a.room.now)
     (try_done a.n 1 a.own a.shared a.t.now a.room.now)
-    (try_not a.n a.own a.shared a.t.now a.room.now) c.told-told.result c.told-told.ensures
-    c.in-Fine.is
+    (try_not a.n a.own a.shared a.t.now a.room.now) c.told.result c.told.ensures
+    (said_ok _ _ c.in_ok-told.was)
