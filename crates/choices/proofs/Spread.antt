@@ -6,7 +6,7 @@ use mathlib.Core.List.{List}
 use Prim.Native.Nat.{ℕ, zero, suc, ◌+◌, ◌^◌}
 use lib.Dec.{ltb}
 use Rattle.bits.specs.Numbers.{bit, number}
-use Rattle.bits.specs.Sets.{size, spread}
+use Rattle.bits.specs.Sets.{size}
 use Rattle.bits.proofs.Members.{size-spread}
 use Rattle.tables.specs.Table.{table_bit}
 use Rattle.tables.specs.declared.counting.CountingInputs.{CountingInputs}

@@ -1,5 +1,5 @@
 -- A split found at once is beaten by fewer first cells alone; without one all are looked through. Assumes nothing.
-use Rattle.std.proofs.Common.{◌-◌, ◌<◌, ◌∙◌, ap, arith}
+use Rattle.std.proofs.Common.{◌-◌, ◌∙◌, ap, arith}
 use Rattle.tables.specs.Table.{table_bit}
 use Rattle.best.specs.Search.{split}
 use Rattle.choices.specs.Search.{Choice, better}

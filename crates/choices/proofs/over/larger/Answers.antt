@@ -1,5 +1,5 @@
 -- `larger` meets its contract: sizes are counts of ones. Assumes nothing.
-use Rattle.std.proofs.Common.{◌<◌, ◌^◌, Option, arith, subst}
+use Rattle.std.proofs.Common.{Option, arith, subst}
 use Rattle.bits.specs.Numbers.{bit}
 use Rattle.bits.proofs.Sizes.{size-le}
 use Rattle.choices.specs.declared.over.Chosen.{Chosen}
