@@ -3,6 +3,4 @@ use mathlib.Core.Path.{refl}
 use Rattle.pelzurivan.proofs.bound.pelzurivan_bound.Goals as goal
 
 pub returns : goal.returns
-returns c =
-    rw (c.number_of.ensures, ← c.bound_cells-answer.ensures)
-    (refl, refl)
+returns c = rw (c.from.ensures, ← c.bound_cells.ensures) (refl, refl)

@@ -3,6 +3,4 @@ use mathlib.Core.Path.{refl}
 use Rattle.pelzurivan.proofs.check_sheet.pelzurivan_check.Goals as goal
 
 pub returns : goal.returns
-returns c =
-    rw (c.number_of.ensures, c.place_of.ensures, ← c.check_sheet-verdict.ensures)
-    refl
+returns c = rw (c.from.ensures, ← c.check_sheet.ensures) refl

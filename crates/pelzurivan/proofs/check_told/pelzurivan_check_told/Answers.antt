@@ -4,6 +4,4 @@ use mathlib.Core.Path.{refl}
 use Rattle.pelzurivan.proofs.check_told.pelzurivan_check_told.Goals as goal
 
 pub returns : goal.returns
-returns c =
-    rw (c.number_of.ensures, c.place_of.ensures, ← c.check_told-verdict.ensures)
-    refl
+returns c = rw (c.from.ensures, ← c.check_told.ensures) refl

@@ -3,6 +3,4 @@ use mathlib.Core.Path.{refl}
 use Rattle.pelzurivan.proofs.find_best.pelzurivan_find.Goals as goal
 
 pub returns : goal.returns
-returns c =
-    rw (c.number_of.ensures, ← c.find_best-answer.ensures)
-    (refl, refl)
+returns c = rw (c.from.ensures, ← c.find_best.ensures) (refl, refl)

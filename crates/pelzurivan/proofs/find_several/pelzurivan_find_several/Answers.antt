@@ -4,10 +4,4 @@ use mathlib.Core.Path.{refl}
 use Rattle.pelzurivan.proofs.find_several.pelzurivan_find_several.Goals as goal
 
 pub returns : goal.returns
-returns c =
-    rw (
-      c.number_of.ensures,
-      ←
-          c.find_several-answer.ensures,
-    )
-    (refl, refl)
+returns c = rw (c.from.ensures, ← c.find_several.ensures) (refl, refl)

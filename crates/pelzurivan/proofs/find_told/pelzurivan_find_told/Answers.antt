@@ -4,6 +4,4 @@ use mathlib.Core.Path.{refl}
 use Rattle.pelzurivan.proofs.find_told.pelzurivan_find_told.Goals as goal
 
 pub returns : goal.returns
-returns c =
-    rw (c.number_of.ensures, ← c.find_told-answer.ensures)
-    (refl, refl)
+returns c = rw (c.from.ensures, ← c.find_told.ensures) (refl, refl)

@@ -3,10 +3,4 @@ use mathlib.Core.Path.{refl}
 use Rattle.pelzurivan.proofs.load_cut.pelzurivan_load_cut.Goals as goal
 
 pub returns : goal.returns
-returns c =
-    rw (
-      c.number_of.ensures,
-      c.place_of.ensures,
-      ← c.load_cut-verdict.ensures,
-    )
-    (refl, refl)
+returns c = rw (c.from.ensures, ← c.load_cut.ensures) (refl, refl)

@@ -3,10 +3,4 @@ use mathlib.Core.Path.{refl}
 use Rattle.pelzurivan.proofs.load_desk.pelzurivan_load.Goals as goal
 
 pub returns : goal.returns
-returns c =
-    rw (
-      c.number_of.ensures,
-      c.place_of.ensures,
-      ← c.load_desk-verdict.ensures,
-    )
-    (refl, refl)
+returns c = rw (c.from.ensures, ← c.load_desk.ensures) (refl, refl)

@@ -4,10 +4,4 @@ use mathlib.Core.Path.{refl}
 use Rattle.pelzurivan.proofs.load_store.pelzurivan_load_store.Goals as goal
 
 pub returns : goal.returns
-returns c =
-    rw (
-      c.number_of.ensures,
-      c.place_of.ensures,
-      ← c.load_store-verdict.ensures,
-    )
-    (refl, refl)
+returns c = rw (c.from.ensures, ← c.load_store.ensures) (refl, refl)

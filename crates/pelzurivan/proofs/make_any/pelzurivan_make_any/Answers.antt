@@ -3,4 +3,4 @@ use mathlib.Core.Path.{refl}
 use Rattle.pelzurivan.proofs.make_any.pelzurivan_make_any.Goals as goal
 
 pub returns : goal.returns
-returns c = rw (c.number_of.ensures, ← c.make_any-answer.ensures) (refl, refl, refl)
+returns c = rw (c.from.ensures, ← c.make_any.ensures) (refl, refl, refl)

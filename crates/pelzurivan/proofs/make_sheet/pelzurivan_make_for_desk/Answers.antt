@@ -4,4 +4,4 @@ use mathlib.Core.Path.{refl}
 use Rattle.pelzurivan.proofs.make_sheet.pelzurivan_make_for_desk.Goals as goal
 
 pub returns : goal.returns
-returns c = rw (c.number_of.ensures, ← c.make_for_desk-answer.ensures) (refl, refl, refl)
+returns c = rw (c.from.ensures, ← c.make_for_desk.ensures) (refl, refl, refl)

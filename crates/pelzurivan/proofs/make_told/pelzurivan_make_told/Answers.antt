@@ -4,4 +4,4 @@ use mathlib.Core.Path.{refl}
 use Rattle.pelzurivan.proofs.make_told.pelzurivan_make_told.Goals as goal
 
 pub returns : goal.returns
-returns c = rw (c.number_of.ensures, ← c.make_told-answer.ensures) (refl, refl, refl)
+returns c = rw (c.from.ensures, ← c.make_told.ensures) (refl, refl, refl)

@@ -4,10 +4,4 @@ use mathlib.Core.Path.{refl}
 use Rattle.pelzurivan.proofs.read_formula.pelzurivan_read_formula.Goals as goal
 
 pub returns : goal.returns
-returns c =
-    rw (
-      c.number_of.ensures,
-      c.place_of.ensures,
-      ← c.read_formula-verdict.ensures,
-    )
-    (refl, refl)
+returns c = rw (c.from.ensures, ← c.read_formula.ensures) (refl, refl)

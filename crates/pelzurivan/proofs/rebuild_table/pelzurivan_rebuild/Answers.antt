@@ -3,10 +3,4 @@ use mathlib.Core.Path.{refl}
 use Rattle.pelzurivan.proofs.rebuild_table.pelzurivan_rebuild.Goals as goal
 
 pub returns : goal.returns
-returns c =
-    rw (
-      c.number_of.ensures,
-      c.place_of.ensures,
-      ← c.rebuild_table-verdict.ensures,
-    )
-    (refl, refl)
+returns c = rw (c.from.ensures, ← c.rebuild_table.ensures) (refl, refl)

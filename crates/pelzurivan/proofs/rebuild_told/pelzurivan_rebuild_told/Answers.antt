@@ -4,10 +4,4 @@ use mathlib.Core.Path.{refl}
 use Rattle.pelzurivan.proofs.rebuild_told.pelzurivan_rebuild_told.Goals as goal
 
 pub returns : goal.returns
-returns c =
-    rw (
-      c.number_of.ensures,
-      c.place_of.ensures,
-      ← c.rebuild_told-verdict.ensures,
-    )
-    (refl, refl)
+returns c = rw (c.from.ensures, ← c.rebuild_told.ensures) (refl, refl)

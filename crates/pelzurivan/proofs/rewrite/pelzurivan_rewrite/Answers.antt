@@ -3,10 +3,4 @@ use mathlib.Core.Path.{refl}
 use Rattle.pelzurivan.proofs.rewrite.pelzurivan_rewrite.Goals as goal
 
 pub returns : goal.returns
-returns c =
-    rw (
-      c.number_of.ensures,
-      c.place_of.ensures,
-      ← c.rewrite-answer.ensures,
-    )
-    (refl, refl)
+returns c = rw (c.from.ensures, ← c.rewrite.ensures) (refl, refl)

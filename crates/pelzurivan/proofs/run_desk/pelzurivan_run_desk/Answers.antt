@@ -3,6 +3,4 @@ use mathlib.Core.Path.{refl}
 use Rattle.pelzurivan.proofs.run_desk.pelzurivan_run_desk.Goals as goal
 
 pub returns : goal.returns
-returns c =
-    rw (c.number_of.ensures, c.place_of.ensures, ← c.run_desk-answer.ensures)
-    refl
+returns c = rw (c.from.ensures, ← c.run_desk.ensures) refl

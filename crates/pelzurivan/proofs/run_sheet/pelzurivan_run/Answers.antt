@@ -3,6 +3,4 @@ use mathlib.Core.Path.{refl}
 use Rattle.pelzurivan.proofs.run_sheet.pelzurivan_run.Goals as goal
 
 pub returns : goal.returns
-returns c =
-    rw (c.number_of.ensures, c.place_of.ensures, ← c.run_sheet-answer.ensures)
-    refl
+returns c = rw (c.from.ensures, ← c.run_sheet.ensures) refl

@@ -3,6 +3,4 @@ use mathlib.Core.Path.{refl}
 use Rattle.pelzurivan.proofs.run_told.pelzurivan_run_told.Goals as goal
 
 pub returns : goal.returns
-returns c =
-    rw (c.number_of.ensures, c.place_of.ensures, ← c.run_told-answer.ensures)
-    refl
+returns c = rw (c.from.ensures, ← c.run_told.ensures) refl

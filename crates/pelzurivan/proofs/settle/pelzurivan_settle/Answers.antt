@@ -10,6 +10,6 @@ use Rattle.pelzurivan.proofs.settle.pelzurivan_settle.Goals as goal
 pub returns : goal.returns
 returns c =
     let a = c.args in
-    rw (c.number_of.ensures, c.place_of.ensures) (ap settled_c c.settle-answer.ensures)
+    rw c.from.ensures (ap settled_c c.settle.ensures)
     ∙ ap (λ (ts : List InputTime). settled_c (settle_own first_edition a.n a.s.now a.delay ts))
     c.input_times.ensures

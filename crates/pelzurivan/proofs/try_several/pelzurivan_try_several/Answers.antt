@@ -4,13 +4,4 @@ use mathlib.Core.Path.{refl}
 use Rattle.pelzurivan.proofs.try_several.pelzurivan_try_several.Goals as goal
 
 pub returns : goal.returns
-returns c =
-    rw (
-      c.number_of.ensures,
-      c.word.ensures,
-      c.word-2.ensures,
-      c.word-3.ensures,
-      c.place_of.ensures,
-      ← c.try_several-answer.ensures,
-    )
-    (refl, refl)
+returns c = rw (c.from.ensures, ← c.try_several.ensures) (refl, refl)

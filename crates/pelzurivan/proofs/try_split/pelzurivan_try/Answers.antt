@@ -3,12 +3,4 @@ use mathlib.Core.Path.{refl}
 use Rattle.pelzurivan.proofs.try_split.pelzurivan_try.Goals as goal
 
 pub returns : goal.returns
-returns c =
-    rw (
-      c.number_of.ensures,
-      c.word.ensures,
-      c.place_of.ensures,
-      ←
-          c.try_split-answer.ensures,
-    )
-    (refl, refl)
+returns c = rw (c.from.ensures, ← c.try_split.ensures) (refl, refl)

@@ -3,14 +3,4 @@ use mathlib.Core.Path.{refl}
 use Rattle.pelzurivan.proofs.try_told.pelzurivan_try_told.Goals as goal
 
 pub returns : goal.returns
-returns c =
-    rw (
-      c.number_of.ensures,
-      c.word.ensures,
-      c.word-2.ensures,
-      c.word-3.ensures,
-      c.word-4.ensures,
-      c.place_of.ensures,
-      ← c.try_told-answer.ensures,
-    )
-    (refl, refl)
+returns c = rw (c.from.ensures, ← c.try_told.ensures) (refl, refl)

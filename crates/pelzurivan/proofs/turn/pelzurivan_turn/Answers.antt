@@ -3,6 +3,4 @@ use mathlib.Core.Path.{refl}
 use Rattle.pelzurivan.proofs.turn.pelzurivan_turn.Goals as goal
 
 pub returns : goal.returns
-returns c =
-    rw (c.number_of.ensures, ← c.turn-answer.ensures)
-    refl
+returns c = rw (c.from.ensures, ← c.turn.ensures) refl

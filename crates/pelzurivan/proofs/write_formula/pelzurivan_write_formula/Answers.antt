@@ -4,11 +4,4 @@ use mathlib.Core.Path.{refl}
 use Rattle.pelzurivan.proofs.write_formula.pelzurivan_write_formula.Goals as goal
 
 pub returns : goal.returns
-returns c =
-    rw (
-      c.number_of.ensures,
-      c.place_of.ensures,
-      ←
-          c.write_formula-answer.ensures,
-    )
-    (refl, refl)
+returns c = rw (c.from.ensures, ← c.write_formula.ensures) (refl, refl)
