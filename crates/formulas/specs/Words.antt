@@ -1,8 +1,6 @@
 -- Formulas 256 assignments at a time, and what the four readers give.
 use Rattle.std.specs.Prelude.{◌≡◌, cond, List, Result, Ok, Err, ℕ, ◌+◌, ◌-◌, ◌*◌, ◌<◌, eqb, length}
 use Rattle.values.specs.declared.stretches.Stretch.{Stretch}
-use Rattle.formulas.specs.declared.reading.Level.{Level}
-use Rattle.formulas.specs.declared.reading.Level.TheVariants.{Part, Term, Sum}
 use Rattle.formulas.specs.declared.reading.Read.{Read}
 use Rattle.formulas.specs.declared.reading.Stuck.{Stuck}
 use Rattle.values.specs.Formula.{value}
@@ -27,11 +25,6 @@ abbrev pub found_of : ℕ → Reading → TextRead
 found_of w (up_to F q) = read_to (stretch_of (value F) w) q
 found_of w (stuck p) = stuck_at p
 
--- how many levels of marks are below one
-abbrev pub depth : Level → ℕ
-depth Part = 0
-depth Term = 1
-depth Sum = 2
 
 -- r is the reading of s at level k from p, with d levels left, as the code has it; it is that for any number of calls
 -- that is enough for what is left of s

@@ -8,7 +8,7 @@ ghost use Rattle.values.specs.Stretches.{stretch_of};
 ghost use Rattle.formulas.specs.Refusals.{bad_text};
 ghost use Rattle.formulas.specs.ReadFormula.{read_lines, read_outcome};
 
-use crate::reading::{Level, Text};
+use crate::reading::Text;
 use refusals::form;
 use refusals::verdicts::Refusal;
 use runs::words::first_bits;
@@ -33,7 +33,7 @@ fn look_at_text(inputs: u32, bytes: &[u8]) -> Result<(), Refusal>
         inputs,
         stretch: 0,
     };
-    match text.joined(Level::Sum, 0, MOST_LEVELS) {
+    match text.sum(0, MOST_LEVELS) {
         Err(stuck) => Err(Refusal::Text(stuck.at)),
         Ok(read) if read.at < len => Err(Refusal::Text(read.at)),
         Ok(_) => Ok(()),
@@ -50,7 +50,7 @@ fn text_stretch(inputs: u32, bytes: &[u8], stretch: u32) -> Stretch
         inputs,
         stretch,
     };
-    match text.joined(Level::Sum, 0, MOST_LEVELS) {
+    match text.sum(0, MOST_LEVELS) {
         Ok(read) => read.values,
         Err(_) => unreachable!(),
     }

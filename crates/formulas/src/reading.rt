@@ -1,10 +1,9 @@
 // The readers of a formula, which call each other in a cycle: each call has a byte less before it, or goes one step
 // down. They work on a stretch of 256 assignments at a time, the one from 256 w on.
-ghost use Rattle.std.specs.Prelude.{◌≡◌, ◌<◌, ◌≤◌, suc, eqb, length};
+ghost use Rattle.std.specs.Prelude.{◌≡◌, ◌<◌, ◌≤◌, eqb, length};
 ghost use Rattle.tables.specs.Table.{most_inputs};
-ghost use Rattle.values.specs.Stretches.{joined_by};
-ghost use Rattle.formulas.specs.Text.{byte_at, mark};
-ghost use Rattle.formulas.specs.Words.{Yields, Single, closed_at, depth};
+ghost use Rattle.formulas.specs.Text.{byte_at};
+ghost use Rattle.formulas.specs.Words.{Yields, Single, closed_at};
 
 use values::stretches::{Stretch, of_input, same};
 
@@ -19,38 +18,6 @@ pub struct Read {
 #[derive(Clone, Copy, Debug, PartialEq, Eq)]
 pub struct Stuck {
     pub at: usize,
-}
-
-// What is joined by one mark: factors make a part, parts a term, terms a sum.
-#[derive(Clone, Copy, Debug, PartialEq, Eq)]
-pub enum Level {
-    Part,
-    Term,
-    Sum,
-}
-
-impl Level {
-    // The mark between two of them.
-    fn byte(self) -> u8
-        ensures { result ≡ mark (depth self) }
-    {
-        match self {
-            Level::Part => b'&',
-            Level::Term => b'^',
-            Level::Sum => b'|',
-        }
-    }
-
-    // What the mark makes of two stretches.
-    fn join(self, left: Stretch, right: Stretch) -> Stretch
-        ensures { result ≡ joined_by (depth self) left right }
-    {
-        match self {
-            Level::Part => left & right,
-            Level::Term => left ^ right,
-            Level::Sum => left | right,
-        }
-    }
 }
 
 // The text that is read, with how many inputs, and which stretch of the values is asked for.
@@ -71,32 +38,54 @@ impl Text<'_> {
         at < self.bytes.len() && self.bytes[at] == byte
     }
 
-    // What stands before a mark of the level, which is one step below it.
+    // A sum: terms joined by `|`. Each reader of the grammar stays a function of its own: one over the mark is asked which
+    // at each byte, and took twice as long.
     #[cycle(reading)]
-    fn side(&self, level: Level, at: usize, left: usize) -> Result<Read, Stuck>
+    pub fn sum(&self, at: usize, left: usize) -> Result<Read, Stuck>
         requires { at ≤ length self.now.bytes.now }
-        ensures { Yields self.now.bytes.now self.now.inputs (depth level) left at self.now.stretch result }
+        ensures { Yields self.now.bytes.now self.now.inputs 3 left at self.now.stretch result }
     {
-        match level {
-            Level::Part => self.factor(at, left),
-            Level::Term => self.joined(Level::Part, at, left),
-            Level::Sum => self.joined(Level::Term, at, left),
-        }
-    }
-
-    // A part, a term or a sum: one side, and with the level's mark after it the rest.
-    #[cycle(reading)]
-    pub fn joined(&self, level: Level, at: usize, left: usize) -> Result<Read, Stuck>
-        requires { at ≤ length self.now.bytes.now }
-        ensures { Yields self.now.bytes.now self.now.inputs (suc (depth level)) left at self.now.stretch result }
-    {
-        let first = self.side(level, at, left)?;
-        if !self.has(first.at, level.byte()) {
+        let first = self.term(at, left)?;
+        if !self.has(first.at, b'|') {
             return Ok(first);
         }
-        let rest = self.joined(level, first.at + 1, left)?;
+        let rest = self.sum(first.at + 1, left)?;
         Ok(Read {
-            values: level.join(first.values, rest.values),
+            values: first.values | rest.values,
+            at: rest.at,
+        })
+    }
+
+    // A term: parts joined by `^`.
+    #[cycle(reading)]
+    fn term(&self, at: usize, left: usize) -> Result<Read, Stuck>
+        requires { at ≤ length self.now.bytes.now }
+        ensures { Yields self.now.bytes.now self.now.inputs 2 left at self.now.stretch result }
+    {
+        let first = self.part(at, left)?;
+        if !self.has(first.at, b'^') {
+            return Ok(first);
+        }
+        let rest = self.term(first.at + 1, left)?;
+        Ok(Read {
+            values: first.values ^ rest.values,
+            at: rest.at,
+        })
+    }
+
+    // A part: factors joined by `&`.
+    #[cycle(reading)]
+    fn part(&self, at: usize, left: usize) -> Result<Read, Stuck>
+        requires { at ≤ length self.now.bytes.now }
+        ensures { Yields self.now.bytes.now self.now.inputs 1 left at self.now.stretch result }
+    {
+        let first = self.factor(at, left)?;
+        if !self.has(first.at, b'&') {
+            return Ok(first);
+        }
+        let rest = self.part(first.at + 1, left)?;
+        Ok(Read {
+            values: first.values & rest.values,
             at: rest.at,
         })
     }
@@ -149,7 +138,7 @@ impl Text<'_> {
                 })
             }
             b'(' if 0 < left => {
-                let inner = self.joined(Level::Sum, at + 1, left - 1)?;
+                let inner = self.sum(at + 1, left - 1)?;
                 self.closed(inner)
             }
             b'!' | b'(' => Err(Stuck { at }),
