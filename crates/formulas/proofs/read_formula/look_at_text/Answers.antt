@@ -12,15 +12,13 @@ returns-then-len-gt-MOST_TEXT c =
 pub returns-in-Err : goal.returns-in-Err
 returns-in-Err c =
     let a = c.args in
-    c.refuse_at-in-Err.ensures
-    ∙ text_refused a.inputs a.bytes.now (text_bad a.inputs a.bytes.now c.if-len-gt-MOST_TEXT.false c.in-Err.is
+    text_refused a.inputs a.bytes.now (text_bad a.inputs a.bytes.now c.if-len-gt-MOST_TEXT.false c.in-Err.is
     c.joined.ensures)
 
 pub returns-in-Ok : goal.returns-in-Ok
 returns-in-Ok c =
     let a = c.args in
-    c.refuse_at-in-Ok.ensures
-    ∙ text_refused a.inputs a.bytes.now (text_left a.inputs a.bytes.now c.if-len-gt-MOST_TEXT.false c.in-Ok.is
+    text_refused a.inputs a.bytes.now (text_left a.inputs a.bytes.now c.if-len-gt-MOST_TEXT.false c.in-Ok.is
     c.joined.ensures c.if-read-len.true)
 
 pub returns-in-Ok-2 : goal.returns-in-Ok-2
