@@ -13,16 +13,16 @@ pub returns-in-Err : goal.returns-in-Err
 returns-in-Err c =
     let a = c.args in
     text_refused a.inputs a.bytes.now (text_bad a.inputs a.bytes.now c.if-len-gt-MOST_TEXT.false c.in-Err.is
-    c.joined.ensures)
+    c.sum.ensures)
 
 pub returns-in-Ok : goal.returns-in-Ok
 returns-in-Ok c =
     let a = c.args in
     text_refused a.inputs a.bytes.now (text_left a.inputs a.bytes.now c.if-len-gt-MOST_TEXT.false c.in-Ok.is
-    c.joined.ensures c.if-read-len.true)
+    c.sum.ensures c.if-read-len.true)
 
 pub returns-in-Ok-2 : goal.returns-in-Ok-2
 returns-in-Ok-2 c =
     let a = c.args in
     text_fine a.inputs a.bytes.now (text_good a.inputs a.bytes.now c.if-len-gt-MOST_TEXT.false c.in-Ok.is
-    c.joined.ensures c.if-read-len.false)
+    c.sum.ensures c.if-read-len.false)

@@ -5,9 +5,9 @@ use Rattle.formulas.proofs.read_formula.text_stretch.Goals as goal
 pub unreachable-requires : goal.unreachable-requires
 unreachable-requires c =
     let a = c.args in
-    stretch_stuck a.inputs a.bytes.now (good_text a.inputs a.bytes.now c.requires.1) c.in-Err.is c.joined.ensures
+    stretch_stuck a.inputs a.bytes.now (good_text a.inputs a.bytes.now c.requires.1) c.in-Err.is c.sum.ensures
 
 pub returns : goal.returns
 returns c =
     let a = c.args in
-    stretch_found a.inputs a.bytes.now (good_text a.inputs a.bytes.now c.requires.1) c.in-Ok.is c.joined.ensures
+    stretch_found a.inputs a.bytes.now (good_text a.inputs a.bytes.now c.requires.1) c.in-Ok.is c.sum.ensures
