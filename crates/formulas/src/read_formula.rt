@@ -12,6 +12,7 @@ use crate::reading::Text;
 use refusals::form;
 use refusals::verdicts::Refusal;
 use runs::words::first_bits;
+use tables::fixed::byte_in;
 use values::stretches::{Stretch, same};
 
 // A text has at most so many bytes.
@@ -66,8 +67,7 @@ fn fill(n: u32, t: &[u8], table: &mut [u8])
         if i % 32 == 0 {
             v = text_stretch(n, t, (i / 32) as u32);
         }
-        let o = first_bits(n, v.words[i / 8 % 4]);
-        *byte = ((o >> (8 * (i % 8))) % 256) as u8;
+        *byte = byte_in(first_bits(n, v.words[i / 8 % 4]), i);
     }
 }
 

@@ -12,6 +12,7 @@ use crate::words::sheet_word;
 use bits::patterns::half;
 use records::rules;
 use sheets::kinds::Edition;
+use tables::fixed::byte_in;
 use tables::words::bits_from;
 
 // The value of input j of a record's cell, where bit t of w is signal t; an input that the cell hasn't counts as 0.
@@ -70,10 +71,9 @@ pub fn rebuild(e: Edition, n: u32, s: &[u8], m: usize, out: &mut [u8])
 {
     let mut o: u64 = 0;
     for (i, byte) in out.iter_mut().enumerate() {
-        let j = i % 8;
-        if j == 0 {
+        if i % 8 == 0 {
             o = sheet_word(e, n, s, m, (i / 8) as u32);
         }
-        *byte = ((o >> (8 * j)) % 256) as u8;
+        *byte = byte_in(o, i);
     }
 }

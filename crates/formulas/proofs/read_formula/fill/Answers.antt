@@ -6,7 +6,6 @@ use native.Mathlib.Omega.{arith}
 use lib.Pow.{pow_mono}
 use Rattle.bits.proofs.Filling.{filled_none, filled_more, filled_whole}
 use Rattle.tables.specs.Table.{bytes_of, table_of}
-use Rattle.tables.proofs.Pieces.{word_byte}
 use Rattle.runs.proofs.Choosing.{word_starts}
 use Rattle.formulas.specs.Reading.{text_of, value_in}
 use Rattle.values.specs.Stretches.{stretch_of}
@@ -22,8 +21,8 @@ overflow_cast-i c =
 pub text_stretch-v-requires : goal.text_stretch-v-requires
 text_stretch-v-requires c = (c.requires.0, c.requires.2)
 
-pub first_bits-o-requires : goal.first_bits-o-requires
-first_bits-o-requires c = c.requires.0
+pub first_bits-requires : goal.first_bits-requires
+first_bits-requires c = c.requires.0
 
 pub loop-i-preserved : goal.loop-i-preserved
 loop-i-preserved c =
@@ -35,9 +34,9 @@ loop-i-preserved c =
       | else-i-eq0 u ↦ u.v-is ∙ c.loop-i.invariant.1 u.if-i-eq0.false
     ] in (
       filled_more c.loop-i.invariant.0 (omega arith) (omega arith)
-          (word_byte (bits a.n a.t.now) i _ (table-word a.n i (value_in (text_of a.n a.t.now))
+          (c.byte_in.ensures (bits a.n a.t.now) (table-word a.n i (value_in (text_of a.n a.t.now))
           (word_starts a.n i (omega (arith, c.requires.1))) w (word_at c.if-i-eq0.v (i / 8 % 4) (omega arith))
-          c.first_bits-o.ensures)),
+          c.first_bits.ensures)),
       λ h. let e : i / 32 ≡ (i + 1) / 32 = omega arith in w ∙ ap (stretch_of (value_in (text_of a.n a.t.now))) e,
     )
 

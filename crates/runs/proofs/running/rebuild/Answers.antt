@@ -8,11 +8,10 @@ use Rattle.bits.proofs.Filling.{filled_none, filled_more, filled_whole}
 use Rattle.tables.specs.Table.{bytes_of, table_of}
 use Rattle.sheets.specs.Sheet.{rebuilt}
 use Rattle.runs.specs.Words.{sheet_word}
-use Rattle.tables.proofs.Pieces.{word_byte}
 use Rattle.runs.proofs.Choosing.{word_starts}
 use Rattle.runs.proofs.running.rebuild.Invariants.{bits}
 use Rattle.runs.proofs.running.rebuild.Goals as goal
-use Rattle.runs.proofs.running.rebuild.Goals.{then-j-eq0, else-j-eq0}
+use Rattle.runs.proofs.running.rebuild.Goals.{then-i-eq0, else-i-eq0}
 
 pub overflow_cast-i : goal.overflow_cast-i
 overflow_cast-i c =
@@ -27,12 +26,12 @@ loop-i-preserved c =
     let a = c.args in
     let i = c.loop-i.i in
     let F = bits a.e a.n a.s.now a.m in
-    let w : c.if-j-eq0.o ≡ sheet_word a.e a.n a.s.now a.m (i / 8) =
-    elim c.if-j-eq0.branch [
-      | then-j-eq0 u ↦ u.o-is ∙ u.sheet_word-o.ensures
-      | else-j-eq0 u ↦ u.o-is ∙ c.loop-i.invariant.1 u.if-j-eq0.false
+    let w : c.if-i-eq0.o ≡ sheet_word a.e a.n a.s.now a.m (i / 8) =
+    elim c.if-i-eq0.branch [
+      | then-i-eq0 u ↦ u.o-is ∙ u.sheet_word-o.ensures
+      | else-i-eq0 u ↦ u.o-is ∙ c.loop-i.invariant.1 u.if-i-eq0.false
     ] in (
-      filled_more c.loop-i.invariant.0 (omega arith) (omega arith) (word_byte F i c.if-j-eq0.o w),
+      filled_more c.loop-i.invariant.0 (omega arith) (omega arith) (c.byte_in.ensures F w),
       λ h. let e : i / 8 ≡ (i + 1) / 8 = omega arith in w ∙ ap (sheet_word a.e a.n a.s.now a.m) e,
     )
 
