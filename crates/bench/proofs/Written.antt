@@ -7,7 +7,8 @@ use Prim.Native.Nat.{ℕ, ◌*◌, ◌<◌, ◌≤◌}
 use native.Mathlib.Omega.{arith}
 use lib.ListN.{length, drop, replicate}
 use borrow.Author.Tests.{le-leb, lt-leb}
-use Rattle.std.proofs.Common.{Option, Some, None}
+use Rattle.std.proofs.Common.{Option, Some, None, Err}
+use Rattle.std.specs.Option.{ok_or}
 use Rattle.tables.specs.Table.{table_bit}
 use Rattle.sheets.specs.declared.kinds.Edition.{Edition}
 use Rattle.sheets.specs.Edition.{most_records}
@@ -20,32 +21,39 @@ use Rattle.chains.proofs.Aside.{table-records}
 use Rattle.making.specs.declared.chaining.ChainEnd.{ChainEnd}
 use Rattle.making.specs.Chaining.{Tells}
 use Rattle.making.proofs.Piling.{cells_count}
-use Rattle.refusals.specs.Verdicts.{Verdict, Fine, Refused}
+use Rattle.refusals.specs.Verdicts.{Refusal, Verdict, Fine, Refused}
+use Rattle.refusals.specs.declared.verdicts.Refusal.{Refusal as Why}
+use Rattle.refusals.specs.declared.verdicts.Refusal.TheVariants.{NoSplit}
 use Rattle.refusals.specs.Lines.{refusal, verdict, reply}
+use Rattle.refusals.specs.Results.{refusal_of, verdict_of}
+use Rattle.refusals.proofs.Lines.{not_fine}
 use Rattle.refusals.proofs.Tests.{Sound}
 use Rattle.bench.specs.Refusals.{chain_stuck}
 use Rattle.bench.specs.MakeSheet.{MakeOutcome, sheet_for, cells_in, make_done, make_not, chain_written}
 
 module _ (e : Edition) (d : ℕ) (sheet work : List ℕ) where
   -- a refusal as the code makes it: the sheet is as it was
-  abbrev none : Verdict → List ℕ → MakeOutcome
-  none v l = record { answer = record { verdict = v; count = 0 }; sheet = sheet; work = l }
+  abbrev none : Refusal → List ℕ → MakeOutcome
+  none r l = record { answer = record { verdict = Refused r; count = 0 }; sheet = sheet; work = l }
 
-  module _ (v : Verdict) (l : List ℕ) (cleared : l ≡ replicate (length work) 0) where
+  module _ (l : List ℕ) (cleared : l ≡ replicate (length work) 0) where
     -- it is stuck
-    pub stuck_written : (r : Option ChainEnd) (x : Made) → Tells r x → r ≡ None → v ≡ Refused (refusal 8 0)
-        → none v l ≡ chain_written e d x sheet work
-    stuck_written None stuck w h q = ap₂ none q cleared
-    stuck_written None (made cs) w h q = absurd w
-    stuck_written (Some r) x w h q = cc
+    pub stuck_written : (r : Option ChainEnd) (x : Made) → Tells r x → (why : Why) → ok_or r NoSplit ≡ Err why
+        → none (refusal_of why) l ≡ chain_written e d x sheet work
+    stuck_written None stuck w why h = ap₂ (λ (v : Verdict) (l : List ℕ). record {
+      answer = record { verdict = v; count = 0 };
+      sheet = sheet;
+      work = l;
+    }) (sym (ap verdict_of h)) cleared
+    stuck_written None (made cs) w why h = absurd w
+    stuck_written (Some r) x w why h = absurd (not_fine _ (ap verdict_of h))
 
     -- it is longer than a sheet
     pub long_written : (r : ChainEnd) (x : Made) → Tells (Some r) x → most_records < r.count
-        → v ≡ Refused (refusal 17 0)
-        → none v l ≡ chain_written e d x sheet work
-    long_written r stuck w l q = absurd w
-    long_written r (made cs) w l q =
-        ap₂ none q cleared ∙ ap (λ (b : Bool). cond b (make_done e d cs sheet work)
+        → none (refusal 17 0) l ≡ chain_written e d x sheet work
+    long_written r stuck w g = absurd w
+    long_written r (made cs) w g =
+        ap (none (refusal 17 0)) cleared ∙ ap (λ (b : Bool). cond b (make_done e d cs sheet work)
         (make_not sheet work (refusal 17 0))) (sym (lt-leb (length cs) most_records (omega (arith, w.0))))
 
   module _ (r : ChainEnd) where

@@ -104,7 +104,13 @@ pub fn make_for_desk(
 }
 
 // Makes the sheet of a table for bench use: how many cells.
-pub fn make_sheet(n: u64, k: u64, t: &[u8], sheet: &mut [u8], work: &mut [u8]) -> Result<usize, Refusal>
+pub fn make_sheet(
+    n: u64,
+    k: u64,
+    t: &[u8],
+    sheet: &mut [u8],
+    work: &mut [u8],
+) -> Result<usize, Refusal>
     ensures { record { answer = make_answer result; sheet = sheet.new; work = work.new }
         ≡ make_outcome first_edition 0 n k t.now sheet.old work.old }
 {

@@ -12,7 +12,7 @@ use Rattle.sheets.specs.declared.kinds.Edition.{Edition}
 use Rattle.refusals.specs.Verdicts.{Verdict, Fine}
 use Rattle.refusals.specs.Lines.{Line, verdict}
 use Rattle.refusals.specs.Refusals.{gate_lines, bad_desk, short_sheet}
-use Rattle.refusals.proofs.Lines.{First, fine, here, later, stopped, decided}
+use Rattle.refusals.proofs.Lines.{First, fine, here, later, decided}
 use Rattle.refusals.proofs.Lent.{both_long}
 use Rattle.bench.specs.MakeSheet.{make_form}
 use Rattle.refusals.proofs.Results.{said_ok, handed_on, stopped_by}
@@ -42,27 +42,22 @@ returns-in_err-gate c =
 
 pub returns-then-d : goal.returns-then-d
 returns-then-d c =
-    past c.args.e c.args.d c.args.n c.args.k c.args.t.now c.args.sheet.now c.args.work.now c.gate.result
-    c.gate.ensures (said_ok _ _ c.in_ok-gate.was) (here (lt-ltb most_desk _ c.if-d.true))
+    past c.args.e c.args.d c.args.n c.args.k c.args.t.now c.args.sheet.now c.args.work.now _ c.gate.ensures (said_ok _ _ c.in_ok-gate.was) (here (lt-ltb most_desk _ c.if-d.true))
 
 pub overflow_mul-e : goal.overflow_mul-e
 overflow_mul-e c = omega (arith, c.requires.short)
 
 pub returns-then-sheet-e : goal.returns-then-sheet-e
 returns-then-sheet-e c =
-    beyond c.args.e c.args.d c.args.n c.args.k c.args.t.now c.args.sheet.now c.args.work.now c.gate.result
-    c.gate.ensures (said_ok _ _ c.in_ok-gate.was) c.if-d.false (here (or_left _ _ (lt-ltb _ _ c.if-sheet-e.true)))
+    beyond c.args.e c.args.d c.args.n c.args.k c.args.t.now c.args.sheet.now c.args.work.now _ c.gate.ensures (said_ok _ _ c.in_ok-gate.was) c.if-d.false (here (or_left _ _ (lt-ltb _ _ c.if-sheet-e.true)))
 
 pub returns-then-work-lt-WORK : goal.returns-then-work-lt-WORK
 returns-then-work-lt-WORK c =
     let a = c.args in
-    c.refuse-then-work-lt-WORK.ensures
-    ∙ beyond c.args.e c.args.d c.args.n c.args.k c.args.t.now c.args.sheet.now c.args.work.now c.gate.result
-    c.gate.ensures (said_ok _ _ c.in_ok-gate.was) c.if-d.false (here (or_right (ltb (length a.sheet.now) (a.e.size * most_records)) _
+    beyond c.args.e c.args.d c.args.n c.args.k c.args.t.now c.args.sheet.now c.args.work.now _ c.gate.ensures (said_ok _ _ c.in_ok-gate.was) c.if-d.false (here (or_right (ltb (length a.sheet.now) (a.e.size * most_records)) _
     (lt-ltb _ _ c.if-work-lt-WORK.true)))
 
 pub returns : goal.returns
 returns c =
     let a = c.args in
-    beyond c.args.e c.args.d c.args.n c.args.k c.args.t.now c.args.sheet.now c.args.work.now c.gate.result
-    c.gate.ensures (said_ok _ _ c.in_ok-gate.was) c.if-d.false (later (both_long a.e a.sheet.now a.work.now c.if-sheet-e.false c.if-work-lt-WORK.false) fine)
+    beyond c.args.e c.args.d c.args.n c.args.k c.args.t.now c.args.sheet.now c.args.work.now _ c.gate.ensures (said_ok _ _ c.in_ok-gate.was) c.if-d.false (later (both_long a.e a.sheet.now a.work.now c.if-sheet-e.false c.if-work-lt-WORK.false) fine)

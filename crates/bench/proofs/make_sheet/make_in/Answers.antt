@@ -1,18 +1,20 @@
 -- `make_in` meets its contract: what form and room refuse, else the chain's sheet. Assumes nothing.
-use mathlib.Core.Path.{◌≡◌, refl, sym, ◌∙◌}
+use Rattle.std.proofs.Common.{Result}
+use mathlib.Core.Path.{◌≡◌, refl, sym, ap, ◌∙◌}
 use mathlib.Core.List.{List, [], ◌∷◌}
 use Prim.Native.Nat.{ℕ}
 use native.Mathlib.Omega.{arith}
 use Rattle.sheets.specs.declared.kinds.Edition.{Edition}
 use Rattle.refusals.specs.Verdicts.{Verdict, Fine}
+use Rattle.refusals.specs.declared.verdicts.Refusal.{Refusal as Why}
 use Rattle.refusals.specs.Lines.{Line, verdict}
 use Rattle.bench.specs.Refusals.{chain_stuck}
 use Rattle.refusals.proofs.Lines.{in_order_lem, left_to}
 use Rattle.refusals.proofs.Refusing.{form_refuses}
-use Rattle.bench.specs.MakeSheet.{MakeOutcome, sheet_for, cells_in, make_form, make_done, make_not, make_outcome}
+use Rattle.bench.specs.MakeSheet.{MakeOutcome, sheet_for, cells_in, make_answer, make_form, make_done, make_not, make_outcome}
 use Rattle.bench.proofs.Ready.{Ready, ready}
 use Rattle.bench.proofs.Written.{one_written}
-use Rattle.refusals.proofs.Results.{said_ok, said_err}
+use Rattle.refusals.proofs.Results.{said_ok, said_err, refused_with}
 use Rattle.bench.proofs.make_sheet.make_in.Goals as goal
 
 module _ (e : Edition) (d n k : ℕ) (t sheet work : List ℕ) where
@@ -34,17 +36,20 @@ pub returns-in_err-make_form : goal.returns-in_err-make_form
 unfolding make_outcome
 returns-in_err-make_form c =
     let a = c.args in
-    form_refuses (ls a.e a.d a.n a.k a.t.now a.sheet.now a.work.now) (ms a.e a.d a.n a.k a.t.now a.sheet.now a.work.now) (done a.e a.d a.n a.k a.t.now a.sheet.now a.work.now) (λ (v : Verdict) (l : List ℕ). record {
+    ap (λ (r : Result ℕ Why). record { answer = make_answer r; sheet = a.sheet.now; work = a.work.now })
+    (refused_with _ _ c.from_residual.ensures.1)
+    ∙ form_refuses (ls a.e a.d a.n a.k a.t.now a.sheet.now a.work.now)
+    (ms a.e a.d a.n a.k a.t.now a.sheet.now a.work.now) (done a.e a.d a.n a.k a.t.now a.sheet.now a.work.now)
+    (λ (v : Verdict) (l : List ℕ). record {
       answer = record { verdict = v; count = 0 };
       sheet = a.sheet.now;
       work = l;
-    }) a.work.now refl c.make_form.result _ c.make_form.ensures
-    (said_err _ _ c.in_err-make_form.was)
+    }) a.work.now refl _ _ (sym (said_err _ _ c.in_err-make_form.was) ∙ c.make_form.ensures) refl
 
 pub write_chain-requires : goal.write_chain-requires
 write_chain-requires c =
     let w = through c.args.e c.args.d c.args.n c.args.k c.args.t.now c.args.sheet.now c.args.work.now
-    c.make_form.result c.make_form.ensures (said_ok _ _ c.in_ok-make_form.was) in record { edition = (c.requires, w.gate.some, w.gate.most, omega arith, w.gate.two, w.gate.largest); t_len = (w.gate.long, w.records, w.area) }
+    _ c.make_form.ensures (said_ok _ _ c.in_ok-make_form.was) in record { edition = (c.requires, w.gate.some, w.gate.most, omega arith, w.gate.two, w.gate.largest); t_len = (w.gate.long, w.records, w.area) }
 
 pub returns : goal.returns
 unfolding make_outcome
@@ -53,22 +58,22 @@ returns c =
     let fine = (said_ok _ _ c.in_ok-make_form.was) in
     c.write_chain.ensures
     ∙ one_written a.e a.d a.sheet.now a.work.now a.n a.k a.t.now (through c.args.e c.args.d c.args.n c.args.k c.args.t.now c.args.sheet.now c.args.work.now
-    c.make_form.result c.make_form.ensures fine).gate
-    ∙ left_to (ls a.e a.d a.n a.k a.t.now a.sheet.now a.work.now) (ms a.e a.d a.n a.k a.t.now a.sheet.now a.work.now) (done a.e a.d a.n a.k a.t.now a.sheet.now a.work.now) (make_not a.sheet.now a.work.now) c.make_form.result
+    _ c.make_form.ensures fine).gate
+    ∙ left_to (ls a.e a.d a.n a.k a.t.now a.sheet.now a.work.now) (ms a.e a.d a.n a.k a.t.now a.sheet.now a.work.now) (done a.e a.d a.n a.k a.t.now a.sheet.now a.work.now) (make_not a.sheet.now a.work.now) _
     c.make_form.ensures fine
 
 pub overflow_cast-d : goal.overflow_cast-d
 overflow_cast-d c = omega (
   arith,
   (through c.args.e c.args.d c.args.n c.args.k c.args.t.now c.args.sheet.now c.args.work.now
-      c.make_form.result c.make_form.ensures (said_ok _ _ c.in_ok-make_form.was)).desk,
+      _ c.make_form.ensures (said_ok _ _ c.in_ok-make_form.was)).desk,
 )
 
 pub overflow_cast-n : goal.overflow_cast-n
 overflow_cast-n c = omega (
   arith,
   (through c.args.e c.args.d c.args.n c.args.k c.args.t.now c.args.sheet.now c.args.work.now
-      c.make_form.result c.make_form.ensures (said_ok _ _ c.in_ok-make_form.was)).gate.most,
+      _ c.make_form.ensures (said_ok _ _ c.in_ok-make_form.was)).gate.most,
 )
 
 pub overflow_cast-k : goal.overflow_cast-k
@@ -76,6 +81,6 @@ overflow_cast-k c =
     omega (
       arith,
       (through c.args.e c.args.d c.args.n c.args.k c.args.t.now c.args.sheet.now c.args.work.now
-          c.make_form.result c.make_form.ensures (said_ok _ _ c.in_ok-make_form.was)).gate.largest,
+          _ c.make_form.ensures (said_ok _ _ c.in_ok-make_form.was)).gate.largest,
       c.requires.eight,
     )

@@ -1,6 +1,8 @@
 -- `write_chain` meets its contract: the held chain is that of the table, and is written as records where a sheet has
 -- room for it. Assumes nothing.
-use mathlib.Core.Path.{ap₂, ◌∙◌, subst}
+use Rattle.std.proofs.Common.{Option, Some, Result, Ok}
+use Rattle.std.specs.Result.{result_ok}
+use mathlib.Core.Path.{◌≡◌, sym, ap, ap₂, ◌∙◌, subst}
 use mathlib.Core.List.{List}
 use Prim.Native.Nat.{ℕ, ◌^◌}
 use native.Mathlib.Nat.{le_trans, mul-le-mul_left}
@@ -11,8 +13,12 @@ use Rattle.sheets.specs.Held.{cells_of}
 use Rattle.chains.specs.Chain.{Made}
 use Rattle.chains.specs.Aside.{cells_aside}
 use Rattle.chains.proofs.Aside.{cells_few}
+use Rattle.making.specs.declared.chaining.ChainEnd.{ChainEnd}
 use Rattle.making.specs.Chaining.{Tells}
+use Rattle.refusals.specs.declared.verdicts.Refusal.{Refusal as Why}
 use Rattle.refusals.specs.Verdicts.{Fine}
+use Rattle.refusals.proofs.Results.{refused_with}
+use Rattle.bench.specs.MakeSheet.{make_answer}
 use Rattle.bench.proofs.Written.{stuck_written, long_written, fits}
 use Rattle.bench.proofs.make_sheet.write_chain.Goals as goal
 
@@ -25,30 +31,39 @@ chain_upto-requires c =
 abbrev chain : ℕ → ℕ → ℕ → List ℕ → Made
 chain n most k t = cells_aside most n k (number (2 ^ n) (table_bit t))
 
-pub returns-in_default : goal.returns-in_default
-returns-in_default c =
+pub returns-in_err-chain : goal.returns-in_err-chain
+returns-in_err-chain c =
     let a = c.args in
-    stuck_written a.e a.d a.sheet.now a.work.now c.refuse.result c.chain_upto.new.work c.chain_upto.ensures.cleared
-    c.chain_upto.result (chain a.n a.most a.k a.t.now) c.chain_upto.ensures.told c.in_default.is c.refuse.ensures
+    ap (λ (r : Result ℕ Why). record { answer = make_answer r; sheet = a.sheet.now; work = c.chain_upto.new.work })
+    (refused_with _ _ c.from_residual.ensures.1)
+    ∙ stuck_written a.e a.d a.sheet.now a.work.now c.chain_upto.new.work c.chain_upto.ensures.cleared
+    c.chain_upto.result (chain a.n a.most a.k a.t.now) c.chain_upto.ensures.told _
+    (sym c.ok_or.ensures.value ∙ c.in_err-chain.was)
+
+-- what it came to, where it isn't stuck
+told_of : (r : Option ChainEnd) (s : Result ChainEnd Why) (end : ChainEnd) (x : Made) → Tells r x → r ≡ result_ok s
+    → s ≡ Ok end → Tells (Some end) x
+told_of r s end x t p q = subst (λ (o : Option ChainEnd). Tells o x) (p ∙ ap result_ok q) t
 
 pub returns-then-chain-gt-RECORDS : goal.returns-then-chain-gt-RECORDS
 returns-then-chain-gt-RECORDS c =
     let a = c.args in
     let x = chain a.n a.most a.k a.t.now in
-    long_written a.e a.d a.sheet.now a.work.now c.refuse-then-chain-gt-RECORDS.result c.chain_upto.new.work
-    c.chain_upto.ensures.cleared c.in-Some.chain x (subst (λ r. Tells r x) c.in-Some.is c.chain_upto.ensures.told)
-    (omega (arith, c.if-chain-gt-RECORDS.true)) c.refuse-then-chain-gt-RECORDS.ensures
+    long_written a.e a.d a.sheet.now a.work.now c.chain_upto.new.work c.chain_upto.ensures.cleared c.in_ok-chain.chain x
+    (told_of _ _ _ x c.chain_upto.ensures.told c.ok_or.ensures.ok_part c.in_ok-chain.was)
+    (omega (arith, c.if-chain-gt-RECORDS.true))
 
 pub put_all-requires : goal.put_all-requires
 put_all-requires c =
     let a = c.args in
     let p = c.requires.edition in
     let x = chain a.n a.most a.k a.t.now in
-    let k = fits a.e a.d a.sheet.now a.work.now c.in-Some.chain x
-    (subst (λ r. Tells r x) c.in-Some.is c.chain_upto.ensures.told) (omega (arith, c.if-chain-gt-RECORDS.false)) in (
+    let k = fits a.e a.d a.sheet.now a.work.now c.in_ok-chain.chain x
+    (told_of _ _ _ x c.chain_upto.ensures.told c.ok_or.ensures.ok_part c.in_ok-chain.was)
+    (omega (arith, c.if-chain-gt-RECORDS.false)) in (
       p.0,
       k.few,
-      cells_few a.most a.n a.k (table_bit a.t.now) p.1 (omega (arith, p.4)) (cells_of c.in-Some.chain.sheet) k.chain
+      cells_few a.most a.n a.k (table_bit a.t.now) p.1 (omega (arith, p.4)) (cells_of c.in_ok-chain.chain.sheet) k.chain
           a.e.most p.5,
       le_trans (mul-le-mul_left a.e.size k.few) c.requires.t_len.1,
     )
@@ -57,8 +72,9 @@ pub returns : goal.returns
 returns c =
     let a = c.args in
     let x = chain a.n a.most a.k a.t.now in
-    let n = c.in-Some.chain.count in
+    let n = c.in_ok-chain.chain.count in
     ap₂ (λ (l w : List ℕ). record { answer = record { verdict = Fine; count = n }; sheet = l; work = w })
     c.put_all.ensures c.chain_upto.ensures.cleared
-    ∙ (fits a.e a.d a.sheet.now a.work.now c.in-Some.chain x
-    (subst (λ r. Tells r x) c.in-Some.is c.chain_upto.ensures.told) (omega (arith, c.if-chain-gt-RECORDS.false))).written
+    ∙ (fits a.e a.d a.sheet.now a.work.now c.in_ok-chain.chain x
+    (told_of _ _ _ x c.chain_upto.ensures.told c.ok_or.ensures.ok_part c.in_ok-chain.was)
+    (omega (arith, c.if-chain-gt-RECORDS.false))).written
