@@ -13,7 +13,8 @@ use tables::aside::{set_aside, spread_mask};
 use tables::clear;
 use tables::counting::CountingInputs;
 
-// Masks over the members of a mask, spread back to the members.
+// Masks over the members of a mask, spread back to the members. (As in quick, but beside
+// what is found here stands how many first cells there are; one function for both would take the masks apart again.)
 fn spread_back(n: u32, mask: u16, found: Option<Chosen>) -> Option<Chosen>
     requires { (n ≤ most_inputs) × FewFirst found }
     ensures { (choice_of result ≡ spread_choice n (bit mask) (choice_of found)) × FewFirst result }

@@ -1,5 +1,6 @@
 // The calls for C, one file for each, the two calls of make in one: the answer is a struct of the paper's number and
-// the values, all of 64 bits; of the book a byte. The header is include/pelzurivan.h.
+// the values, all of 64 bits; of the book a byte. The header is include/pelzurivan.h. C reads numbers, and each struct by
+// its own name there: so refusals are numbers here, and structs of the same fields stay apart.
 #![tactic(auto)]
 
 pub mod bound;
