@@ -20,8 +20,8 @@ use Rattle.several.specs.FindSeveral.{find_several_outcome}
 use Rattle.several.proofs.find_several.find_several.Goals as goal
 
 -- the form is that of the first edition
-told : (n K : ℕ) (t work : List ℕ) {e : Edition} {v : Verdict} → v ≡ verdict (find_form e n K t work) → e ≡ first_edition
-    → v ≡ verdict (find_form first_edition n K t work)
+told : (n K : ℕ) (t work : List ℕ) {e : Edition} {v : Verdict} → v ≡ verdict (find_form e n K t work)
+    → e ≡ first_edition → v ≡ verdict (find_form first_edition n K t work)
 told n K t work p q = p ∙ ap (λ (e : Edition). verdict (find_form e n K t work)) q
 
 pub returns-in_err-find_form : goal.returns-in_err-find_form
@@ -35,7 +35,8 @@ returns-in_err-find_form c =
       answer = record { verdict = v; first = 0; own = 0; shared = 0 };
       work = l;
     }) a.work.now refl _ _
-    (sym (said_err _ _ c.in_err-find_form.was) ∙ told a.n a.k a.t.now a.work.now c.find_form.ensures c.first.ensures) refl
+    (sym (said_err _ _ c.in_err-find_form.was)
+    ∙ told a.n a.k a.t.now a.work.now c.find_form.ensures c.first.ensures) refl
 
 pub overflow_cast-n : goal.overflow_cast-n
 overflow_cast-n c =
