@@ -1,6 +1,8 @@
 -- The bench program asks make what its input asks, and hands over make's outcome with the number in front.
 -- Assumes nothing.
-use mathlib.Core.Path.{◌≡◌, sym, ap, ◌∙◌, subst}
+use Rattle.std.proofs.Common.{Result}
+use Rattle.std.specs.Result.{result_unwrap_or}
+use mathlib.Core.Path.{◌≡◌, sym, ap, ap₂, ◌∙◌, subst}
 use mathlib.Core.List.{List, ◌∷◌, append-nil}
 use Prim.Native.Nat.{ℕ, ◌+◌, ◌-◌, ◌*◌, ◌≤◌}
 use native.Mathlib.Omega.{arith}
@@ -14,9 +16,12 @@ use Rattle.sheets.specs.Writing.{sheet_bytes}
 use Rattle.sheets.proofs.Wholes.{length-sheet}
 use Rattle.tables.specs.Work.{work_length}
 use Rattle.refusals.specs.Verdicts.{Verdict, Fine, Refused}
+use Rattle.refusals.specs.declared.verdicts.Refusal.{Refusal as Why}
 use Rattle.refusals.specs.Lent.{into}
 use Rattle.refusals.specs.Lines.{verdict, number_of, reply}
-use Rattle.bench.specs.MakeSheet.{MakeAnswer, MakeOutcome, sheet_for, cells_in, make_lines, make_done, make_not, make_outcome}
+use Rattle.refusals.specs.Results.{verdict_of}
+use Rattle.bench.specs.MakeSheet.{MakeOutcome, sheet_for, cells_in, make_answer, make_lines, make_done, make_not, make_outcome}
+use Rattle.bench.proofs.Made.{made_says, made_counts}
 use Rattle.programs.specs.BenchProgram.{most_written, asked, ProgramOutcome, shown, program_outcome}
 
 -- ---- the records made stand in the room for the sheet, so what is to be written stands in the room handed over
@@ -51,7 +56,7 @@ within input q =
 pub rest : (a : ℕ) (xs : List ℕ) → mid_of a (length xs - a) xs ≡ drop a xs
 rest a xs = take_all (length xs - a) (drop a xs) (omega (arith, length-drop a xs))
 
-module _ (input out work o w ys ws : List ℕ) (n k start number : ℕ) (answer : MakeAnswer)
+module _ (input out work o w ys ws : List ℕ) (n k start number count : ℕ) (made : Result ℕ Why)
     (long : length out ≡ most_written) (area : length work ≡ work_length)
     (cleared : o ≡ replicate (length out) 0) (blank : w ≡ replicate (length work) 0)
     (inputs : n ≡ get_or input 0 0) (cell : k ≡ get_or input 1 0) (table : drop start input ≡ drop 2 input) where
@@ -63,12 +68,12 @@ module _ (input out work o w ys ws : List ℕ) (n k start number : ℕ) (answer 
   unfolding asked
   same_question = rw (inputs, cell, rest start input, table, cleared, long, blank, area)
 
-  pub handed : record { answer = answer; sheet = ys; work = ws }
+  pub handed : record { answer = make_answer made; sheet = ys; work = ws }
       ≡ make_outcome first_edition 0 n k (mid_of start (length input - start) input) (mid_of 1 (length o - 1) o) w
-      → number ≡ number_of answer.verdict
-      → record { count = 1 + record_size * answer.count; out = set (put_mid 1 (length o - 1) o ys) 0 number; work = ws }
+      → number ≡ number_of (verdict_of made) → count ≡ result_unwrap_or made 0
+      → record { count = 1 + record_size * count; out = set (put_mid 1 (length o - 1) o ys) 0 number; work = ws }
       ≡ program_outcome input
-  handed made v =
-      ap (λ (l : List ℕ). record { count = 1 + record_size * answer.count; out = l; work = ws })
-      (front ∙ ap (λ (a : ℕ). a ∷ ys) v)
-      ∙ ap shown (made ∙ same_question)
+  handed answered v q =
+      ap₂ (λ (m : ℕ) (l : List ℕ). record { count = 1 + record_size * m; out = l; work = ws })
+      (q ∙ sym (made_counts made)) (front ∙ ap (λ (a : ℕ). a ∷ ys) (v ∙ ap number_of (sym (made_says made))))
+      ∙ ap shown (answered ∙ same_question)

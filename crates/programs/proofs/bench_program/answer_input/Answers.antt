@@ -11,9 +11,9 @@ use Rattle.programs.proofs.bench_program.answer_input.Goals as goal
 pub returns : goal.returns
 returns c =
     let a = c.args in
-    handed a.input.now a.out.now a.work.now _ _ _ _ _ _ _ _ _ c.requires.0 c.requires.1 c.clear.ensures
+    handed a.input.now a.out.now a.work.now _ _ _ _ _ _ _ _ _ c.make_sheet-made.result c.requires.0 c.requires.1 c.clear.ensures
     c.clear-2.ensures c.byte_or_zero-n.ensures c.byte_or_zero-k.ensures
-    c.cut_at-start.ensures.2 c.make_sheet-made.ensures c.number_of.ensures
+    c.cut_at-start.ensures.2 c.make_sheet-made.ensures c.number_of.ensures c.unwrap_or.ensures
 
 pub shape_of-out : goal.shape_of-out
 shape_of-out c =
@@ -29,9 +29,9 @@ overflow_add-result c =
     let ys = c.make_sheet-made.new.sheet in
     let long = length-set (put_mid 1 (length o - 1) o ys) 0 c.number_of.result
     ∙ same_len_mid 1 (length o - 1) o ys c.out-2-1.given.0 ∙ c.out-1.given in
-    let made = handed a.input.now a.out.now a.work.now _ _ _ _ _ _ _ _ _ c.requires.0 c.requires.1 c.clear.ensures
+    let made = handed a.input.now a.out.now a.work.now _ _ _ _ _ _ _ _ _ c.make_sheet-made.result c.requires.0 c.requires.1 c.clear.ensures
     c.clear-2.ensures c.byte_or_zero-n.ensures c.byte_or_zero-k.ensures
-    c.cut_at-start.ensures.2 c.make_sheet-made.ensures c.number_of.ensures in
+    c.cut_at-start.ensures.2 c.make_sheet-made.ensures c.number_of.ensures c.unwrap_or.ensures in
     omega (arith, within a.input.now made, long, c.requires.0)
 
 pub overflow_mul-result : goal.overflow_mul-result
