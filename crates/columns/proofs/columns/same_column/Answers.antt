@@ -8,7 +8,8 @@ use Rattle.bits.proofs.Masks.{mask_most}
 use Rattle.bits.proofs.Walking.{Walked, walked_none, walked_more, walked_lt, walked_end}
 use Rattle.tables.specs.Table.{table_bit}
 use Rattle.columns.specs.declared.split.Split.{Split}
-use Rattle.columns.specs.Reading.{high_part, Held, Without}
+use Rattle.columns.specs.ByWords.{high_part}
+use Rattle.columns.specs.Reading.{Held, Without}
 use Rattle.columns.proofs.Reading.{free_lt}
 use Rattle.tables.proofs.Pieces.{word_at}
 use Rattle.columns.proofs.ByWords.{alike_even, even_alike, word_lt, equal_even, even_equal}
