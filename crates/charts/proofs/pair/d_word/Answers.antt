@@ -12,7 +12,7 @@ use Rattle.tables.proofs.Digits.{cut_none, part-word}
 use Rattle.columns.specs.declared.split.Split.{Split}
 use Rattle.splits.specs.Split.{reads_d}
 use Rattle.columns.specs.Reading.{Held}
-use Rattle.columns.proofs.Reading.{below_mask}
+use Rattle.columns.proofs.Reading.{held, below_mask}
 use Rattle.charts.proofs.pair.d_word.Invariants.{M, D}
 use Rattle.charts.proofs.pair.d_word.Goals as goal
 
@@ -39,12 +39,12 @@ pub returns-then-many-from : goal.returns-then-many-from
 returns-then-many-from c =
     let a = c.args in
     sym (cut_none (2 ^ size a.s.n (S a.s)) (64 * a.w) 64 (D a.t.now a.s a.which)
-    (omega (arith, all a.s c.requires.held.0 c.parts-many.ensures.0, c.if-many-from.true)))
+    (omega (arith, all a.s (held a.s) c.parts-many.ensures.0, c.if-many-from.true)))
 
 pub loop-i-init : goal.loop-i-init
 unfolding number
 loop-i-init c =
-    let none = walked_none {m = M c.args.s} c.requires.held.0.most c.parts-many.ensures.0 in
+    let none = walked_none {m = M c.args.s} c.args.s.most c.parts-many.ensures.0 in
     let e : 64 * c.args.w ≡ 64 * c.args.w + 0 = omega arith in (
       refl,
       record {
@@ -61,7 +61,7 @@ overflow_add-r c =
     let a = c.args in
     let q = c.loop-i in
     let inside : 64 * a.w + q.i < c.parts-many.result = omega (arith, c.min-i-end.ensures) in
-    let gives = c.d_bit.ensures ∙ ap (D a.t.now a.s a.which) (read a.s c.requires.held.0 q.invariant.1 inside) in
+    let gives = c.d_bit.ensures ∙ ap (D a.t.now a.s a.which) (read a.s (held a.s) q.invariant.1 inside) in
     omega (
       arith,
       summed_fits 64 (λ j. D a.t.now a.s a.which (64 * a.w + j)) (omega (arith, c.min-i-end.ensures))
@@ -73,7 +73,7 @@ loop-i-preserved c =
     let a = c.args in
     let q = c.loop-i in
     let inside : 64 * a.w + q.i < c.parts-many.result = omega (arith, c.min-i-end.ensures) in
-    let gives = c.d_bit.ensures ∙ ap (D a.t.now a.s a.which) (read a.s c.requires.held.0 q.invariant.1 inside) in
+    let gives = c.d_bit.ensures ∙ ap (D a.t.now a.s a.which) (read a.s (held a.s) q.invariant.1 inside) in
     let e : 64 * a.w + q.i + 1 ≡ 64 * a.w + (q.i + 1) = omega arith in (
       summed 64 (λ j. D a.t.now a.s a.which (64 * a.w + j)) (omega (arith, c.min-i-end.ensures)) q.invariant.0
           (bool_digit gives),
@@ -87,7 +87,7 @@ returns c =
     let a = c.args in
     let k = size a.s.n (S a.s) in
     let F = D a.t.now a.s a.which in
-    let many = all a.s c.requires.held.0 c.parts-many.ensures.0 in
+    let many = all a.s (held a.s) c.parts-many.ensures.0 in
     let e : q.i ≡ c.min-i-end.result = omega arith in
     q.invariant.0 ∙ ap (λ (m : ℕ). number m (λ j. F (64 * a.w + j))) e
     ∙ part-word k a.w c.min-i-end.result F (omega (arith, c.min-i-end.ensures))
@@ -97,22 +97,22 @@ returns c =
 pub overflow_add-both : goal.overflow_add-both
 overflow_add-both c =
     omega
-    (arith, below c.args.s c.requires.held.0, mask_most c.requires.held.0.most)
+    (arith, below c.args.s (held c.args.s), mask_most c.args.s.most)
 
 pub parts-many-requires : goal.parts-many-requires
-parts-many-requires c = (c.requires.held.0.most, below c.args.s c.requires.held.0)
+parts-many-requires c = (c.args.s.most, below c.args.s (held c.args.s))
 
 pub overflow_mul-from : goal.overflow_mul-from
-overflow_mul-from c = omega (arith, c.requires.held.1)
+overflow_mul-from c = omega (arith, c.requires.w_bound.0)
 
 pub spread_out-x-requires : goal.spread_out-x-requires
-spread_out-x-requires c = c.requires.held.0.most
+spread_out-x-requires c = c.args.s.most
 
 pub d_bit-requires : goal.d_bit-requires
 d_bit-requires c =
-    let s = itself c.args.s c.requires.held.0 c.loop-i.invariant.1 (omega (arith, c.min-i-end.ensures)) in
+    let s = itself c.args.s (held c.args.s) c.loop-i.invariant.1 (omega (arith, c.min-i-end.ensures)) in
     record {
-      held = (c.requires.held.0, s, c.requires.held.2, c.requires.held.3);
+      x_read = (s, c.requires.w_bound.1, c.requires.w_bound.2);
       chart = c.requires.chart;
       limit_value = c.requires.limit_value;
     }
@@ -122,4 +122,4 @@ overflow_shl-r c = omega (arith, c.min-i-end.ensures)
 
 pub next-x-requires : goal.next-x-requires
 next-x-requires c =
-    let h = c.requires.held.0 in (h.most, below c.args.s h, walked_lt c.loop-i.invariant.1)
+    let h = held c.args.s in (h.most, below c.args.s h, walked_lt c.loop-i.invariant.1)
