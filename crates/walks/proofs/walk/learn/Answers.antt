@@ -1,8 +1,7 @@
 -- What is kept was shown by six bits, or by many points. Assumes nothing.
-use mathlib.Core.Path.{sym, ap, ◌∙◌, subst}
+use mathlib.Core.Path.{sym, ap, subst}
 use Prim.Native.Nat.{ℕ, ◌*◌, ◌^◌, ◌≤◌}
 use lib.ListN.{length}
-use borrow.Author.Tests.{not-false}
 use Rattle.witness.proofs.Points.{said_no}
 use Rattle.walks.proofs.Learning.{learned_one}
 use Rattle.walks.proofs.walk.learn.Goals as goal
