@@ -49,7 +49,8 @@ module _ (n K : ℕ) (F : ℕ → Bool) where
   unfolding by
   least-chain h e = least_by false true (lt-leb (counted n F) K h) (eq-eqb K 2 e)
 
-  pub least_split : K < counted n F → (K ≡ 2 → ⊥) → cell_bound n K F ≡ by_split n K (counted n F) (best_counting n 1 F K)
+  pub least_split : K < counted n F → (K ≡ 2 → ⊥)
+      → cell_bound n K F ≡ by_split n K (counted n F) (best_counting n 1 F K)
   unfolding by
   least_split h f = least_by false false (lt-leb (counted n F) K h) (ne_eqb K 2 f)
 

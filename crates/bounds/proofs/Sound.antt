@@ -111,7 +111,8 @@ module _ (n K : ℕ) (F : ℕ → Bool) (p : 1 ≤ n) (q : 2 ≤ K) {L : ℕ} (b
     | no h ↦ omega arith
     | yes h ↦ elim (dec_lt L 2) [
       | yes l ↦ absurd (f (subst (λ (m : ℕ). Carries n K m F)
-          (let e : L ≡ 1 = omega (arith, (bound_carried (omega arith)).count, (bound_carried (omega arith)).network.some)
+          (let e : L ≡ 1 = omega
+          (arith, (bound_carried (omega arith)).count, (bound_carried (omega arith)).network.some)
           in e) (bound_carried (omega arith))))
       | no l ↦ let e : L ≡ 2 = omega arith in absurd
           (g (subst (λ (m : ℕ). Carries n K m F) e (bound_carried (omega arith))))

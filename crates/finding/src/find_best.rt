@@ -5,7 +5,8 @@ ghost use Rattle.sheets.specs.Edition.{IsEdition, first_edition};
 ghost use Rattle.tables.specs.Work.{work_length};
 ghost use Rattle.refusals.specs.Results.{verdict_of};
 ghost use Rattle.refusals.specs.Lines.{verdict, reply};
-ghost use Rattle.finding.specs.FindBest.{find_answer, best_for, find_form, find_says, find_done, find_not, find_outcome};
+ghost use Rattle.finding.specs.FindBest.{find_answer, best_for, find_form, find_says, find_done, find_not};
+ghost use Rattle.finding.specs.FindBest.{find_outcome};
 
 use best::Masks;
 use quick::counted::{Counted, find_counting};
@@ -27,7 +28,8 @@ pub fn find_form<'a>(e: Edition, n: u64, k: u64, t: &'a [u8], work: &'a [u8]) ->
 
 // Lines 7 and 8: the best split over the inputs that count, or that at most k count, or that none is possible.
 fn search(n: u32, k: u32, t: &[u8], work: &mut [u8]) -> Result<Masks, Refusal>
-    requires { (n ≤ most_inputs) × (k ≤ most_inputs) × (length t.now ≡ table_length n) × (work_length ≤ length work.old) }
+    requires { (n ≤ most_inputs) × (k ≤ most_inputs) × (length t.now ≡ table_length n)
+        × (work_length ≤ length work.old) }
     ensures { record { answer = find_answer result; work = work.new }
         ≡ reply (verdict (find_says n k t.now))
         (find_done (best_for n k t.now) work.old) (find_not work.old) }

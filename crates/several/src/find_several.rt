@@ -8,6 +8,7 @@ ghost use Rattle.several.specs.FindSeveral.{several_answer, best_several, severa
 ghost use Rattle.several.specs.FindSeveral.{find_several_outcome};
 
 use choices::counted::find_over;
+use choices::over::Chosen;
 use finding::find_best::find_form;
 use refusals::verdicts::Refusal;
 use sheets::kinds::Edition;
@@ -15,7 +16,8 @@ use tables::counting::counting_inputs;
 
 // Lines 7 and 8: the best over 1, 2 and 3 first cells, or that at most k inputs count, or that none is possible.
 fn search(n: u32, k: u32, t: &[u8], work: &mut [u8]) -> Result<Chosen, Refusal>
-    requires { (n ≤ most_inputs) × (k ≤ most_inputs) × (length t.now ≡ table_length n) × (work_length ≤ length work.old) }
+    requires { (n ≤ most_inputs) × (k ≤ most_inputs) × (length t.now ≡ table_length n)
+        × (work_length ≤ length work.old) }
     ensures { record { answer = several_answer result; work = work.new }
         ≡ reply (verdict (several_says n k t.now))
         (several_done (best_several n k t.now) work.old) (several_not work.old) }

@@ -1,5 +1,6 @@
 -- Line 5 as the code asks it, and what it lets through; what the lines before 8 refuse. Assumes nothing.
-use mathlib.Core.Path.{◌≡◌, sym, ap, ap₂, ◌∙◌, subst}
+use Rattle.std.proofs.Common.{Result, Err}
+use mathlib.Core.Path.{◌≡◌, refl, sym, ap, ◌∙◌, subst}
 use mathlib.Core.Bool.{Bool, true, false, not, cond, ◌&&◌}
 use mathlib.Core.List.{List, ◌++◌}
 use Prim.Native.Nat.{ℕ, ◌+◌, ◌-◌, ◌^◌, ◌<◌, ◌≤◌}
@@ -16,15 +17,18 @@ use Rattle.tables.specs.Table.{table_length, table_bit}
 use Rattle.splits.specs.Columns.{most_first, columns}
 use Rattle.splits.specs.Pair.{inputs_h}
 use Rattle.splits.proofs.Respect.{inputs-H}
-use Rattle.charts.specs.declared.pair.FirstCells.{FirstCells}
 use Rattle.charts.specs.Cells.{no_cells}
 use Rattle.best.specs.Best.{Candidate}
-use Rattle.refusals.specs.Verdicts.{Refusal, Verdict, Refused}
+use Rattle.refusals.specs.Verdicts.{Refused}
+use Rattle.refusals.specs.declared.verdicts.Refusal.{Refusal as Why}
+use Rattle.refusals.specs.declared.verdicts.Refusal.TheVariants.{Broken}
+use Rattle.refusals.specs.Results.{refusal_of, verdict_of, columns_of}
 use Rattle.refusals.specs.Lines.{Line, verdict, reply}
 use Rattle.refusals.specs.Refusals.{bad_sets}
 use Rattle.refusals.proofs.Lines.{others, another, refused_by}
 use Rattle.refusals.proofs.Tests.{inside}
-use Rattle.splitting.specs.TrySplit.{TryOutcome, try_not}
+use Rattle.refusals.proofs.Results.{said_err}
+use Rattle.splitting.specs.TrySplit.{TryOutcome, try_not, try_answer}
 
 module _ (n K r A B : ℕ) where
   pub bad-first : not (leb 1 r && leb r most_first) ≡ true → (bad_sets n K r A B).holds ≡ true
@@ -76,23 +80,26 @@ bytes_H {n} {K} {r} {A} {B} c F =
     let e : n + r - size n (bit A) ≡ inputs_h n F (bit A) (bit B) r = omega
     (arith, inputs-H n (bit A) (bit B) c.apart F r) in ap table_length e
 
+-- a refusal whose number isn't 8 counts no columns
+uncounted : (why : Why) → ((refusal_of why).number ≡ 8 → ⊥) → columns_of why ≡ 0
+uncounted (Broken b columns) other = absurd (other refl)
+uncounted _ other = refl
+
 -- lines of which none is 8 refuse without counting columns, whatever comes after them
-pub refused_before : (ls ms : List Line) → others 8 ls ≡ true → (n A B : ℕ) (t room : List ℕ) (done : TryOutcome)
-    (v : Verdict) (why : Refusal) (d : FirstCells) → v ≡ verdict ls → v ≡ Refused why → d ≡ no_cells
-    → record { answer = record { verdict = v; d = d; columns = 0 }; room = room }
-    ≡ reply (verdict (ls ++ ms)) done (try_not n A B t room)
-refused_before ls ms o n A B t room done v why d looked e none =
-    ap₂ (λ (v : Verdict) (d : FirstCells). record { answer = record { verdict = v; d = d; columns = 0 }; room = room })
-    e none
-    ∙ ap (λ (b : Bool). record {
-      answer = record {
-        verdict = Refused why;
-        d = no_cells;
-        columns = cond b (length (columns n (table_bit t) (bit A) (bit B) why.place)) 0;
-      };
+pub refused_before : {R : Type 0} (ls ms : List Line) → others 8 ls ≡ true → (n A B : ℕ) (t room : List ℕ)
+    (done : TryOutcome) (r : Result R Why) (why : Why) → verdict_of r ≡ verdict ls → r ≡ Err why
+    → record { answer = try_answer (Err why); room = room } ≡ reply (verdict (ls ++ ms)) done (try_not n A B t room)
+refused_before ls ms o n A B t room done r why looked e =
+    let said = said_err r why e in
+    let other = another ls 8 (refusal_of why) o (sym looked ∙ said) in
+    ap (λ (k : ℕ). record {
+      answer = record { verdict = Refused (refusal_of why); d = no_cells; columns = k };
       room = room;
-    }) (sym (ne_eqb why.number 8 (another ls 8 why o (sym looked ∙ e))))
-    ∙ refused_by ls ms done (try_not n A B t room) v why looked e
+    })
+    (uncounted why other
+    ∙ sym (ap (λ (b : Bool). cond b (length (columns n (table_bit t) (bit A) (bit B) (refusal_of why).place)) 0)
+    (ne_eqb (refusal_of why).number 8 other)))
+    ∙ refused_by ls ms done (try_not n A B t room) (verdict_of r) (refusal_of why) looked said
 
 -- what is said of a split's numbers is said of those it was made of
 pub carried : {n n' a a' b b' : ℕ} (P : ℕ → ℕ → ℕ → Type 0) → n ≡ n' → a ≡ a' → b ≡ b' → P n a b → P n' a' b'

@@ -22,7 +22,8 @@ try_form e n K r A B t room = gate_lines e n K t ++ (bad_sets n K r A B ∷ shor
 abbrev pub try_lines : Edition → ℕ → ℕ → ℕ → ℕ → ℕ → List ℕ → List ℕ → List Line
 try_lines e n K r A B t room = try_form e n K r A B t room ++ (not_possible n r A B t ∷ [])
 
--- the verdict, the first cells' tables, and after 8, which names where the split breaks, how many different columns there are
+-- the verdict, the first cells' tables, and after 8, which names where the split breaks, how many different columns
+-- there are
 pub record TryAnswer : Type 0 where
   pub verdict : Verdict
   pub d : FirstCells

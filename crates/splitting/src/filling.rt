@@ -16,8 +16,8 @@ use columns::split::Split;
 
 // The bytes of H's table, from the chart of its columns, into the start of a room.
 fn store_h<'a>(t: &'a [u8], s: Split, r: u32, seen: &'a [u16], end: usize, room: &mut [u8])
-    requires held { Held s × (2 ^ s.n ≤ 8 * length t.now) × Chart s (table_bit t.now) (2 ^ r) seen.now × (r ≤ most_first)
-        × (end ≤ length room.old) × (end ≤ table_length most_inputs) }
+    requires held { Held s × (2 ^ s.n ≤ 8 * length t.now) × Chart s (table_bit t.now) (2 ^ r) seen.now
+        × (r ≤ most_first) × (end ≤ length room.old) × (end ≤ table_length most_inputs) }
     requires end_value { end ≡ table_length (inputs_h s.n (table_bit t.now) (bit s.own) (bit s.shared) r) }
     ensures { room.new
         ≡ into (bytes_h s.n (table_bit t.now) (bit s.own) (bit s.shared) r) room.old }

@@ -121,7 +121,14 @@ pub fn try_in(
 }
 
 // Tries the split with the masks own and shared: D, and H into the lent room.
-pub fn try_split(n: u64, k: u64, own: u64, shared: u64, t: &[u8], room: &mut [u8]) -> Result<FirstCells, Refusal>
+pub fn try_split(
+    n: u64,
+    k: u64,
+    own: u64,
+    shared: u64,
+    t: &[u8],
+    room: &mut [u8],
+) -> Result<FirstCells, Refusal>
     ensures { record { answer = try_answer result; room = room.new }
         ≡ try_outcome first_edition n k 1 own shared t.now room.old }
 {

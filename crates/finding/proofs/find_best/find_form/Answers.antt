@@ -5,7 +5,7 @@ use lib.ListN.{length}
 use borrow.Author.Tests.{lt-ltb, le-ltb}
 use Rattle.tables.specs.Work.{work_length}
 use Rattle.refusals.specs.Refusals.{gate_lines, short_work}
-use Rattle.refusals.proofs.Lines.{fine, here, later, stopped, decided}
+use Rattle.refusals.proofs.Lines.{fine, here, later, decided}
 use Rattle.refusals.proofs.Results.{said_ok, handed_on, stopped_by}
 use Rattle.finding.proofs.find_best.find_form.Goals as goal
 

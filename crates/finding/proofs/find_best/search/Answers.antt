@@ -1,17 +1,19 @@
 -- `search` meets its contract: what is found over the inputs that count is answered by lines 7 and 8. Assumes nothing.
+use Rattle.std.proofs.Common.{Ok, Err}
 use mathlib.Core.Path.{◌≡◌, ap, ap₂, ◌∙◌, subst}
 use mathlib.Core.Bool.{Bool}
 use mathlib.Core.List.{List, [], ◌∷◌}
 use Prim.Native.Nat.{ℕ}
 use native.Mathlib.Omega.{arith}
 use Rattle.quick.specs.declared.counted.Counted.{Counted}
+use Rattle.best.specs.declared.Masks.{Masks}
 use Rattle.best.specs.Search.{Answer}
 use Rattle.quick.specs.Counted.{FoundCounting}
 use Rattle.tables.proofs.Work.{half-holds}
-use Rattle.refusals.specs.Verdicts.{Verdict, Fine}
+use Rattle.refusals.specs.declared.verdicts.Refusal.TheVariants.{Nothing, NoSplit}
 use Rattle.refusals.specs.Lines.{line, verdict, reply}
 use Rattle.refusals.specs.Refusals.{none_best}
-use Rattle.finding.specs.FindBest.{FindOutcome, best_for, find_done, find_not}
+use Rattle.finding.specs.FindBest.{FindOutcome, find_answer, best_for, find_done, find_not}
 use Rattle.finding.proofs.find_best.search.Goals as goal
 
 -- what is answered, as few inputs count or not, of a best split
@@ -23,31 +25,29 @@ told : {n K : ℕ} {t work work' : List ℕ} {r : Counted} (s : Counted) → r �
     → FoundCounting n 1 K t work s work'
 told {n} {K} {t} {work} {work'} s e w = subst (λ (r : Counted). FoundCounting n 1 K t work r work') e w
 
-pub find_counting-found-requires : goal.find_counting-found-requires
-find_counting-found-requires c =
+pub find_counting-requires : goal.find_counting-requires
+find_counting-requires c =
     let p = c.requires in
     (p.2, p.0, omega arith, p.1, omega (arith, p.2, p.3, half-holds c.args.n p.0))
 
 pub returns-in-Few : goal.returns-in-Few
 returns-in-Few c =
     let a = c.args in
-    let w = told _ c.in-Few.is c.find_counting-found.ensures in
-    ap₂ (λ (v : Verdict) (l : List ℕ). record { answer = record { verdict = v; own = 0; shared = 0 }; work = l })
-    c.refuse.ensures w.left
+    let w = told _ c.in-Few.is c.find_counting.ensures in
+    ap (λ (l : List ℕ). record { answer = find_answer (Err Nothing); work = l }) w.left
     ∙ ap (λ (few : Bool). answered a.work.now few (best_for a.n a.k a.t.now)) w.few
 
 pub returns-in-Split : goal.returns-in-Split
 returns-in-Split c =
     let a = c.args in
-    let w = told _ c.in-Split.is c.find_counting-found.ensures in
-    ap (λ (l : List ℕ). record { answer = record { verdict = Fine; own = c.in-Split.own; shared = c.in-Split.shared }; work = l })
-    w.left
+    let w = told _ c.in-Split.is c.find_counting.ensures in
+    let masks : Masks = record { own = c.in-Split.own; shared = c.in-Split.shared } in
+    ap (λ (l : List ℕ). record { answer = find_answer (Ok masks); work = l }) w.left
     ∙ ap₂ (answered a.work.now) w.few w.answer
 
 pub returns-in-Nothing : goal.returns-in-Nothing
 returns-in-Nothing c =
     let a = c.args in
-    let w = told _ c.in-Nothing.is c.find_counting-found.ensures in
-    ap₂ (λ (v : Verdict) (l : List ℕ). record { answer = record { verdict = v; own = 0; shared = 0 }; work = l })
-    c.refuse-in-Nothing.ensures w.left
+    let w = told _ c.in-Nothing.is c.find_counting.ensures in
+    ap (λ (l : List ℕ). record { answer = find_answer (Err NoSplit); work = l }) w.left
     ∙ ap₂ (answered a.work.now) w.few w.answer

@@ -13,12 +13,13 @@ use Rattle.bits.proofs.Machine.{shl_one}
 use Rattle.tables.specs.Table.{table_bit}
 use Rattle.tables.proofs.Bytes.{length-holds}
 use Rattle.columns.specs.declared.split.Split.{Split}
+use Rattle.charts.specs.Cells.{no_cells}
 use Rattle.charts.specs.declared.pair.FirstCells.{FirstCells}
 use Rattle.columns.specs.declared.columns.Broken.{Broken}
 use Rattle.splits.specs.Columns.{most_first, columns, few_columns, first_broken}
 use Rattle.columns.specs.Broken.{broken_at, found_break}
 use Rattle.columns.proofs.Breaking.{break_is, no_break}
-use Rattle.refusals.specs.Verdicts.{Verdict, Fine, Refused}
+use Rattle.refusals.specs.Verdicts.{Fine, Refused}
 use Rattle.refusals.specs.Lines.{refusal, naming, verdict, reply}
 use Rattle.splitting.specs.TrySplit.{TryOutcome, try_done, try_not}
 use Rattle.splitting.proofs.Sets.{bytes_H}
@@ -83,20 +84,10 @@ returns-in-Some c =
     let w = breaks a.s a.r a.t.now c.requires.held.3 c.in-Some.is c.break_of.ensures in
     let e = w.1 in
     let q = w.0 in
-    ap₂ (λ (v : Verdict) (k : ℕ). record {
-      answer = record { verdict = v; d = c.none.result; columns = k };
+    ap (λ (w : Broken). record {
+      answer = record { verdict = Refused (refusal 8 w.b); d = no_cells; columns = w.columns };
       room = a.room.now;
-    })
-    (ap (λ (w : Broken). Refused (refusal 8 w.b)) q)
-    (ap (λ (w : Broken). w.columns) q)
-    ∙ ap (λ (d : FirstCells). record {
-      answer = record {
-        verdict = Refused (refusal 8 (first a.s a.r a.t.now));
-        d = d;
-        columns = (broken a.s a.r a.t.now false).columns;
-      };
-      room = a.room.now;
-    }) c.none.ensures
+    }) q
     ∙ ap (answered a.s a.r a.t.now a.room.now) (sym e)
 
 pub bytes_of_h-requires : goal.bytes_of_h-requires
@@ -106,7 +97,14 @@ pub put_pair-requires : goal.put_pair-requires
 put_pair-requires c =
     let b = c.bytes_of_h.ensures in
     let p = c.requires.held in record {
-      held = (p.0, omega (arith, p.2, length-holds c.args.s.n), p.1, p.3, omega (arith, b.0, c.requires.own_in_bounds), b.1);
+      held = (
+        p.0,
+        omega (arith, p.2, length-holds c.args.s.n),
+        p.1,
+        p.3,
+        omega (arith, b.0, c.requires.own_in_bounds),
+        b.1,
+      );
       end_value = b.0 ∙ bytes_H p.1 (table_bit c.args.t.now);
       r_value = holds c.args.s c.args.r c.args.t.now p.3 c.in_default.is c.break_of.ensures;
     }

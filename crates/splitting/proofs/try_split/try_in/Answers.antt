@@ -1,4 +1,5 @@
 -- `try_in` meets its contract: what form and room refuse, else the fixed pair. Assumes nothing.
+use Rattle.std.proofs.Common.{Result}
 use mathlib.Core.Path.{◌≡◌, refl, sym, ap, ◌∙◌, subst}
 use mathlib.Core.List.{List, [], ◌∷◌}
 use Prim.Native.Nat.{ℕ, ◌+◌, ◌-◌, ◌≤◌}
@@ -13,14 +14,16 @@ use Rattle.splits.specs.Columns.{most_first}
 use Rattle.best.specs.Best.{Candidate}
 use Rattle.sheets.specs.declared.kinds.Edition.{Edition}
 use Rattle.sheets.specs.Edition.{largest_cell}
+use Rattle.charts.specs.declared.pair.FirstCells.{FirstCells}
 use Rattle.refusals.specs.Verdicts.{Fine}
+use Rattle.refusals.specs.declared.verdicts.Refusal.{Refusal as Why}
 use Rattle.refusals.specs.Lines.{verdict, reply}
 use Rattle.refusals.specs.Refusals.{bad_sets, short_room, not_possible}
-use Rattle.splitting.specs.TrySplit.{try_form, try_done, try_not, try_outcome}
+use Rattle.splitting.specs.TrySplit.{try_answer, try_form, try_done, try_not, try_outcome}
 use Rattle.refusals.proofs.Lines.{in_order_lem, left_to}
 use Rattle.refusals.proofs.Tests.{Sound, sound_before}
 use Rattle.splitting.proofs.Sets.{candidate, most_first_lem, carried, bytes_H, refused_before}
-use Rattle.refusals.proofs.Results.{said_ok, said_err}
+use Rattle.refusals.proofs.Results.{said_ok, refused_with}
 use Rattle.splitting.proofs.try_split.try_in.Goals as goal
 
 -- what form and room let through
@@ -30,8 +33,8 @@ record Through (e : Edition) (n K r A B : ℕ) (t room : List ℕ) : Type 0 wher
   most : r ≤ most_first
   long : table_length (n + r - size n (bit A)) ≤ length room
 
-through : (e : Edition) (n K r A B : ℕ) (t room : List ℕ) → e.most ≤ largest_cell → verdict (try_form e n K r A B t room)
-    ≡ Fine → Through e n K r A B t room
+through : (e : Edition) (n K r A B : ℕ) (t room : List ℕ) → e.most ≤ largest_cell
+    → verdict (try_form e n K r A B t room) ≡ Fine → Through e n K r A B t room
 through e n K r A B t room most h =
     let w = (in_order_lem (try_form e n K r A B t room) h).1.1.1.1 in
     let g = sound_before e n K t (bad_sets n K r A B ∷ short_room n r A B t room ∷ []) _ (sym h) refl in
@@ -47,10 +50,11 @@ pub returns-in_err-try_form : goal.returns-in_err-try_form
 unfolding try_outcome
 returns-in_err-try_form c =
     let a = c.args in
-    refused_before (try_form a.e a.n a.k a.r a.own a.shared a.t.now a.room.now)
+    ap (λ (r : Result FirstCells Why). record { answer = try_answer r; room = a.room.now })
+    (refused_with _ _ c.from_residual.ensures.1)
+    ∙ refused_before (try_form a.e a.n a.k a.r a.own a.shared a.t.now a.room.now)
     (not_possible a.n a.r a.own a.shared a.t.now ∷ []) refl a.n a.own a.shared a.t.now
-    a.room.now (try_done a.n a.r a.own a.shared a.t.now a.room.now) c.try_form.result
-    _ c.none.result c.try_form.ensures (said_err _ _ c.in_err-try_form.was) c.none.ensures
+    a.room.now (try_done a.n a.r a.own a.shared a.t.now a.room.now) _ _ c.try_form.ensures c.in_err-try_form.was
 
 pub of-requires : goal.of-requires
 of-requires c =
@@ -91,8 +95,8 @@ pair_of-requires c =
         w.gate.long ∙ ap table_length (sym o.1),
         w.most,
       );
-      own_in_bounds = carried (λ (n A B : ℕ). table_length (n + a.r - size n (bit A)) ≤ length a.room.now) (sym o.1) (sym o.2)
-          (sym o.3) w.long;
+      own_in_bounds = carried (λ (n A B : ℕ). table_length (n + a.r - size n (bit A)) ≤ length a.room.now) (sym o.1)
+          (sym o.2) (sym o.3) w.long;
     }
 
 pub returns : goal.returns
@@ -102,14 +106,14 @@ returns c =
     let a = c.args in
     carried
     (λ (n A B : ℕ).
-    record { answer = c.pair_of.result; room = c.pair_of.new.room }
+    record { answer = try_answer c.pair_of.result; room = c.pair_of.new.room }
     ≡ reply (verdict (not_possible n a.r A B a.t.now ∷ [])) (try_done n a.r A B a.t.now a.room.now)
     (try_not n A B a.t.now a.room.now))
     o.1 o.2 o.3 c.pair_of.ensures
     ∙ left_to (try_form a.e a.n a.k a.r a.own a.shared a.t.now a.room.now)
     (not_possible a.n a.r a.own a.shared a.t.now ∷ [])
     (try_done a.n a.r a.own a.shared a.t.now a.room.now)
-    (try_not a.n a.own a.shared a.t.now a.room.now) c.try_form.result c.try_form.ensures
+    (try_not a.n a.own a.shared a.t.now a.room.now) _ c.try_form.ensures
     (said_ok _ _ c.in_ok-try_form.was)
 
 pub overflow_cast-n : goal.overflow_cast-n
