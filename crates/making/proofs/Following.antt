@@ -27,7 +27,7 @@ use Rattle.chains.proofs.Same.{table_ends, table_stops, table_goes, next-number,
 use Rattle.making.specs.declared.signals.Signals.{Signals}
 use Rattle.making.specs.declared.pile.Pile.{Pile}
 use Rattle.making.specs.declared.chaining.Stage.{Stage}
-use Rattle.making.specs.Stage.{signals_of, Listed}
+use Rattle.making.specs.Stage.{signals_of}
 use Rattle.making.specs.Area.{at_hand}
 use Rattle.tables.specs.Work.{work_length}
 use Rattle.making.specs.Pile.{Piled}
@@ -40,7 +40,6 @@ signals_length s = length-list s.count (λ j. get_or s.at j 0)
 -- with up to m first cells of size K: the cells written so far, and what is left to do, in so many turns
 module _ (n m K : ℕ) (whole : Made) where
   pub record Underway (pile : Pile) (signals : Signals) (work : List ℕ) : Type 0 where
-    pub listed : Listed signals
     pub some : 1 ≤ signals.count
     pub room : pile.count + most_first * signals.count ≤ most_first * n
     pub long : work_length ≤ length work
@@ -146,7 +145,6 @@ module _ (n m K : ℕ) (whole : Made) where
 
       pub following_goes : Underway q.pile q.signals after
       following_goes = record {
-        listed = w.listed;
         some = omega (
           arith,
           shorter,
@@ -182,10 +180,9 @@ module _ (n m K : ℕ) (whole : Made) where
 
 pub following_starts : (n m K : ℕ) (pile : Pile) (signals : Signals) (work : List ℕ) → work_length ≤ length work
     → Piled pile []
-    → Listed signals → 1 ≤ signals.count → signals.count ≤ n
+    → 1 ≤ signals.count → signals.count ≤ n
     → Underway n m K (chain m n K n (signals_of signals) (number (2 ^ signals.count) (at_hand work))) pile signals work
-following_starts n m K pile signals work long empty listed some room = record {
-  listed = listed;
+following_starts n m K pile signals work long empty some room = record {
   some = some;
   room = omega (arith, empty.count);
   long = long;

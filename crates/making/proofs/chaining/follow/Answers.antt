@@ -1,7 +1,7 @@
 -- The loop keeps that behind the cells so far stands the chain of the table at hand. Assumes nothing.
 use mathlib.Core.Path.{◌≡◌, refl, sym, ap, ap₂, ◌∙◌, subst}
-use mathlib.Core.Bool.{Bool, true}
-use Rattle.std.proofs.Common.{Option, Some}
+use mathlib.Core.Bool.{Bool}
+use Rattle.std.proofs.Common.{Option, Some, None}
 use mathlib.Core.List.{[], ◌∷◌, ◌++◌}
 use Prim.Native.Nat.{ℕ, ◌^◌}
 use native.Mathlib.Omega.{arith}
@@ -30,12 +30,12 @@ pub loop-signals-init : goal.loop-signals-init
 loop-signals-init c = (
   following_starts c.args.n c.args.most c.args.k c.empty-pile.result c.args.start
       c.args.work.now c.requires.n_le_most_inputs.4 c.empty-pile.ensures
-      c.requires.listed.0 c.requires.listed.1 c.requires.listed.2,
+      c.requires.some.0 c.requires.some.1,
   refl,
 )
 
 pub overflow_cast-m : goal.overflow_cast-m
-overflow_cast-m c = omega (arith, c.loop-signals.invariant.0.listed.few)
+overflow_cast-m c = omega (arith, c.loop-signals.signals.few)
 
 pub slice_bounds-find_upto-end : goal.slice_bounds-find_upto-end
 slice_bounds-find_upto-end c = omega (arith, c.loop-signals.invariant.0.long)
@@ -47,9 +47,9 @@ slice_bounds-find_upto-end-in-loop-signals c =
 pub find_upto-requires : goal.find_upto-requires
 find_upto-requires c =
     let q = c.loop-signals in (
-      q.invariant.0.listed.few,
+      q.signals.few,
       c.requires.n_le_most_inputs.1,
-      half-bits q.work q.invariant.0.long q.signals.count q.invariant.0.listed.few,
+      half-bits q.work q.invariant.0.long q.signals.count q.signals.few,
       omega (arith, c.requires.n_le_most_inputs.3),
     )
 
@@ -70,7 +70,7 @@ of-s-requires c =
     let found_split = sym c.find_upto.ensures.0 ∙ ap choice_of c.in-Some.is in
     let b = (upto_best q.signals.count c.args.k (at_hand q.work) c.args.most f.first f.own
     f.shared).0 found_split in
-    (q.invariant.0.listed.few, b.works.candidate.below_a, b.works.candidate.below_b, b.works.candidate.apart)
+    (q.signals.few, b.works.candidate.below_a, b.works.candidate.below_b, b.works.candidate.apart)
 
 -- what was found, of the split that the code made of it
 made_split : (n k most : ℕ) (F : ℕ → Bool) (r : Option Chosen) (f : Chosen) (s : Split) → choice_of r ≡ best_up_to n F k most
@@ -97,9 +97,8 @@ step-stepped-requires c =
     (made_split c.loop-signals.signals.count c.args.k c.args.most (at_hand c.loop-signals.work) _ c.in-Some.found
     c.of-s.result c.find_upto.ensures.0 c.in-Some.is c.of-s.ensures.2 c.of-s.ensures.3) in
     let u = q.invariant.0 in record {
-      held = (e.0, u.listed, e.1, u.long, w.some, w.most, w.candidate);
-      count_le_count = (
-        u.piled.within,
+      held = (e.0, e.1, u.long, w.some, w.most, w.candidate);
+      room = (
         omega (arith, u.room, w.most, u.some, c.requires.n_le_most_inputs.0),
         omega (arith, u.room, w.most, u.some, c.requires.n_le_most_inputs.0),
         w.few,
@@ -131,22 +130,20 @@ pub slice_bounds-first_of-end-2 : goal.slice_bounds-first_of-end-2
 slice_bounds-first_of-end-2 c = let q = c.loop-signals in sym (half_whole q.work q.invariant.0.long)
 
 pub overflow_cast-signals : goal.overflow_cast-signals
-overflow_cast-signals c = omega (arith, c.loop-signals.invariant.0.listed.few)
+overflow_cast-signals c = omega (arith, c.loop-signals.signals.few)
 
 pub first_of-requires : goal.first_of-requires
 first_of-requires c =
     let q = c.loop-signals in
-    (q.invariant.0.listed.few, half-bits q.work q.invariant.0.long q.signals.count q.invariant.0.listed.few)
+    (q.signals.few, half-bits q.work q.invariant.0.long q.signals.count q.signals.few)
 
 pub cell-last-requires : goal.cell-last-requires
 cell-last-requires c =
-    let q = c.loop-signals in
-    (q.invariant.0.listed, omega (arith, c.requires.n_le_most_inputs.3, c.loop-signals-test.false))
+    omega (arith, c.requires.n_le_most_inputs.3, c.loop-signals-test.false)
 
 pub with_cell-whole-requires : goal.with_cell-whole-requires
 with_cell-whole-requires c =
-    let q = c.loop-signals in
-    (q.invariant.0.piled.within, omega (arith, q.invariant.0.room, c.requires.n_le_most_inputs.0))
+    omega (arith, c.loop-signals.invariant.0.room, c.requires.n_le_most_inputs.0)
 
 pub shape_of-work : goal.shape_of-work
 shape_of-work c = c.loop-signals.invariant.1
