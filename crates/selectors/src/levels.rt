@@ -7,7 +7,7 @@ ghost use Rattle.sheets.specs.Edition.{largest_cell};
 ghost use Rattle.sheets.specs.Held.{cells_of};
 ghost use Rattle.cofactors.specs.Cofactors.{cofactor_cells};
 ghost use Rattle.cofactors.specs.Chosen.{Near};
-ghost use Rattle.making.specs.Stage.{signals_of, Listed};
+ghost use Rattle.making.specs.Stage.{signals_of};
 ghost use Rattle.selectors.specs.Standing.{NextWidth, InRoom, OneLevel};
 
 use crate::cofactor::cofactor_cells;
@@ -37,7 +37,7 @@ fn width(k: u32, left: u32) -> u32
 
 // One level more.
 fn one_level(k: u32, l: Signals, s: Stand) -> Stand
-    requires { (2 ≤ k) × Listed l × InRoom k l s × (1 ≤ s.left) }
+    requires { (2 ≤ k) × InRoom k l s × (1 ≤ s.left) }
     ensures { OneLevel k l s result }
 {
     let w = width(k, s.left);
@@ -55,7 +55,7 @@ fn one_level(k: u32, l: Signals, s: Stand) -> Stand
 
 // The sheet of cofactors of the table at hand over the signals l of a gate of n inputs.
 pub fn cofactor_sheet(t: &[u8], n: u32, l: Signals, k: u32) -> Sheet
-    requires { (n ≤ most_inputs) × (2 ≤ k) × (k ≤ largest_cell) × Listed l × Near k l.count × (length t.now ≡ half) }
+    requires { (n ≤ most_inputs) × (2 ≤ k) × (k ≤ largest_cell) × Near k l.count × (length t.now ≡ half) }
     ensures { cells_of result ≡ cofactor_cells k n (signals_of l) (number (2 ^ l.count) (table_bit t.now)) }
 {
     let at = k as usize;

@@ -3,7 +3,7 @@ ghost use Rattle.std.specs.Prelude.{◌≡◌, ◌⊎◌, [], ◌∷◌, ◌++�
 ghost use Rattle.sheets.specs.Edition.{most_records};
 ghost use Rattle.sheets.specs.Held.{network_cell, cells_of};
 ghost use Rattle.cofactors.specs.Cofactors.{selecting, cells_each, join_of};
-ghost use Rattle.making.specs.Stage.{signals_of, Listed};
+ghost use Rattle.making.specs.Stage.{signals_of};
 ghost use Rattle.selectors.specs.Standing.{word_cell, spaced, from, Small};
 
 use making::signals::Signals;
@@ -74,7 +74,7 @@ fn select(
     step: u8,
     x: u8,
 ) -> Sheet
-    requires { (sheet.count + cells_each (leb 3 k) ≤ most_records) × ((w ≡ 1) ⊎ ((w ≡ 2) × (3 ≤ k))) × Listed l
+    requires { (sheet.count + cells_each (leb 3 k) ≤ most_records) × ((w ≡ 1) ⊎ ((w ≡ 2) × (3 ≤ k)))
         × (at + w ≤ l.count) × Small base step next × (x ≤ 8) }
     ensures { (cells_of result ≡ cells_of sheet ++ selecting (leb 3 k) w next (from (signals_of l) at) (λ t. spaced base step (x + t)))
         × (result.count ≡ sheet.count + cells_each (leb 3 k)) }
@@ -107,7 +107,7 @@ pub fn level(
     step: u8,
     many: u8,
 ) -> Sheet
-    requires { (held.count + cells_each (leb 3 k) * many ≤ most_records) × ((w ≡ 1) ⊎ ((w ≡ 2) × (3 ≤ k))) × Listed l
+    requires { (held.count + cells_each (leb 3 k) * many ≤ most_records) × ((w ≡ 1) ⊎ ((w ≡ 2) × (3 ≤ k)))
         × (at + w ≤ l.count) × Small base step (next + cells_each (leb 3 k) * many) × (2 ^ w * many ≤ 8) }
     ensures { (cells_of result ≡ cells_of held ++ join_of many (λ g. selecting (leb 3 k) w (next + cells_each (leb 3 k) * g)
         (from (signals_of l) at) (λ t. spaced base step (2 ^ w * g + t))))

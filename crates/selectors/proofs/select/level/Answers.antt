@@ -45,7 +45,7 @@ module _ (c : lts.In-loop tie.the-claims reads.Pre reads.Post goal.the-invariant
   each = omega (arith, mul-suc p q, mul-le-mul_left p less)
 
   part : 2 ^ s.args.w * q + 2 ^ s.args.w ≤ 8
-  part = omega (arith, mul-suc (2 ^ s.args.w) q, mul-le-mul_left (2 ^ s.args.w) less, s.requires.5)
+  part = omega (arith, mul-suc (2 ^ s.args.w) q, mul-le-mul_left (2 ^ s.args.w) less, s.requires.4)
 
   shifted : q * 2 ^ s.args.w % 256 ≡ 2 ^ s.args.w * q
   shifted = mod-eq_of_lt (omega (arith, part, mul_comm q (2 ^ s.args.w))) ∙ mul_comm q (2 ^ s.args.w)
@@ -54,10 +54,10 @@ module _ (c : lts.In-loop tie.the-claims reads.Pre reads.Post goal.the-invariant
   product = ap (λ (e : ℕ). e * q) c.cells_each-each.ensures.0
 
 pub overflow_mul-each : goal.overflow_mul-each
-overflow_mul-each c = omega (arith, product c, each c, (s c).requires.4.next)
+overflow_mul-each c = omega (arith, product c, each c, (s c).requires.3.next)
 
 pub overflow_add-next : goal.overflow_add-next
-overflow_add-next c = omega (arith, product c, each c, (s c).requires.4.next)
+overflow_add-next c = omega (arith, product c, each c, (s c).requires.3.next)
 
 pub overflow_cast-w : goal.overflow_cast-w
 overflow_cast-w c = omega (arith, few_width (s c).requires.1)
@@ -72,8 +72,7 @@ select-sheet-requires c =
       omega (arith, i.1, each c, g.requires.0),
       g.requires.1,
       g.requires.2,
-      g.requires.3,
-      record { base = g.requires.4.base; step = g.requires.4.step; next = omega (arith, product c, each c, g.requires.4.next) },
+      record { base = g.requires.3.base; step = g.requires.3.step; next = omega (arith, product c, each c, g.requires.3.next) },
       omega (arith, shifted c, part c),
     )
 

@@ -25,13 +25,13 @@ use Rattle.selectors.proofs.select.select.Goals as goal
 -- a signal to select from, and how far it is
 module _ (g : lts.Start tie.the-claims reads.Pre reads.Post) where
   far : (t : ℕ) → t ≤ 3 → g.args.step * (g.args.x + t) ≤ 33
-  far t h = near_by g.args.step (g.args.x + t) g.requires.4.step (omega (arith, g.requires.5))
+  far t h = near_by g.args.step (g.args.x + t) g.requires.3.step (omega (arith, g.requires.4))
 
   here : g.args.step * g.args.x ≤ 33
-  here = near_by g.args.step g.args.x g.requires.4.step (omega (arith, g.requires.5))
+  here = near_by g.args.step g.args.x g.requires.3.step (omega (arith, g.requires.4))
 
   place : g.args.at < g.args.l.count
-  place = omega (arith, g.requires.3, some_width g.requires.1)
+  place = omega (arith, g.requires.2, some_width g.requires.1)
 
   -- it is the list's
   listed : (j : ℕ) → j < g.args.l.count → get_or g.args.l.at j 0 ≡ get_or (signals_of g.args.l) j 0
@@ -53,11 +53,11 @@ module _ (g : lts.Start tie.the-claims reads.Pre reads.Post) where
   two h = ⊎_elim (λ e. absurd (h e)) (λ e. e.0) g.requires.1
 
 pub bounds-l-at : goal.bounds-l-at
-bounds-l-at c = omega (arith, place c, c.requires.2.few, c.requires.2.places)
+bounds-l-at c = omega (arith, place c, c.args.l.few, c.args.l.places)
 
 pub by_three-requires : goal.by_three-requires
 by_three-requires c =
-    (omega (arith, c.requires.0, each_three c.args.k c.if-k-lt3.true), c.requires.4.next)
+    (omega (arith, c.requires.0, each_three c.args.k c.if-k-lt3.true), c.requires.3.next)
 
 pub returns-then-k-lt3 : goal.returns-then-k-lt3
 returns-then-k-lt3 c =
@@ -87,7 +87,7 @@ returns-then-w-eq1 c =
 
 pub bounds-l-at-2 : goal.bounds-l-at-2
 bounds-l-at-2 c =
-    omega (arith, two c.before.before.before c.if-w-eq1.false, c.requires.3, c.requires.2.few, c.requires.2.places)
+    omega (arith, two c.before.before.before c.if-w-eq1.false, c.requires.2, c.args.l.few, c.args.l.places)
 
 pub with_cell-requires-2 : goal.with_cell-requires-2
 with_cell-requires-2 c =
@@ -101,7 +101,7 @@ returns c =
       one_more c.with_cell-2.ensures refl c.word_cell-2.ensures
           ∙ ap (λ (l : List Cell). cells_of a.sheet ++ l)
           (of_four (signals_of a.l) a.next a.at a.base a.step a.x _ (first c.before.before.before.before.before.before) _
-          (listed c.before.before.before.before.before.before (a.at + 1) (omega (arith, two c.before.before.before.before.before.before c.if-w-eq1.false, c.requires.3))) (u ∷ u ∷ [])
+          (listed c.before.before.before.before.before.before (a.at + 1) (omega (arith, two c.before.before.before.before.before.before c.if-w-eq1.false, c.requires.2))) (u ∷ u ∷ [])
           ∙ ap₂ (chosen c.before.before.before.before.before.before) (sym (le-leb 3 a.k h)) (sym (two c.before.before.before.before.before.before c.if-w-eq1.false))),
       omega (arith, c.with_cell-2.ensures.count, each_one a.k h),
     )
@@ -110,22 +110,22 @@ pub overflow_mul-a : goal.overflow_mul-a
 overflow_mul-a c = omega (arith, here c.before)
 
 pub overflow_add-a : goal.overflow_add-a
-overflow_add-a c = omega (arith, here c.before, c.requires.4.base)
+overflow_add-a c = omega (arith, here c.before, c.requires.3.base)
 
 pub overflow_mul-b : goal.overflow_mul-b
 overflow_mul-b c = omega (arith, far c.before 1 (omega arith))
 
 pub overflow_add-b-2 : goal.overflow_add-b-2
-overflow_add-b-2 c = omega (arith, far c.before 1 (omega arith), c.requires.4.base)
+overflow_add-b-2 c = omega (arith, far c.before 1 (omega arith), c.requires.3.base)
 
 pub overflow_mul-c : goal.overflow_mul-c
 overflow_mul-c c = omega (arith, far c.before.before.before.before 2 (omega arith))
 
 pub overflow_add-c-2 : goal.overflow_add-c-2
-overflow_add-c-2 c = omega (arith, far c.before.before.before.before 2 (omega arith), c.requires.4.base)
+overflow_add-c-2 c = omega (arith, far c.before.before.before.before 2 (omega arith), c.requires.3.base)
 
 pub overflow_mul-d : goal.overflow_mul-d
 overflow_mul-d c = omega (arith, far c.before.before.before.before 3 (omega arith))
 
 pub overflow_add-d-2 : goal.overflow_add-d-2
-overflow_add-d-2 c = omega (arith, far c.before.before.before.before 3 (omega arith), c.requires.4.base)
+overflow_add-d-2 c = omega (arith, far c.before.before.before.before 3 (omega arith), c.requires.3.base)
