@@ -15,7 +15,7 @@ use Rattle.cofactors.proofs.Levels.{group, level-length}
 use Rattle.cofactors.proofs.Cofactors.{widths-total}
 use Rattle.making.specs.declared.signals.Signals.{Signals}
 use Rattle.making.specs.Stage.{signals_of}
-use Rattle.selectors.specs.declared.levels.Stand.{Stand}
+use Rattle.selectors.specs.declared.select.Stand.{Stand}
 use Rattle.selectors.specs.Standing.{spaced, from, ahead, InRoom, OneLevel, NextWidth}
 use Rattle.selectors.proofs.Widths.{some_width, few_each}
 

@@ -22,7 +22,7 @@ use Rattle.cofactors.specs.Chosen.{Near}
 use Rattle.cofactors.proofs.Count.{cofactors_count, count_most}
 use Rattle.making.specs.declared.signals.Signals.{Signals}
 use Rattle.making.specs.Stage.{signals_of}
-use Rattle.selectors.specs.declared.levels.Stand.{Stand}
+use Rattle.selectors.specs.declared.select.Stand.{Stand}
 use Rattle.selectors.specs.Standing.{part_bit, part_cell, spaced, from, ahead, InRoom}
 
 module _ (k n : ℕ) (l : Signals) (t : List ℕ) (near : Near k l.count) where

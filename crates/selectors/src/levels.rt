@@ -11,21 +11,9 @@ ghost use Rattle.making.specs.Stage.{signals_of};
 ghost use Rattle.selectors.specs.Standing.{NextWidth, InRoom, OneLevel};
 
 use crate::cofactor::cofactor_cells;
-use crate::select::{cells_each, level};
+use crate::select::{Stand, cells_each, level};
 use making::signals::Signals;
 use sheets::kinds::Sheet;
-
-// The cells so far; so many signals are left to select, from the place `at` on; they select from those at base,
-// base + step, ..; the next cell gives signal `next`.
-#[derive(Clone, Copy)]
-pub struct Stand {
-    pub sheet: Sheet,
-    pub at: usize,
-    pub left: u32,
-    pub base: u8,
-    pub step: u8,
-    pub next: u8,
-}
 
 // How many signals select on the next level.
 fn width(k: u32, left: u32) -> u32
@@ -44,7 +32,7 @@ fn one_level(k: u32, l: Signals, s: Stand) -> Stand
     let many: u8 = 1 << (s.left - w);
     let each = cells_each(k);
     Stand {
-        sheet: level(s.sheet, k, w, s.next, l, s.at, s.base, s.step, many),
+        sheet: level(s, k, w, l, many),
         at: s.at + w as usize,
         left: s.left - w,
         base: s.next + each - 1,

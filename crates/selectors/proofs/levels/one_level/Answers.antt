@@ -11,7 +11,7 @@ use Rattle.cofactors.specs.Cofactors.{cells_each, join_of}
 use Rattle.cofactors.proofs.Levels.{group}
 use Rattle.making.specs.Stage.{signals_of}
 use Rattle.making.specs.declared.signals.Signals.{Signals}
-use Rattle.selectors.specs.declared.levels.Stand.{Stand}
+use Rattle.selectors.specs.declared.select.Stand.{Stand}
 use Rattle.selectors.specs.Standing.{spaced, from, NextWidth, InRoom, OneLevel}
 use Rattle.selectors.proofs.Standing.{level-room, level_few, level_places, one-level}
 use Rattle.selectors.proofs.levels.one_level.Goals as goal
