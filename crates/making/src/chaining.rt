@@ -85,22 +85,21 @@ fn follow(n: u32, start: Signals, most: u32, k: u32, work: &mut [u8]) -> Option<
     requires some { (1 ≤ start.count) × (start.count ≤ n) }
     ensures { Tells result (chain most n k n (signals_of start) (number (2 ^ start.count) (at_hand work.old))) }
 {
-    let mut pile = Pile::empty();
-    let mut signals = start;
-    while (k as usize) < signals.count {
-        let m = signals.count as u32;
+    let mut stage = Stage {
+        pile: Pile::empty(),
+        signals: start,
+    };
+    while (k as usize) < stage.signals.count {
+        let m = stage.signals.count as u32;
         let Some(found) = find_upto(&work[..HALF], m, most, k) else {
             return None;
         };
         let s = Split::of(m, found.own, found.shared);
-        let next = n as usize + pile.count;
-        let stage = Stage { pile, signals };
-        let stepped = step(stage, next as u8, s, found.first, work);
-        pile = stepped.pile;
-        signals = stepped.signals;
+        let next = n as usize + stage.pile.count;
+        stage = step(stage, next as u8, s, found.first, work);
     }
-    let last = signals.cell(CellTable::first_of(&work[..HALF], signals.count as u32));
-    let whole = pile.with_cell(last);
+    let last = stage.signals.cell(CellTable::first_of(&work[..HALF], stage.signals.count as u32));
+    let whole = stage.pile.with_cell(last);
     Some(ChainEnd {
         count: whole.count,
         sheet: whole.sheet,
