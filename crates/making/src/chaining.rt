@@ -4,7 +4,7 @@ ghost use Rattle.bits.specs.Numbers.{bit, number};
 ghost use Rattle.bits.specs.Lists.{list_of};
 ghost use Rattle.tables.specs.Table.{most_inputs, table_length, table_bit};
 ghost use Rattle.splits.specs.Columns.{most_first, few_columns};
-ghost use Rattle.columns.specs.Reading.{Held, Chart};
+ghost use Rattle.columns.specs.Reading.{Chart};
 ghost use Rattle.best.specs.Best.{Candidate};
 ghost use Rattle.sheets.specs.Edition.{largest_cell};
 ghost use Rattle.chains.specs.Chain.{stuck, chain};
@@ -49,7 +49,7 @@ fn pile_first<'a>(
     r: u32,
     seen: &'a [u16],
 ) -> Pile
-    requires held { Held s × (s.n ≡ signals.count) × (2 ^ s.n ≤ 8 * length t.now) × (1 ≤ r) × (r ≤ most_first)
+    requires n_value { (s.n ≡ signals.count) × (2 ^ s.n ≤ 8 * length t.now) × (1 ≤ r) × (r ≤ most_first)
         × Candidate s.n largest_cell r s.own s.shared }
     requires chart { Chart s (table_bit t.now) (2 ^ r) seen.now }
     requires room { (pile.count + r ≤ most_piled)
@@ -64,7 +64,7 @@ fn pile_first<'a>(
 // One split: its first cells are the next cells, A's signals go, the cells' own signals come last, and H is the table
 // at hand.
 fn step(stage: Stage, next: u8, s: Split, r: u32, work: &mut [u8]) -> Stage
-    requires held { Held s × (s.n ≡ stage.signals.count) × (work_length ≤ length work.old)
+    requires n_value { (s.n ≡ stage.signals.count) × (work_length ≤ length work.old)
         × (1 ≤ r) × (r ≤ most_first) × Candidate s.n largest_cell r s.own s.shared }
     requires room { (stage.pile.count + r ≤ most_piled) × (next + r ≤ 255)
         × (few_columns s.n (at_hand work.old) (bit s.own) (bit s.shared) (2 ^ r) ≡ true) }

@@ -6,7 +6,7 @@ use native.Mathlib.Omega.{arith}
 use lib.ListN.{length, get_or}
 use Rattle.bits.proofs.Masks.{mask_most, mask_lt}
 use Rattle.columns.specs.declared.split.Split.{Split}
-use Rattle.columns.specs.Reading.{Held, last_reads}
+use Rattle.columns.specs.Reading.{last_reads}
 use Rattle.columns.proofs.Reading.{held, beside_mask}
 use Rattle.charts.proofs.Last.{last_spare, last_room, last_lt, last_bit}
 use Rattle.charts.proofs.pair.h_bit.Lts as lts
@@ -14,8 +14,8 @@ use Rattle.charts.proofs.pair.h_bit.Reads as reads
 use Rattle.charts.proofs.pair.h_bit.Tie as tie
 use Rattle.charts.proofs.pair.h_bit.Goals as goal
 
-beside_lt : {s : Split} → Held s → s.shared + s.free < 2 ^ s.n
-beside_lt {s} h = mask_lt s.n (last_reads s) (s.shared + s.free) (beside_mask s h)
+beside_lt : (s : Split) → s.shared + s.free < 2 ^ s.n
+beside_lt s = mask_lt s.n (last_reads s) (s.shared + s.free) (beside_mask s (held s))
 
 pub returns-then-limit-d : goal.returns-then-limit-d
 returns-then-limit-d c =
@@ -53,10 +53,10 @@ returns c =
     c.spread_out-x.ensures.0 c.gather_in-b.ensures.0
 
 pub overflow_add-beside : goal.overflow_add-beside
-overflow_add-beside c = let h = held c.args.s in omega (arith, beside_lt h, mask_most h.most)
+overflow_add-beside c = let s = c.args.s in omega (arith, beside_lt s, mask_most s.most)
 
 pub parts-many-requires : goal.parts-many-requires
-parts-many-requires c = let h = held c.args.s in (h.most, beside_lt h)
+parts-many-requires c = let s = c.args.s in (s.most, beside_lt s)
 
 pub overflow_cast-d : goal.overflow_cast-d
 overflow_cast-d c = omega (arith, div-le_self c.args.i c.parts-many.result)

@@ -97,7 +97,7 @@ step-stage-requires c =
     (made_split c.loop-stage.stage.signals.count c.args.k c.args.most (at_hand c.loop-stage.work) _ c.in-Some.found
     c.of-s.result c.find_upto.ensures.0 c.in-Some.is c.of-s.ensures.2 c.of-s.ensures.3) in
     let u = q.invariant.0 in record {
-      held = (e.0, e.1, u.long, w.some, w.most, w.candidate);
+      n_value = (e.1, u.long, w.some, w.most, w.candidate);
       room = (
         omega (arith, u.room, w.most, u.some, c.requires.n_le_most_inputs.0),
         omega (arith, u.room, w.most, u.some, c.requires.n_le_most_inputs.0),
