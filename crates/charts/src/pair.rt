@@ -8,7 +8,7 @@ ghost use Rattle.tables.specs.Cells.{cell_words};
 ghost use Rattle.splits.specs.Columns.{few_columns, most_first, most_columns};
 ghost use Rattle.splits.specs.Pair.{code_at, bit_h, inputs_h};
 ghost use Rattle.charts.specs.Cells.{bit_d, held_d, first_table, first_cells, no_cells};
-ghost use Rattle.columns.specs.Reading.{Held, Chart, read_from, first_reads, last_reads, chart_room};
+ghost use Rattle.columns.specs.Reading.{Chart, read_from, first_reads, last_reads, chart_room};
 
 use bits::sets::{gather_in, next, parts, spread_out};
 use columns::columns::{look_through, place};
@@ -53,7 +53,7 @@ pub fn blank() -> [u16; CHART]
 // For each shared assignment b, the numbers that stand for its columns: place b * limit + d of `seen` stands for column
 // d.
 pub fn chart(t: &[u8], s: Split, limit: usize, seen: &mut [u16])
-    requires held { Held s × (limit ≤ most_columns) × (2 ^ s.n ≤ 8 * length t.now) }
+    requires limit_bound { (limit ≤ most_columns) × (2 ^ s.n ≤ 8 * length t.now) }
     requires shared_in_bounds { (limit * 2 ^ size s.n (bit s.shared) ≤ length seen.old) × ((i : ℕ) → get_or seen.old i 0 ≡ 0) }
     requires limit_value { few_columns s.n (table_bit t.now) (bit s.own) (bit s.shared) limit ≡ true }
     ensures { Chart s (table_bit t.now) limit seen.new }
@@ -70,7 +70,7 @@ pub fn chart(t: &[u8], s: Split, limit: usize, seen: &mut [u16])
 // The number of x's column among the different columns of its shared assignment: what the first cells give there, made
 // into one number.
 fn code_at<'a>(t: &'a [u8], s: Split, limit: usize, seen: &'a [u16], x: u32) -> usize
-    requires held { Held s × (x ≡ read_from s x) × (2 ^ s.n ≤ 8 * length t.now) × (limit ≤ most_columns) }
+    requires x_read { (x ≡ read_from s x) × (2 ^ s.n ≤ 8 * length t.now) × (limit ≤ most_columns) }
     requires chart { Chart s (table_bit t.now) limit seen.now }
     requires limit_value { few_columns s.n (table_bit t.now) (bit s.own) (bit s.shared) limit ≡ true }
     ensures { result ≡ code_at s.n (table_bit t.now) (bit s.own) (bit s.shared) (gather s.n (first_reads s) x) }
@@ -83,7 +83,7 @@ fn code_at<'a>(t: &'a [u8], s: Split, limit: usize, seen: &'a [u16], x: u32) -> 
 
 // First cell `which` at the assignment x of own and shared inputs: that bit of the number of its column.
 fn d_bit<'a>(t: &'a [u8], s: Split, limit: usize, seen: &'a [u16], which: u32, x: u32) -> bool
-    requires held { Held s × (x ≡ read_from s x) × (2 ^ s.n ≤ 8 * length t.now) × (limit ≤ most_columns) }
+    requires x_read { (x ≡ read_from s x) × (2 ^ s.n ≤ 8 * length t.now) × (limit ≤ most_columns) }
     requires chart { Chart s (table_bit t.now) limit seen.now × (which < most_first) }
     requires limit_value { few_columns s.n (table_bit t.now) (bit s.own) (bit s.shared) limit ≡ true }
     ensures { result ≡ bit (code_at s.n (table_bit t.now) (bit s.own) (bit s.shared)
@@ -95,7 +95,7 @@ fn d_bit<'a>(t: &'a [u8], s: Split, limit: usize, seen: &'a [u16], which: u32, x
 
 // Word w of the table of first cell `which`, read with the chart of the columns.
 fn d_word<'a>(t: &'a [u8], s: Split, limit: usize, seen: &'a [u16], which: u32, w: u32) -> u64
-    requires held { Held s × (w < cell_words) × (2 ^ s.n ≤ 8 * length t.now) × (limit ≤ most_columns) }
+    requires w_bound { (w < cell_words) × (2 ^ s.n ≤ 8 * length t.now) × (limit ≤ most_columns) }
     requires chart { Chart s (table_bit t.now) limit seen.now × (which < most_first) }
     requires limit_value { few_columns s.n (table_bit t.now) (bit s.own) (bit s.shared) limit ≡ true }
     ensures { result ≡ gate_word (size s.n (first_reads s))
@@ -118,7 +118,7 @@ fn d_word<'a>(t: &'a [u8], s: Split, limit: usize, seen: &'a [u16], which: u32, 
 
 // The table of first cell `which`.
 fn table_of<'a>(t: &'a [u8], s: Split, limit: usize, seen: &'a [u16], which: u32) -> CellTable
-    requires held { Held s × (2 ^ s.n ≤ 8 * length t.now) × (limit ≤ most_columns) }
+    requires n_bound { (2 ^ s.n ≤ 8 * length t.now) × (limit ≤ most_columns) }
     requires chart { Chart s (table_bit t.now) limit seen.now × (which < most_first) }
     requires limit_value { few_columns s.n (table_bit t.now) (bit s.own) (bit s.shared) limit ≡ true }
     ensures { result ≡ held_d s.n (table_bit t.now) (bit s.own) (bit s.shared) which }
@@ -132,7 +132,7 @@ fn table_of<'a>(t: &'a [u8], s: Split, limit: usize, seen: &'a [u16], which: u32
 
 // The same, or 0 where there are only r first cells.
 fn table_or_zero<'a>(t: &'a [u8], s: Split, r: u32, seen: &'a [u16], which: u32) -> CellTable
-    requires held { Held s × (2 ^ s.n ≤ 8 * length t.now) × (r ≤ most_first) }
+    requires n_bound { (2 ^ s.n ≤ 8 * length t.now) × (r ≤ most_first) }
     requires chart { Chart s (table_bit t.now) (2 ^ r) seen.now }
     requires r_value { few_columns s.n (table_bit t.now) (bit s.own) (bit s.shared) (2 ^ r) ≡ true }
     ensures { result ≡ first_table s.n (table_bit t.now) (bit s.own) (bit s.shared) r which }
@@ -145,7 +145,7 @@ fn table_or_zero<'a>(t: &'a [u8], s: Split, r: u32, seen: &'a [u16], which: u32)
 
 // The tables of r first cells.
 pub fn first_cells<'a>(t: &'a [u8], s: Split, r: u32, seen: &'a [u16]) -> FirstCells
-    requires held { Held s × (2 ^ s.n ≤ 8 * length t.now) × (r ≤ most_first) }
+    requires n_bound { (2 ^ s.n ≤ 8 * length t.now) × (r ≤ most_first) }
     requires chart { Chart s (table_bit t.now) (2 ^ r) seen.now }
     requires r_value { few_columns s.n (table_bit t.now) (bit s.own) (bit s.shared) (2 ^ r) ≡ true }
     ensures { result ≡ first_cells s.n (table_bit t.now) (bit s.own) (bit s.shared) r }
@@ -160,7 +160,7 @@ pub fn first_cells<'a>(t: &'a [u8], s: Split, r: u32, seen: &'a [u16]) -> FirstC
 // The last cell's bit at its assignment i: shared and free inputs first, then the first cells' outputs. Past its last
 // assignment, where the outputs would name a column from the limit on, stands 0: a spare bit.
 pub fn h_bit<'a>(t: &'a [u8], s: Split, limit: usize, seen: &'a [u16], i: u32) -> bool
-    requires { Held s × (2 ^ s.n ≤ 8 * length t.now) × Chart s (table_bit t.now) limit seen.now × (limit ≤ most_columns) }
+    requires { (2 ^ s.n ≤ 8 * length t.now) × Chart s (table_bit t.now) limit seen.now × (limit ≤ most_columns) }
     ensures { result ≡ (ltb i (limit * 2 ^ size s.n (last_reads s))
         && bit_h s.n (table_bit t.now) (bit s.own) (bit s.shared) i) }
 {
@@ -178,7 +178,7 @@ pub fn h_bit<'a>(t: &'a [u8], s: Split, limit: usize, seen: &'a [u16], i: u32) -
 
 // Byte i of the last cell's table, spare bits zero, for 2 ^ r columns at most.
 pub fn h_byte<'a>(t: &'a [u8], s: Split, limit: usize, seen: &'a [u16], i: u32) -> u8
-    requires { Held s × (2 ^ s.n ≤ 8 * length t.now) × Chart s (table_bit t.now) limit seen.now × (limit ≤ most_columns)
+    requires { (2 ^ s.n ≤ 8 * length t.now) × Chart s (table_bit t.now) limit seen.now × (limit ≤ most_columns)
         × (i < 2 ^ most_inputs) }
     ensures { (r : ℕ) → limit ≡ 2 ^ r
         → result ≡ byte_of (inputs_h s.n (table_bit t.now) (bit s.own) (bit s.shared) r)
@@ -194,7 +194,7 @@ pub fn h_byte<'a>(t: &'a [u8], s: Split, limit: usize, seen: &'a [u16], i: u32) 
 // Word i of the last cell's table, where nothing is shared and the free inputs make whole words: those of each column
 // stand side by side, and past the last column 0.
 pub fn h_word<'a>(t: &'a [u8], s: Split, limit: usize, seen: &'a [u16], i: u32) -> u64
-    requires { Held s × (2 ^ s.n ≤ 8 * length t.now) × Chart s (table_bit t.now) limit seen.now × (s.shared ≡ 0)
+    requires { (2 ^ s.n ≤ 8 * length t.now) × Chart s (table_bit t.now) limit seen.now × (s.shared ≡ 0)
         × (64 ≤ 2 ^ size s.n (bit s.free)) }
     ensures { (r : ℕ) → limit ≡ 2 ^ r
         → result ≡ gate_word (inputs_h s.n (table_bit t.now) (bit s.own) (bit s.shared) r)

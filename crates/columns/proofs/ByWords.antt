@@ -21,7 +21,8 @@ use Rattle.bits.proofs.Subsets.{part_at, part_all}
 use Rattle.bits.proofs.Sums.{number-join}
 use Rattle.bits.proofs.Walking.{Walked}
 use Rattle.tables.proofs.Pieces.{spread-part, above-part, above_whole}
-use Rattle.columns.specs.Reading.{Without, alike, high_part, low_places}
+use Rattle.columns.specs.ByWords.{high_part, low_places}
+use Rattle.columns.specs.Reading.{Without, alike}
 use Rattle.columns.proofs.Reading.{read_lt}
 
 -- part v of the high members: it steps from word to word

@@ -20,6 +20,18 @@ use Rattle.splits.specs.Columns.{assign, column}
 use Rattle.columns.specs.Reading.{Held, Without, Within, alike, column_at}
 use Rattle.splits.proofs.Parts.{assign-spread, rest-apart, column_same}
 
+-- what each split carries, as one record
+pub held : (s : Split) → Held s
+held s = record {
+  most = s.most;
+  below_a = s.below_a;
+  below_b = s.below_b;
+  apart = s.apart;
+  free = s.free_is;
+  words = s.words_are;
+  low = s.low_is;
+}
+
 -- what is read stays an assignment
 pub read_lt : (n L x : ℕ) → Without n L x → (c : ℕ) → x + spread n (bit L) c < 2 ^ n
 read_lt n L x w c = apart-lt n x L c w.below w.clear

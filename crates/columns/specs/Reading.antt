@@ -1,21 +1,14 @@
 -- What the code holds while it reads the columns of a split.
-use Rattle.std.specs.Prelude.{◌≡◌, Bool, true, false, List, map, ℕ, ◌+◌, ◌*◌, ◌/◌, ◌^◌, ◌<◌, ◌≤◌, length, get_or, take}
+use Rattle.std.specs.Prelude.{◌≡◌, Bool, true, false, List, map, ℕ, ◌+◌, ◌*◌, ◌^◌, ◌<◌, ◌≤◌, length, get_or, take}
 use Rattle.std.specs.Bool.{beq}
 use Rattle.bits.specs.Numbers.{bit, number}
-use Rattle.bits.specs.Sets.{word_positions, is_subset, rest, Apart, size, gather, spread}
+use Rattle.bits.specs.Sets.{rest, Apart, size, gather, spread}
 use Rattle.bits.specs.Below.{every}
 use Rattle.tables.specs.Table.{most_inputs}
+use Rattle.columns.specs.ByWords.{high_part, low_places}
 use Rattle.columns.specs.declared.split.Split.{Split}
 use Rattle.splits.specs.Split.{reads_d, reads_h}
 use Rattle.splits.specs.Columns.{column, columns}
-
--- the members of a mask from position 6 on: their parts step from one word of a table to another
-abbrev pub high_part : ℕ → ℕ
-high_part L = L / 2 ^ word_positions * 2 ^ word_positions
-
--- and the places within a word that the members below 6 make
-unfoldable pub low_places : ℕ → ℕ
-low_places L = number (2 ^ word_positions) (is_subset word_positions (bit L))
 
 -- a split of masks: the free mask follows from the two, and how the free inputs are read by words follows from it
 pub record Held (s : Split) : Type 0 where

@@ -6,7 +6,7 @@ ghost use Rattle.bits.specs.Places.{found_below, place_or};
 ghost use Rattle.bits.specs.Sets.{size};
 ghost use Rattle.splits.specs.Columns.{index, most_own, most_columns, few_columns, first_broken};
 ghost use Rattle.columns.specs.Broken.{broken_at, found_break};
-ghost use Rattle.columns.specs.Reading.{Held, Without, Within, alike, shared_part, column_at, columns_of, Seen};
+ghost use Rattle.columns.specs.Reading.{Without, Within, alike, shared_part, column_at, columns_of, Seen};
 
 use crate::split::Split;
 use bits::sets::{next, parts, spread_out};
@@ -28,7 +28,7 @@ pub struct Broken {
 // Whether the columns read from x and from y on are equal: word by word, at the places that the free inputs below 6
 // make.
 pub fn same_column(t: &[u8], s: Split, x: u32, y: u32) -> bool
-    requires held { Held s × Without s.n s.free x × Without s.n s.free y }
+    requires starts { Without s.n s.free x × Without s.n s.free y }
     requires n_bound { 2 ^ s.n ≤ 8 * length t.now }
     ensures { result ≡ alike s.n (table_bit t.now) s.free x y }
 {
@@ -52,7 +52,7 @@ pub fn place<'a>(
     seen: &'a [u16],
     k: usize,
 ) -> Option<usize>
-    requires held { Held s × Within s.n s.shared base × Within s.n s.own z }
+    requires base_within { Within s.n s.shared base × Within s.n s.own z }
     requires n_bound { 2 ^ s.n ≤ 8 * length t.now }
     requires k_in_bounds { (k ≤ length seen.now) × ((i : ℕ) → i < k → Within s.n s.own (get_or seen.now i 0)) }
     ensures { result ≡ found_below k (index (column_at s (table_bit t.now) (shared_part s base) z)
@@ -69,7 +69,7 @@ pub fn place<'a>(
 // How many different columns the shared assignment at `base` has, and nothing as soon as it has more than the limit.
 // The numbers seen stand for them, in order of first appearance.
 pub fn look_through(t: &[u8], s: Split, base: u32, limit: usize, seen: &mut [u16]) -> Option<usize>
-    requires held { Held s × Within s.n s.shared base × (limit ≤ length seen.old) × (limit < 65536) }
+    requires base_within { Within s.n s.shared base × (limit ≤ length seen.old) × (limit < 65536) }
     requires n_bound { 2 ^ s.n ≤ 8 * length t.now }
     ensures counted { result ≡ found_below (limit + 1) (length (columns_of s (table_bit t.now) (shared_part s base))) }
     ensures seen { Seen s (table_bit t.now) (shared_part s base) limit seen.old seen.new (place_or (limit + 1) result) }
@@ -92,7 +92,7 @@ pub fn look_through(t: &[u8], s: Split, base: u32, limit: usize, seen: &mut [u16
 // The first shared assignment that has more different columns than the limit. It stops there, and as soon as there is
 // one column too many.
 fn first_broken(t: &[u8], s: Split, limit: usize) -> Option<u32>
-    requires { Held s × (limit ≤ most_columns) × (2 ^ s.n ≤ 8 * length t.now) }
+    requires { (limit ≤ most_columns) × (2 ^ s.n ≤ 8 * length t.now) }
     ensures { result ≡ found_below (2 ^ size s.n (bit s.shared))
         (first_broken s.n (table_bit t.now) (bit s.own) (bit s.shared) limit) }
 {
@@ -109,7 +109,7 @@ fn first_broken(t: &[u8], s: Split, limit: usize) -> Option<u32>
 
 // The column test: whether no shared assignment has more different columns than the limit.
 pub fn few_columns(t: &[u8], s: Split, limit: usize) -> bool
-    requires { Held s × (limit ≤ most_columns) × (2 ^ s.n ≤ 8 * length t.now) }
+    requires { (limit ≤ most_columns) × (2 ^ s.n ≤ 8 * length t.now) }
     ensures { result ≡ few_columns s.n (table_bit t.now) (bit s.own) (bit s.shared) limit }
 {
     first_broken(t, s, limit).is_none()
@@ -117,7 +117,7 @@ pub fn few_columns(t: &[u8], s: Split, limit: usize) -> bool
 
 // How many different columns the shared assignment number b has.
 fn columns_at(t: &[u8], s: Split, b: u32) -> usize
-    requires held { Held s × (size s.n (bit s.own) ≤ most_own) × (2 ^ s.n ≤ 8 * length t.now) }
+    requires own_bound { (size s.n (bit s.own) ≤ most_own) × (2 ^ s.n ≤ 8 * length t.now) }
     requires b_bound { b < 2 ^ size s.n (bit s.shared) }
     ensures { result ≡ length (columns_of s (table_bit t.now) b) }
 {
@@ -128,7 +128,7 @@ fn columns_at(t: &[u8], s: Split, b: u32) -> usize
 
 // Where the column test fails, if it does, and how many columns there are. They are counted only there.
 pub fn break_of(t: &[u8], s: Split, limit: usize) -> Option<Broken>
-    requires held { Held s × (limit ≤ most_columns) × (2 ^ s.n ≤ 8 * length t.now) }
+    requires limit_bound { (limit ≤ most_columns) × (2 ^ s.n ≤ 8 * length t.now) }
     requires own_bound { size s.n (bit s.own) ≤ most_own }
     ensures { result ≡ found_break (broken_at s.n (table_bit t.now) (bit s.own) (bit s.shared) limit) }
 {

@@ -1,9 +1,9 @@
 // A split as the code holds it.
 ghost use Rattle.std.specs.Prelude.{◌≡◌, ◌^◌, ◌<◌, ◌≤◌};
-ghost use Rattle.bits.specs.Numbers.{bit};
-ghost use Rattle.bits.specs.Sets.{Apart};
+ghost use Rattle.bits.specs.Numbers.{bit, number};
+ghost use Rattle.bits.specs.Sets.{Apart, rest, size};
 ghost use Rattle.tables.specs.Table.{most_inputs};
-ghost use Rattle.columns.specs.Reading.{Held};
+ghost use Rattle.columns.specs.ByWords.{high_part, low_places};
 
 use bits::sets::{parts, subsets};
 
@@ -17,9 +17,20 @@ pub struct Split {
     pub free: u16,
     pub words: u32,
     pub low: u64,
+    // the masks lie below n, apart from each other
+    pub ghost most: { n ≤ most_inputs },
+    pub ghost below_a: { own < 2 ^ n },
+    pub ghost below_b: { shared < 2 ^ n },
+    pub ghost apart: { Apart n (bit own) (bit shared) },
+    // the free mask follows from the two, and how it is read by words follows from it
+    pub ghost free_is: { free ≡ number n (rest (bit own) (bit shared)) },
+    pub ghost words_are: { words ≡ 2 ^ size n (bit (high_part free)) },
+    pub ghost low_is: { low ≡ low_places free },
 }
 
 impl Split {
+    ghost use Rattle.columns.specs.Reading.{Held};
+
     // so many first cells at most
     pub const MOST_FIRST: u64 = 3;
 

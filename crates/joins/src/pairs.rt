@@ -1,7 +1,7 @@
 // Two inputs of what is left of a gate, of which one may stand for both.
 ghost use Rattle.std.specs.Prelude.{◌≡◌, ◌||◌, ◌*◌, ◌^◌, ◌<◌, ◌≤◌, length};
 ghost use Rattle.tables.specs.Table.{most_inputs, table_bit};
-ghost use Rattle.columns.specs.Reading.{Held, Without, alike};
+ghost use Rattle.columns.specs.Reading.{Without, alike};
 ghost use Rattle.joins.specs.Left.{gate_left, Unfixed, Fixing, value_by, Valued};
 
 use bits::sets::next;
@@ -19,7 +19,7 @@ pub struct Left {
 
 // Whether the column read from x on is the one from y on, or the one from z on.
 fn among(t: &[u8], s: Split, x: u32, y: u32, z: u32) -> bool
-    requires { Held s × Without s.n s.free x × Without s.n s.free y × Without s.n s.free z
+    requires { Without s.n s.free x × Without s.n s.free y × Without s.n s.free z
         × (2 ^ s.n ≤ 8 * length t.now) }
     ensures { result ≡ (alike s.n (table_bit t.now) s.free x y
         || alike s.n (table_bit t.now) s.free x z) }
@@ -29,7 +29,7 @@ fn among(t: &[u8], s: Split, x: u32, y: u32, z: u32) -> bool
 
 // The value of the input at which its two columns, a and b or c and d, are all four.
 fn value_by(t: &[u8], s: Split, a: u32, b: u32, c: u32, d: u32) -> Option<bool>
-    requires { Held s × Without s.n s.free a × Without s.n s.free b × Without s.n s.free c
+    requires { Without s.n s.free a × Without s.n s.free b × Without s.n s.free c
         × Without s.n s.free d × (2 ^ s.n ≤ 8 * length t.now) }
     ensures { result ≡ value_by (alike s.n (table_bit t.now) s.free) a b c d }
 {

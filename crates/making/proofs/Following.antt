@@ -25,9 +25,8 @@ use Rattle.chains.specs.Chain.{pick, Made, stuck, made, behind, chain, last_cell
 use Rattle.chains.proofs.View.{after-inputs, after-length}
 use Rattle.chains.proofs.Same.{table_ends, table_stops, table_goes, next-number, behind-none, behind-behind}
 use Rattle.making.specs.declared.signals.Signals.{Signals}
-use Rattle.making.specs.declared.pile.Pile.{Pile}
 use Rattle.making.specs.declared.chaining.Stage.{Stage}
-use Rattle.making.specs.Stage.{signals_of, Listed}
+use Rattle.making.specs.Stage.{signals_of}
 use Rattle.making.specs.Area.{at_hand}
 use Rattle.tables.specs.Work.{work_length}
 use Rattle.making.specs.Pile.{Piled}
@@ -39,21 +38,20 @@ signals_length s = length-list s.count (λ j. get_or s.at j 0)
 
 -- with up to m first cells of size K: the cells written so far, and what is left to do, in so many turns
 module _ (n m K : ℕ) (whole : Made) where
-  pub record Underway (pile : Pile) (signals : Signals) (work : List ℕ) : Type 0 where
-    pub listed : Listed signals
-    pub some : 1 ≤ signals.count
-    pub room : pile.count + most_first * signals.count ≤ most_first * n
+  pub record Underway (stage : Stage) (work : List ℕ) : Type 0 where
+    pub some : 1 ≤ stage.signals.count
+    pub room : stage.pile.count + most_first * stage.signals.count ≤ most_first * n
     pub long : work_length ≤ length work
     pub written : List Cell
-    pub piled : Piled pile written
+    pub piled : Piled stage.pile written
     pub turns : ℕ
-    pub enough : signals.count ≤ turns
+    pub enough : stage.signals.count ≤ turns
     pub rest : whole ≡ behind written
-        (chain m turns K (n + pile.count) (signals_of signals) (number (2 ^ length (signals_of signals)) (at_hand work)))
+        (chain m turns K (n + stage.pile.count) (signals_of stage.signals) (number (2 ^ length (signals_of stage.signals)) (at_hand work)))
 
-  module _ (pile : Pile) (signals : Signals) (work : List ℕ) (g : Underway pile signals work) where
+  module _ (stage : Stage) (work : List ℕ) (g : Underway stage work) where
     abbrev l : List ℕ
-    l = signals_of signals
+    l = signals_of stage.signals
 
     abbrev k : ℕ
     k = g.turns - 1
@@ -62,38 +60,38 @@ module _ (n m K : ℕ) (whole : Made) where
     left : g.turns ≡ suc k
     left = omega (arith, g.enough, g.some)
 
-    rest_more : whole ≡ behind g.written (chain m (suc k) K (n + pile.count) l
+    rest_more : whole ≡ behind g.written (chain m (suc k) K (n + stage.pile.count) l
         (number (2 ^ length l) (at_hand work)))
     rest_more = g.rest ∙ ap (λ (f : ℕ). behind g.written
-        (chain m f K (n + pile.count) l (number (2 ^ length l) (at_hand work)))) left
+        (chain m f K (n + stage.pile.count) l (number (2 ^ length l) (at_hand work)))) left
 
-    pub following_stops : K < signals.count → best_up_to signals.count (at_hand work) K m ≡ nothing → whole ≡ stuck
+    pub following_stops : K < stage.signals.count → best_up_to stage.signals.count (at_hand work) K m ≡ nothing → whole ≡ stuck
     following_stops h e =
         rest_more ∙ ap (behind g.written)
-        (table_stops m k K (n + pile.count) l (at_hand work) (omega (arith, signals_length signals))
-        (ap (λ (c : ℕ). best_up_to c (at_hand work) K m) (signals_length signals) ∙ e))
+        (table_stops m k K (n + stage.pile.count) l (at_hand work) (omega (arith, signals_length stage.signals))
+        (ap (λ (c : ℕ). best_up_to c (at_hand work) K m) (signals_length stage.signals) ∙ e))
 
     -- the final cell
-    pub following_ends : signals.count ≤ K → whole
-        ≡ made (g.written ++ (last_cell l (number (2 ^ signals.count) (at_hand work)) ∷ []))
+    pub following_ends : stage.signals.count ≤ K → whole
+        ≡ made (g.written ++ (last_cell l (number (2 ^ stage.signals.count) (at_hand work)) ∷ []))
     following_ends h =
-        rest_more ∙ ap (behind g.written) (table_ends m k K (n + pile.count) l (at_hand work)
-        (omega (arith, signals_length signals)))
-        ∙ ap (λ (c : ℕ). made (g.written ++ (last_cell l (number (2 ^ c) (at_hand work)) ∷ []))) (signals_length signals)
+        rest_more ∙ ap (behind g.written) (table_ends m k K (n + stage.pile.count) l (at_hand work)
+        (omega (arith, signals_length stage.signals)))
+        ∙ ap (λ (c : ℕ). made (g.written ++ (last_cell l (number (2 ^ c) (at_hand work)) ∷ []))) (signals_length stage.signals)
 
     -- one split
-    module _ (s : Split) (r : ℕ) (inputs_are : s.n ≡ signals.count) (more : K < signals.count) (few : m ≤ most_first)
-        (found : best_up_to signals.count (at_hand work) K m ≡ choice r s.own s.shared)
-        (q : Stage) (after : List ℕ) (w : Stepped (record { pile = pile; signals = signals }) (n + pile.count) r s work
+    module _ (s : Split) (r : ℕ) (inputs_are : s.n ≡ stage.signals.count) (more : K < stage.signals.count) (few : m ≤ most_first)
+        (found : best_up_to stage.signals.count (at_hand work) K m ≡ choice r s.own s.shared)
+        (q : Stage) (after : List ℕ) (w : Stepped stage (n + stage.pile.count) r s work
         q after) where
       abbrev next : ℕ
-      next = n + pile.count
+      next = n + stage.pile.count
 
       n_is : s.n ≡ length l
-      n_is = inputs_are ∙ sym (signals_length signals)
+      n_is = inputs_are ∙ sym (signals_length stage.signals)
 
       found_here : best_up_to (length l) (at_hand work) K m ≡ choice r s.own s.shared
-      found_here = ap (λ (c : ℕ). best_up_to c (at_hand work) K m) (signals_length signals) ∙ found
+      found_here = ap (λ (c : ℕ). best_up_to c (at_hand work) K m) (signals_length stage.signals) ∙ found
 
       is_best_lem : BestUpTo (length l) K m (at_hand work) r s.own s.shared
       is_best_lem = (upto_best (length l) K (at_hand work) m r s.own s.shared).0 found_here
@@ -138,15 +136,14 @@ module _ (n m K : ℕ) (whole : Made) where
       shorter : length (signals_after l r s.own s.shared next) + size (length l) (bit s.own) ≡ length l + r
       shorter = after-length l next is_best_lem
 
-      pub following_shrinks : q.signals.count < signals.count
-      following_shrinks = omega (arith, shorter, is_best_lem.works.candidate.more, count_are, signals_length signals)
+      pub following_shrinks : q.signals.count < stage.signals.count
+      following_shrinks = omega (arith, shorter, is_best_lem.works.candidate.more, count_are, signals_length stage.signals)
 
-      pile_count : q.pile.count ≡ pile.count + r
-      pile_count = w.cells.count ∙ ap (λ (c : ℕ). pile.count + c) (length-list r (d_cell s (at_hand work) l))
+      pile_count : q.pile.count ≡ stage.pile.count + r
+      pile_count = w.cells.count ∙ ap (λ (c : ℕ). stage.pile.count + c) (length-list r (d_cell s (at_hand work) l))
 
-      pub following_goes : Underway q.pile q.signals after
+      pub following_goes : Underway q after
       following_goes = record {
-        listed = w.listed;
         some = omega (
           arith,
           shorter,
@@ -154,7 +151,7 @@ module _ (n m K : ℕ) (whole : Made) where
           is_best_lem.works.some,
           count_are,
           more,
-          signals_length signals,
+          signals_length stage.signals,
         );
         room = omega (arith, pile_count, following_shrinks, is_best_lem.works.most, few, g.room);
         long = omega (arith, w.table.long, g.long);
@@ -163,7 +160,7 @@ module _ (n m K : ℕ) (whole : Made) where
         turns = k;
         enough = omega (arith, left, g.enough, following_shrinks);
         rest = rest_more
-            ∙ ap (behind g.written) (table_goes m k K next l (at_hand work) (omega (arith, signals_length signals)) r
+            ∙ ap (behind g.written) (table_goes m k K next l (at_hand work) (omega (arith, signals_length stage.signals)) r
             s.own s.shared found_here)
             ∙ behind-behind g.written (list_of r (λ t. record {
               signals = pick (length l) (reads_d (bit s.own) (bit s.shared)) l;
@@ -177,15 +174,14 @@ module _ (n m K : ℕ) (whole : Made) where
             from;
       }
         where
-          from : n + pile.count + r ≡ n + q.pile.count
+          from : n + stage.pile.count + r ≡ n + q.pile.count
           from = omega (arith, pile_count)
 
-pub following_starts : (n m K : ℕ) (pile : Pile) (signals : Signals) (work : List ℕ) → work_length ≤ length work
-    → Piled pile []
-    → Listed signals → 1 ≤ signals.count → signals.count ≤ n
-    → Underway n m K (chain m n K n (signals_of signals) (number (2 ^ signals.count) (at_hand work))) pile signals work
-following_starts n m K pile signals work long empty listed some room = record {
-  listed = listed;
+pub following_starts : (n m K : ℕ) (stage : Stage) (work : List ℕ) → work_length ≤ length work
+    → Piled stage.pile []
+    → 1 ≤ stage.signals.count → stage.signals.count ≤ n
+    → Underway n m K (chain m n K n (signals_of stage.signals) (number (2 ^ stage.signals.count) (at_hand work))) stage work
+following_starts n m K stage work long empty some room = record {
   some = some;
   room = omega (arith, empty.count);
   long = long;
@@ -194,12 +190,12 @@ following_starts n m K pile signals work long empty listed some room = record {
   turns = n;
   enough = room;
   rest = sym (behind-none _)
-      ∙ ap (λ (i : ℕ). behind [] (chain m n K i (signals_of signals) (number (2 ^ signals.count) (at_hand work)))) from
-      ∙ ap (λ (c : ℕ). behind [] (chain m n K (n + pile.count) (signals_of signals) (number (2 ^ c) (at_hand work))))
-      (sym (signals_length signals));
+      ∙ ap (λ (i : ℕ). behind [] (chain m n K i (signals_of stage.signals) (number (2 ^ stage.signals.count) (at_hand work)))) from
+      ∙ ap (λ (c : ℕ). behind [] (chain m n K (n + stage.pile.count) (signals_of stage.signals) (number (2 ^ c) (at_hand work))))
+      (sym (signals_length stage.signals));
 }
   where
-    from : n ≡ n + pile.count
+    from : n ≡ n + stage.pile.count
     from = omega (arith, empty.count)
 
 -- what the code's split needs to know of the best one

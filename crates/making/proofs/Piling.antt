@@ -1,5 +1,5 @@
 -- A pile that grows, and grows again, holds what was put on it in turn. Assumes nothing.
-use mathlib.Core.Path.{◌≡◌, refl, sym, ap, ◌∙◌, subst}
+use mathlib.Core.Path.{◌≡◌, sym, ap, ◌∙◌, subst}
 use mathlib.Core.List.{List, [], ◌∷◌, ◌++◌, append_assoc, append-nil}
 use Prim.Native.Nat.{◌+◌, ◌≤◌}
 use native.Mathlib.Omega.{arith}
@@ -18,27 +18,25 @@ pub cells_count : (s : Sheet) → length (cells_of s) ≡ s.count
 cells_count s = length-list s.count (λ i. network_cell (get_or s.cells i no_cell))
 
 -- ---- none more
-pub grown_none : (p : Pile) → p.sheet.count ≤ p.count → Grown p [] p
-grown_none p w = record {
+pub grown_none : (p : Pile) → Grown p [] p
+grown_none p = record {
   count = omega arith;
-  within = w;
   held = λ cs k few. k.held few ∙ sym (append-nil cs);
 }
 
 -- ---- one cell more
 
 -- the sheet has no room for it
-pub grown_full : (p : Pile) (c : HeldCell) → p.sheet.count ≤ p.count → most_records ≤ p.count
-    → Grown p (network_cell c ∷ []) (record { sheet = p.sheet; count = p.count + 1 })
-grown_full p c w h = record { count = refl; within = omega arith; held = λ cs k few. absurd (omega arith) }
+pub grown_full : (p : Pile) (c : HeldCell) (q : Pile) → most_records ≤ p.count → q.count ≡ p.count + 1
+    → Grown p (network_cell c ∷ []) q
+grown_full p c q h e = record { count = e; held = λ cs k few. absurd (omega (arith, e)) }
 
 -- the sheet has room
-pub grown_one : (p : Pile) (c : HeldCell) (s : Sheet) → p.sheet.count ≤ p.count → Appended p.sheet c s
-    → Grown p (network_cell c ∷ []) (record { sheet = s; count = p.count + 1 })
-grown_one p c s w a = record {
-  count = refl;
-  within = omega (arith, a.count);
-  held = λ cs k few. a.cells ∙ ap (λ (l : List Cell). l ++ (network_cell c ∷ [])) (k.held (omega arith));
+pub grown_one : (p : Pile) (c : HeldCell) (q : Pile) → Appended p.sheet c q.sheet → q.count ≡ p.count + 1
+    → Grown p (network_cell c ∷ []) q
+grown_one p c q a e = record {
+  count = e;
+  held = λ cs k few. a.cells ∙ ap (λ (l : List Cell). l ++ (network_cell c ∷ [])) (k.held (omega (arith, e)));
 }
 
 -- ---- and more
@@ -47,14 +45,12 @@ module _ {p q : Pile} {more : List Cell} (g : Grown p more q) where
   pub grown_piled : {cs : List Cell} → Piled p cs → Piled q (cs ++ more)
   grown_piled {cs} k = record {
     count = omega (arith, g.count, k.count, length-append cs more);
-    within = g.within;
     held = g.held cs k;
   }
 
   pub grown_then : {r : Pile} {others : List Cell} → Grown q others r → Grown p (more ++ others) r
   grown_then {r} {others} h = record {
     count = omega (arith, g.count, h.count, length-append more others);
-    within = h.within;
     held = λ cs k few. h.held (cs ++ more) (grown_piled k) few ∙ append_assoc cs more others;
   }
 

@@ -13,7 +13,7 @@ use Rattle.chains.specs.Chain.{pick, Made, stuck, made}
 use Rattle.chains.specs.Aside.{cells_aside}
 use Rattle.making.specs.declared.chaining.Stage.{Stage}
 use Rattle.making.specs.declared.chaining.ChainEnd.{ChainEnd}
-use Rattle.making.specs.Stage.{signals_of, Listed}
+use Rattle.making.specs.Stage.{signals_of}
 use Rattle.making.specs.Area.{at_hand, NextTable}
 use Rattle.making.specs.Pile.{Grown}
 
@@ -28,7 +28,6 @@ d_cell s F l t = record {
 -- table at hand
 pub record Stepped (g : Stage) (next r : ℕ) (s : Split) (before : List ℕ) (q : Stage) (after : List ℕ) : Type 0 where
   pub cells : Grown g.pile (list_of r (d_cell s (at_hand before) (signals_of g.signals))) q.pile
-  pub listed : Listed q.signals
   pub signals : signals_of q.signals ≡ pick s.n (reads_h (bit s.own) (bit s.shared))
       (signals_of g.signals) ++ list_of r (λ t. next + t)
   pub table : NextTable s r before after

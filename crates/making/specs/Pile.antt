@@ -14,11 +14,9 @@ most_piled = most_inputs * most_first
 -- the pile of the cells cs
 pub record Piled (p : Pile) (cs : List Cell) : Type 0 where
   pub count : p.count ≡ length cs
-  pub within : p.sheet.count ≤ p.count
   pub held : p.count ≤ most_records → cells_of p.sheet ≡ cs
 
 -- q is the pile p with more cells
 pub record Grown (p : Pile) (more : List Cell) (q : Pile) : Type 0 where
   pub count : q.count ≡ p.count + length more
-  pub within : q.sheet.count ≤ q.count
   pub held : (cs : List Cell) → Piled p cs → q.count ≤ most_records → cells_of q.sheet ≡ cs ++ more

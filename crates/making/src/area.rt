@@ -4,7 +4,7 @@ ghost use Rattle.bits.specs.Numbers.{bit};
 ghost use Rattle.bits.specs.Sets.{size};
 ghost use Rattle.tables.specs.Table.{most_inputs};
 ghost use Rattle.splits.specs.Columns.{most_first};
-ghost use Rattle.columns.specs.Reading.{Held, Chart};
+ghost use Rattle.columns.specs.Reading.{Chart};
 ghost use Rattle.making.specs.Area.{at_hand, next_inputs, NextStored, NextTable};
 ghost use Rattle.tables.specs.Work.{half, work_length};
 
@@ -17,7 +17,7 @@ use tables::{HALF, length_for};
 // The first len bytes of H's table, with r first cells, into the second half: by words where nothing is shared and the
 // free inputs make whole words, else byte by byte.
 fn store_next(work: &mut [u8], s: Split, r: u32, seen: &[u16], len: usize)
-    requires { Held s × (len ≤ half) × (work_length ≤ length work.old) × Chart s (at_hand work.old) (2 ^ r) seen.now
+    requires { (len ≤ half) × (work_length ≤ length work.old) × Chart s (at_hand work.old) (2 ^ r) seen.now
         × (r ≤ most_first) }
     ensures { NextStored s r len work.old work.new }
 {
@@ -49,7 +49,7 @@ fn take_next(work: &mut [u8], len: usize)
 
 // H becomes the table at hand, by the chart of the columns; it has m inputs.
 pub fn next_table(work: &mut [u8], s: Split, r: u32, seen: &[u16], m: u32)
-    requires { Held s × (work_length ≤ length work.old) × (m ≤ most_inputs) × (m ≡ next_inputs s r work.old)
+    requires { (work_length ≤ length work.old) × (m ≤ most_inputs) × (m ≡ next_inputs s r work.old)
         × Chart s (at_hand work.old) (2 ^ r) seen.now × (r ≤ most_first) }
     ensures { NextTable s r work.old work.new }
 {

@@ -4,11 +4,11 @@ ghost use Rattle.bits.specs.Numbers.{bit, number};
 ghost use Rattle.bits.specs.Lists.{list_of};
 ghost use Rattle.tables.specs.Table.{most_inputs, table_length, table_bit};
 ghost use Rattle.splits.specs.Columns.{most_first, few_columns};
-ghost use Rattle.columns.specs.Reading.{Held, Chart};
+ghost use Rattle.columns.specs.Reading.{Chart};
 ghost use Rattle.best.specs.Best.{Candidate};
 ghost use Rattle.sheets.specs.Edition.{largest_cell};
 ghost use Rattle.chains.specs.Chain.{stuck, chain};
-ghost use Rattle.making.specs.Stage.{signals_of, Listed};
+ghost use Rattle.making.specs.Stage.{signals_of};
 ghost use Rattle.making.specs.Area.{at_hand};
 ghost use Rattle.tables.specs.Work.{work_length};
 ghost use Rattle.making.specs.Pile.{most_piled, Grown};
@@ -49,10 +49,10 @@ fn pile_first<'a>(
     r: u32,
     seen: &'a [u16],
 ) -> Pile
-    requires held { Held s × Listed signals × (s.n ≡ signals.count) × (2 ^ s.n ≤ 8 * length t.now) × (1 ≤ r) × (r ≤ most_first)
+    requires n_value { (s.n ≡ signals.count) × (2 ^ s.n ≤ 8 * length t.now) × (1 ≤ r) × (r ≤ most_first)
         × Candidate s.n largest_cell r s.own s.shared }
     requires chart { Chart s (table_bit t.now) (2 ^ r) seen.now }
-    requires count_le_count { (pile.sheet.count ≤ pile.count) × (pile.count + r ≤ most_piled)
+    requires room { (pile.count + r ≤ most_piled)
         × (few_columns s.n (table_bit t.now) (bit s.own) (bit s.shared) (2 ^ r) ≡ true) }
     ensures { Grown pile (list_of r (d_cell s (table_bit t.now) (signals_of signals))) result }
 {
@@ -64,9 +64,9 @@ fn pile_first<'a>(
 // One split: its first cells are the next cells, A's signals go, the cells' own signals come last, and H is the table
 // at hand.
 fn step(stage: Stage, next: u8, s: Split, r: u32, work: &mut [u8]) -> Stage
-    requires held { Held s × Listed stage.signals × (s.n ≡ stage.signals.count) × (work_length ≤ length work.old)
+    requires n_value { (s.n ≡ stage.signals.count) × (work_length ≤ length work.old)
         × (1 ≤ r) × (r ≤ most_first) × Candidate s.n largest_cell r s.own s.shared }
-    requires count_le_count { (stage.pile.sheet.count ≤ stage.pile.count) × (stage.pile.count + r ≤ most_piled) × (next + r ≤ 255)
+    requires room { (stage.pile.count + r ≤ most_piled) × (next + r ≤ 255)
         × (few_columns s.n (at_hand work.old) (bit s.own) (bit s.shared) (2 ^ r) ≡ true) }
     ensures { Stepped stage next r s work.old result work.new }
 {
@@ -82,25 +82,24 @@ fn step(stage: Stage, next: u8, s: Split, r: u32, work: &mut [u8]) -> Stage
 // The chain of the table in the work area over some of a gate's n signals, with up to `most` first cells at each step.
 fn follow(n: u32, start: Signals, most: u32, k: u32, work: &mut [u8]) -> Option<ChainEnd>
     requires n_le_most_inputs { (n ≤ most_inputs) × (most ≤ most_first) × (2 ≤ k) × (k ≤ largest_cell) × (work_length ≤ length work.old) }
-    requires listed { Listed start × (1 ≤ start.count) × (start.count ≤ n) }
+    requires some { (1 ≤ start.count) × (start.count ≤ n) }
     ensures { Tells result (chain most n k n (signals_of start) (number (2 ^ start.count) (at_hand work.old))) }
 {
-    let mut pile = Pile::empty();
-    let mut signals = start;
-    while (k as usize) < signals.count {
-        let m = signals.count as u32;
+    let mut stage = Stage {
+        pile: Pile::empty(),
+        signals: start,
+    };
+    while (k as usize) < stage.signals.count {
+        let m = stage.signals.count as u32;
         let Some(found) = find_upto(&work[..HALF], m, most, k) else {
             return None;
         };
         let s = Split::of(m, found.own, found.shared);
-        let next = n as usize + pile.count;
-        let stage = Stage { pile, signals };
-        let stepped = step(stage, next as u8, s, found.first, work);
-        pile = stepped.pile;
-        signals = stepped.signals;
+        let next = n as usize + stage.pile.count;
+        stage = step(stage, next as u8, s, found.first, work);
     }
-    let last = signals.cell(CellTable::first_of(&work[..HALF], signals.count as u32));
-    let whole = pile.with_cell(last);
+    let last = stage.signals.cell(CellTable::first_of(&work[..HALF], stage.signals.count as u32));
+    let whole = stage.pile.with_cell(last);
     Some(ChainEnd {
         count: whole.count,
         sheet: whole.sheet,

@@ -6,8 +6,7 @@ ghost use Rattle.charts.specs.Cells.{table_in};
 ghost use Rattle.sheets.specs.Edition.{largest_cell};
 ghost use Rattle.sheets.specs.Held.{network_cell};
 ghost use Rattle.chains.specs.Chain.{last_cell};
-ghost use Rattle.making.specs.Stage.{signals_of, Listed};
-ghost use Rattle.making.specs.Pile.{most_piled, Piled, Grown};
+ghost use Rattle.making.specs.Stage.{signals_of};
 
 use crate::signals::Signals;
 use charts::pair::FirstCells;
@@ -18,9 +17,12 @@ use sheets::kinds::{HeldCell, Sheet};
 pub struct Pile {
     pub sheet: Sheet,
     pub count: usize,
+    pub ghost within: { sheet.count ≤ count },
 }
 
 impl Pile {
+    ghost use Rattle.making.specs.Pile.{most_piled, Piled, Grown};
+
     pub fn empty() -> Pile
         ensures { Piled result [] }
     {
@@ -32,7 +34,7 @@ impl Pile {
 
     // One cell more.
     pub fn with_cell(self, c: HeldCell) -> Pile
-        requires { (self.sheet.count ≤ self.count) × (self.count ≤ most_piled) }
+        requires { self.count ≤ most_piled }
         ensures { Grown self (network_cell c ∷ []) result }
     {
         let sheet = if self.count < Sheet::RECORDS {
@@ -48,8 +50,7 @@ impl Pile {
 
     // One, two or three first cells more, which all read the same signals.
     pub fn with_first(self, read: Signals, r: u32, d: FirstCells) -> Pile
-        requires count_le_count { (self.sheet.count ≤ self.count) × (self.count + r ≤ most_piled) × (1 ≤ r) × (r ≤ most_first) }
-        requires listed { Listed read × (read.count ≤ largest_cell) }
+        requires { (self.count + r ≤ most_piled) × (1 ≤ r) × (r ≤ most_first) × (read.count ≤ largest_cell) }
         ensures { Grown self (list_of r (λ t. last_cell (signals_of read) (table_in d t))) result }
     {
         let tables = [d.first, d.second, d.third];

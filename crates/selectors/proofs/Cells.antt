@@ -1,20 +1,18 @@
 -- Cells with a table of one word. Assumes nothing.
 use mathlib.Core.Path.{◌≡◌, refl, sym, ap, ap₂, ◌∙◌}
-use mathlib.Core.Bool.{Bool, true, false}
-use mathlib.Core.List.{List, [], ◌∷◌, ◌++◌}
+use mathlib.Core.Bool.{true, false}
+use mathlib.Core.List.{List, [], ◌∷◌}
 use Prim.Native.Nat.{ℕ, zero, suc, ◌+◌, ◌*◌, ◌/◌, ◌%◌, ◌^◌, ◌<◌, ◌≤◌}
 use native.Mathlib.Decide.{dec_lt}
 use native.Mathlib.Nat.{lt_of_lt_of_le}
 use native.Mathlib.Omega.{arith}
-use lib.Dec.{leb, lit≤}
+use lib.Dec.{lit≤}
 use lib.ListN.{get_or}
-use borrow.Author.Tests.{le-leb, lt-leb}
 use Rattle.bits.specs.Numbers.{bit, number}
 use Rattle.bits.specs.Lists.{list_of}
 use Rattle.bits.proofs.Numbers.{number_ext, number_bit, bit_high, bit-zero}
 use Rattle.tables.specs.Cells.{joined, table_number}
-use Rattle.sheets.specs.Network.{Cell}
-use Rattle.cofactors.specs.Cofactors.{selector, selecting, cells_each}
+use Rattle.cofactors.specs.Cofactors.{selecting}
 use Rattle.selectors.specs.Standing.{word_cell, spaced, from}
 
 -- such a table as a number

@@ -1,15 +1,15 @@
 -- A part of a table, of 2 ^ k bits, lies in whole words or within one. Assumes nothing.
-use mathlib.Core.Path.{◌≡◌, refl, sym, ap, ap₂, ◌∙◌, subst}
-use mathlib.Core.Bool.{Bool, true, false, ◌&&◌}
+use mathlib.Core.Path.{◌≡◌, sym, ap, ◌∙◌}
+use mathlib.Core.Bool.{Bool, false, ◌&&◌}
 use mathlib.Core.List.{List}
-use Prim.Native.Nat.{ℕ, ◌+◌, ◌-◌, ◌*◌, ◌/◌, ◌%◌, ◌^◌, ◌<◌, ◌≤◌}
+use Prim.Native.Nat.{ℕ, ◌+◌, ◌-◌, ◌*◌, ◌%◌, ◌^◌, ◌<◌, ◌≤◌}
 use native.Mathlib.Decide.{dec_lt}
-use native.Mathlib.Nat.{mul_assoc, mul_comm, suc-mul, mul-le-mul_right, mod-lt, mul-mod_left}
+use native.Mathlib.Nat.{mul_assoc, suc-mul, mul-le-mul_right, mod-lt, mul-mod_left}
 use native.Mathlib.Omega.{arith}
 use lib.Dec.{ltb}
 use lib.Pow.{pow-add, pow_pos, pow_mono, mod-pow-add, shl-shr}
 use borrow.Author.Tests.{lt-ltb, le-ltb}
-use Rattle.bits.specs.Numbers.{bit, number}
+use Rattle.bits.specs.Numbers.{bit}
 use Rattle.bits.proofs.Numbers.{number_ext, number-of, none-zero, bit-mod, bit_high}
 use Rattle.tables.specs.Table.{table_bit}
 use Rattle.tables.specs.Words.{gate_word}

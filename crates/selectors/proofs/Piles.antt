@@ -1,7 +1,6 @@
 -- Cells put behind others, on a sheet. Assumes nothing.
-use mathlib.Core.Path.{◌≡◌, ap, ap₂, ◌∙◌}
+use mathlib.Core.Path.{◌≡◌, ap₂, ◌∙◌}
 use mathlib.Core.List.{List, [], ◌∷◌, ◌++◌, append_assoc}
-use Prim.Native.Nat.{ℕ}
 use Rattle.sheets.specs.declared.kinds.HeldCell.{HeldCell}
 use Rattle.sheets.specs.declared.kinds.Sheet.{Sheet}
 use Rattle.sheets.specs.Held.{network_cell, cells_of, Appended}

@@ -1,7 +1,7 @@
 -- One level more: the cells so far and those to come stay the same, and a sheet still has room. Assumes nothing.
-use mathlib.Core.Path.{◌≡◌, refl, sym, ap, ap₂, ◌∙◌, subst, fun_ext}
-use mathlib.Core.List.{List, [], ◌∷◌, ◌++◌, append_assoc}
-use Prim.Native.Nat.{ℕ, ◌+◌, ◌-◌, ◌*◌, ◌^◌, ◌<◌, ◌≤◌}
+use mathlib.Core.Path.{◌≡◌, sym, ap, ap₂, ◌∙◌, fun_ext}
+use mathlib.Core.List.{List, ◌++◌, append_assoc}
+use Prim.Native.Nat.{ℕ, ◌+◌, ◌-◌, ◌*◌, ◌^◌, ◌≤◌}
 use native.Mathlib.Nat.{mul-le-mul_left, mul-one}
 use native.Mathlib.Omega.{arith}
 use lib.Dec.{leb}
@@ -10,12 +10,12 @@ use lib.Pow.{pow_pos}
 use Rattle.sheets.specs.declared.kinds.Sheet.{Sheet}
 use Rattle.sheets.specs.Network.{Cell}
 use Rattle.sheets.specs.Held.{cells_of}
-use Rattle.cofactors.specs.Cofactors.{selecting, cells_each, join_of, total, levels, widths}
+use Rattle.cofactors.specs.Cofactors.{cells_each, join_of, levels, widths}
 use Rattle.cofactors.proofs.Levels.{group, level-length}
 use Rattle.cofactors.proofs.Cofactors.{widths-total}
 use Rattle.making.specs.declared.signals.Signals.{Signals}
 use Rattle.making.specs.Stage.{signals_of}
-use Rattle.selectors.specs.declared.levels.Stand.{Stand}
+use Rattle.selectors.specs.declared.select.Stand.{Stand}
 use Rattle.selectors.specs.Standing.{spaced, from, ahead, InRoom, OneLevel, NextWidth}
 use Rattle.selectors.proofs.Widths.{some_width, few_each}
 

@@ -1,9 +1,9 @@
 -- The cofactors and what is to come make the sheet of cofactors. Assumes nothing.
-use mathlib.Core.Path.{◌≡◌, refl, sym, ap, ap₂, ◌∙◌, subst, fun_ext}
+use mathlib.Core.Path.{◌≡◌, refl, sym, ap, ap₂, ◌∙◌, fun_ext}
 use mathlib.Core.Bool.{Bool, true, false, cond}
 use mathlib.Core.List.{List, [], ◌++◌}
 use Prim.Native.Nat.{ℕ, ◌+◌, ◌-◌, ◌*◌, ◌^◌, ◌<◌, ◌≤◌}
-use native.Mathlib.Nat.{suc-mul, mul-le-mul_right, mul_comm}
+use native.Mathlib.Nat.{suc-mul, mul-le-mul_right}
 use native.Mathlib.Omega.{arith}
 use lib.Dec.{leb}
 use lib.ListN.{length, get_or, length-append}
@@ -17,12 +17,12 @@ use Rattle.sheets.specs.declared.kinds.Sheet.{Sheet}
 use Rattle.sheets.specs.Held.{cells_of}
 use Rattle.sheets.specs.Network.{Cell}
 use Rattle.cofactors.specs.Cofactors.{cofactor, levels, by_ones, by_twos, widths, cofactor_cells}
-use Rattle.cofactors.specs.Cofactors.{cofactor_count, most_selecting}
+use Rattle.cofactors.specs.Cofactors.{cofactor_count}
 use Rattle.cofactors.specs.Chosen.{Near}
 use Rattle.cofactors.proofs.Count.{cofactors_count, count_most}
 use Rattle.making.specs.declared.signals.Signals.{Signals}
 use Rattle.making.specs.Stage.{signals_of}
-use Rattle.selectors.specs.declared.levels.Stand.{Stand}
+use Rattle.selectors.specs.declared.select.Stand.{Stand}
 use Rattle.selectors.specs.Standing.{part_bit, part_cell, spaced, from, ahead, InRoom}
 
 module _ (k n : ℕ) (l : Signals) (t : List ℕ) (near : Near k l.count) where

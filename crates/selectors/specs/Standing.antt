@@ -10,7 +10,7 @@ use Rattle.chains.specs.Chain.{last_cell}
 use Rattle.cofactors.specs.Cofactors.{levels, widths}
 use Rattle.making.specs.declared.signals.Signals.{Signals}
 use Rattle.making.specs.Stage.{signals_of}
-use Rattle.selectors.specs.declared.levels.Stand.{Stand}
+use Rattle.selectors.specs.declared.select.Stand.{Stand}
 
 -- bit y of part v of a table, 2 ^ k bits a part
 abbrev pub part_bit : List ℕ → ℕ → ℕ → ℕ → Bool

@@ -7,7 +7,7 @@ ghost use Rattle.tables.specs.Cells.{held_table};
 ghost use Rattle.tables.specs.Work.{half};
 ghost use Rattle.sheets.specs.Edition.{largest_cell, most_records};
 ghost use Rattle.sheets.specs.Held.{cells_of};
-ghost use Rattle.making.specs.Stage.{signals_of, Listed};
+ghost use Rattle.making.specs.Stage.{signals_of};
 ghost use Rattle.selectors.specs.Standing.{part_bit, part_cell};
 
 use making::signals::Signals;
@@ -45,7 +45,7 @@ fn part_table(t: &[u8], k: u32, v: u32) -> CellTable
 
 // A cell for each of the first `many` parts, over the same k signals.
 pub fn cofactor_cells(t: &[u8], k: u32, read: Signals, many: u32) -> Sheet
-    requires { (k ≤ largest_cell) × (many * 2 ^ k ≤ 2 ^ most_inputs) × (length t.now ≡ half) × Listed read
+    requires { (k ≤ largest_cell) × (many * 2 ^ k ≤ 2 ^ most_inputs) × (length t.now ≡ half)
         × (read.count ≡ k) × (many ≤ most_records) }
     ensures { (cells_of result ≡ list_of many (part_cell (signals_of read) t.now k)) × (result.count ≡ many) }
 {

@@ -7,25 +7,13 @@ ghost use Rattle.sheets.specs.Edition.{largest_cell};
 ghost use Rattle.sheets.specs.Held.{cells_of};
 ghost use Rattle.cofactors.specs.Cofactors.{cofactor_cells};
 ghost use Rattle.cofactors.specs.Chosen.{Near};
-ghost use Rattle.making.specs.Stage.{signals_of, Listed};
+ghost use Rattle.making.specs.Stage.{signals_of};
 ghost use Rattle.selectors.specs.Standing.{NextWidth, InRoom, OneLevel};
 
 use crate::cofactor::cofactor_cells;
-use crate::select::{cells_each, level};
+use crate::select::{Stand, cells_each, level};
 use making::signals::Signals;
 use sheets::kinds::Sheet;
-
-// The cells so far; so many signals are left to select, from the place `at` on; they select from those at base,
-// base + step, ..; the next cell gives signal `next`.
-#[derive(Clone, Copy)]
-pub struct Stand {
-    pub sheet: Sheet,
-    pub at: usize,
-    pub left: u32,
-    pub base: u8,
-    pub step: u8,
-    pub next: u8,
-}
 
 // How many signals select on the next level.
 fn width(k: u32, left: u32) -> u32
@@ -37,14 +25,14 @@ fn width(k: u32, left: u32) -> u32
 
 // One level more.
 fn one_level(k: u32, l: Signals, s: Stand) -> Stand
-    requires { (2 ≤ k) × Listed l × InRoom k l s × (1 ≤ s.left) }
+    requires { (2 ≤ k) × InRoom k l s × (1 ≤ s.left) }
     ensures { OneLevel k l s result }
 {
     let w = width(k, s.left);
     let many: u8 = 1 << (s.left - w);
     let each = cells_each(k);
     Stand {
-        sheet: level(s.sheet, k, w, s.next, l, s.at, s.base, s.step, many),
+        sheet: level(s, k, w, l, many),
         at: s.at + w as usize,
         left: s.left - w,
         base: s.next + each - 1,
@@ -55,7 +43,7 @@ fn one_level(k: u32, l: Signals, s: Stand) -> Stand
 
 // The sheet of cofactors of the table at hand over the signals l of a gate of n inputs.
 pub fn cofactor_sheet(t: &[u8], n: u32, l: Signals, k: u32) -> Sheet
-    requires { (n ≤ most_inputs) × (2 ≤ k) × (k ≤ largest_cell) × Listed l × Near k l.count × (length t.now ≡ half) }
+    requires { (n ≤ most_inputs) × (2 ≤ k) × (k ≤ largest_cell) × Near k l.count × (length t.now ≡ half) }
     ensures { cells_of result ≡ cofactor_cells k n (signals_of l) (number (2 ^ l.count) (table_bit t.now)) }
 {
     let at = k as usize;

@@ -3,12 +3,24 @@ ghost use Rattle.std.specs.Prelude.{◌≡◌, ◌⊎◌, [], ◌∷◌, ◌++�
 ghost use Rattle.sheets.specs.Edition.{most_records};
 ghost use Rattle.sheets.specs.Held.{network_cell, cells_of};
 ghost use Rattle.cofactors.specs.Cofactors.{selecting, cells_each, join_of};
-ghost use Rattle.making.specs.Stage.{signals_of, Listed};
+ghost use Rattle.making.specs.Stage.{signals_of};
 ghost use Rattle.selectors.specs.Standing.{word_cell, spaced, from, Small};
 
 use making::signals::Signals;
 use sheets::kinds::{HeldCell, Sheet};
 use tables::cell::CellTable;
+
+// The cells so far; so many signals are left to select, from the place `at` on; they select from those at base,
+// base + step, ..; the next cell gives signal `next`.
+#[derive(Clone, Copy)]
+pub struct Stand {
+    pub sheet: Sheet,
+    pub at: usize,
+    pub left: u32,
+    pub base: u8,
+    pub step: u8,
+    pub next: u8,
+}
 
 // The tables: of two inputs the one that the first selects; of four the one that the first two do, hexadecimal digit b
 // being b; and for cells of two inputs `!q & a`, `q & b` and the OR.
@@ -62,61 +74,45 @@ pub fn cells_each(k: u32) -> u8
     if k < 3 { 3 } else { 1 }
 }
 
-// Of the signals base + step * x, base + step * (x + 1), .. the one that w signals of l select, from the place `at` on.
-fn select(
-    sheet: Sheet,
-    k: u32,
-    w: u32,
-    next: u8,
-    l: Signals,
-    at: usize,
-    base: u8,
-    step: u8,
-    x: u8,
-) -> Sheet
-    requires { (sheet.count + cells_each (leb 3 k) ≤ most_records) × ((w ≡ 1) ⊎ ((w ≡ 2) × (3 ≤ k))) × Listed l
-        × (at + w ≤ l.count) × Small base step next × (x ≤ 8) }
-    ensures { (cells_of result ≡ cells_of sheet ++ selecting (leb 3 k) w next (from (signals_of l) at) (λ t. spaced base step (x + t)))
-        × (result.count ≡ sheet.count + cells_each (leb 3 k)) }
+// Of the signals base + step * x, base + step * (x + 1), .. the one that the next w signals of l select.
+fn select(s: Stand, k: u32, w: u32, l: Signals, x: u8) -> Sheet
+    requires { (s.sheet.count + cells_each (leb 3 k) ≤ most_records) × ((w ≡ 1) ⊎ ((w ≡ 2) × (3 ≤ k)))
+        × (s.at + w ≤ l.count) × Small s.base s.step s.next × (x ≤ 8) }
+    ensures { (cells_of result ≡ cells_of s.sheet ++ selecting (leb 3 k) w s.next (from (signals_of l) s.at)
+        (λ t. spaced s.base s.step (x + t)))
+        × (result.count ≡ s.sheet.count + cells_each (leb 3 k)) }
 {
-    let p = l.at[at];
-    let a = base + step * x;
-    let b = base + step * (x + 1);
+    let p = l.at[s.at];
+    let a = s.base + s.step * x;
+    let b = s.base + s.step * (x + 1);
     if k < 3 {
-        return by_three(sheet, next, p, a, b);
+        return by_three(s.sheet, s.next, p, a, b);
     }
     let none = HeldCell::UNUSED;
     if w == 1 {
-        return sheet.with_cell(word_cell(3, [p, a, b, none, none, none, none, none], OF_TWO));
+        return s.sheet.with_cell(word_cell(3, [p, a, b, none, none, none, none, none], OF_TWO));
     }
-    let second = l.at[at + 1];
-    let c = base + step * (x + 2);
-    let d = base + step * (x + 3);
-    sheet.with_cell(word_cell(6, [p, second, a, b, c, d, none, none], OF_FOUR))
+    let second = l.at[s.at + 1];
+    let c = s.base + s.step * (x + 2);
+    let d = s.base + s.step * (x + 3);
+    s.sheet
+        .with_cell(word_cell(6, [p, second, a, b, c, d, none, none], OF_FOUR))
 }
 
 // One level: so many groups of 2 ^ w signals each, one cell or three for a group.
-pub fn level(
-    held: Sheet,
-    k: u32,
-    w: u32,
-    next: u8,
-    l: Signals,
-    at: usize,
-    base: u8,
-    step: u8,
-    many: u8,
-) -> Sheet
-    requires { (held.count + cells_each (leb 3 k) * many ≤ most_records) × ((w ≡ 1) ⊎ ((w ≡ 2) × (3 ≤ k))) × Listed l
-        × (at + w ≤ l.count) × Small base step (next + cells_each (leb 3 k) * many) × (2 ^ w * many ≤ 8) }
-    ensures { (cells_of result ≡ cells_of held ++ join_of many (λ g. selecting (leb 3 k) w (next + cells_each (leb 3 k) * g)
-        (from (signals_of l) at) (λ t. spaced base step (2 ^ w * g + t))))
-        × (result.count ≡ held.count + cells_each (leb 3 k) * many) }
+pub fn level(s: Stand, k: u32, w: u32, l: Signals, many: u8) -> Sheet
+    requires { (s.sheet.count + cells_each (leb 3 k) * many ≤ most_records) × ((w ≡ 1) ⊎ ((w ≡ 2) × (3 ≤ k)))
+        × (s.at + w ≤ l.count) × Small s.base s.step (s.next + cells_each (leb 3 k) * many) × (2 ^ w * many ≤ 8) }
+    ensures { (cells_of result ≡ cells_of s.sheet ++ join_of many (λ g. selecting (leb 3 k) w (s.next + cells_each (leb 3 k) * g)
+        (from (signals_of l) s.at) (λ t. spaced s.base s.step (2 ^ w * g + t))))
+        × (result.count ≡ s.sheet.count + cells_each (leb 3 k) * many) }
 {
     let each = cells_each(k);
-    let mut sheet = held;
+    let mut sheet = s.sheet;
     for g in 0..many {
-        sheet = select(sheet, k, w, next + each * g, l, at, base, step, g << w);
+        let next = s.next + each * g;
+        let stand = Stand { sheet, next, ..s };
+        sheet = select(stand, k, w, l, g << w);
     }
     sheet
 }

@@ -4,7 +4,6 @@ ghost use Rattle.bits.specs.Numbers.{bit};
 ghost use Rattle.bits.specs.Sets.{size};
 ghost use Rattle.tables.specs.Table.{most_inputs, table_length};
 ghost use Rattle.splits.specs.Columns.{most_first};
-ghost use Rattle.columns.specs.Reading.{Held};
 ghost use Rattle.best.specs.Best.{Candidate};
 ghost use Rattle.sheets.specs.Edition.{IsEdition, largest_cell, first_edition};
 ghost use Rattle.refusals.specs.Results.{verdict_of};
@@ -82,7 +81,7 @@ fn try_form<'a>(
 // A split whose sets are good: the tables of r first cells, and H into a room that is long enough, or that it isn't
 // possible.
 fn pair_of(t: &[u8], s: Split, r: u32, room: &mut [u8]) -> Result<FirstCells, Refusal>
-    requires held { Held s × Candidate s.n largest_cell r s.own s.shared × (length t.now ≡ table_length s.n)
+    requires candidate { Candidate s.n largest_cell r s.own s.shared × (length t.now ≡ table_length s.n)
         × (r ≤ most_first) }
     requires own_in_bounds { table_length (s.n + r - size s.n (bit s.own)) ≤ length room.old }
     ensures { record { answer = try_answer result; room = room.new }

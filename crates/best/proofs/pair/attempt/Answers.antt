@@ -15,7 +15,6 @@ use Rattle.best.proofs.pair.attempt.Goals as goal
 pub few_columns-requires : goal.few_columns-requires
 few_columns-requires c =
     let o = c.of.ensures in (
-      o.0,
       omega (arith, shl_one 64 c.args.r (omega arith), pow_mono {i = c.args.r} {j = most_first} c.requires.r_le_most_first.0),
       subst (λ (n : ℕ). 2 ^ n ≤ 8 * length c.args.t.now) (sym o.1) c.requires.r_le_most_first.1,
     )

@@ -1,7 +1,6 @@
 -- The loop keeps that the rows below b are charted. Assumes nothing.
 use mathlib.Core.Path.{refl}
-use Prim.Native.Nat.{ℕ, ◌+◌, ◌-◌, ◌*◌, ◌≤◌}
-use native.Mathlib.Nat.{mul_comm}
+use Prim.Native.Nat.{◌+◌, ◌-◌, ◌*◌, ◌≤◌}
 use native.Mathlib.Omega.{arith}
 use lib.ListN.{length, drop, length-drop}
 use lib.Seq.{length-take-le}
@@ -12,12 +11,12 @@ use Rattle.charts.proofs.Charts.{charting_starts, charting_goes, charting_ends, 
 use Rattle.charts.proofs.pair.chart.Goals as goal
 
 pub parts-b-end-requires : goal.parts-b-end-requires
-parts-b-end-requires c = let p = c.requires.held.0 in (p.most, p.below_b)
+parts-b-end-requires c = let p = c.args.s in (p.most, p.below_b)
 
 pub loop-b-init : goal.loop-b-init
 loop-b-init c = (
   charting_starts c.requires.shared_in_bounds.1,
-  walked_none c.requires.held.0.most c.parts-b-end.ensures.0,
+  walked_none c.args.s.most c.parts-b-end.ensures.0,
 )
 
 -- row b has room
@@ -52,8 +51,8 @@ look_through-requires c =
     let part = length-take-le (from + limit - from) (drop from q.seen)
     (omega (arith, room, length-drop from q.seen)) in
     record {
-      held = (c.requires.held.0, walked_within q.invariant.1 (omega arith), omega (arith, part), omega arith);
-      n_bound = c.requires.held.2;
+      base_within = (walked_within q.invariant.1 (omega arith), omega (arith, part), omega arith);
+      n_bound = c.requires.limit_bound.1;
     }
 
 pub loop-b-preserved : goal.loop-b-preserved
@@ -76,4 +75,4 @@ returns c =
     charting_ends i.0 (walked_end i.1 (omega arith)) c.requires.shared_in_bounds.0
 
 pub next-base-requires : goal.next-base-requires
-next-base-requires c = let p = c.requires.held.0 in (p.most, p.below_b, walked_lt c.loop-b.invariant.1)
+next-base-requires c = let p = c.args.s in (p.most, p.below_b, walked_lt c.loop-b.invariant.1)

@@ -11,8 +11,7 @@ use Rattle.bits.proofs.Walking.{Walked, walked_none, walked_more, walked_lt, wal
 use Rattle.tables.proofs.Digits.{cut_none, part-word}
 use Rattle.columns.specs.declared.split.Split.{Split}
 use Rattle.splits.specs.Split.{reads_d}
-use Rattle.columns.specs.Reading.{Held}
-use Rattle.columns.proofs.Reading.{below_mask}
+use Rattle.columns.proofs.Reading.{held, below_mask}
 use Rattle.charts.proofs.pair.d_word.Invariants.{M, D}
 use Rattle.charts.proofs.pair.d_word.Goals as goal
 
@@ -21,30 +20,30 @@ abbrev S : Split → ℕ → Bool
 S s = reads_d (bit s.own) (bit s.shared)
 
 -- the mask stands for the set
-module _ (s : Split) (h : Held s) where
+module _ (s : Split) where
   below : M s < 2 ^ s.n
-  below = mask_lt s.n (S s) (M s) (below_mask s h)
+  below = mask_lt s.n (S s) (M s) (below_mask s (held s))
 
   all : {many : ℕ} → many ≡ 2 ^ size s.n (bit (M s)) → many ≡ 2 ^ size s.n (S s)
-  all e = e ∙ ap (λ (k : ℕ). 2 ^ k) (mask_size s.n (S s) (M s) (below_mask s h))
+  all e = e ∙ ap (λ (k : ℕ). 2 ^ k) (mask_size s.n (S s) (M s) (below_mask s (held s)))
 
   module _ {many x v : ℕ} (w : Walked s.n (M s) many x v) (l : v < many) where
     read : gather s.n (S s) x ≡ v
-    read = sym (mask_gather s.n (S s) (M s) (below_mask s h) x) ∙ walked_gather w l
+    read = sym (mask_gather s.n (S s) (M s) (below_mask s (held s)) x) ∙ walked_gather w l
 
     itself : x ≡ spread s.n (S s) (gather s.n (S s) x)
-    itself = w.at ∙ mask_spread s.n (S s) (M s) (below_mask s h) v ∙ ap (spread s.n (S s)) (sym read)
+    itself = w.at ∙ mask_spread s.n (S s) (M s) (below_mask s (held s)) v ∙ ap (spread s.n (S s)) (sym read)
 
 pub returns-then-many-from : goal.returns-then-many-from
 returns-then-many-from c =
     let a = c.args in
     sym (cut_none (2 ^ size a.s.n (S a.s)) (64 * a.w) 64 (D a.t.now a.s a.which)
-    (omega (arith, all a.s c.requires.held.0 c.parts-many.ensures.0, c.if-many-from.true)))
+    (omega (arith, all a.s c.parts-many.ensures.0, c.if-many-from.true)))
 
 pub loop-i-init : goal.loop-i-init
 unfolding number
 loop-i-init c =
-    let none = walked_none {m = M c.args.s} c.requires.held.0.most c.parts-many.ensures.0 in
+    let none = walked_none {m = M c.args.s} c.args.s.most c.parts-many.ensures.0 in
     let e : 64 * c.args.w ≡ 64 * c.args.w + 0 = omega arith in (
       refl,
       record {
@@ -61,7 +60,7 @@ overflow_add-r c =
     let a = c.args in
     let q = c.loop-i in
     let inside : 64 * a.w + q.i < c.parts-many.result = omega (arith, c.min-i-end.ensures) in
-    let gives = c.d_bit.ensures ∙ ap (D a.t.now a.s a.which) (read a.s c.requires.held.0 q.invariant.1 inside) in
+    let gives = c.d_bit.ensures ∙ ap (D a.t.now a.s a.which) (read a.s q.invariant.1 inside) in
     omega (
       arith,
       summed_fits 64 (λ j. D a.t.now a.s a.which (64 * a.w + j)) (omega (arith, c.min-i-end.ensures))
@@ -73,7 +72,7 @@ loop-i-preserved c =
     let a = c.args in
     let q = c.loop-i in
     let inside : 64 * a.w + q.i < c.parts-many.result = omega (arith, c.min-i-end.ensures) in
-    let gives = c.d_bit.ensures ∙ ap (D a.t.now a.s a.which) (read a.s c.requires.held.0 q.invariant.1 inside) in
+    let gives = c.d_bit.ensures ∙ ap (D a.t.now a.s a.which) (read a.s q.invariant.1 inside) in
     let e : 64 * a.w + q.i + 1 ≡ 64 * a.w + (q.i + 1) = omega arith in (
       summed 64 (λ j. D a.t.now a.s a.which (64 * a.w + j)) (omega (arith, c.min-i-end.ensures)) q.invariant.0
           (bool_digit gives),
@@ -87,7 +86,7 @@ returns c =
     let a = c.args in
     let k = size a.s.n (S a.s) in
     let F = D a.t.now a.s a.which in
-    let many = all a.s c.requires.held.0 c.parts-many.ensures.0 in
+    let many = all a.s c.parts-many.ensures.0 in
     let e : q.i ≡ c.min-i-end.result = omega arith in
     q.invariant.0 ∙ ap (λ (m : ℕ). number m (λ j. F (64 * a.w + j))) e
     ∙ part-word k a.w c.min-i-end.result F (omega (arith, c.min-i-end.ensures))
@@ -97,22 +96,22 @@ returns c =
 pub overflow_add-both : goal.overflow_add-both
 overflow_add-both c =
     omega
-    (arith, below c.args.s c.requires.held.0, mask_most c.requires.held.0.most)
+    (arith, below c.args.s, mask_most c.args.s.most)
 
 pub parts-many-requires : goal.parts-many-requires
-parts-many-requires c = (c.requires.held.0.most, below c.args.s c.requires.held.0)
+parts-many-requires c = (c.args.s.most, below c.args.s)
 
 pub overflow_mul-from : goal.overflow_mul-from
-overflow_mul-from c = omega (arith, c.requires.held.1)
+overflow_mul-from c = omega (arith, c.requires.w_bound.0)
 
 pub spread_out-x-requires : goal.spread_out-x-requires
-spread_out-x-requires c = c.requires.held.0.most
+spread_out-x-requires c = c.args.s.most
 
 pub d_bit-requires : goal.d_bit-requires
 d_bit-requires c =
-    let s = itself c.args.s c.requires.held.0 c.loop-i.invariant.1 (omega (arith, c.min-i-end.ensures)) in
+    let s = itself c.args.s c.loop-i.invariant.1 (omega (arith, c.min-i-end.ensures)) in
     record {
-      held = (c.requires.held.0, s, c.requires.held.2, c.requires.held.3);
+      x_read = (s, c.requires.w_bound.1, c.requires.w_bound.2);
       chart = c.requires.chart;
       limit_value = c.requires.limit_value;
     }
@@ -122,4 +121,4 @@ overflow_shl-r c = omega (arith, c.min-i-end.ensures)
 
 pub next-x-requires : goal.next-x-requires
 next-x-requires c =
-    let h = c.requires.held.0 in (h.most, below c.args.s h, walked_lt c.loop-i.invariant.1)
+    let s = c.args.s in (s.most, below s, walked_lt c.loop-i.invariant.1)

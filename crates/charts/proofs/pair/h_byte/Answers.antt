@@ -16,7 +16,7 @@ unfolding number
 loop-j-init c = refl
 
 pub h_bit-requires : goal.h_bit-requires
-h_bit-requires c = let p = c.requires in (p.0, p.1, p.2, p.3)
+h_bit-requires c = let p = c.requires in (p.0, p.1, p.2)
 
 pub overflow_add-b : goal.overflow_add-b
 overflow_add-b c =

@@ -8,7 +8,6 @@ use borrow.Author.Count.{below_more, below_none}
 use lib.Seq.{get_or-set_same, get_or-set_other}
 use Rattle.bits.proofs.Lists.{list-of}
 use Rattle.tables.specs.Cells.{cell_words}
-use Rattle.tables.specs.declared.cell.CellTable.{CellTable}
 use Rattle.charts.proofs.pair.table_of.Invariants.{word}
 use Rattle.charts.proofs.pair.table_of.Goals as goal
 

@@ -32,8 +32,8 @@ pub table_of-requires : goal.table_of-requires
 table_of-requires c =
     let s = c.args.s in
     let F = table_bit c.args.t.now in
-    let p = c.requires.held in
-    let e : 2 ^ c.args.r ≡ 1 * 2 ^ c.args.r % 2 ^ 64 = sym (shl_one 64 c.args.r (omega (arith, p.2))) in record { held = (p.0, p.1, omega (arith, e, pow_mono {i = c.args.r} {j = most_first} p.2)); chart = (subst (λ (m : ℕ). Chart s F m c.args.seen.now) e c.requires.chart, omega (arith, p.2, c.if-r-which.false)); limit_value = subst (λ (m : ℕ). few_columns s.n F (bit s.own) (bit s.shared) m ≡ true) e c.requires.r_value }
+    let p = c.requires.n_bound in
+    let e : 2 ^ c.args.r ≡ 1 * 2 ^ c.args.r % 2 ^ 64 = sym (shl_one 64 c.args.r (omega (arith, p.1))) in record { n_bound = (p.0, omega (arith, e, pow_mono {i = c.args.r} {j = most_first} p.1)); chart = (subst (λ (m : ℕ). Chart s F m c.args.seen.now) e c.requires.chart, omega (arith, p.1, c.if-r-which.false)); limit_value = subst (λ (m : ℕ). few_columns s.n F (bit s.own) (bit s.shared) m ≡ true) e c.requires.r_value }
 
 pub returns : goal.returns
 returns c =

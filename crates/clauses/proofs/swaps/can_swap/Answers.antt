@@ -22,7 +22,7 @@ of-s-requires c =
 
 pub same_column-requires : goal.same_column-requires
 same_column-requires c =
-    record { held = (c.of-s.ensures.0, apart_x _ _ _ _ _ c.requires.2 c.requires.3 (low_bit c.requires.0 c.requires.2 c.requires.3) (high_bit c.requires.0 c.requires.3) c.of-s.result c.of-s.ensures.0 c.of-s.ensures.1 c.of-s.ensures.2 c.of-s.ensures.3, apart_y _ _ _ _ _ c.requires.2 c.requires.3 (low_bit c.requires.0 c.requires.2 c.requires.3) (high_bit c.requires.0 c.requires.3) c.of-s.result c.of-s.ensures.0 c.of-s.ensures.1 c.of-s.ensures.2 c.of-s.ensures.3); n_bound = omega (arith, length-holds c.args.n, c.requires.1, ap (λ (m : ℕ). 2 ^ m) c.of-s.ensures.1) }
+    record { starts = (apart_x _ _ _ _ _ c.requires.2 c.requires.3 (low_bit c.requires.0 c.requires.2 c.requires.3) (high_bit c.requires.0 c.requires.3) c.of-s.result c.of-s.ensures.0 c.of-s.ensures.1 c.of-s.ensures.2 c.of-s.ensures.3, apart_y _ _ _ _ _ c.requires.2 c.requires.3 (low_bit c.requires.0 c.requires.2 c.requires.3) (high_bit c.requires.0 c.requires.3) c.of-s.result c.of-s.ensures.0 c.of-s.ensures.1 c.of-s.ensures.2 c.of-s.ensures.3); n_bound = omega (arith, length-holds c.args.n, c.requires.1, ap (λ (m : ℕ). 2 ^ m) c.of-s.ensures.1) }
 
 pub returns-then-same_column : goal.returns-then-same_column
 returns-then-same_column c =
@@ -34,7 +34,7 @@ overflow_add-one-else-same_column c =
 
 pub same_column-requires-else-same_column : goal.same_column-requires-else-same_column
 same_column-requires-else-same_column c =
-    record { held = (c.of-s.ensures.0, apart_none _ _ _ _ _ c.requires.2 c.requires.3 (low_bit c.requires.0 c.requires.2 c.requires.3) (high_bit c.requires.0 c.requires.3) c.of-s.result c.of-s.ensures.0 c.of-s.ensures.1 c.of-s.ensures.2 c.of-s.ensures.3, apart-both _ _ _ _ _ c.requires.2 c.requires.3 (low_bit c.requires.0 c.requires.2 c.requires.3) (high_bit c.requires.0 c.requires.3) c.of-s.result c.of-s.ensures.0 c.of-s.ensures.1 c.of-s.ensures.2 c.of-s.ensures.3); n_bound = omega (arith, length-holds c.args.n, c.requires.1, ap (λ (m : ℕ). 2 ^ m) c.of-s.ensures.1) }
+    record { starts = (apart_none _ _ _ _ _ c.requires.2 c.requires.3 (low_bit c.requires.0 c.requires.2 c.requires.3) (high_bit c.requires.0 c.requires.3) c.of-s.result c.of-s.ensures.0 c.of-s.ensures.1 c.of-s.ensures.2 c.of-s.ensures.3, apart-both _ _ _ _ _ c.requires.2 c.requires.3 (low_bit c.requires.0 c.requires.2 c.requires.3) (high_bit c.requires.0 c.requires.3) c.of-s.result c.of-s.ensures.0 c.of-s.ensures.1 c.of-s.ensures.2 c.of-s.ensures.3); n_bound = omega (arith, length-holds c.args.n, c.requires.1, ap (λ (m : ℕ). 2 ^ m) c.of-s.ensures.1) }
 
 pub returns-else-same_column : goal.returns-else-same_column
 returns-else-same_column c =

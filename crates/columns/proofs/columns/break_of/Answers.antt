@@ -17,7 +17,7 @@ pub columns_at-requires : goal.columns_at-requires
 columns_at-requires c =
     let w = below_of_some (sym c.first_broken.ensures ∙ c.in_ok-b.was) in
     record {
-      held = (c.requires.held.0, c.requires.own_bound, c.requires.held.2);
+      own_bound = (c.requires.own_bound, c.requires.limit_bound.1);
       b_bound = omega (arith, w.0, w.1);
     }
 

@@ -22,14 +22,13 @@ pub look_through-requires : goal.look_through-requires
 look_through-requires c =
     let o = c.spread_out-base.ensures in
     let p = c.requires in record {
-      held = (
-        p.held.0,
+      base_within = (
         subst (Within c.args.s.n c.args.s.shared) (sym o.0)
             (within_spread c.args.s.n c.args.s.shared c.args.b p.b_bound),
         omega arith,
         omega arith,
       );
-      n_bound = p.held.2;
+      n_bound = p.own_bound.1;
     }
 
 -- at most as many columns as own assignments
@@ -61,5 +60,5 @@ unwrap-requires c =
     (omega (
       arith,
       columns_most a.s.n (table_bit a.t.now) (bit a.s.own) (bit a.s.shared)
-          (gather a.s.n (bit a.s.shared) c.spread_out-base.result) c.requires.held.1,
+          (gather a.s.n (bit a.s.shared) c.spread_out-base.result) c.requires.own_bound.0,
     ))))

@@ -17,8 +17,8 @@ pub look_through-requires : goal.look_through-requires
 look_through-requires c =
     let p = c.requires in
     record {
-      held = (p.0, walked_within c.loop-b.invariant.1 (omega arith), omega arith, omega arith);
-      n_bound = p.2;
+      base_within = (walked_within c.loop-b.invariant.1 (omega arith), omega arith, omega arith);
+      n_bound = p.1;
     }
 
 pub returns-then-is_none : goal.returns-then-is_none
@@ -27,7 +27,8 @@ returns-then-is_none c =
     let a = c.args in
     let i = c.loop-b.invariant in
     let e = sym (least_stop _ _ (many a.t.now a.s a.limit) i.0
-    (seen_many a.s (table_bit a.t.now) a.limit i.1 (omega arith) c.look_through.ensures.counted c.is_none.ensures c.if-is_none.true)
+    (seen_many a.s (table_bit a.t.now) a.limit i.1 (omega arith) c.look_through.ensures.counted c.is_none.ensures
+    c.if-is_none.true)
     (walked_turn i.1 (omega arith))) in
     ap (λ (b : ℕ). Some b) e ∙ found_some _ _ (omega (arith, e, walked_turn i.1 (omega arith)))
 
@@ -36,7 +37,8 @@ loop-b-preserved c =
     let a = c.args in
     let i = c.loop-b.invariant in (
       least_more _ (many a.t.now a.s a.limit) i.0
-          (seen_few a.s (table_bit a.t.now) a.limit i.1 (omega arith) c.look_through.ensures.counted c.is_none.ensures c.if-is_none.false),
+          (seen_few a.s (table_bit a.t.now) a.limit i.1 (omega arith) c.look_through.ensures.counted c.is_none.ensures
+          c.if-is_none.false),
       walked_more i.1 (omega arith) c.next-base.ensures.1,
       c.look_through.auto.seen ∙ i.2,
     )
@@ -50,11 +52,11 @@ returns c =
     found_none _ _ (omega (arith, subst (λ (m : ℕ). least m (many a.t.now a.s a.limit) ≡ m) e i.0))
 
 pub parts-b-end-requires : goal.parts-b-end-requires
-parts-b-end-requires c = let p = c.requires.0 in (p.most, p.below_b)
+parts-b-end-requires c = let p = c.args.s in (p.most, p.below_b)
 
 pub loop-b-init : goal.loop-b-init
 unfolding least
-loop-b-init c = (refl, walked_none c.requires.0.most c.parts-b-end.ensures.0, refl)
+loop-b-init c = (refl, walked_none c.args.s.most c.parts-b-end.ensures.0, refl)
 
 pub next-base-requires : goal.next-base-requires
-next-base-requires c = let p = c.requires.0 in (p.most, p.below_b, walked_lt c.loop-b.invariant.1)
+next-base-requires c = let p = c.args.s in (p.most, p.below_b, walked_lt c.loop-b.invariant.1)

@@ -26,7 +26,7 @@ place-requires c =
     let q = c.loop-a in
     let p = c.requires in
     record {
-      held = (p.held.0, p.held.1, walked_within q.invariant.1 (omega arith));
+      base_within = (p.base_within.0, walked_within q.invariant.1 (omega arith));
       n_bound = p.n_bound;
       k_in_bounds = (omega (arith, q.invariant.0.few, q.invariant.0.long), q.invariant.0.own);
     }
@@ -34,19 +34,19 @@ place-requires c =
 pub returns-then-k-limit : goal.returns-then-k-limit
 returns-then-k-limit c =
     let i = c.loop-a.invariant in
-    let seen = looking_stops i.0 c.requires.held.2 i.1 (omega arith) c.place.ensures c.is_none.ensures
+    let seen = looking_stops i.0 c.requires.base_within.1 i.1 (omega arith) c.place.ensures c.is_none.ensures
     c.if-is_none.true c.if-k-limit.true
     in record { counted = counted_over seen; seen = seen }
 
 pub overflow_cast-seen : goal.overflow_cast-seen
 overflow_cast-seen c =
-    omega (arith, walked_lt c.loop-a.invariant.1, mask_most c.requires.held.0.most)
+    omega (arith, walked_lt c.loop-a.invariant.1, mask_most c.args.s.most)
 
 pub loop-a-preserved : goal.loop-a-preserved
 loop-a-preserved c =
     let q = c.loop-a in
     let a = c.args in
-    let room = c.requires.held.2 in
+    let room = c.requires.base_within.1 in
     let So : List ℕ → ℕ → Type 0 = λ l k. SoFar a.s (table_bit a.t.now)
     (gather a.s.n (bit a.s.shared) a.base) a.limit a.seen.now l k (q._a + 1) in (
       elim c.if-is_none.branch [
@@ -63,15 +63,15 @@ loop-a-preserved c =
 pub returns : goal.returns
 returns c =
     let i = c.loop-a.invariant in
-    let seen = looking_ends i.0 c.requires.held.2 (walked_end i.1 (omega arith)) in
+    let seen = looking_ends i.0 c.requires.base_within.1 (walked_end i.1 (omega arith)) in
     record { counted = counted_few i.0.few seen; seen = seen }
 
 pub parts-a-end-requires : goal.parts-a-end-requires
-parts-a-end-requires c = let p = c.requires.held.0 in (p.most, p.below_a)
+parts-a-end-requires c = let p = c.args.s in (p.most, p.below_a)
 
 pub loop-a-init : goal.loop-a-init
-loop-a-init c = (looking_starts, walked_none c.requires.held.0.most c.parts-a-end.ensures.0)
+loop-a-init c = (looking_starts, walked_none c.args.s.most c.parts-a-end.ensures.0)
 
 pub next-z-requires : goal.next-z-requires
 next-z-requires c =
-    let p = c.requires.held.0 in (p.most, p.below_a, walked_lt c.loop-a.invariant.1)
+    let p = c.args.s in (p.most, p.below_a, walked_lt c.loop-a.invariant.1)

@@ -8,19 +8,19 @@ use Rattle.bits.proofs.Masks.{mask_most}
 use Rattle.bits.proofs.Places.{found_some, found_none}
 use Rattle.tables.specs.Table.{table_bit}
 use Rattle.splits.proofs.Stored.{seek_is, seek_none}
-use Rattle.columns.proofs.Reading.{start, alike_column}
+use Rattle.columns.proofs.Reading.{held, start, alike_column}
 use Rattle.columns.proofs.columns.place.Invariants.{at}
 use Rattle.columns.proofs.columns.place.Goals as goal
 
 pub returns-then-same_column : goal.returns-then-same_column
 returns-then-same_column c =
     let a = c.args in
-    let p = c.requires.held in
+    let p = c.requires.base_within in
     let i = c.loop-i.i in
     let own = c.requires.k_in_bounds in
     let e =
     seek_is (at a.t.now a.s a.base) a.seen.now a.k own.0 (at a.t.now a.s a.base a.z) i (omega arith) c.loop-i.invariant
-    (sym (alike_column a.s p.0 (table_bit a.t.now) a.base p.1 a.z _ p.2 (own.1 i (omega arith)))
+    (sym (alike_column a.s (held a.s) (table_bit a.t.now) a.base p.0 a.z _ p.1 (own.1 i (omega arith)))
     ∙ sym c.same_column.ensures ∙ c.if-same_column.true)
     in ap (λ (i : ℕ). Some i) e ∙ found_some a.k _ (omega (arith, e))
 
@@ -37,28 +37,28 @@ loop-i-init c = below_none _
 
 pub overflow_add-base : goal.overflow_add-base
 overflow_add-base c =
-    let p = c.requires.held in
-    omega (arith, (start c.args.s p.0 (table_bit c.args.t.now) c.args.base p.1 c.args.z p.2).below, mask_most p.0.most)
+    let p = c.requires.base_within in
+    let a = c.args in
+    omega (arith, (start a.s (held a.s) (table_bit a.t.now) a.base p.0 a.z p.1).below, mask_most a.s.most)
 
 pub overflow_add-base-in-loop-i : goal.overflow_add-base-in-loop-i
 overflow_add-base-in-loop-i c =
-    let p = c.requires.held in
+    let p = c.requires.base_within in
     omega (
       arith,
-      (start c.args.s p.0 (table_bit c.args.t.now) c.args.base p.1 _
+      (start c.args.s (held c.args.s) (table_bit c.args.t.now) c.args.base p.0 _
           (c.requires.k_in_bounds.1 c.loop-i.i (omega arith))).below,
-      mask_most p.0.most,
+      mask_most c.args.s.most,
     )
 
 pub same_column-requires : goal.same_column-requires
 same_column-requires c =
-    let p = c.requires.held in
+    let p = c.requires.base_within in
     let F = table_bit c.args.t.now in
     record {
-      held = (
-        p.0,
-        start c.args.s p.0 F c.args.base p.1 c.args.z p.2,
-        start c.args.s p.0 F c.args.base p.1 _ (c.requires.k_in_bounds.1 c.loop-i.i (omega arith)),
+      starts = (
+        start c.args.s (held c.args.s) F c.args.base p.0 c.args.z p.1,
+        start c.args.s (held c.args.s) F c.args.base p.0 _ (c.requires.k_in_bounds.1 c.loop-i.i (omega arith)),
       );
       n_bound = c.requires.n_bound;
     }
@@ -66,8 +66,8 @@ same_column-requires c =
 pub loop-i-preserved : goal.loop-i-preserved
 loop-i-preserved c =
     let a = c.args in
-    let p = c.requires.held in
+    let p = c.requires.base_within in
     below_more _ _ c.loop-i.invariant
-    (sym (alike_column a.s p.0 (table_bit a.t.now) a.base p.1 a.z _ p.2
+    (sym (alike_column a.s (held a.s) (table_bit a.t.now) a.base p.0 a.z _ p.1
     (c.requires.k_in_bounds.1 c.loop-i.i (omega arith)))
     ∙ sym c.same_column.ensures ∙ c.if-same_column.false)

@@ -1,7 +1,7 @@
 use Prim.Native.Nat.{ℕ, ◌<◌}
 use Rattle.bits.proofs.Walking.{Walked}
 use Rattle.tables.specs.Table.{table_bit}
-use Rattle.columns.specs.Reading.{high_part}
+use Rattle.columns.specs.ByWords.{high_part}
 use Rattle.columns.proofs.ByWords.{Even}
 use Rattle.columns.proofs.columns.same_column.Given as goal
 

@@ -98,7 +98,6 @@ pub value_by-requires : goal.value_by-requires
 value_by-requires c =
     let w = c.of-s.ensures in
     let s = g c.before.before.before.before in (
-      w.0,
       asking.without-none s.args.n s.args.g s.requires.1 s.requires.0 s.args.i s.args.j s.requires.2
           s.requires.3 s.requires.4 (split c.before.before.before.before) w.0 w.1 w.2 w.3,
       without c.before.before.before.before 1 _ (omega arith) (first c.before.before.before.before),

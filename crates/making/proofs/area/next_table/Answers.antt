@@ -8,18 +8,17 @@ use Rattle.making.proofs.area.next_table.Goals as goal
 
 pub store_next-requires : goal.store_next-requires
 store_next-requires c = (
+  omega (arith, c.length_for-len.ensures, half-holds c.args.m c.requires.1),
   c.requires.0,
-  omega (arith, c.length_for-len.ensures, half-holds c.args.m c.requires.2),
-  c.requires.1,
+  c.requires.3,
   c.requires.4,
-  c.requires.5,
 )
 
 pub take_next-requires : goal.take_next-requires
 take_next-requires c = (
-  omega (arith, c.length_for-len.ensures, half-holds c.args.m c.requires.2),
+  omega (arith, c.length_for-len.ensures, half-holds c.args.m c.requires.1),
   omega
-      (arith, c.store_next.ensures.long, c.requires.1),
+      (arith, c.store_next.ensures.long, c.requires.0),
 )
 
 pub shape_of-work : goal.shape_of-work
@@ -30,7 +29,7 @@ shape_of-work c =
 pub returns : goal.returns
 returns c =
     taken_back c.args.s c.args.r c.length_for-len.result c.args.work.now _ _
-    (c.length_for-len.ensures ∙ ap table_length c.requires.3)
-    (omega (arith, c.length_for-len.ensures, half-holds c.args.m c.requires.2)) c.store_next.ensures
+    (c.length_for-len.ensures ∙ ap table_length c.requires.2)
+    (omega (arith, c.length_for-len.ensures, half-holds c.args.m c.requires.1)) c.store_next.ensures
     c.take_next.ensures.0
     c.take_next.ensures.1

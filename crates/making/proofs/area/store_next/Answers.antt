@@ -15,7 +15,7 @@ use Rattle.bits.proofs.Bools.{clash}
 use Rattle.tables.specs.Table.{table_bit, byte_of}
 use Rattle.tables.specs.Words.{gate_word}
 use Rattle.bits.proofs.Filling.{filled_none, filled_more, filled_front}
-use Rattle.columns.proofs.Reading.{free_lt}
+use Rattle.columns.proofs.Reading.{held, free_lt}
 use Rattle.columns.specs.declared.split.Split.{Split}
 use Rattle.splits.specs.Columns.{most_first}
 use Rattle.splits.specs.Pair.{bit_h, inputs_h}
@@ -34,15 +34,15 @@ use Rattle.making.proofs.area.store_next.Goals.{
 }
 
 pub parts-requires : goal.parts-requires
-parts-requires c = let p = c.requires in (p.0.most, free_lt _ p.0)
+parts-requires c = let s = c.args.s in (s.most, free_lt s (held s))
 
 pub slice_bounds-h_word-end-then-i-eq0 : goal.slice_bounds-h_word-end-then-i-eq0
 slice_bounds-h_word-end-then-i-eq0 c =
-    sym (half_whole c.loop-i.work (omega (arith, c.requires.2, c.loop-i.invariant.0.long)))
+    sym (half_whole c.loop-i.work (omega (arith, c.requires.1, c.loop-i.invariant.0.long)))
 
 pub slice_bounds-h_byte-end-else-by_words-2 : goal.slice_bounds-h_byte-end-else-by_words-2
 slice_bounds-h_byte-end-else-by_words-2 c =
-    sym (half_whole c.loop-i.work (omega (arith, c.requires.2, c.loop-i.invariant.0.long)))
+    sym (half_whole c.loop-i.work (omega (arith, c.requires.1, c.loop-i.invariant.0.long)))
 
 -- H's bit, spare bits zero
 abbrev bits : Split → ℕ → List ℕ → ℕ → Bool
@@ -61,15 +61,14 @@ h_word-w-requires c =
       )
       | else-s-eq0 u ↦ absurd (u.if-s-eq0.false (eqb-true s.shared 0 (sym u.by_words-is ∙ c.if-by_words.true)))
     ] in (
-      p.0,
       omega (
         arith,
-        half_whole c.loop-i.work (omega (arith, p.2, c.loop-i.invariant.0.long)),
-        pow_mono {i = s.n} {j = 16} p.0.most,
+        half_whole c.loop-i.work (omega (arith, p.1, c.loop-i.invariant.0.long)),
+        pow_mono {i = s.n} {j = 16} c.args.s.most,
       ),
-      subst (λ (m : ℕ). Chart s (table_bit (take half c.loop-i.work)) m seen) (power p.4)
+      subst (λ (m : ℕ). Chart s (table_bit (take half c.loop-i.work)) m seen) (power p.3)
           (subst (λ (l : List ℕ). Chart s (table_bit l) (2 ^ c.args.r) seen) (sym (filled_front c.loop-i.invariant.0))
-          p.3),
+          p.2),
       whole.0,
       whole.1,
     )
@@ -79,22 +78,21 @@ h_byte-b-requires c =
     let p = c.requires in
     let s = c.args.s in
     let seen = c.args.seen.now in
-    let e = power p.4 in (
-      p.0,
+    let e = power p.3 in (
       omega (
         arith,
-        half_whole c.loop-i.work (omega (arith, p.2, c.loop-i.invariant.0.long)),
-        pow_mono {i = s.n} {j = 16} p.0.most,
+        half_whole c.loop-i.work (omega (arith, p.1, c.loop-i.invariant.0.long)),
+        pow_mono {i = s.n} {j = 16} c.args.s.most,
       ),
       subst (λ (m : ℕ). Chart s (table_bit (take half c.loop-i.work)) m seen) e
           (subst (λ (l : List ℕ). Chart s (table_bit l) (2 ^ c.args.r) seen) (sym (filled_front c.loop-i.invariant.0))
-          p.3),
-      omega (arith, e, pow_mono {i = c.args.r} {j = most_first} p.4),
-      omega (arith, p.1),
+          p.2),
+      omega (arith, e, pow_mono {i = c.args.r} {j = most_first} p.3),
+      omega (arith, p.0),
     )
 
 pub loop-i-init : goal.loop-i-init
-loop-i-init c = let p = c.requires in (filled_none (omega (arith, p.1, p.2)), λ yes h. absurd (h refl))
+loop-i-init c = let p = c.requires in (filled_none (omega (arith, p.0, p.1)), λ yes h. absurd (h refl))
 
 pub loop-i-preserved : goal.loop-i-preserved
 loop-i-preserved c =
@@ -103,7 +101,7 @@ loop-i-preserved c =
     let i = q.i in
     let s = a.s in
     let F = bits s a.r a.work.now in
-    let r = sym (power c.requires.4) in
+    let r = sym (power c.requires.3) in
     let word : c.if-s-eq0.by_words ≡ true → c.if-by_words.w ≡ number 64 (λ j. F (64 * (i / 8) + j)) =
     λ yes. elim c.if-by_words.branch [
       | then-by_words+then-i-eq0 u ↦ u.w-is ∙ u.h_word-w.ensures a.r r

@@ -33,12 +33,11 @@ picked n m l q e g h = h ∙ ap₂ (λ (k : ℕ) (l : List ℕ). pick k (bit m) 
 pub follow-end-requires : goal.follow-end-requires
 follow-end-requires c =
     let a = c.args in
-    let taken = picked c.args.n c.kept_of-kept.result c.inputs.result c.pick-signals.result c.inputs.ensures.1
-    c.inputs.ensures.2 c.pick-signals.ensures.1 in
+    let taken = picked c.args.n c.kept_of-kept.result c.inputs.result c.pick-signals.result c.inputs.ensures.0
+    c.inputs.ensures.1 c.pick-signals.ensures in
     let F = table_bit a.t.now in record {
       n_le_most_inputs = (c.requires.1, c.requires.2, c.requires.3, c.requires.4, omega (arith, c.set_aside.auto.room, c.requires.6));
-      listed = (
-        c.pick-signals.ensures.0,
+      some = (
         kept_more a.n F c.kept_of-kept.result c.kept_of-kept.ensures c.pick-signals.result taken c.requires.0,
         kept_few a.n F c.kept_of-kept.result c.kept_of-kept.ensures c.pick-signals.result taken,
       );
@@ -52,8 +51,8 @@ shape_of-work c =
 pub returns : goal.returns
 returns c =
     let a = c.args in
-    let taken = picked c.args.n c.kept_of-kept.result c.inputs.result c.pick-signals.result c.inputs.ensures.1
-    c.inputs.ensures.2 c.pick-signals.ensures.1 in
+    let taken = picked c.args.n c.kept_of-kept.result c.inputs.result c.pick-signals.result c.inputs.ensures.0
+    c.inputs.ensures.1 c.pick-signals.ensures in
     let F = table_bit a.t.now in
     record {
       told = subst (Tells c.follow-end.result)

@@ -8,10 +8,9 @@ use Rattle.making.specs.Area.{at_hand}
 use Rattle.making.proofs.Following.{Underway}
 use Rattle.making.proofs.chaining.follow.Given as goal
 
-abbrev pub invariant-loop-signals : goal.invariant-loop-signals
-invariant-loop-signals l =
-    Underway l.n l.most l.k (chain l.most l.n l.k l.n (signals_of l.initial.signals) (number (2 ^ l.initial.signals.count) (at_hand l.initial.work))) l.pile l.signals
-    l.work × (length l.work ≡ length l.initial.work)
+abbrev pub invariant-loop-stage : goal.invariant-loop-stage
+invariant-loop-stage l =
+    Underway l.n l.most l.k (chain l.most l.n l.k l.n (signals_of l.fn.start) (number (2 ^ l.fn.start.count) (at_hand l.initial.work))) l.stage l.work × (length l.work ≡ length l.initial.work)
 
-abbrev pub decreases-loop-signals : goal.decreases-loop-signals
-decreases-loop-signals l = l.signals.count
+abbrev pub decreases-loop-stage : goal.decreases-loop-stage
+decreases-loop-stage l = l.stage.signals.count

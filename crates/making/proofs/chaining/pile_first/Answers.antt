@@ -19,7 +19,7 @@ use Rattle.splits.specs.Columns.{most_first}
 use Rattle.splits.specs.Split.{reads_d}
 use Rattle.splits.specs.Pair.{table_d}
 use Rattle.charts.specs.Cells.{held_d, first_cells, table_in}
-use Rattle.columns.proofs.Reading.{below_mask}
+use Rattle.columns.proofs.Reading.{held, below_mask}
 use Rattle.splits.proofs.Respect.{reads-D}
 use Rattle.charts.proofs.HeldCells.{table-D}
 use Rattle.chains.specs.Chain.{last_cell}
@@ -34,28 +34,27 @@ overflow_add-s c =
     let s = c.args.s in
     omega (
       arith,
-      mask_lt s.n (reads_d (bit s.own) (bit s.shared)) (s.own + s.shared) (below_mask s c.requires.held.0),
-      pow_mono {i = s.n} {j = 16} c.requires.held.0.most,
+      mask_lt s.n (reads_d (bit s.own) (bit s.shared)) (s.own + s.shared) (below_mask s (held s)),
+      pow_mono {i = s.n} {j = 16} s.most,
     )
 
 pub with_first-requires : goal.with_first-requires
 with_first-requires c =
     let s = c.args.s in
-    let h = c.requires.held.0 in
-    let S = reads_d (bit s.own) (bit s.shared) in record {
-      count_le_count = (c.requires.count_le_count.0, c.requires.count_le_count.1, c.requires.held.4, c.requires.held.5);
-      listed = (
-        c.pick-read.ensures.0,
-        omega (
-          arith,
-          c.requires.held.6.most,
-          reads-D s.n (bit s.own) (bit s.shared) h.apart,
-          picked_count s.n (s.own + s.shared) S (below_mask s h) c.args.signals.count c.requires.held.2
-              (signals_of c.args.signals)
-              c.pick-read.result c.pick-read.ensures.1,
-        ),
-      );
-    }
+    let h = held s in
+    let S = reads_d (bit s.own) (bit s.shared) in (
+      c.requires.room.0,
+      c.requires.n_value.2,
+      c.requires.n_value.3,
+      omega (
+        arith,
+        c.requires.n_value.4.most,
+        reads-D s.n (bit s.own) (bit s.shared) h.apart,
+        picked_count s.n (s.own + s.shared) S (below_mask s h) c.args.signals.count c.requires.n_value.0
+            (signals_of c.args.signals)
+            c.pick-read.result c.pick-read.ensures,
+      ),
+    )
 
 -- table t of r that were handed back
 module _ (n : ℕ) (F : ℕ → Bool) (A B : ℕ → Bool) (r : ℕ) (small : size n (reads_d A B) ≤ 8) (most : r ≤ most_first) where
@@ -72,17 +71,17 @@ pub returns : goal.returns
 returns c =
     let a = c.args in
     let s = a.s in
-    let h = c.requires.held.0 in
+    let h = held s in
     let A = bit s.own in
     let B = bit s.shared in
     let F = table_bit a.t.now in
     let signals = picked_set s.n (s.own + s.shared) (reads_d A B) (below_mask s h) a.signals.count
-    c.requires.held.2 (signals_of a.signals)
-    c.pick-read.result c.pick-read.ensures.1 in
+    c.requires.n_value.0 (signals_of a.signals)
+    c.pick-read.result c.pick-read.ensures in
     grown_same (list_ext a.r (λ t. last_cell (signals_of c.pick-read.result) (table_in c.first_cells-tables.result t))
     (d_cell s F (signals_of a.signals)) (λ t l.
     ap₂ (λ (x : List ℕ) (T : ℕ). record { signals = x; table = T }) signals
     (ap (λ (d : FirstCells). table_in d t) c.first_cells-tables.ensures
-    ∙ table_is s.n F A B a.r (omega (arith, c.requires.held.6.most, reads-D s.n A B h.apart)) c.requires.held.5 t
+    ∙ table_is s.n F A B a.r (omega (arith, c.requires.n_value.4.most, reads-D s.n A B h.apart)) c.requires.n_value.3 t
     l)))
     c.with_first.ensures

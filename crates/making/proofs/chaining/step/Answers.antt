@@ -11,10 +11,9 @@ use Rattle.bits.specs.Lists.{list_of}
 use Rattle.bits.proofs.Masks.{mask_lt}
 use Rattle.splits.specs.Columns.{most_first, few_columns}
 use Rattle.splits.specs.Split.{reads_h}
-use Rattle.columns.proofs.Reading.{beside_mask}
+use Rattle.columns.proofs.Reading.{held, beside_mask}
 use Rattle.splits.proofs.Respect.{reads-H}
 use Rattle.columns.specs.declared.split.Split.{Split}
-use Rattle.columns.specs.Reading.{Held}
 use Rattle.chains.specs.Chain.{pick}
 use Rattle.making.specs.declared.signals.Signals.{Signals}
 use Rattle.making.specs.Stage.{signals_of}
@@ -25,78 +24,75 @@ use Rattle.charts.proofs.Charting.{chart-room, power, charted}
 use Rattle.making.proofs.chaining.step.Goals as goal
 
 pub slice_bounds-chart-end-2 : goal.slice_bounds-chart-end-2
-slice_bounds-chart-end-2 c = sym (half_whole c.args.work.now c.requires.held.3)
+slice_bounds-chart-end-2 c = sym (half_whole c.args.work.now c.requires.n_value.1)
 
 pub chart-requires : goal.chart-requires
 chart-requires c =
     let s = c.args.s in
-    let p = c.requires.held in
+    let p = c.requires.n_value in
     let b = c.blank-seen.ensures in
-    let e = power p.5 in record {
-      held = (
-        p.0,
-        omega (arith, e, pow_mono {i = c.args.r} {j = most_first} p.5),
-        half-bits c.args.work.now p.3
-            s.n p.0.most,
+    let e = power p.3 in record {
+      limit_bound = (
+        omega (arith, e, pow_mono {i = c.args.r} {j = most_first} p.3),
+        half-bits c.args.work.now p.1 s.n s.most,
       );
-      shared_in_bounds = (omega (arith, b.0, chart-room p.6 e), b.1);
+      shared_in_bounds = (omega (arith, b.0, chart-room p.4 e), b.1);
       limit_value = subst (λ (m : ℕ). few_columns s.n (at_hand c.args.work.now) (bit s.own) (bit s.shared) m ≡ true) e
-          c.requires.count_le_count.3;
+          c.requires.room.2;
     }
 
 pub slice_bounds-pile_first-end-2 : goal.slice_bounds-pile_first-end-2
-slice_bounds-pile_first-end-2 c = sym (half_whole c.args.work.now c.requires.held.3)
+slice_bounds-pile_first-end-2 c = sym (half_whole c.args.work.now c.requires.n_value.1)
 
 pub slice_bounds-pile_first-end-3 : goal.slice_bounds-pile_first-end-3
 slice_bounds-pile_first-end-3 c = sym (c.chart.auto.seen ∙ c.blank-seen.ensures.0)
 
 pub pile_first-pile-requires : goal.pile_first-pile-requires
 pile_first-pile-requires c =
-    let p = c.requires.held in record { held = (p.0, p.1, p.2, half-bits c.args.work.now p.3 c.args.s.n p.0.most, p.4, p.5, p.6); chart = charted p.5 c.chart.ensures; count_le_count = (c.requires.count_le_count.0, c.requires.count_le_count.1, c.requires.count_le_count.3) }
+    let p = c.requires.n_value in record {
+      n_value = (p.0, half-bits c.args.work.now p.1 c.args.s.n c.args.s.most, p.2, p.3, p.4);
+      chart = charted p.3 c.chart.ensures;
+      room = (c.requires.room.0, c.requires.room.2);
+    }
 
 pub overflow_add-s : goal.overflow_add-s
 overflow_add-s c =
     let s = c.args.s in
-    let h = c.requires.held.0 in
     omega (
       arith,
-      mask_lt s.n (reads_h (bit s.own) (bit s.shared)) (s.shared + s.free) (beside_mask s h),
-      pow_mono {i = s.n} {j = 16} h.most,
+      mask_lt s.n (reads_h (bit s.own) (bit s.shared)) (s.shared + s.free) (beside_mask s (held s)),
+      pow_mono {i = s.n} {j = 16} s.most,
     )
 
-pub pick-left-requires : goal.pick-left-requires
-pick-left-requires c = c.requires.held.1
-
 -- the signals that are left, and how many
-module _ (s : Split) (h : Held s) (l q : Signals) (n : s.n ≡ l.count)
+module _ (s : Split) (l q : Signals) (n : s.n ≡ l.count)
     (e : signals_of q ≡ pick l.count (bit (s.shared + s.free)) (signals_of l)) where
   left-count : q.count ≡ size s.n (reads_h (bit s.own) (bit s.shared))
-  left-count = picked_count s.n (s.shared + s.free) (reads_h (bit s.own) (bit s.shared)) (beside_mask s h) l.count
+  left-count = picked_count s.n (s.shared + s.free) (reads_h (bit s.own) (bit s.shared)) (beside_mask s (held s)) l.count
       n (signals_of l) q e
 
   left_few : q.count + size s.n (bit s.own) ≡ s.n
-  left_few = omega (arith, left-count, reads-H s.n (bit s.own) (bit s.shared) h.apart)
+  left_few = omega (arith, left-count, reads-H s.n (bit s.own) (bit s.shared) s.apart)
 
 pub with_next-signals-requires : goal.with_next-signals-requires
 with_next-signals-requires c =
-    let p = c.requires.held in
-    (c.pick-left.ensures.0, p.4, p.5, omega (arith, left_few c.args.s c.requires.held.0 c.args.stage.signals c.pick-left.result c.requires.held.2 c.pick-left.ensures.1, p.6.more, p.0.most), c.requires.count_le_count.2)
+    let p = c.requires.n_value in
+    (p.2, p.3, omega (arith, left_few c.args.s c.args.stage.signals c.pick-left.result c.requires.n_value.0 c.pick-left.ensures, p.4.more, c.args.s.most), c.requires.room.1)
 
 pub slice_bounds-next_table-end : goal.slice_bounds-next_table-end
 slice_bounds-next_table-end c = sym (c.chart.auto.seen ∙ c.blank-seen.ensures.0)
 
 pub overflow_cast-signals : goal.overflow_cast-signals
-overflow_cast-signals c = omega (arith, c.with_next-signals.ensures.0.few)
+overflow_cast-signals c = omega (arith, c.with_next-signals.result.few)
 
 pub next_table-requires : goal.next_table-requires
 next_table-requires c =
-    let k = c.requires.held in (
-      k.0,
+    let k = c.requires.n_value in (
+      k.1,
+      c.with_next-signals.result.few,
+      c.with_next-signals.ensures.1 ∙ ap (λ (m : ℕ). m + c.args.r) (left-count c.args.s c.args.stage.signals c.pick-left.result c.requires.n_value.0 c.pick-left.ensures),
+      charted k.3 c.chart.ensures,
       k.3,
-      c.with_next-signals.ensures.0.few,
-      c.with_next-signals.ensures.2 ∙ ap (λ (m : ℕ). m + c.args.r) (left-count c.args.s c.requires.held.0 c.args.stage.signals c.pick-left.result c.requires.held.2 c.pick-left.ensures.1),
-      charted k.5 c.chart.ensures,
-      k.5,
     )
 
 pub shape_of-work : goal.shape_of-work
@@ -107,11 +103,10 @@ returns c =
     let s = c.args.s in
     record {
       cells = c.pile_first-pile.ensures;
-      listed = c.with_next-signals.ensures.0;
-      signals = c.with_next-signals.ensures.1 ∙ ap (λ (l : List ℕ). l ++ list_of c.args.r (λ t. c.args.next + t))
+      signals = c.with_next-signals.ensures.0 ∙ ap (λ (l : List ℕ). l ++ list_of c.args.r (λ t. c.args.next + t))
           (picked_set s.n (s.shared + s.free) (reads_h (bit s.own) (bit s.shared))
-          (beside_mask s c.requires.held.0) c.args.stage.signals.count
-          c.requires.held.2 (signals_of c.args.stage.signals) c.pick-left.result c.pick-left.ensures.1);
+          (beside_mask s (held s)) c.args.stage.signals.count
+          c.requires.n_value.0 (signals_of c.args.stage.signals) c.pick-left.result c.pick-left.ensures);
       table = c.next_table.ensures;
     }
 

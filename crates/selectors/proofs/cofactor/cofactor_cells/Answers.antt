@@ -28,12 +28,12 @@ part_table-requires c =
     )
 
 pub cell-requires : goal.cell-requires
-cell-requires c = (c.requires.3, omega (arith, c.requires.4, c.requires.0))
+cell-requires c = omega (arith, c.requires.3, c.requires.0)
 
 pub with_cell-sheet-requires : goal.with_cell-sheet-requires
 with_cell-sheet-requires c =
     let q = c.loop-v in
-    omega (arith, q.invariant.1, c.requires.5)
+    omega (arith, q.invariant.1, c.requires.4)
 
 pub loop-v-preserved : goal.loop-v-preserved
 loop-v-preserved c =

@@ -1,5 +1,4 @@
 use mathlib.Core.Path.{◌≡◌}
-use Prim.Native.Nat.{◌-◌, ◌≤◌}
 use Rattle.bits.specs.Lists.{list_of}
 use Rattle.sheets.specs.Held.{cells_of}
 use Rattle.making.specs.Stage.{signals_of}

@@ -1,26 +1,24 @@
 -- The loop keeps that the cells so far and those to come make the sheet of cofactors. Assumes nothing.
 use mathlib.Core.Path.{◌≡◌, refl, sym, ap, ◌∙◌, subst}
-use mathlib.Core.List.{List, ◌++◌, append-nil}
+use mathlib.Core.List.{List, [], ◌++◌, append-nil}
 use Prim.Native.Nat.{ℕ, ◌+◌, ◌-◌, ◌*◌, ◌%◌, ◌^◌, ◌≤◌}
 use native.Mathlib.Omega.{arith}
 use lib.Pow.{pow-add, pow_mono}
 use Rattle.bits.proofs.Machine.{shl_one}
 use Rattle.sheets.specs.Network.{Cell}
 use Rattle.sheets.specs.Held.{cells_of}
-use Rattle.cofactors.specs.Cofactors.{cofactor_cells}
+use Rattle.cofactors.specs.Chosen.{Near}
+use Rattle.making.specs.declared.signals.Signals.{Signals}
 use Rattle.selectors.proofs.Starting.{few_left, begins, none_left}
-use Rattle.selectors.proofs.levels.cofactor_sheet.Lts as lts
-use Rattle.selectors.proofs.levels.cofactor_sheet.Reads as reads
-use Rattle.selectors.proofs.levels.cofactor_sheet.Tie as tie
 use Rattle.selectors.proofs.levels.cofactor_sheet.Goals as goal
 
 -- how many cofactors there are
-module _ (g : lts.Start tie.the-claims reads.Pre reads.Post goal.the-invariant-loop-stand goal.the-decreases-loop-stand) where
+module _ (k : ℕ) (l : Signals) (near : Near k l.count) where
   abbrev s : ℕ
-  s = g.args.l.count - g.args.k
+  s = l.count - k
 
   three : s ≤ 3
-  three = few_left g.args.k g.args.n g.args.l g.args.t.now g.requires.4
+  three = few_left k 0 l [] near
 
   many : 1 * 2 ^ s % 2 ^ 32 ≡ 2 ^ s
   many = shl_one 32 s (omega (arith, three))
@@ -28,33 +26,31 @@ module _ (g : lts.Start tie.the-claims reads.Pre reads.Post goal.the-invariant-l
   eight : 2 ^ s ≤ 8
   eight = pow_mono {i = s} {j = 3} three
 
-  all : 2 ^ s * 2 ^ g.args.k ≤ 2 ^ 16
+  all : 2 ^ s * 2 ^ k ≤ 2 ^ 16
   all =
-      let c = g.args.l.count in
-      let e : s + g.args.k ≡ c = omega (arith, g.requires.4.more) in
-      omega (arith, pow-add 2 s g.args.k, ap (λ (j : ℕ). 2 ^ j) e, pow_mono {i = c} {j = 16} g.requires.3.few)
+      let e : s + k ≡ l.count = omega (arith, near.more) in
+      omega (arith, pow-add 2 s k, ap (λ (j : ℕ). 2 ^ j) e, pow_mono {i = l.count} {j = 16} l.few)
 
 pub cofactor_cells-requires : goal.cofactor_cells-requires
 cofactor_cells-requires c =
-    let back = sym (many c.before.before.before.before) in (
+    let back = sym (many c.args.k c.args.l c.requires.3) in (
       c.requires.2,
-      subst (λ (m : ℕ). m * 2 ^ c.args.k ≤ 65536) back (all c.before.before.before.before),
-      c.requires.5,
-      record { places = c.requires.3.places; few = omega (arith, c.requires.2) },
+      subst (λ (m : ℕ). m * 2 ^ c.args.k ≤ 65536) back (all c.args.k c.args.l c.requires.3),
+      c.requires.4,
       refl,
-      omega (arith, many c.before.before.before.before, eight c.before.before.before.before),
+      omega (arith, many c.args.k c.args.l c.requires.3, eight c.args.k c.args.l c.requires.3),
     )
 
 pub loop-stand-init : goal.loop-stand-init
 loop-stand-init c =
     let a = c.args in
-    begins a.k a.n a.l a.t.now c.requires.4 c.cofactor_cells.result _ (many c.before.before.before.before.before)
+    begins a.k a.n a.l a.t.now c.requires.3 c.cofactor_cells.result _ (many c.args.k c.args.l c.requires.3)
     c.cofactor_cells.ensures.0 c.cofactor_cells.ensures.1 c.requires.0 (omega (arith, c.requires.2))
 
 pub one_level-stand-requires : goal.one_level-stand-requires
 one_level-stand-requires c =
     let q = c.loop-stand in
-    (c.requires.1, c.requires.3, q.invariant.1, omega (arith, c.loop-stand-test.true))
+    (c.requires.1, q.invariant.1, omega (arith, c.loop-stand-test.true))
 
 pub loop-stand-preserved : goal.loop-stand-preserved
 loop-stand-preserved c =
@@ -70,24 +66,24 @@ returns c =
     (omega (arith, c.loop-stand-test.false)))) ∙ q.invariant.0
 
 pub overflow_cast-left : goal.overflow_cast-left
-overflow_cast-left c = omega (arith, c.requires.3.few)
+overflow_cast-left c = omega (arith, c.args.l.few)
 
 pub overflow_sub-left : goal.overflow_sub-left
-overflow_sub-left c = omega (arith, c.requires.4.more)
+overflow_sub-left c = omega (arith, c.requires.3.more)
 
 pub overflow_shl-many : goal.overflow_shl-many
-overflow_shl-many c = omega (arith, three c.before.before.before)
+overflow_shl-many c = omega (arith, three c.args.k c.args.l c.requires.3)
 
 pub overflow_cast-stand : goal.overflow_cast-stand
 overflow_cast-stand c = omega (arith, c.requires.0)
 
 pub overflow_add-stand : goal.overflow_add-stand
 overflow_add-stand c =
-    omega (arith, c.requires.0, many c.before.before.before.before.before, eight c.before.before.before.before.before)
+    omega (arith, c.requires.0, many c.args.k c.args.l c.requires.3, eight c.args.k c.args.l c.requires.3)
 
 pub overflow_cast-stand-2 : goal.overflow_cast-stand-2
 overflow_cast-stand-2 c =
-    omega (arith, c.requires.0, many c.before.before.before.before.before, eight c.before.before.before.before.before)
+    omega (arith, c.requires.0, many c.args.k c.args.l c.requires.3, eight c.args.k c.args.l c.requires.3)
 
 pub loop-stand-smaller : goal.loop-stand-smaller
 loop-stand-smaller c = omega (arith, c.one_level-stand.ensures.fewer)

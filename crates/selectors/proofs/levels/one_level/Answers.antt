@@ -11,7 +11,7 @@ use Rattle.cofactors.specs.Cofactors.{cells_each, join_of}
 use Rattle.cofactors.proofs.Levels.{group}
 use Rattle.making.specs.Stage.{signals_of}
 use Rattle.making.specs.declared.signals.Signals.{Signals}
-use Rattle.selectors.specs.declared.levels.Stand.{Stand}
+use Rattle.selectors.specs.declared.select.Stand.{Stand}
 use Rattle.selectors.specs.Standing.{spaced, from, NextWidth, InRoom, OneLevel}
 use Rattle.selectors.proofs.Standing.{level-room, level_few, level_places, one-level}
 use Rattle.selectors.proofs.levels.one_level.Goals as goal
@@ -53,19 +53,18 @@ level-requires c =
     let a = c.args in
     let w = c.width-w.result in
     let v = c.width-w.ensures in
-    let i = c.requires.2 in
-    let back = sym (many a.k a.l a.s w v i c.requires.3) in (
-      subst (λ (m : ℕ). a.s.sheet.count + cells_each (leb 3 a.k) * m ≤ 15) back (few a.k a.l a.s w v i c.requires.3),
+    let i = c.requires.1 in
+    let back = sym (many a.k a.l a.s w v i c.requires.2) in (
+      subst (λ (m : ℕ). a.s.sheet.count + cells_each (leb 3 a.k) * m ≤ 15) back (few a.k a.l a.s w v i c.requires.2),
       v.fits,
-      c.requires.1,
-      level_places a.k a.l a.s w v i c.requires.3,
+      level_places a.k a.l a.s w v i c.requires.2,
       record {
         base = omega (arith, i.base, i.next);
         step = i.step;
         next = subst (λ (m : ℕ). a.s.next + cells_each (leb 3 a.k) * m ≤ 100) back
-            (room a.k a.l a.s w v i c.requires.3);
+            (room a.k a.l a.s w v i c.requires.2);
       },
-      subst (λ (m : ℕ). 2 ^ w * m ≤ 8) back (all a.k a.l a.s w v i c.requires.3),
+      subst (λ (m : ℕ). 2 ^ w * m ≤ 8) back (all a.k a.l a.s w v i c.requires.2),
     )
 
 pub overflow_mul-result : goal.overflow_mul-result
@@ -74,8 +73,8 @@ overflow_mul-result c =
     let v = c.width-w.ensures in
     omega (
       arith,
-      product a.k a.l a.s c.width-w.result v c.requires.2 c.requires.3 c.cells_each-each.ensures.0,
-      room a.k a.l a.s c.width-w.result v c.requires.2 c.requires.3,
+      product a.k a.l a.s c.width-w.result v c.requires.1 c.requires.2 c.cells_each-each.ensures.0,
+      room a.k a.l a.s c.width-w.result v c.requires.1 c.requires.2,
     )
 
 pub overflow_add-result-3 : goal.overflow_add-result-3
@@ -84,8 +83,8 @@ overflow_add-result-3 c =
     let v = c.width-w.ensures in
     omega (
       arith,
-      product a.k a.l a.s c.width-w.result v c.requires.2 c.requires.3 c.cells_each-each.ensures.0,
-      room a.k a.l a.s c.width-w.result v c.requires.2 c.requires.3,
+      product a.k a.l a.s c.width-w.result v c.requires.1 c.requires.2 c.cells_each-each.ensures.0,
+      room a.k a.l a.s c.width-w.result v c.requires.1 c.requires.2,
     )
 
 pub returns : goal.returns
@@ -95,7 +94,7 @@ returns c =
     let x = c.width-w.result in
     let v = c.width-w.ensures in
     let sheet = c.level.result in
-    let times = many a.k a.l s x v c.requires.2 c.requires.3 in
+    let times = many a.k a.l s x v c.requires.1 c.requires.2 in
     let h = group (leb 3 a.k) s.next x (s.left - x) (from (signals_of a.l) s.at)
     (spaced s.base s.step) in
     subst₂ (λ (e j : ℕ). OneLevel a.k a.l s (record {
@@ -106,6 +105,6 @@ returns c =
       step = e;
       next = s.next + e * j;
     })) (sym c.cells_each-each.ensures.0) (sym times)
-    (one-level a.k a.l s x v c.requires.2 c.requires.3 sheet
+    (one-level a.k a.l s x v c.requires.1 c.requires.2 sheet
     (c.level.ensures.0 ∙ ap (λ (m : ℕ). cells_of s.sheet ++ join_of m h) times)
     (c.level.ensures.1 ∙ ap (λ (m : ℕ). s.sheet.count + cells_each (leb 3 a.k) * m) times))

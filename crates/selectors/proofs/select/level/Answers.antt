@@ -13,9 +13,6 @@ use Rattle.making.specs.Stage.{signals_of}
 use Rattle.selectors.specs.Standing.{spaced, from}
 use Rattle.selectors.proofs.Widths.{few_width}
 use Rattle.selectors.proofs.select.level.Invariants.{group_of}
-use Rattle.selectors.proofs.select.level.Lts as lts
-use Rattle.selectors.proofs.select.level.Reads as reads
-use Rattle.selectors.proofs.select.level.Tie as tie
 use Rattle.selectors.proofs.select.level.Goals as goal
 
 join_more : (g : ℕ) (h : ℕ → List Cell) → join_of (g + 1) h ≡ join_of g h ++ h g
@@ -27,69 +24,77 @@ unfolding join_of
 loop-g-init c =
     (sym (append-nil _), omega (arith, mul-zero (cells_each (leb 3 c.args.k))))
 
--- a group within the level
-module _ (c : lts.In-loop tie.the-claims reads.Pre reads.Post goal.the-invariant-loop-g goal.the-decreases-loop-g) where
-  abbrev s : lts.Start tie.the-claims reads.Pre reads.Post goal.the-invariant-loop-g goal.the-decreases-loop-g
-  s = c.before.before.before
+-- group q of so many, each of p cells, within the level
+module _ (p q w many : ℕ) (less : q < many) where
+  more_cells : p * q + p ≤ p * many
+  more_cells = omega (arith, mul-suc p q, mul-le-mul_left p less)
 
-  abbrev q : ℕ
-  q = c.loop-g.g
+  more_signals : 2 ^ w * many ≤ 8 → 2 ^ w * q + 2 ^ w ≤ 8
+  more_signals h = omega (arith, mul-suc (2 ^ w) q, mul-le-mul_left (2 ^ w) less)
 
-  abbrev p : ℕ
-  p = cells_each (leb 3 s.args.k)
+  -- its first signal, as the machine has it
+  shifted : 2 ^ w * many ≤ 8 → q * 2 ^ w % 256 ≡ 2 ^ w * q
+  shifted h = mod-eq_of_lt (omega (arith, more_signals h, mul_comm q (2 ^ w))) ∙ mul_comm q (2 ^ w)
 
-  less : q < s.args.many
-  less = omega arith
+-- where it starts
+product : {each p : ℕ} → each ≡ p → (q : ℕ) → each * q ≡ p * q
+product e q = ap (λ (m : ℕ). m * q) e
 
-  each : p * q + p ≤ p * s.args.many
-  each = omega (arith, mul-suc p q, mul-le-mul_left p less)
-
-  part : 2 ^ s.args.w * q + 2 ^ s.args.w ≤ 8
-  part = omega (arith, mul-suc (2 ^ s.args.w) q, mul-le-mul_left (2 ^ s.args.w) less, s.requires.5)
-
-  shifted : q * 2 ^ s.args.w % 256 ≡ 2 ^ s.args.w * q
-  shifted = mod-eq_of_lt (omega (arith, part, mul_comm q (2 ^ s.args.w))) ∙ mul_comm q (2 ^ s.args.w)
-
-  product : c.cells_each-each.result * q ≡ p * q
-  product = ap (λ (e : ℕ). e * q) c.cells_each-each.ensures.0
-
-pub overflow_mul-each : goal.overflow_mul-each
-overflow_mul-each c = omega (arith, product c, each c, (s c).requires.4.next)
+pub overflow_mul-next : goal.overflow_mul-next
+overflow_mul-next c =
+    let a = c.args in
+    let q = c.loop-g.g in
+    omega (arith, product c.cells_each-each.ensures.0 q, more_cells (cells_each (leb 3 a.k)) q a.w a.many (omega arith), c.requires.3.next)
 
 pub overflow_add-next : goal.overflow_add-next
-overflow_add-next c = omega (arith, product c, each c, (s c).requires.4.next)
+overflow_add-next c =
+    let a = c.args in
+    let q = c.loop-g.g in
+    omega (arith, product c.cells_each-each.ensures.0 q, more_cells (cells_each (leb 3 a.k)) q a.w a.many (omega arith), c.requires.3.next)
 
 pub overflow_cast-w : goal.overflow_cast-w
-overflow_cast-w c = omega (arith, few_width (s c).requires.1)
+overflow_cast-w c = omega (arith, few_width c.requires.1)
 
 pub overflow_shl-g : goal.overflow_shl-g
-overflow_shl-g c = omega (arith, few_width (s c).requires.1)
+overflow_shl-g c = omega (arith, few_width c.requires.1)
 
 pub select-sheet-requires : goal.select-sheet-requires
 select-sheet-requires c =
-    let g = s c in
-    let i = c.loop-g.invariant in (
-      omega (arith, i.1, each c, g.requires.0),
-      g.requires.1,
-      g.requires.2,
-      g.requires.3,
-      record { base = g.requires.4.base; step = g.requires.4.step; next = omega (arith, product c, each c, g.requires.4.next) },
-      omega (arith, shifted c, part c),
+    let a = c.args in
+    let q = c.loop-g.g in
+    let less : q < a.many = omega arith in
+    let cells = more_cells (cells_each (leb 3 a.k)) q a.w a.many less in (
+      omega (arith, c.loop-g.invariant.1, cells, c.requires.0),
+      c.requires.1,
+      c.requires.2,
+      record {
+        base = c.requires.3.base;
+        step = c.requires.3.step;
+        next = omega (arith, product c.cells_each-each.ensures.0 q, cells, c.requires.3.next);
+      },
+      omega (
+        arith,
+        shifted (cells_each (leb 3 a.k)) q a.w a.many less c.requires.4,
+        more_signals (cells_each (leb 3 a.k)) q a.w a.many less c.requires.4,
+      ),
     )
 
 pub loop-g-preserved : goal.loop-g-preserved
 loop-g-preserved c =
-    let g = s c.before in
-    let a = g.args in
+    let a = c.args in
+    let s = a.s in
     let i = c.loop-g.invariant in
-    let h = group_of a.k a.w a.next (signals_of a.l) a.at a.base a.step in (
+    let q = c.loop-g.g in
+    let p = cells_each (leb 3 a.k) in
+    let h = group_of a.k a.w s.next (signals_of a.l) s.at s.base s.step in (
       c.select-sheet.ensures.0
           ∙ ap₂ (λ (l m : List Cell). l ++ m) i.0
-          (ap₂ (λ (n x : ℕ). selecting (leb 3 a.k) a.w (a.next + n) (from (signals_of a.l) a.at)
-          (λ t. spaced a.base a.step (x + t))) (product c.before) (shifted c.before))
-          ∙ append_assoc (cells_of a.held) (join_of (q c.before) h) (h (q c.before))
-          ∙ ap (λ (l : List Cell). cells_of a.held ++ l) (sym (join_more (q c.before) h)),
-      omega (arith, c.select-sheet.ensures.1, i.1, mul-suc (p c.before) (q c.before), ap (λ (m : ℕ). p c.before * m) (add-one (q c.before))),
+          (ap₂ (λ (n x : ℕ). selecting (leb 3 a.k) a.w (s.next + n) (from (signals_of a.l) s.at)
+          (λ t. spaced s.base s.step (x + t))) (product c.cells_each-each.ensures.0 q)
+          (shifted p q a.w a.many (omega arith) c.requires.4))
+          ∙ append_assoc (cells_of s.sheet) (join_of q h) (h q)
+          ∙ ap (λ (l : List Cell). cells_of s.sheet ++ l) (sym (join_more q h)),
+      omega (arith, c.select-sheet.ensures.1, i.1, mul-suc p q, ap (λ (m : ℕ). p * m) (add-one q)),
     )
 
 pub returns : goal.returns
@@ -97,7 +102,7 @@ returns c =
     let i = c.loop-g.invariant in
     let a = c.args in
     let e : c.loop-g.g ≡ a.many = omega arith in
-    let h = group_of a.k a.w a.next (signals_of a.l) a.at a.base a.step in (
-      i.0 ∙ ap (λ (m : ℕ). cells_of a.held ++ join_of m h) e,
-      i.1 ∙ ap (λ (m : ℕ). a.held.count + cells_each (leb 3 a.k) * m) e,
+    let h = group_of a.k a.w a.s.next (signals_of a.l) a.s.at a.s.base a.s.step in (
+      i.0 ∙ ap (λ (m : ℕ). cells_of a.s.sheet ++ join_of m h) e,
+      i.1 ∙ ap (λ (m : ℕ). a.s.sheet.count + cells_each (leb 3 a.k) * m) e,
     )

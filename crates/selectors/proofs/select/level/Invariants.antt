@@ -1,6 +1,6 @@
 use mathlib.Core.Path.{◌≡◌}
 use mathlib.Core.List.{List, ◌++◌}
-use Prim.Native.Nat.{ℕ, ◌+◌, ◌-◌, ◌*◌, ◌^◌, ◌≤◌}
+use Prim.Native.Nat.{ℕ, ◌+◌, ◌*◌, ◌^◌}
 use lib.Dec.{leb}
 use Rattle.sheets.specs.Network.{Cell}
 use Rattle.sheets.specs.Held.{cells_of}
@@ -16,5 +16,5 @@ group_of k w next l at base step g = selecting (leb 3 k) w (next + cells_each (l
 
 abbrev pub invariant-loop-g : goal.invariant-loop-g
 invariant-loop-g l =
-    (cells_of l.sheet ≡ cells_of l.initial.sheet ++ join_of l.g (group_of l.k l.w l.next (signals_of l.l) l.at l.base l.step))
-    × (l.sheet.count ≡ l.initial.sheet.count + cells_each (leb 3 l.k) * l.g)
+    (cells_of l.sheet ≡ cells_of l.s.sheet ++ join_of l.g (group_of l.k l.w l.s.next (signals_of l.l) l.s.at l.s.base l.s.step))
+    × (l.sheet.count ≡ l.s.sheet.count + cells_each (leb 3 l.k) * l.g)

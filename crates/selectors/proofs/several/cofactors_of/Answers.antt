@@ -1,9 +1,9 @@
 -- Setting aside, the sheet of cofactors and clearing, in turn. Assumes nothing.
 use mathlib.Core.Path.{◌≡◌, sym, ap, ap₂, ◌∙◌, subst}
 use mathlib.Core.List.{List}
-use Prim.Native.Nat.{ℕ, ◌<◌, ◌≤◌, ◌^◌}
+use Prim.Native.Nat.{ℕ, ◌<◌, ◌^◌}
 use native.Mathlib.Omega.{arith}
-use lib.ListN.{length, replicate}
+use lib.ListN.{replicate}
 use Rattle.bits.specs.Numbers.{bit}
 use Rattle.tables.specs.Table.{table_bit}
 use Rattle.tables.proofs.Keeping.{kept-lt}
@@ -39,11 +39,10 @@ cofactor_sheet-sheet-requires c =
     let a = c.args in
     let h = c.requires.le_n in
     let r = c.pick-signals.result in
-    let signals = picked a.n a.mask c.inputs.result r c.pick-signals.ensures.1 c.inputs.ensures.1 c.inputs.ensures.2 in (
+    let signals = picked a.n a.mask c.inputs.result r c.pick-signals.ensures c.inputs.ensures.0 c.inputs.ensures.1 in (
       h.1,
       h.2,
       h.3,
-      c.pick-signals.ensures.0,
       subst (Near a.k) (sym (count a.n a.k (table_bit a.t.now) a.mask r signals)) c.requires.mask_value.1,
       half_whole c.set_aside.new.room (omega (arith, c.set_aside.auto.room, h.5)),
     )
@@ -52,7 +51,7 @@ pub returns : goal.returns
 returns c =
     let a = c.args in
     let r = c.pick-signals.result in
-    let signals = picked a.n a.mask c.inputs.result r c.pick-signals.ensures.1 c.inputs.ensures.1 c.inputs.ensures.2 in (
+    let signals = picked a.n a.mask c.inputs.result r c.pick-signals.ensures c.inputs.ensures.0 c.inputs.ensures.1 in (
       c.cofactor_sheet-sheet.ensures
           ∙ kept_cells a.n a.k (table_bit a.t.now) a.mask r signals c.set_aside.new.room c.requires.le_n.1
           c.set_aside.ensures,

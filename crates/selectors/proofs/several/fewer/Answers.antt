@@ -1,6 +1,5 @@
 -- By the two counts. Assumes nothing.
-use mathlib.Core.Path.{sym, subst}
-use Prim.Native.Nat.{◌≤◌}
+use mathlib.Core.Path.{subst}
 use native.Mathlib.Omega.{arith}
 use Rattle.selectors.proofs.Choosing.{tells_first, tells_longer, tells_stuck}
 use Rattle.making.specs.Chaining.{Tells}

@@ -22,12 +22,11 @@ loop-i-init c = (refl, refl)
 
 pub h_byte-requires : goal.h_byte-requires
 h_byte-requires c =
-    let p = c.requires.held in
-    let e = sym (power p.3) in (
+    let p = c.requires.n_bound in
+    let e = sym (power p.2) in (
       p.0,
-      p.1,
-      subst (λ (m : ℕ). Chart c.args.s (table_bit c.args.t.now) m c.args.seen.now) (sym e) p.2,
-      omega (arith, e, pow_mono {i = c.args.r} {j = most_first} p.3),
+      subst (λ (m : ℕ). Chart c.args.s (table_bit c.args.t.now) m c.args.seen.now) (sym e) p.1,
+      omega (arith, e, pow_mono {i = c.args.r} {j = most_first} p.2),
       omega arith,
     )
 
@@ -37,7 +36,7 @@ loop-i-preserved c =
     let a = c.args in (
       length-set q.room q.i c.h_byte.result ∙ q.invariant.0,
       written_more q.i (bits a.t.now a.s a.r) q.room a.room.now c.h_byte.result (omega arith)
-          q.invariant.1 (c.h_byte.ensures a.r (sym (power c.requires.held.3))),
+          q.invariant.1 (c.h_byte.ensures a.r (sym (power c.requires.n_bound.2))),
     )
 
 pub returns : goal.returns

@@ -64,24 +64,23 @@ module _ (s : Split) (r : ℕ) (t : List ℕ) where
 
 pub break_of-requires : goal.break_of-requires
 break_of-requires c =
-    let p = c.requires.held in record {
-      held = (
-        p.0,
+    let p = c.requires.candidate in record {
+      limit_bound = (
         omega (
           arith,
-          shl_one 64 c.args.r (omega (arith, p.3)),
+          shl_one 64 c.args.r (omega (arith, p.2)),
           pow_mono {i = c.args.r} {j = most_first}
-              p.3,
+              p.2,
         ),
-        omega (arith, p.2, length-holds c.args.s.n),
+        omega (arith, p.1, length-holds c.args.s.n),
       );
-      own_bound = omega (arith, p.1.most);
+      own_bound = omega (arith, p.0.most);
     }
 
 pub returns-in-Some : goal.returns-in-Some
 returns-in-Some c =
     let a = c.args in
-    let w = breaks a.s a.r a.t.now c.requires.held.3 c.in-Some.is c.break_of.ensures in
+    let w = breaks a.s a.r a.t.now c.requires.candidate.2 c.in-Some.is c.break_of.ensures in
     let e = w.1 in
     let q = w.0 in
     ap (λ (w : Broken). record {
@@ -91,22 +90,21 @@ returns-in-Some c =
     ∙ ap (answered a.s a.r a.t.now a.room.now) (sym e)
 
 pub bytes_of_h-requires : goal.bytes_of_h-requires
-bytes_of_h-requires c = let p = c.requires.held in (p.0.most, p.0.below_a, p.1.more, p.3)
+bytes_of_h-requires c = let p = c.requires.candidate in (c.args.s.most, c.args.s.below_a, p.0.more, p.2)
 
 pub put_pair-requires : goal.put_pair-requires
 put_pair-requires c =
     let b = c.bytes_of_h.ensures in
-    let p = c.requires.held in record {
-      held = (
+    let p = c.requires.candidate in record {
+      n_bound = (
+        omega (arith, p.1, length-holds c.args.s.n),
         p.0,
-        omega (arith, p.2, length-holds c.args.s.n),
-        p.1,
-        p.3,
+        p.2,
         omega (arith, b.0, c.requires.own_in_bounds),
         b.1,
       );
-      end_value = b.0 ∙ bytes_H p.1 (table_bit c.args.t.now);
-      r_value = holds c.args.s c.args.r c.args.t.now p.3 c.in_default.is c.break_of.ensures;
+      end_value = b.0 ∙ bytes_H p.0 (table_bit c.args.t.now);
+      r_value = holds c.args.s c.args.r c.args.t.now p.2 c.in_default.is c.break_of.ensures;
     }
 
 pub returns : goal.returns
@@ -115,4 +113,4 @@ returns c =
     ap₂ (λ (d : FirstCells) (l : List ℕ). record { answer = record { verdict = Fine; d = d; columns = 0 }; room = l })
     c.put_pair.ensures.0 c.put_pair.ensures.1
     ∙ ap (answered a.s a.r a.t.now a.room.now)
-    (sym (holds a.s a.r a.t.now c.requires.held.3 c.in_default.is c.break_of.ensures))
+    (sym (holds a.s a.r a.t.now c.requires.candidate.2 c.in_default.is c.break_of.ensures))

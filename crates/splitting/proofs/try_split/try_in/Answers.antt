@@ -88,8 +88,7 @@ pair_of-requires c =
     let a = c.args in
     let w = through a.e a.n a.k a.r a.own a.shared a.t.now a.room.now c.requires.eight
     (sym c.try_form.ensures ∙ (said_ok _ _ c.in_ok-try_form.was)) in record {
-      held = (
-        o.0,
+      candidate = (
         carried (λ (n A B : ℕ). Candidate n largest_cell a.r A B) (sym o.1) (sym o.2) (sym o.3)
             w.sets,
         w.gate.long ∙ ap table_length (sym o.1),

@@ -1,7 +1,6 @@
 -- The cycle of calls {walk_own}, whose position falls. Each way out is one law of a walk, at what `try_a` answers.
 -- Assumes nothing.
 use mathlib.Core.Path.{refl, sym, ap, ◌∙◌}
-use Prim.Native.Nat.{ℕ}
 use native.Mathlib.Omega.{arith}
 use Rattle.bits.specs.Numbers.{bit}
 use Rattle.tables.specs.Table.{table_bit}

@@ -8,7 +8,7 @@ use Rattle.tables.specs.Table.{table_bit}
 use Rattle.best.specs.Answers.{answer_of}
 use Rattle.best.proofs.Walks.{shared_tries, turn, walk_big, walk_leaf, walk_found, walk_next}
 use Rattle.best.proofs.Walks.{walk_without, shared_out, shared_taken, try_b_own}
-use Rattle.walks.proofs.Pruning.{mask_fits, left_lt, shared_crowded, shared_passed}
+use Rattle.walks.proofs.Pruning.{mask_fits, shared_crowded, shared_passed}
 use Rattle.walks.proofs.walk.+walk_shared.Goals as goal
 
 -- k is above p

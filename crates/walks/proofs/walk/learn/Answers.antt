@@ -1,19 +1,13 @@
 -- What is kept was shown by six bits, or by many points. Assumes nothing.
-use mathlib.Core.Path.{sym, ap, ◌∙◌, subst}
+use mathlib.Core.Path.{sym, ap, subst}
 use Prim.Native.Nat.{ℕ, ◌*◌, ◌^◌, ◌≤◌}
 use lib.ListN.{length}
-use borrow.Author.Tests.{not-false}
-use Rattle.tables.specs.Table.{most_inputs}
 use Rattle.witness.proofs.Points.{said_no}
 use Rattle.walks.proofs.Learning.{learned_one}
 use Rattle.walks.proofs.walk.learn.Goals as goal
 
 pub look-requires : goal.look-requires
-look-requires c =
-    let e = sym c.of.ensures.1 in (
-      subst (λ (n : ℕ). n ≤ most_inputs) e c.requires.known.most,
-      subst (λ (n : ℕ). 2 ^ n ≤ 8 * length c.args.t.now) e c.requires.known.long,
-    )
+look-requires c = subst (λ (n : ℕ). 2 ^ n ≤ 8 * length c.args.t.now) (sym c.of.ensures.1) c.requires.known.long
 
 pub returns : goal.returns
 returns c =

@@ -1,6 +1,5 @@
 -- What is kept was shown by many points. Assumes nothing.
 use native.Mathlib.Omega.{arith}
-use borrow.Author.Tests.{not-false}
 use Rattle.bits.proofs.Machine.{shl_one}
 use Rattle.witness.proofs.Points.{said_no}
 use Rattle.walks.proofs.Learning.{learned_one}

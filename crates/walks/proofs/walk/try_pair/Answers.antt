@@ -1,5 +1,5 @@
 -- What is ruled out is not possible, and what is left is tested. Assumes nothing.
-use mathlib.Core.Path.{sym, ◌∙◌}
+use mathlib.Core.Path.{sym}
 use Rattle.tables.specs.Table.{table_bit}
 use Rattle.known.proofs.Keeping.{skips_fails}
 use Rattle.walks.proofs.Learning.{still_known}

@@ -8,8 +8,9 @@ use Rattle.bits.proofs.Masks.{mask_most}
 use Rattle.bits.proofs.Machine.{shl_one}
 use Rattle.bits.proofs.Numbers.{number_lt}
 use Rattle.tables.specs.Table.{most_inputs}
-use Rattle.columns.specs.Reading.{high_part, low_places}
+use Rattle.columns.specs.ByWords.{high_part, low_places}
 use Rattle.splits.proofs.Parts.{rest_sum}
+use Rattle.columns.proofs.Reading.{held}
 use Rattle.columns.proofs.split.Split.of.Goals as goal
 
 -- 2 ^ n - 1 - own - shared, at a width of 32 bits
@@ -27,24 +28,23 @@ module _ (n own shared : ℕ) (pre : (n ≤ most_inputs) × (own < 2 ^ n) × (sh
     high_lt : high_part (1 * 2 ^ n % 4294967296 - 1 - own - shared) < 2 ^ n
     high_lt = omega (arith, left_lt)
 
-pub returns : goal.returns
+pub invariant_of-result : goal.invariant_of-result
 unfolding low_places
-returns c =
+invariant_of-result c =
     let p = c.requires in
-    let a = c.args in (
-      record {
-        most = p.0;
-        below_a = p.1;
-        below_b = p.2;
-        apart = p.3;
-        free = left_is a.n a.own a.shared p;
-        words = c.parts.ensures.0;
-        low = c.subsets.ensures;
-      },
-      refl,
-      refl,
-      refl,
-    )
+    let a = c.args in
+    record {
+      most = p.0;
+      below_a = p.1;
+      below_b = p.2;
+      apart = p.3;
+      free_is = left_is a.n a.own a.shared p;
+      words_are = c.parts.ensures.0;
+      low_is = c.subsets.ensures;
+    }
+
+pub returns : goal.returns
+returns c = (held _, refl, refl, refl)
 
 pub overflow_sub-all : goal.overflow_sub-all
 overflow_sub-all c = omega (arith, sum c.args.n c.args.own c.args.shared c.requires)

@@ -26,15 +26,15 @@ table_at d (suc (suc (suc t))) h = absurd (omega arith)
 
 pub loop-t-init : goal.loop-t-init
 unfolding list_of
-loop-t-init c = grown_none c.args.self c.requires.count_le_count.0
+loop-t-init c = grown_none c.args.self
 
 pub with_cell-pile-requires : goal.with_cell-pile-requires
 with_cell-pile-requires c =
     let i = c.loop-t.invariant in
-    (i.within, omega (arith, i.count, length-list c.loop-t.t (cell_of c.args.read c.args.d), c.requires.count_le_count.1))
+    omega (arith, i.count, length-list c.loop-t.t (cell_of c.args.read c.args.d), c.requires.0)
 
 pub bounds-tables-t : goal.bounds-tables-t
-bounds-tables-t c = omega (arith, c.requires.count_le_count.3)
+bounds-tables-t c = omega (arith, c.requires.2)
 
 pub loop-t-preserved : goal.loop-t-preserved
 loop-t-preserved c =
@@ -42,7 +42,7 @@ loop-t-preserved c =
     let t = c.loop-t.t in
     let f = cell_of a.read a.d in
     grown_same (ap (λ (x : Cell). list_of t f ++ (x ∷ [])) (c.cell.ensures.0 ∙ ap (last_cell (signals_of a.read))
-    (table_at a.d t (omega (arith, c.requires.count_le_count.3))))
+    (table_at a.d t (omega (arith, c.requires.2))))
     ∙ sym (list_more t f))
     (grown_then c.loop-t.invariant c.with_cell-pile.ensures)
 

@@ -19,12 +19,12 @@ copied {k} at blank {copy} h e = list_ext k _ _ (λ j l.
 
 pub copy_from_slice-requires : goal.copy_from_slice-requires
 copy_from_slice-requires c =
-    length-take-le c.args.self.count _ (omega (arith, c.requires.1))
-    ∙ sym (length-take-le c.args.self.count c.args.self.at (omega (arith, c.requires.0.places, c.requires.0.few)))
+    length-take-le c.args.self.count _ (omega (arith, c.requires))
+    ∙ sym (length-take-le c.args.self.count c.args.self.at (omega (arith, c.args.self.places, c.args.self.few)))
 
 pub returns : goal.returns
 returns c = (
   ap (λ (l : List ℕ). record { signals = l; table = table_number c.args.table })
-      (copied c.args.self.at _ (omega (arith, c.requires.0.places, c.requires.0.few)) c.copy_from_slice.ensures.after),
+      (copied c.args.self.at _ (omega (arith, c.args.self.places, c.args.self.few)) c.copy_from_slice.ensures.after),
   refl,
 )

@@ -23,7 +23,6 @@ rule = refl
 pub returns : goal.returns
 unfolding places
 returns c = (
-  record { places = refl; few = c.requires },
   list_ext c.args.n (λ j. get_or places j 0) (λ j. j)
       (λ j l. eqb-true (get_or places j 0) j (every_at most_inputs (λ j. eqb (get_or places j 0) j) rule j
       (omega (arith, c.requires)))),

@@ -35,13 +35,13 @@ unfolding list_of pick
 loop-j-init c = (refl, omega arith, refl)
 
 pub bounds-self-j : goal.bounds-self-j
-bounds-self-j c = omega (arith, c.requires.few)
+bounds-self-j c = omega (arith, c.args.self.few)
 
 pub bounds-at-count : goal.bounds-at-count
-bounds-at-count c = omega (arith, c.loop-j.invariant.1, c.requires.few)
+bounds-at-count c = omega (arith, c.loop-j.invariant.1, c.args.self.few)
 
 pub overflow_add-count : goal.overflow_add-count
-overflow_add-count c = omega (arith, c.loop-j.invariant.1, c.requires.few)
+overflow_add-count c = omega (arith, c.loop-j.invariant.1, c.args.self.few)
 
 pub loop-j-preserved : goal.loop-j-preserved
 loop-j-preserved c =
@@ -51,7 +51,7 @@ loop-j-preserved c =
       | then-set-j-eq1 u ↦ (
         ap₂ first u.count-is u.at-is
             ∙ pick_takes q.j q.count (bit a.set) a.self.at q.at a.self.count (omega arith)
-            (omega (arith, q.invariant.1, q.invariant.2, c.requires.few))
+            (omega (arith, q.invariant.1, q.invariant.2, c.args.self.few))
             (bit-set a.set q.j u.if-set-j-eq1.true) q.invariant.0,
         omega (arith, u.count-is, q.invariant.1),
         ap length u.at-is ∙ length-set q.at q.count _ ∙ q.invariant.2,
@@ -69,8 +69,5 @@ pub returns : goal.returns
 returns c =
     let q = c.loop-j in
     let a = c.args in
-    let e : q.j ≡ a.self.count = omega arith in (
-      record { places = q.invariant.2; few = omega (arith, q.invariant.1, c.requires.few) },
-      q.invariant.0
-          ∙ ap (λ (m : ℕ). pick m (bit a.set) (first a.self.count a.self.at)) e,
-    )
+    let e : q.j ≡ a.self.count = omega arith in
+    q.invariant.0 ∙ ap (λ (m : ℕ). pick m (bit a.set) (first a.self.count a.self.at)) e

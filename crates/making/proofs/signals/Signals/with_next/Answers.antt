@@ -10,10 +10,10 @@ use Rattle.making.proofs.signals.Signals.with_next.Goals as goal
 
 pub loop-t-init : goal.loop-t-init
 unfolding list_of
-loop-t-init c = (c.requires.0, sym (append-nil (signals_of c.args.self)), omega arith)
+loop-t-init c = (sym (append-nil (signals_of c.args.self)), omega arith)
 
 pub with-signals-requires : goal.with-signals-requires
-with-signals-requires c = let i = c.loop-t.invariant in (i.0, omega (arith, i.2, c.requires.3))
+with-signals-requires c = omega (arith, c.loop-t.invariant.1, c.requires.2)
 
 pub loop-t-preserved : goal.loop-t-preserved
 loop-t-preserved c =
@@ -21,11 +21,10 @@ loop-t-preserved c =
     let a = c.args in
     let t = c.loop-t.t in
     let w = c.with-signals.ensures in (
-      w.0,
-      w.1 ∙ ap (λ (l : List ℕ). l ++ ((a.from + t) ∷ [])) i.1
+      w.0 ∙ ap (λ (l : List ℕ). l ++ ((a.from + t) ∷ [])) i.0
           ∙ append_assoc (signals_of a.self) (list_of t (λ t. a.from + t)) ((a.from + t) ∷ [])
           ∙ ap (λ (l : List ℕ). signals_of a.self ++ l) (sym (list_more t (λ t. a.from + t))),
-      omega (arith, w.2, i.2),
+      omega (arith, w.1, i.1),
     )
 
 pub returns : goal.returns
@@ -33,7 +32,6 @@ returns c =
     let i = c.loop-t.invariant in
     let a = c.args in
     let e : c.loop-t.t ≡ a.many = omega arith in (
-      i.0,
-      i.1 ∙ ap (λ (k : ℕ). signals_of a.self ++ list_of k (λ t. a.from + t)) e,
-      omega (arith, i.2),
+      i.0 ∙ ap (λ (k : ℕ). signals_of a.self ++ list_of k (λ t. a.from + t)) e,
+      omega (arith, i.1),
     )
