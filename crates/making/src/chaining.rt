@@ -81,7 +81,8 @@ fn step(stage: Stage, next: u8, s: Split, r: u32, work: &mut [u8]) -> Stage
 
 // The chain of the table in the work area over some of a gate's n signals, with up to `most` first cells at each step.
 fn follow(n: u32, start: Signals, most: u32, k: u32, work: &mut [u8]) -> Option<ChainEnd>
-    requires n_le_most_inputs { (n ≤ most_inputs) × (most ≤ most_first) × (2 ≤ k) × (k ≤ largest_cell) × (work_length ≤ length work.old) }
+    requires n_le_most_inputs { (n ≤ most_inputs) × (most ≤ most_first) × (2 ≤ k) × (k ≤ largest_cell)
+        × (work_length ≤ length work.old) }
     requires some { (1 ≤ start.count) × (start.count ≤ n) }
     ensures { Tells result (chain most n k n (signals_of start) (number (2 ^ start.count) (at_hand work.old))) }
 {
@@ -91,9 +92,7 @@ fn follow(n: u32, start: Signals, most: u32, k: u32, work: &mut [u8]) -> Option<
     };
     while (k as usize) < stage.signals.count {
         let m = stage.signals.count as u32;
-        let Some(found) = find_upto(&work[..HALF], m, most, k) else {
-            return None;
-        };
+        let found = find_upto(&work[..HALF], m, most, k)?;
         let s = Split::of(m, found.own, found.shared);
         let next = n as usize + stage.pile.count;
         stage = step(stage, next as u8, s, found.first, work);

@@ -53,6 +53,15 @@ impl Signals {
         Signals { at, count }
     }
 
+    // The first `count` of them.
+    pub fn first(mut self, count: usize) -> Signals
+        requires { count ≤ self.count }
+        ensures { (result.at ≡ self.at) × (result.count ≡ count) }
+    {
+        self.count = count;
+        self
+    }
+
     // One more, appended.
     pub fn with(mut self, signal: u8) -> Signals
         requires { self.count < most_inputs }
@@ -66,7 +75,8 @@ impl Signals {
     // One, two or three more, from a signal on, appended.
     pub fn with_next(self, from: u8, many: u32) -> Signals
         requires { (1 ≤ many) × (many ≤ most_first) × (self.count + many ≤ most_inputs) × (from + many ≤ 255) }
-        ensures { (signals_of result ≡ signals_of self ++ list_of many (λ t. from + t)) × (result.count ≡ self.count + many) }
+        ensures { (signals_of result ≡ signals_of self ++ list_of many (λ t. from + t))
+            × (result.count ≡ self.count + many) }
     {
         let mut signals = self;
         for t in 0..many {

@@ -46,17 +46,12 @@ pub fn cofactor_sheet(t: &[u8], n: u32, l: Signals, k: u32) -> Sheet
     requires { (n ≤ most_inputs) × (2 ≤ k) × (k ≤ largest_cell) × Near k l.count × (length t.now ≡ half) }
     ensures { cells_of result ≡ cofactor_cells k n (signals_of l) (number (2 ^ l.count) (table_bit t.now)) }
 {
-    let at = k as usize;
     let left = l.count as u32 - k;
     let many: u32 = 1 << left;
-    let places = l.at;
-    let read = Signals {
-        at: places,
-        count: at,
-    };
+    let read = l.first(k as usize);
     let mut stand = Stand {
         sheet: cofactor_cells(t, k, read, many),
-        at,
+        at: k as usize,
         left,
         base: n as u8,
         step: 1,

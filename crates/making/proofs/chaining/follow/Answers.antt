@@ -11,12 +11,12 @@ use Rattle.tables.specs.Cells.{cell_words, table_number}
 use Rattle.tables.proofs.CellTables.{words_joined}
 use Rattle.columns.specs.declared.split.Split.{Split}
 use Rattle.choices.specs.declared.over.Chosen.{Chosen}
-use Rattle.choices.specs.Chosen.{choice_of}
 use Rattle.choices.specs.Search.{choice, best_up_to}
 use Rattle.choices.proofs.Best.{upto_best}
 use Rattle.sheets.specs.Network.{Cell}
 use Rattle.sheets.specs.Held.{network_cell}
-use Rattle.chains.specs.Chain.{made, last_cell}
+use Rattle.chains.specs.Chain.{Made, stuck, made, last_cell}
+use Rattle.making.specs.declared.chaining.ChainEnd.{ChainEnd}
 use Rattle.making.specs.Stage.{signals_of}
 use Rattle.making.specs.Area.{at_hand}
 use Rattle.making.specs.Chaining.{Tells}
@@ -53,29 +53,29 @@ find_upto-requires c =
       omega (arith, c.requires.n_le_most_inputs.3),
     )
 
-pub shape_of-work-in_default : goal.shape_of-work-in_default
-shape_of-work-in_default c = c.loop-stage.invariant.1
+-- of a chain that is stuck nothing is told
+told_none : {r : Option ChainEnd} {whole : Made} → r ≡ None → whole ≡ stuck → Tells r whole
+told_none {r} {whole} e h = subst (λ (o : Option ChainEnd). Tells o whole) (sym e) (subst (Tells None) (sym h) tt)
 
-pub returns-in_default : goal.returns-in_default
-returns-in_default c =
+pub returns-in_err-found : goal.returns-in_err-found
+returns-in_err-found c =
     let q = c.loop-stage in
-    subst (Tells None) (sym (following_stops c.args.n c.args.most c.args.k _ q.stage
-    q.work q.invariant.0 c.loop-stage-test.true
-    (sym c.find_upto.ensures.0 ∙ ap choice_of c.in_default.is))) tt
+    told_none c.from_residual.ensures (following_stops c.args.n c.args.most c.args.k _ q.stage q.work q.invariant.0
+    c.loop-stage-test.true (sym c.in_err-found.ensures.0))
 
 pub of-s-requires : goal.of-s-requires
 of-s-requires c =
-    let f = c.in-Some.found in
+    let f = c.in_ok-found.found in
     let q = c.loop-stage in
-    let found_split = sym c.find_upto.ensures.0 ∙ ap choice_of c.in-Some.is in
+    let found_split = sym c.in_ok-found.ensures.0 in
     let b = (upto_best q.stage.signals.count c.args.k (at_hand q.work) c.args.most f.first f.own
     f.shared).0 found_split in
     (q.stage.signals.few, b.works.candidate.below_a, b.works.candidate.below_b, b.works.candidate.apart)
 
 -- what was found, of the split that the code made of it
-made_split : (n k most : ℕ) (F : ℕ → Bool) (r : Option Chosen) (f : Chosen) (s : Split) → choice_of r ≡ best_up_to n F k most
-    → r ≡ Some f → s.own ≡ f.own → s.shared ≡ f.shared → best_up_to n F k most ≡ choice f.first s.own s.shared
-made_split n k most F r f s e g own shared = sym e ∙ ap choice_of g ∙ ap₂ (choice f.first) (sym own) (sym shared)
+made_split : (n k most : ℕ) (F : ℕ → Bool) (f : Chosen) (s : Split) → choice f.first f.own f.shared ≡ best_up_to n F k most
+    → s.own ≡ f.own → s.shared ≡ f.shared → best_up_to n F k most ≡ choice f.first s.own s.shared
+made_split n k most F f s e own shared = sym e ∙ ap₂ (choice f.first) (sym own) (sym shared)
 
 pub overflow_add-next : goal.overflow_add-next
 overflow_add-next c =
@@ -90,13 +90,13 @@ overflow_cast-next-in-loop-stage c =
 pub step-stage-requires : goal.step-stage-requires
 step-stage-requires c =
     let q = c.loop-stage in
+    let u = q.invariant.0 in
     let e = c.of-s.ensures in
-    let w = split_sound c.of-s.result q.stage.signals.count c.args.most c.args.k
-    c.in-Some.found.first (at_hand q.work)
-    c.of-s.ensures.1 c.requires.n_le_most_inputs.3 c.requires.n_le_most_inputs.1
-    (made_split c.loop-stage.stage.signals.count c.args.k c.args.most (at_hand c.loop-stage.work) _ c.in-Some.found
-    c.of-s.result c.find_upto.ensures.0 c.in-Some.is c.of-s.ensures.2 c.of-s.ensures.3) in
-    let u = q.invariant.0 in record {
+    let best = made_split q.stage.signals.count c.args.k c.args.most (at_hand q.work) c.in_ok-found.found c.of-s.result
+    c.in_ok-found.ensures.0 c.of-s.ensures.2 c.of-s.ensures.3 in
+    let w = split_sound c.of-s.result q.stage.signals.count c.args.most c.args.k c.in_ok-found.found.first (at_hand q.work)
+    e.1 c.requires.n_le_most_inputs.3 c.requires.n_le_most_inputs.1 best in
+    record {
       n_value = (e.1, u.long, w.some, w.most, w.candidate);
       room = (
         omega (arith, u.room, w.most, u.some, c.requires.n_le_most_inputs.0),
@@ -108,18 +108,18 @@ step-stage-requires c =
 pub loop-stage-smaller : goal.loop-stage-smaller
 loop-stage-smaller c =
     let q = c.loop-stage in
-    following_shrinks c.args.n c.args.most c.args.k _ q.stage q.work q.invariant.0
-    c.of-s.result _ c.of-s.ensures.1 c.loop-stage-test.true
-    c.requires.n_le_most_inputs.1 (made_split c.loop-stage.stage.signals.count c.args.k c.args.most (at_hand c.loop-stage.work) _ c.in-Some.found
-    c.of-s.result c.find_upto.ensures.0 c.in-Some.is c.of-s.ensures.2 c.of-s.ensures.3) c.step-stage.result _ c.step-stage.ensures
+    let best = made_split q.stage.signals.count c.args.k c.args.most (at_hand q.work) c.in_ok-found.found c.of-s.result
+    c.in_ok-found.ensures.0 c.of-s.ensures.2 c.of-s.ensures.3 in
+    following_shrinks c.args.n c.args.most c.args.k _ q.stage q.work q.invariant.0 c.of-s.result _ c.of-s.ensures.1
+    c.loop-stage-test.true c.requires.n_le_most_inputs.1 best c.step-stage.result _ c.step-stage.ensures
 
 pub loop-stage-preserved : goal.loop-stage-preserved
 loop-stage-preserved c =
-    let q = c.loop-stage in (
-      following_goes c.args.n c.args.most c.args.k _ q.stage q.work q.invariant.0
-          c.of-s.result _ c.of-s.ensures.1 c.loop-stage-test.true
-          c.requires.n_le_most_inputs.1 (made_split c.loop-stage.stage.signals.count c.args.k c.args.most (at_hand c.loop-stage.work) _ c.in-Some.found
-          c.of-s.result c.find_upto.ensures.0 c.in-Some.is c.of-s.ensures.2 c.of-s.ensures.3) c.step-stage.result _ c.step-stage.ensures,
+    let q = c.loop-stage in
+    let best = made_split q.stage.signals.count c.args.k c.args.most (at_hand q.work) c.in_ok-found.found c.of-s.result
+    c.in_ok-found.ensures.0 c.of-s.ensures.2 c.of-s.ensures.3 in (
+      following_goes c.args.n c.args.most c.args.k _ q.stage q.work q.invariant.0 c.of-s.result _ c.of-s.ensures.1
+          c.loop-stage-test.true c.requires.n_le_most_inputs.1 best c.step-stage.result _ c.step-stage.ensures,
       c.step-stage.ensures.table.long ∙ q.invariant.1,
     )
 

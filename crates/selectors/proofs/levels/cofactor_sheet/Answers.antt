@@ -1,14 +1,18 @@
 -- The loop keeps that the cells so far and those to come make the sheet of cofactors. Assumes nothing.
-use mathlib.Core.Path.{◌≡◌, refl, sym, ap, ◌∙◌, subst}
+use mathlib.Core.Path.{◌≡◌, sym, ap, ap₂, ◌∙◌, subst}
 use mathlib.Core.List.{List, [], ◌++◌, append-nil}
 use Prim.Native.Nat.{ℕ, ◌+◌, ◌-◌, ◌*◌, ◌%◌, ◌^◌, ◌≤◌}
 use native.Mathlib.Omega.{arith}
+use lib.ListN.{get_or}
 use lib.Pow.{pow-add, pow_mono}
+use Rattle.bits.specs.Lists.{list_of}
 use Rattle.bits.proofs.Machine.{shl_one}
 use Rattle.sheets.specs.Network.{Cell}
 use Rattle.sheets.specs.Held.{cells_of}
 use Rattle.cofactors.specs.Chosen.{Near}
 use Rattle.making.specs.declared.signals.Signals.{Signals}
+use Rattle.making.specs.Stage.{signals_of}
+use Rattle.selectors.specs.Standing.{part_cell}
 use Rattle.selectors.proofs.Starting.{few_left, begins, none_left}
 use Rattle.selectors.proofs.levels.cofactor_sheet.Goals as goal
 
@@ -37,15 +41,22 @@ cofactor_cells-requires c =
       c.requires.2,
       subst (λ (m : ℕ). m * 2 ^ c.args.k ≤ 65536) back (all c.args.k c.args.l c.requires.3),
       c.requires.4,
-      refl,
+      c.first-read.ensures.1,
       omega (arith, many c.args.k c.args.l c.requires.3, eight c.args.k c.args.l c.requires.3),
     )
+
+-- the first k signals
+first_signals : (at : List ℕ) (k : ℕ) (r : Signals) → (r.at ≡ at) × (r.count ≡ k)
+    → signals_of r ≡ list_of k (λ j. get_or at j 0)
+first_signals at k r h = ap₂ (λ (l : List ℕ) (m : ℕ). list_of m (λ j. get_or l j 0)) h.0 h.1
 
 pub loop-stand-init : goal.loop-stand-init
 loop-stand-init c =
     let a = c.args in
-    begins a.k a.n a.l a.t.now c.requires.3 c.cofactor_cells.result _ (many c.args.k c.args.l c.requires.3)
-    c.cofactor_cells.ensures.0 c.cofactor_cells.ensures.1 c.requires.0 (omega (arith, c.requires.2))
+    let read = first_signals a.l.at a.k c.first-read.result c.first-read.ensures in
+    begins a.k a.n a.l a.t.now c.requires.3 c.cofactor_cells.result _ (many a.k a.l c.requires.3)
+    (c.cofactor_cells.ensures.0 ∙ ap (λ (l : List ℕ). list_of (1 * 2 ^ (a.l.count - a.k) % 2 ^ 32) (part_cell l a.t.now a.k)) read)
+    c.cofactor_cells.ensures.1 c.requires.0 (omega (arith, c.requires.2))
 
 pub one_level-stand-requires : goal.one_level-stand-requires
 one_level-stand-requires c =
