@@ -22,18 +22,18 @@ fn store_next(work: &mut [u8], s: Split, r: u32, seen: &[u16], len: usize)
     ensures { NextStored s r len work.old work.new }
 {
     let limit: usize = 1 << r;
-    let by_words = s.shared == 0 && 64 <= parts(s.n, s.free);
-    let mut w: u64 = 0;
-    for i in 0..len {
-        if by_words && i % 8 == 0 {
-            w = h_word(&work[..HALF], s, limit, seen, (i / 8) as u32);
+    if s.shared == 0 && 64 <= parts(s.n, s.free) {
+        let mut w: u64 = 0;
+        for i in 0..len {
+            if i % 8 == 0 {
+                w = h_word(&work[..HALF], s, limit, seen, (i / 8) as u32);
+            }
+            work[HALF + i] = byte_in(w, i);
         }
-        let b = if by_words {
-            byte_in(w, i)
-        } else {
-            h_byte(&work[..HALF], s, limit, seen, i as u32)
-        };
-        work[HALF + i] = b;
+        return;
+    }
+    for j in 0..len {
+        work[HALF + j] = h_byte(&work[..HALF], s, limit, seen, j as u32);
     }
 }
 
