@@ -70,6 +70,10 @@ within e w n K m t v p q =
       long = s.long;
     }
 
+pub within_by : (n K m : ℕ) (t : List ℕ)
+    → (n ≤ most_inputs) × (K ≤ 8) × (1 ≤ m) × (m ≤ most_records) × (length t ≡ table_length n) → Within n K m t
+within_by n K m t w = record { inputs = w.0; cell = w.1; some = w.2; most = w.3; long = w.4 }
+
 -- the size that the code has, and the certificate's rows
 module _ (n K m R : ℕ) (t c : List ℕ) (w : Within n K m t) (e : R ≡ rows_in c) (h : header_in_order n c ≡ true) where
   abbrev pub size_of : Size
@@ -96,7 +100,8 @@ module _ (n K m R : ℕ) (t c : List ℕ) (w : Within n K m t) (e : R ≡ rows_i
       → b ≡ ltb (length work) (all + 2 * length c) → b ≡ false → {area : List ℕ}
       → area ≡ replicate (length work) 0 → Ready size_of t c area
   ready work {all} {b} ea eb f {area} z = record {
-    room = omega (arith, ea, ltb-false (length work) (all + 2 * length c) (sym eb ∙ f), ap length z, length-replicate {A = ℕ} (length work) 0);
+    room = omega (arith, ea, ltb-false (length work) (all + 2 * length c) (sym eb ∙ f), ap length z,
+        length-replicate {A = ℕ} (length work) 0);
     clean = λ v l. ap (λ (a : List ℕ). byte_at a v) z ∙ zeros (length work) v;
     usable = λ j u. absurd (clash u (none_marked (variables size_of) (length c) area
         (λ i. ap (λ (a : List ℕ). byte_at a i) z ∙ zeros (length work) i) j));

@@ -1,12 +1,12 @@
 -- `turn` meets its contract: a place that was found is that of the first way, and with none there is no way. Assumes
 -- nothing.
-use mathlib.Core.Path.{◌≡◌, refl, sym, ap, ap₂, ◌∙◌}
+use mathlib.Core.Path.{◌≡◌, refl, sym, ap, ◌∙◌}
 use mathlib.Core.Bool.{Bool, true, false, cond, not}
 use mathlib.Core.List.{[], ◌∷◌}
 use Prim.Native.Nat.{ℕ}
 use Rattle.std.proofs.Common.{Some, None}
 use Rattle.bits.specs.Places.{found_below}
-use Rattle.refusals.specs.Verdicts.{Verdict, Fine, Refused}
+use Rattle.refusals.specs.Verdicts.{Fine}
 use Rattle.refusals.specs.Lines.{refusal, line, verdict, reply}
 use Rattle.turning.specs.declared.ways.Way.{Way}
 use Rattle.turning.specs.Ways.{way_count}
