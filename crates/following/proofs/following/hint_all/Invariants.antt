@@ -11,5 +11,5 @@ use Rattle.following.proofs.following.hint_all.Given as goal
 abbrev pub invariant-loop-k : goal.invariant-loop-k
 invariant-loop-k l =
     (l.r.set ≤ l.initial.r.set + l.k) × (length l.work ≡ length l.initial.work)
-    × ((before : List ℕ) (f : Following) → Stands (variables l.z) l.from before f l.initial.work l.initial.r → Stands (variables l.z) l.from before
-    (used (λ j. clause_at (question_in l.z l.t l.c) l.c (hint_at l.c l.at j)) f l.k) l.work l.r)
+    × ((before : List ℕ) (f : Following) → Stands (variables l.task.size) l.from before f l.initial.work l.initial.r → Stands (variables l.task.size) l.from before
+    (used (λ j. clause_at (question_in l.task.size l.task.table.now l.task.certificate.now) l.task.certificate.now (hint_at l.task.certificate.now l.at j)) f l.k) l.work l.r)

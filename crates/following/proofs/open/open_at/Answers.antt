@@ -15,12 +15,12 @@ use Rattle.following.proofs.open.open_at.Goals as goal
 
 pub open_shape-requires : goal.open_shape-requires
 open_shape-requires c =
-    (c.requires.0, c.requires.1, c.requires.3, subst (AllNamed c.args.z) (sym c.shape_of.ensures) (named (question_in c.args.z c.args.t.now c.args.c.now) c.requires.0 c.given_at.result (ap (in_order c.args.z (table_bit c.args.t.now)) c.given_at.ensures ∙ c.requires.4.given c.if-c-at-eq0.false)))
+    (c.requires.0, subst (AllNamed c.args.task.now.size) (sym c.shape_of.ensures) (named (question_in c.args.task.now.size c.args.task.now.table.now c.args.task.now.certificate.now) c.args.task.now.sized c.given_at.result (ap (in_order c.args.task.now.size (table_bit c.args.task.now.table.now)) c.given_at.ensures ∙ c.requires.1.given c.if-c-at-eq0.false)))
 
 pub returns-then-c-at-eq0 : goal.returns-then-c-at-eq0
 returns-then-c-at-eq0 c =
-    c.open_derived.ensures ∙ sym (ap (open_in (byte_at c.args.work.now)) (clause_derived (question_in c.args.z c.args.t.now c.args.c.now) c.args.c.now c.args.at c.if-c-at-eq0.true))
+    c.open_derived.ensures ∙ sym (ap (open_in (byte_at c.args.work.now)) (clause_derived (question_in c.args.task.now.size c.args.task.now.table.now c.args.task.now.certificate.now) c.args.task.now.certificate.now c.args.at c.if-c-at-eq0.true))
 
 pub returns-else-c-at-eq0 : goal.returns-else-c-at-eq0
 returns-else-c-at-eq0 c =
-    c.open_shape.ensures ∙ ap (λ (ls : List Literal). open_in (byte_at c.args.work.now) (map (literal_of c.args.z) ls)) (c.shape_of.ensures ∙ ap (clause (question_in c.args.z c.args.t.now c.args.c.now)) c.given_at.ensures) ∙ ap (open_in (byte_at c.args.work.now)) (sym (clause-given (question_in c.args.z c.args.t.now c.args.c.now) c.args.c.now c.args.at c.if-c-at-eq0.false))
+    c.open_shape.ensures ∙ ap (λ (ls : List Literal). open_in (byte_at c.args.work.now) (map (literal_of c.args.task.now.size) ls)) (c.shape_of.ensures ∙ ap (clause (question_in c.args.task.now.size c.args.task.now.table.now c.args.task.now.certificate.now)) c.given_at.ensures) ∙ ap (open_in (byte_at c.args.work.now)) (sym (clause-given (question_in c.args.task.now.size c.args.task.now.table.now c.args.task.now.certificate.now) c.args.task.now.certificate.now c.args.at c.if-c-at-eq0.false))

@@ -6,4 +6,4 @@ use Rattle.following.proofs.open.open_causes.Goals as goal
 
 pub returns : goal.returns
 returns c =
-    causes_are (byte_at c.args.work.now) c.args.z (row_at c.args.c.now) c.args.i c.args.a c.args.b c.see_named-o.ensures c.open_inputs-o.ensures c.open_cells.ensures
+    causes_are (byte_at c.args.work.now) c.args.task.now.size (row_at c.args.task.now.certificate.now) c.args.i c.args.a c.args.b c.see_named-o.ensures c.open_inputs-o.ensures c.open_cells.ensures

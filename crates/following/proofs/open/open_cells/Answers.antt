@@ -14,4 +14,4 @@ loop-j-init c = refl
 
 pub loop-j-preserved : goal.loop-j-preserved
 loop-j-preserved c =
-    open_more (byte_at c.args.work.now) (literal_of c.args.z) (λ j. Said (Apart c.args.i j c.args.a c.args.b)) c.args.start c.loop-j.j c.see_named-o.ensures c.loop-j.invariant
+    open_more (byte_at c.args.work.now) (literal_of c.args.task.now.size) (λ j. Said (Apart c.args.i j c.args.a c.args.b)) c.args.start c.loop-j.j c.see_named-o.ensures c.loop-j.invariant

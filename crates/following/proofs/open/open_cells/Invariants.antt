@@ -9,4 +9,4 @@ use Rattle.following.proofs.open.open_cells.Given as goal
 
 abbrev pub invariant-loop-j : goal.invariant-loop-j
 invariant-loop-j l =
-    l.o ≡ open_after (byte_at l.work) l.initial.o (map (literal_of l.z) (list_of l.j (λ k. Said (Apart l.i k l.a l.b))))
+    l.o ≡ open_after (byte_at l.work) l.initial.o (map (literal_of l.task.size) (list_of l.j (λ k. Said (Apart l.i k l.a l.b))))

@@ -19,6 +19,6 @@ loop-p-init c = refl
 
 pub loop-p-preserved : goal.loop-p-preserved
 loop-p-preserved c = elim c.if-differ.branch [
-  | then-differ w ↦ open_those (byte_at c.args.work.now) (literal_of c.args.z) (λ p. Said (Reads c.args.i p)) c.args.start (rows_differ (row_at c.args.c.now) c.args.a c.args.b) c.loop-p.p (w.o-is ∙ w.see_named-o.ensures) (sym (ap not (ne_eqb _ _ w.if-differ.true)) ∙ differ_is c.row_at-x.result c.row_at-y.result c.loop-p.p c.row_at-x.ensures c.row_at-y.ensures) c.loop-p.invariant
-  | else-differ w ↦ open_those (byte_at c.args.work.now) (literal_of c.args.z) (λ p. Said (Reads c.args.i p)) c.args.start (rows_differ (row_at c.args.c.now) c.args.a c.args.b) c.loop-p.p w.o-is (sym (ap not (eq-eqb _ _ w.if-differ.false)) ∙ differ_is c.row_at-x.result c.row_at-y.result c.loop-p.p c.row_at-x.ensures c.row_at-y.ensures) c.loop-p.invariant
+  | then-differ w ↦ open_those (byte_at c.args.work.now) (literal_of c.args.task.now.size) (λ p. Said (Reads c.args.i p)) c.args.start (rows_differ (row_at c.args.task.now.certificate.now) c.args.a c.args.b) c.loop-p.p (w.o-is ∙ w.see_named-o.ensures) (sym (ap not (ne_eqb _ _ w.if-differ.true)) ∙ differ_is c.row_at-x.result c.row_at-y.result c.loop-p.p c.row_at-x.ensures c.row_at-y.ensures) c.loop-p.invariant
+  | else-differ w ↦ open_those (byte_at c.args.work.now) (literal_of c.args.task.now.size) (λ p. Said (Reads c.args.i p)) c.args.start (rows_differ (row_at c.args.task.now.certificate.now) c.args.a c.args.b) c.loop-p.p w.o-is (sym (ap not (eq-eqb _ _ w.if-differ.false)) ∙ differ_is c.row_at-x.result c.row_at-y.result c.loop-p.p c.row_at-x.ensures c.row_at-y.ensures) c.loop-p.invariant
 ]

@@ -11,4 +11,4 @@ use Rattle.following.proofs.open.open_inputs.Given as goal
 
 abbrev pub invariant-loop-p : goal.invariant-loop-p
 invariant-loop-p l =
-    l.o ≡ open_after (byte_at l.work) l.initial.o (map (literal_of l.z) (those l.p (rows_differ (row_at l.c) l.a l.b) (λ k. Said (Reads l.i k))))
+    l.o ≡ open_after (byte_at l.work) l.initial.o (map (literal_of l.task.size) (those l.p (rows_differ (row_at l.task.certificate.now) l.a l.b) (λ k. Said (Reads l.i k))))

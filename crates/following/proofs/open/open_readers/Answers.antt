@@ -16,4 +16,4 @@ loop-k-init c = refl
 
 pub loop-k-preserved : goal.loop-k-preserved
 loop-k-preserved c =
-    open_more (byte_at c.args.work.now) (literal_of c.args.z) (λ k. Said (Reads (c.args.i + 1 + k) (c.args.z.inputs + c.args.i))) Nothing c.loop-k.k c.see_named-o.ensures c.loop-k.invariant
+    open_more (byte_at c.args.work.now) (literal_of c.args.task.now.size) (λ k. Said (Reads (c.args.i + 1 + k) (c.args.task.now.size.inputs + c.args.i))) Nothing c.loop-k.k c.see_named-o.ensures c.loop-k.invariant

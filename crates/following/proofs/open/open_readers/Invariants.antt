@@ -11,4 +11,4 @@ use Rattle.following.proofs.open.open_readers.Given as goal
 
 abbrev pub invariant-loop-k : goal.invariant-loop-k
 invariant-loop-k l =
-    l.o ≡ open_after (byte_at l.work) Nothing (map (literal_of l.z) (list_of l.k (λ j. Said (Reads (l.i + 1 + j) (l.z.inputs + l.i)))))
+    l.o ≡ open_after (byte_at l.work) Nothing (map (literal_of l.task.size) (list_of l.k (λ j. Said (Reads (l.i + 1 + j) (l.task.size.inputs + l.i)))))

@@ -12,9 +12,9 @@ returns-in-One c = rw c.in-One.is c.see_named.ensures
 pub returns-in-Two : goal.returns-in-Two
 unfolding open_after
 returns-in-Two c =
-    rw c.in-Two.is (c.see_named-in-Two.ensures ∙ ap (seen (byte_at c.args.work.now) (literal_of c.args.z c.in-Two.b)) c.see_named-o.ensures)
+    rw c.in-Two.is (c.see_named-in-Two.ensures ∙ ap (seen (byte_at c.args.work.now) (literal_of c.args.task.now.size c.in-Two.b)) c.see_named-o.ensures)
 
 pub returns-in-Three : goal.returns-in-Three
 unfolding open_after
 returns-in-Three c =
-    rw c.in-Three.is (c.see_named-in-Three.ensures ∙ ap (seen (byte_at c.args.work.now) (literal_of c.args.z c.in-Three.d)) (c.see_named-o-in-Three-2.ensures ∙ ap (seen (byte_at c.args.work.now) (literal_of c.args.z c.in-Three.b)) c.see_named-o-in-Three.ensures))
+    rw c.in-Three.is (c.see_named-in-Three.ensures ∙ ap (seen (byte_at c.args.work.now) (literal_of c.args.task.now.size c.in-Three.d)) (c.see_named-o-in-Three-2.ensures ∙ ap (seen (byte_at c.args.work.now) (literal_of c.args.task.now.size c.in-Three.b)) c.see_named-o-in-Three.ensures))
