@@ -1,7 +1,8 @@
 // The steps of kinds 1 to 14: each names a clause by its fields.
 ghost use Rattle.std.specs.Prelude.{◌≡◌, ◌&&◌, ◌+◌, leb, ltb};
 ghost use Rattle.tables.specs.Table.{table_bit};
-ghost use Rattle.clauses.specs.Clause.{is_cell, are_rows, are_inputs, in_order};
+ghost use Rattle.clauses.specs.Clause.{is_cell, are_rows, are_inputs};
+ghost use Rattle.clauses.specs.Asking.{given_in_order};
 
 use crate::swaps::can_swap;
 use crate::task::Task;
@@ -85,7 +86,7 @@ impl Task<'_> {
     // Whether a step is in order.
     #[tactic(auto, unfolding(crate::specs::Clause::in_order))]
     pub fn in_order(&self, g: Given) -> bool
-        ensures { result ≡ in_order self.now.size (table_bit self.now.table.now) g }
+        ensures { result ≡ given_in_order self.now g }
     {
         match g {
             Given::OneMore(i, p, t) => self.is_count(i, p, t, self.size.cell),

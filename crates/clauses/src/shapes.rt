@@ -7,7 +7,7 @@ ghost use Rattle.clauses.specs.declared.variables.Variable.TheVariants.{Same};
 ghost use Rattle.clauses.specs.declared.variables.Literal.TheVariants.{Denied};
 ghost use Rattle.clauses.specs.Clause.{clause, in_order, evenly, as_table};
 ghost use Rattle.clauses.specs.Step.{row_at};
-ghost use Rattle.clauses.specs.Asking.{question_of};
+ghost use Rattle.clauses.specs.Asking.{question_of, given_in_order};
 ghost use Rattle.clauses.specs.Shapes.{literals_in};
 
 use crate::given::Given;
@@ -75,7 +75,7 @@ impl Task<'_> {
     // The clause of a step that is in order.
     #[tactic(auto, unfolding(crate::specs::Clause::clause, crate::specs::Clause::in_order))]
     pub fn shape_of(&self, g: Given) -> Shape
-        requires { in_order self.now.size (table_bit self.now.table.now) g ≡ true }
+        requires { given_in_order self.now g ≡ true }
         ensures { literals_in self.now.size (row_at self.now.certificate.now) result
             ≡ clause (question_of self.now) g }
     {

@@ -2,13 +2,13 @@
 ghost use Rattle.std.specs.Prelude.{◌≡◌, ℕ, ◌+◌, ◌*◌, ◌/◌, ◌<◌, ◌≤◌, List, ltb, length};
 ghost use Rattle.bits.specs.Below.{every};
 ghost use Rattle.clauses.specs.Variables.{variables};
-ghost use Rattle.clauses.specs.Step.{literals_at, literal_at, hints_at, hint_at, clause_at};
-ghost use Rattle.clauses.specs.Asking.{question_of};
+ghost use Rattle.clauses.specs.Step.{literals_at, literal_at, hints_at, hint_at};
+ghost use Rattle.clauses.specs.Asking.{question_of, clause_of};
 ghost use Rattle.following.specs.Following.{Following, going, denying, hinting, denied, used};
 ghost use Rattle.following.specs.Following.{follows, derived_in_order};
-ghost use Rattle.following.specs.Standing.{LiteralsIn, AllThere, Usable, Trailed, Stands, Kept, Clean, begun_in, Ready};
+ghost use Rattle.following.specs.Standing.{LiteralsIn, AllThere, CanUse, Trailed, Stands, Kept, Clean, begun_in, IsReady};
 
-use crate::open::{Open, open_at};
+use crate::open::{Open, Reading};
 use crate::trail::{Trail, forget, make};
 use clauses::numbers::{four_at, two_at};
 use clauses::task::Task;
@@ -61,15 +61,17 @@ fn deny_all(c: &[u8], at: usize, many: usize, all: usize, work: &mut [u8]) -> Tr
 
 // One hint: what is left open in its clause is made true, or there is a conflict.
 fn hint(task: &Task, at: usize, work: &mut [u8], from: usize, set: usize) -> Trail
-    requires { Usable task.now.size task.now.table.now task.now.certificate.now at
-        × (variables task.now.size ≤ from) × (from + 4 * set + 4 ≤ length work.old) }
+    requires { CanUse task.now at × (variables task.now.size ≤ from) × (from + 4 * set + 4 ≤ length work.old) }
     ensures { (result.set ≤ set + 1)
         × ((σ : ℕ → ℕ) → Trailed (variables task.now.size) from σ set work.old
         → Stands (variables task.now.size) from work.old
-        (hinting (clause_at (question_of task.now) task.now.certificate.now at) (going σ))
-        work.new result) }
+        (hinting (clause_of task.now at) (going σ)) work.new result) }
 {
-    match open_at(task, at, work) {
+    let reading = Reading {
+        task: *task,
+        values: work,
+    };
+    match reading.open_at(at) {
         Open::Nothing => Trail {
             conflict: true,
             set,
@@ -102,15 +104,12 @@ fn hint_all(
     start: Trail,
 ) -> Trail
     requires { (variables task.now.size ≤ from) × (many ≡ hints_at task.now.certificate.now at)
-        × AllThere task.now.certificate.now at
-        × (from + 4 * start.set + 4 * many ≤ length work.old)
-        × ((k : ℕ) → k < many → Usable task.now.size task.now.table.now task.now.certificate.now
-        (hint_at task.now.certificate.now at k)) }
+        × AllThere task.now.certificate.now at × (from + 4 * start.set + 4 * many ≤ length work.old)
+        × ((k : ℕ) → k < many → CanUse task.now (hint_at task.now.certificate.now at k)) }
     ensures { (result.set ≤ start.set + many)
         × ((before : List ℕ) (f : Following) → Stands (variables task.now.size) from before f work.old start
         → Stands (variables task.now.size) from before
-        (used (λ k. clause_at (question_of task.now) task.now.certificate.now
-        (hint_at task.now.certificate.now at k)) f many) work.new result) }
+        (used (λ k. clause_of task.now (hint_at task.now.certificate.now at k)) f many) work.new result) }
 {
     let c = task.certificate;
     let first = at + 7 + 4 * two_at(c, at + 1);
@@ -131,8 +130,7 @@ fn does_follow(task: &Task, at: usize, work: &mut [u8]) -> bool
         × (variables task.now.size + length task.now.certificate.now + length task.now.certificate.now
         ≤ length work.old)
         × ((k : ℕ) → k < hints_at task.now.certificate.now at
-        → Usable task.now.size task.now.table.now task.now.certificate.now
-        (hint_at task.now.certificate.now at k)) }
+        → CanUse task.now (hint_at task.now.certificate.now at k)) }
     ensures { (result ≡ follows (question_of task.now) task.now.certificate.now at)
         × Clean (variables task.now.size) work.new
         × Kept (variables task.now.size) (variables task.now.size + length task.now.certificate.now)
@@ -194,8 +192,7 @@ fn are_earlier(
 
 // Whether a step of kind 0, all of which is there, is in order. Marks stay, and no variable stays set.
 pub fn derived_in_order(task: &Task, at: usize, work: &mut [u8]) -> bool
-    requires { AllThere task.now.certificate.now at
-        × Ready task.now.size task.now.table.now task.now.certificate.now work.old }
+    requires { AllThere task.now.certificate.now at × IsReady task.now work.old }
     ensures { (result ≡ derived_in_order (question_of task.now) task.now.certificate.now at
         (begun_in (variables task.now.size) (length task.now.certificate.now) work.old))
         × Clean (variables task.now.size) work.new
