@@ -1,4 +1,6 @@
-// Whether a step of kind 0 is in order.
+// Whether a step of kind 0 is in order. In the work area stand a byte for the value of each variable, then, from `all`
+// on, a mark for each byte of the certificate, then the variables that are set, four bytes each. (They stay places in
+// one area, since C lends one, and `Stands`, `Clean`, `begun_in` and `Ready` say of that area what it holds.)
 ghost use Rattle.std.specs.Prelude.{◌≡◌, ℕ, ◌+◌, ◌*◌, ◌/◌, ◌<◌, ◌≤◌, List, ltb, length};
 ghost use Rattle.bits.specs.Below.{every};
 ghost use Rattle.clauses.specs.Variables.{variables};
@@ -6,7 +8,8 @@ ghost use Rattle.clauses.specs.Step.{literals_at, literal_at, hints_at, hint_at}
 ghost use Rattle.clauses.specs.Asking.{question_of, clause_of};
 ghost use Rattle.following.specs.Following.{Following, going, denying, hinting, denied, used};
 ghost use Rattle.following.specs.Following.{follows, derived_in_order};
-ghost use Rattle.following.specs.Standing.{LiteralsIn, AllThere, CanUse, Trailed, Stands, Kept, Clean, begun_in, IsReady};
+ghost use Rattle.following.specs.Standing.{LiteralsIn, AllThere, CanUse, Trailed, Stands};
+ghost use Rattle.following.specs.Standing.{Kept, Clean, begun_in, IsReady};
 
 use crate::open::{Open, Reading};
 use crate::trail::{Trail, forget, make};
@@ -169,14 +172,7 @@ fn is_marked(all: usize, many: usize, work: &[u8], h: usize) -> bool
 }
 
 // Whether each hint is the place at which an earlier step begins.
-fn are_earlier(
-    c: &[u8],
-    at: usize,
-    literals: usize,
-    many: usize,
-    all: usize,
-    work: &[u8],
-) -> bool
+fn are_earlier(c: &[u8], at: usize, literals: usize, many: usize, all: usize, work: &[u8]) -> bool
     requires { (literals ≡ literals_at c.now at) × (many ≡ hints_at c.now at) × AllThere c.now at
         × (all + length c.now ≤ length work.now) }
     ensures { result ≡ every many (λ k. begun_in all (length c.now) work.now (hint_at c.now at k)) }
