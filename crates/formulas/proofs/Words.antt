@@ -11,12 +11,12 @@ use lib.Dec.{eqb}
 use lib.ListN.{length, get_or-eq_default}
 use borrow.Author.Tests.{eq-eqb, ne_eqb, eqb-true, eqb-false}
 use Rattle.values.specs.declared.stretches.Stretch.{Stretch}
-use Rattle.formulas.specs.declared.reading.Read.{Read}
+use Rattle.std.proofs.Common.{Result, Ok, Err}
 use Rattle.formulas.specs.declared.reading.Stuck.{Stuck}
 use Rattle.values.specs.Formula.{Formula, letter, constant, negated, joined, value}
 use Rattle.formulas.specs.Text.{byte_at, mark}
 use Rattle.formulas.specs.Reading.{bang, opening, digit, input, other, kind, Reading, up_to, stuck, reader}
-use Rattle.formulas.specs.Words.{TextRead, read_to, stuck_at, found_of, Yields, closed_at}
+use Rattle.formulas.specs.Words.{Read, TextRead, read_to, stuck_at, as_read, found_of, Yields, closed_at}
 use Rattle.values.specs.Stretches.{stretch_of, in_each}
 use Rattle.formulas.proofs.Steps.{Run, run, runs, r_other, r_digit, r_input, r_deep_not, r_deep_open}
 use Rattle.formulas.proofs.Steps.{r_not-bad, r_not, r_open_bad, r_open_left, r_open, r_first-bad, r_last}
@@ -64,6 +64,13 @@ read_value {s} {n} {k} {d} {p} {i} {r} {v} {q} e h m l = go
     go : (F : Formula) × (reader (byte_at s) n m k d p ≡ up_to F q) × (v ≡ stretch_of (value F) i) → (F : Formula)
         × Run (byte_at s) n m k d p (up_to F q) × (v ≡ stretch_of (value F) i)
     go x = (x.0, subst (Run (byte_at s) n m k d p) x.1 (run (byte_at s) n m k d p), x.2)
+
+-- what a result says of an answer
+pub read_ok : {r : Result ℕ Stuck} {q : ℕ} (v : Stretch) → r ≡ Ok q → as_read r v ≡ read_to v q
+read_ok v e = ap (λ (r : Result ℕ Stuck). as_read r v) e
+
+pub read_err : {r : Result ℕ Stuck} {why : Stuck} (v : Stretch) → r ≡ Err why → as_read r v ≡ Err why
+read_err v e = ap (λ (r : Result ℕ Stuck). as_read r v) e
 
 -- it goes forward, and stays within the text
 pub ahead : {s : List ℕ} {n k d p i : ℕ} {r : TextRead} {v : Stretch} {q : ℕ} → r ≡ read_to v q → Yields s n k d p i r → p

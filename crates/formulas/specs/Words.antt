@@ -3,12 +3,16 @@ use Rattle.std.specs.Prelude.{◌≡◌, cond, List, Result, Ok, Err, ℕ, ◌+�
 use Rattle.values.specs.declared.stretches.Stretch.{Stretch}
 use Rattle.formulas.specs.declared.reading.Level.{Level}
 use Rattle.formulas.specs.declared.reading.Level.TheVariants.{Part, Term, Sum}
-use Rattle.formulas.specs.declared.reading.Read.{Read}
 use Rattle.formulas.specs.declared.reading.Stuck.{Stuck}
 use Rattle.values.specs.Formula.{value}
 use Rattle.formulas.specs.Text.{byte_at}
 use Rattle.formulas.specs.Reading.{Reading, up_to, stuck, reader}
 use Rattle.values.specs.Stretches.{stretch_of}
+
+-- a stretch of values that was read, and the place after it
+pub record Read : Type 0 where
+  pub values : Stretch
+  pub at : ℕ
 
 -- what a reader gives: values with the place after them, or a place where the text can't be continued
 abbrev pub TextRead : Type 0
@@ -21,6 +25,11 @@ read_to v q = Ok (record { values = v; at = q })
 -- the text can't be continued at p
 abbrev pub stuck_at : ℕ → TextRead
 stuck_at p = Err (record { at = p })
+
+-- the same as the code has it: a result, and what then stands in the stretch that was lent for the values
+abbrev pub as_read : Result ℕ Stuck → Stretch → TextRead
+as_read (Ok q) v = read_to v q
+as_read (Err why) v = Err why
 
 -- a reading as the code has it: of the formula, stretch w
 abbrev pub found_of : ℕ → Reading → TextRead

@@ -33,9 +33,9 @@ fn look_at_text(inputs: u32, bytes: &[u8]) -> Result<(), Refusal>
         inputs,
         stretch: 0,
     };
-    match text.joined(Level::Sum, 0, MOST_LEVELS) {
+    match text.joined(Level::Sum, 0, MOST_LEVELS, &mut same(0)) {
         Err(stuck) => Err(Refusal::Text(stuck.at)),
-        Ok(read) if read.at < len => Err(Refusal::Text(read.at)),
+        Ok(end) if end < len => Err(Refusal::Text(end)),
         Ok(_) => Ok(()),
     }
 }
@@ -50,8 +50,9 @@ fn text_stretch(inputs: u32, bytes: &[u8], stretch: u32) -> Stretch
         inputs,
         stretch,
     };
-    match text.joined(Level::Sum, 0, MOST_LEVELS) {
-        Ok(read) => read.values,
+    let mut values = same(0);
+    match text.joined(Level::Sum, 0, MOST_LEVELS, &mut values) {
+        Ok(_) => values,
         Err(_) => unreachable!(),
     }
 }

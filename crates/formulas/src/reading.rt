@@ -4,16 +4,9 @@ ghost use Rattle.std.specs.Prelude.{◌≡◌, ◌<◌, ◌≤◌, suc, eqb, len
 ghost use Rattle.tables.specs.Table.{most_inputs};
 ghost use Rattle.values.specs.Stretches.{joined_by};
 ghost use Rattle.formulas.specs.Text.{byte_at, mark};
-ghost use Rattle.formulas.specs.Words.{Yields, Single, closed_at, depth};
+ghost use Rattle.formulas.specs.Words.{Yields, Single, as_read, depth};
 
 use values::stretches::{Stretch, of_input, same};
-
-// A stretch of values that was read, and the place after it.
-#[derive(Clone, Copy, Debug, PartialEq, Eq)]
-pub struct Read {
-    pub values: Stretch,
-    pub at: usize,
-}
 
 // The place at which the text can't be continued.
 #[derive(Clone, Copy, Debug, PartialEq, Eq)]
@@ -73,40 +66,53 @@ impl Text<'_> {
 
     // What stands before a mark of the level, which is one step below it.
     #[cycle(reading)]
-    fn side(&self, level: Level, at: usize, left: usize) -> Result<Read, Stuck>
+    fn side(
+        &self,
+        level: Level,
+        at: usize,
+        left: usize,
+        values: &mut Stretch,
+    ) -> Result<usize, Stuck>
         requires { at ≤ length self.now.bytes.now }
-        ensures { Yields self.now.bytes.now self.now.inputs (depth level) left at self.now.stretch result }
+        ensures { Yields self.now.bytes.now self.now.inputs (depth level) left at self.now.stretch
+            (as_read result values.new) }
     {
         match level {
-            Level::Part => self.factor(at, left),
-            Level::Term => self.joined(Level::Part, at, left),
-            Level::Sum => self.joined(Level::Term, at, left),
+            Level::Part => self.factor(at, left, values),
+            Level::Term => self.joined(Level::Part, at, left, values),
+            Level::Sum => self.joined(Level::Term, at, left, values),
         }
     }
 
     // A part, a term or a sum: one side, and with the level's mark after it the rest.
     #[cycle(reading)]
-    pub fn joined(&self, level: Level, at: usize, left: usize) -> Result<Read, Stuck>
+    pub fn joined(
+        &self,
+        level: Level,
+        at: usize,
+        left: usize,
+        values: &mut Stretch,
+    ) -> Result<usize, Stuck>
         requires { at ≤ length self.now.bytes.now }
-        ensures { Yields self.now.bytes.now self.now.inputs (suc (depth level)) left at self.now.stretch result }
+        ensures { Yields self.now.bytes.now self.now.inputs (suc (depth level)) left at self.now.stretch
+            (as_read result values.new) }
     {
-        let first = self.side(level, at, left)?;
-        if !self.has(first.at, level.byte()) {
-            return Ok(first);
+        let end = self.side(level, at, left, values)?;
+        if !self.has(end, level.byte()) {
+            return Ok(end);
         }
-        let rest = self.joined(level, first.at + 1, left)?;
-        Ok(Read {
-            values: level.join(first.values, rest.values),
-            at: rest.at,
-        })
+        let mut rest = same(0);
+        let last = self.joined(level, end + 1, left, &mut rest)?;
+        *values = level.join(*values, rest);
+        Ok(last)
     }
 
     // A factor of one byte, which is neither `!` nor `(`: a letter, `0` or `1`.
-    fn single(&self, at: usize) -> Result<Read, Stuck>
+    fn single(&self, at: usize, values: &mut Stretch) -> Result<usize, Stuck>
         requires { at < length self.now.bytes.now }
-        ensures { Single self.now.bytes.now self.now.inputs at self.now.stretch result }
+        ensures { Single self.now.bytes.now self.now.inputs at self.now.stretch (as_read result values.new) }
     {
-        let values = match self.bytes[at] {
+        *values = match self.bytes[at] {
             b'0' => same(0),
             b'1' => same(!0),
             b if b'a' <= b && b < b'a' + self.inputs as u8 => of_input(
@@ -115,45 +121,34 @@ impl Text<'_> {
             ),
             _ => return Err(Stuck { at }),
         };
-        Ok(Read { values, at: at + 1 })
-    }
-
-    // `)` after what was read.
-    fn closed(&self, inner: Read) -> Result<Read, Stuck>
-        ensures { result ≡ closed_at self.now.bytes.now inner.values inner.at }
-    {
-        if !self.has(inner.at, b')') {
-            return Err(Stuck { at: inner.at });
-        }
-        Ok(Read {
-            values: inner.values,
-            at: inner.at + 1,
-        })
+        Ok(at + 1)
     }
 
     // A factor: one byte, `!` before a factor, or a sum in parentheses; the last two are one level down.
     #[cycle(reading)]
-    fn factor(&self, at: usize, left: usize) -> Result<Read, Stuck>
+    fn factor(&self, at: usize, left: usize, values: &mut Stretch) -> Result<usize, Stuck>
         requires { at ≤ length self.now.bytes.now }
-        ensures { Yields self.now.bytes.now self.now.inputs 0 left at self.now.stretch result }
+        ensures { Yields self.now.bytes.now self.now.inputs 0 left at self.now.stretch
+            (as_read result values.new) }
     {
         if self.bytes.len() <= at {
             return Err(Stuck { at });
         }
         match self.bytes[at] {
             b'!' if 0 < left => {
-                let turned = self.factor(at + 1, left - 1)?;
-                Ok(Read {
-                    values: !turned.values,
-                    at: turned.at,
-                })
+                let end = self.factor(at + 1, left - 1, values)?;
+                *values = !*values;
+                Ok(end)
             }
             b'(' if 0 < left => {
-                let inner = self.joined(Level::Sum, at + 1, left - 1)?;
-                self.closed(inner)
+                let end = self.joined(Level::Sum, at + 1, left - 1, values)?;
+                if !self.has(end, b')') {
+                    return Err(Stuck { at: end });
+                }
+                Ok(end + 1)
             }
             b'!' | b'(' => Err(Stuck { at }),
-            _ => self.single(at),
+            _ => self.single(at, values),
         }
     }
 }

@@ -1,4 +1,5 @@
 -- The lines of the call, and the work area afterwards. Assumes nothing.
+use Rattle.std.proofs.Common.{Result, Err}
 use mathlib.Core.Path.{◌≡◌, sym, ap, ap₂, ◌∙◌}
 use mathlib.Core.Bool.{Bool, true, false, ◌&&◌}
 use mathlib.Core.List.{List, [], ◌∷◌, ◌++◌}
@@ -13,10 +14,13 @@ use Rattle.bits.proofs.Bools.{clash}
 use Rattle.tables.specs.Table.{most_inputs, table_length}
 use Rattle.sheets.specs.declared.kinds.Edition.{Edition}
 use Rattle.sheets.specs.Edition.{IsEdition, most_records}
-use Rattle.refusals.specs.Verdicts.{Refusal, Verdict, Fine, Refused}
+use Rattle.refusals.specs.Verdicts.{Verdict, Fine, Refused}
+use Rattle.refusals.specs.declared.verdicts.Refusal.{Refusal as Why}
+use Rattle.refusals.specs.Results.{refusal_of, verdict_of}
 use Rattle.refusals.specs.Lines.{Line, verdict}
 use Rattle.refusals.specs.Lent.{work_after}
 use Rattle.refusals.proofs.Lines.{stops, in_order_lem, all_numbers}
+use Rattle.refusals.proofs.Results.{said_err}
 use Rattle.refusals.proofs.Lent.{form_leaves}
 use Rattle.refusals.proofs.Tests.{inside, sound_before}
 use Rattle.clauses.specs.declared.variables.Size.{Size}
@@ -38,12 +42,14 @@ zeros n j = elim (dec_lt j n) [
 ]
 
 -- 1 to 5 refuse: the work area is as it was
-pub form_stops : (ls ms : List Line) (work : List ℕ) → all_numbers (λ k. leb 1 k && leb k 7) ls ≡ true → (v : Verdict)
-    (r : Refusal) → v ≡ verdict ls → v ≡ Refused r → record { verdict = v; work = work } ≡ few_after work (verdict (ls ++ ms))
-form_stops ls ms work o v r looked e =
-    ap₂ (λ (v : Verdict) (w : List ℕ). record { verdict = v; work = w }) (e ∙ sym (stops ls ms r (sym looked ∙ e)))
-    (sym (form_leaves ls r o (sym looked ∙ e) work)
-    ∙ ap (λ (u : Verdict). work_after u work) (sym (stops ls ms r (sym looked ∙ e))))
+pub form_stops : {A : Type 0} (ls ms : List Line) (work : List ℕ) → all_numbers (λ k. leb 1 k && leb k 7) ls ≡ true
+    → (r : Result A Why) → verdict_of r ≡ verdict ls → (why : Why) → r ≡ Err why
+    → record { verdict = Refused (refusal_of why); work = work } ≡ few_after work (verdict (ls ++ ms))
+form_stops ls ms work o r looked why e =
+    let refused = sym looked ∙ said_err r why e in
+    let whole = stops ls ms (refusal_of why) refused in
+    ap₂ (λ (v : Verdict) (w : List ℕ). record { verdict = v; work = w }) (sym whole)
+    (sym (form_leaves ls (refusal_of why) o refused work) ∙ ap (λ (u : Verdict). work_after u work) (sym whole))
 
 -- 1 to 5 are in order: what is asked is within its limits
 pub record Within (n K m : ℕ) (t : List ℕ) : Type 0 where

@@ -1,5 +1,5 @@
--- The numbers of the table of refusals that this room's lines have, by name; the code has those that are its own in
--- src/numbers.rt.
+-- The numbers of the table of refusals that this room's lines have, by name. The code has them with the others
+-- (refusals, src/verdicts.rt).
 use Rattle.std.specs.Prelude.{ℕ}
 
 -- how many cells may be too few

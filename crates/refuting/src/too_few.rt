@@ -35,7 +35,14 @@ fn is_short(all: usize, many: usize, room: usize) -> bool
 }
 
 // Lines 6 and 22, the others being in order.
-fn look_at<'a>(n: u64, k: u64, m: u64, t: &'a [u8], c: &'a [u8], work: &mut [u8]) -> Result<(), Refusal>
+fn look_at<'a>(
+    n: u64,
+    k: u64,
+    m: u64,
+    t: &'a [u8],
+    c: &'a [u8],
+    work: &mut [u8],
+) -> Result<(), Refusal>
     requires { (n ≤ most_inputs) × (k ≤ 8) × (1 ≤ m) × (m ≤ most_records) × (length t.now ≡ table_length n) }
     ensures { record { verdict = verdict_of result; work = work.new }
         ≡ few_after work.old (verdict (certificate_lines n k m t.now c.now work.old)) }

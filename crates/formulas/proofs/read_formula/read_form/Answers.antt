@@ -1,8 +1,9 @@
 -- `read_form` meets its contract: what lines 1 and 3 refuse, else what the look at the text comes to. Assumes nothing.
+use mathlib.Core.Path.{◌∙◌}
 use mathlib.Core.List.{[], ◌∷◌}
 use native.Mathlib.Omega.{arith}
 use Rattle.refusals.specs.Refusals.{sized_lines}
-use Rattle.refusals.proofs.Lines.{stopped, goes_on}
+use Rattle.refusals.proofs.Lines.{goes_on}
 use Rattle.refusals.proofs.Tests.{sized_through}
 use Rattle.formulas.specs.Refusals.{bad_text}
 use Rattle.refusals.proofs.Results.{said_ok, handed_on, stopped_by}

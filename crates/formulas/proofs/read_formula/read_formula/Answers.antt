@@ -10,17 +10,17 @@ use Rattle.refusals.specs.Lines.{reply}
 use Rattle.refusals.proofs.Lines.{in_order_lem}
 use Rattle.refusals.proofs.Tests.{inside, right_table}
 use Rattle.formulas.specs.ReadFormula.{read_lines, read_done, read_not, read_outcome}
-use Rattle.refusals.proofs.Results.{said_ok, said_err}
+use Rattle.refusals.proofs.Results.{said_ok, handed_on, replied}
 use Rattle.formulas.proofs.read_formula.read_formula.Goals as goal
 
 pub returns-in_err-read_form : goal.returns-in_err-read_form
 unfolding read_outcome
 returns-in_err-read_form c =
     let a = c.args in
-    let e = (said_err _ _ c.in_err-read_form.was) in
-    ap (λ (v : Verdict). record { verdict = v; table = a.table.now }) e
-    ∙ ap (λ (v : Verdict). reply v (read_done a.n a.t.now) (read_not a.table.now))
-    (sym e ∙ c.read_form.ensures)
+    let done = read_done a.n a.t.now in
+    let not = read_not a.table.now in
+    ap (λ (v : Verdict). record { verdict = v; table = a.table.now }) (handed_on _ _ c.from_residual.ensures.1)
+    ∙ replied (read_lines a.n a.t.now a.table.now) _ c.read_form.ensures _ done not c.in_err-read_form.was
 
 pub overflow_cast-n : goal.overflow_cast-n
 overflow_cast-n c =

@@ -11,7 +11,7 @@ use Rattle.sheets.specs.declared.kinds.Edition.{Edition}
 use Rattle.sheets.specs.Sheet.{records}
 use Rattle.refusals.specs.Lines.{verdict}
 use Rattle.refusals.specs.Refusals.{bad_inputs, sheet_lines}
-use Rattle.refusals.proofs.Lines.{fine, here, later, decides, in_order_lem, passes, stopped, decided}
+use Rattle.refusals.proofs.Lines.{fine, here, later, decides, in_order_lem, passes, decided}
 use Rattle.refusals.proofs.Tests.{few_inputs}
 use Rattle.refusals.proofs.Sheets.{good_sheet}
 use Rattle.formulas.specs.Text.{most_text}
@@ -29,7 +29,7 @@ returns-then-bad_inputs c =
 pub returns-then-room-lt-MOST_TEXT : goal.returns-then-room-lt-MOST_TEXT
 returns-then-room-lt-MOST_TEXT c =
     let a = c.args in
-    c.refuse-then-room-lt-MOST_TEXT.ensures ∙ decides (write_lines a.e a.d a.n a.s.now a.room.now)
+    decides (write_lines a.e a.d a.n a.s.now a.room.now)
     (later (sym c.bad_inputs.ensures ∙ c.if-bad_inputs.false)
     (here (lt-ltb (length a.room.now) most_text c.if-room-lt-MOST_TEXT.true)))
 
@@ -45,8 +45,8 @@ overflow_cast-inputs c =
     let few : c.args.n ≤ most_inputs = few_inputs _ c.bad_inputs.ensures c.if-bad_inputs.false in
     omega arith
 
-pub sheet-seen-requires : goal.sheet-seen-requires
-sheet-seen-requires c = (c.requires, few_inputs _ c.bad_inputs.ensures c.if-bad_inputs.false)
+pub sheet-requires : goal.sheet-requires
+sheet-requires c = (c.requires, few_inputs _ c.bad_inputs.ensures c.if-bad_inputs.false)
 
 pub returns-in_err-sheet : goal.returns-in_err-sheet
 returns-in_err-sheet c =

@@ -36,4 +36,4 @@ returns-then-empty c =
 
 pub returns-else-empty : goal.returns-else-empty
 returns-else-empty c =
-    c.refuse_at-else-empty.ensures ∙ ap shown_as (sym (ap (λ (b : Bool). cond b shown (not_shown (length c.args.c.now))) c.if-empty.false) ∙ from_end (question_in c.args.z c.args.t.now c.args.c.now) c.args.c.now c.loop-at.at (begun_in (variables c.args.z) (length c.args.c.now) c.loop-at.work) c.loop-at.empty c.loop-at.invariant.2 (omega arith))
+    ap shown_as (sym (ap (λ (b : Bool). cond b shown (not_shown (length c.args.c.now))) c.if-empty.false) ∙ from_end (question_in c.args.z c.args.t.now c.args.c.now) c.args.c.now c.loop-at.at (begun_in (variables c.args.z) (length c.args.c.now) c.loop-at.work) c.loop-at.empty c.loop-at.invariant.2 (omega arith))

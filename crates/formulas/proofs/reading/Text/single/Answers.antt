@@ -27,14 +27,14 @@ returns c =
     elim c.match-self-at.branch [
       | in-48 w ↦ record {
         gives = λ d _ _. f_digit _ _ _ false (kind-zero _ _ w.in-48.is)
-            (w.values-is ∙ w.same-values.ensures ∙ digit_stretch false _ (sym (none-zero 64)) _);
+            (w.values-is ∙ w.same.ensures ∙ digit_stretch false _ (sym (none-zero 64)) _);
       }
       | in-49 w ↦ record {
         gives = λ d _ _. f_digit _ _ _ true (kind-one _ _ w.in-49.is)
-            (w.values-is ∙ w.same-values-in-49.ensures ∙ digit_stretch true _ (omega (arith, all_ones 64)) _);
+            (w.values-is ∙ w.same-in-49.ensures ∙ digit_stretch true _ (omega (arith, all_ones 64)) _);
       }
       | in_default w ↦ record {
         gives = λ d _ _. f_input _ _ _ _ (kind_input _ _ w.if-b-ge97.true w.if-b-self.true)
-            (w.values-is ∙ w.of_input-values.ensures ∙ letter_stretch _ _);
+            (w.values-is ∙ w.of_input.ensures ∙ letter_stretch _ _);
       }
     ]
