@@ -103,8 +103,13 @@ module _ (x : Task) (work : List ℕ) {area : List ℕ} (z : area ≡ replicate 
   pub ready : {all : ℕ} {b : Bool} → all ≡ variables x.size → b ≡ ltb (length work) (all + 2 * length x.certificate.now)
       → b ≡ false → IsReady x area
   ready {all} {b} ea eb f = record {
-    room = omega (arith, ea, ltb-false (length work) (all + 2 * length x.certificate.now) (sym eb ∙ f), ap length z,
-        length-replicate {A = ℕ} (length work) 0);
+    room = omega (
+      arith,
+      ea,
+      ltb-false (length work) (all + 2 * length x.certificate.now) (sym eb ∙ f),
+      ap length z,
+      length-replicate {A = ℕ} (length work) 0,
+    );
     clean = λ v l. all_zero v;
     usable = λ j u. absurd (clash u (not_marked j));
   }

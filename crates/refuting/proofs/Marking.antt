@@ -13,14 +13,15 @@ use Rattle.bits.specs.Lists.{byte_at}
 use Rattle.bits.proofs.Bools.{and_left}
 use Rattle.clauses.specs.declared.task.Task.{Task}
 use Rattle.clauses.specs.Variables.{variables}
-use Rattle.clauses.specs.Step.{kind_at, given_at}
+use Rattle.clauses.specs.Step.{kind_at, given_at, step_length}
 use Rattle.clauses.specs.Asking.{question_of, given_in_order}
 use Rattle.following.specs.Following.{literals_named, hints_earlier, follows, derived_in_order}
 use Rattle.following.specs.Standing.{CanUse, Kept, Clean, begun_in, IsReady}
 use Rattle.following.proofs.Deriving.{named_literals}
-use Rattle.refuting.specs.Steps.{also_at}
+use Rattle.refuting.specs.Steps.{also_at, step_in_order, is_empty}
 use Rattle.refuting.specs.Looking.{AllOf}
 use Rattle.refuting.proofs.Lengths.{derived_length}
+use Rattle.refuting.proofs.Walking.{From, from_next}
 
 module _ (x : Task) (work mid : List ℕ) (at : ℕ)
     (k : Kept (variables x.size) (variables x.size + length x.certificate.now) work mid)
@@ -88,6 +89,24 @@ module _ (x : Task) (work mid : List ℕ) (at : ℕ)
       go : (j : ℕ) (b : Bool) → eqb j at ≡ b → (b || begun_in V' (length c) work j) ≡ true → CanUse x j
       go j true d e = subst (CanUse x) (sym (eqb-true j at d)) (usable_here h)
       go j false d e = r.usable j e
+
+  -- after the step: its place is marked, and the steps behind it come to what all come to
+  module _ (o : step_in_order (question_of x) c (begun_in V' (length c) work) at ≡ true) {a : ℕ} (ea : a ≡ V') where
+    pub ready_after : cond (eqb (kind_at c at) 0) (derived_in_order (question_of x) c at (begun_in V' (length c) work))
+        (given_in_order x (given_at c at)) ≡ true → IsReady x (set mid (a + at) 1)
+    ready_after h = subst (λ (i : ℕ). IsReady x (set mid (i + at) 1)) (sym ea) (ready_next h)
+
+    pub from_after : (empty : Bool) {long : ℕ} {e : Bool} → From (question_of x) c at (begun_in V' (length c) work) empty
+        → long ≡ step_length c at → e ≡ is_empty (question_of x) c at
+        → From (question_of x) c (at + long) (begun_in V' (length c) (set mid (a + at) 1)) e
+    from_after empty {long} {e} f el ee =
+        subst (λ (i : ℕ). From (question_of x) c (at + i) (begun_in V' (length c) (set mid (a + at) 1)) e) (sym el)
+        (subst (λ (b : Bool). From (question_of x) c (at + step_length c at)
+        (begun_in V' (length c) (set mid (a + at) 1)) b) (sym ee)
+        (subst (λ (i : ℕ). From (question_of x) c (at + step_length c at) (begun_in V' (length c) (set mid (i + at) 1))
+        (is_empty (question_of x) c at)) (sym ea)
+        (subst (λ (b : ℕ → Bool). From (question_of x) c (at + step_length c at) b (is_empty (question_of x) c at))
+        (sym marked) (from_next (question_of x) c at (begun_in V' (length c) work) empty f inside o))))
 
 -- at first nothing is marked
 pub none_marked : (all many : ℕ) (work : List ℕ) → ((j : ℕ) → byte_at work j ≡ 0) → (j : ℕ)
