@@ -5,4 +5,5 @@ pub mod Swapping
 pub mod Clause
 pub mod Step
 pub mod Shapes
+pub mod Asking
 pub mod Lengths

@@ -1,11 +1,11 @@
 // The steps of kinds 1 to 14: each names a clause by its fields.
-ghost use Rattle.std.specs.Prelude.{◌≡◌, ◌&&◌, ◌+◌, leb, ltb, length};
-ghost use Rattle.tables.specs.Table.{table_bit, table_length};
-ghost use Rattle.clauses.specs.Variables.{IsSize};
-ghost use Rattle.clauses.specs.Clause.{in_order};
+ghost use Rattle.std.specs.Prelude.{◌≡◌, ◌&&◌, ◌+◌, leb, ltb};
+ghost use Rattle.tables.specs.Table.{table_bit};
+ghost use Rattle.clauses.specs.Clause.{is_cell, are_rows, are_inputs};
+ghost use Rattle.clauses.specs.Asking.{given_in_order};
 
 use crate::swaps::can_swap;
-use crate::variables::Size;
+use crate::task::Task;
 
 // In the order of their kinds, 1 to 14. Cells, signals, inputs and counts have a byte in a certificate, rows two.
 #[derive(Clone, Copy)]
@@ -40,69 +40,69 @@ pub enum Given {
     Neither(usize, usize, usize),
 }
 
-// A cell that there is.
-fn is_cell(z: Size, i: usize) -> bool
-    ensures { result ≡ ltb i z.cells }
-{
-    i < z.cells
-}
+impl Task<'_> {
+    // A cell that there is.
+    fn is_cell(&self, i: usize) -> bool
+        ensures { result ≡ is_cell self.now.size i }
+    {
+        i < self.size.cells
+    }
 
-// Two rows that there are.
-fn are_rows(z: Size, a: usize, b: usize) -> bool
-    ensures { result ≡ (ltb a z.rows && ltb b z.rows) }
-{
-    a < z.rows && b < z.rows
-}
+    // Two rows that there are.
+    fn are_rows(&self, a: usize, b: usize) -> bool
+        ensures { result ≡ are_rows self.now.size a b }
+    {
+        a < self.size.rows && b < self.size.rows
+    }
 
-// Two inputs, the lower first.
-fn are_inputs(z: Size, p: usize, q: usize) -> bool
-    ensures { result ≡ (ltb p q && ltb q z.inputs) }
-{
-    p < q && q < z.inputs
-}
+    // Two inputs, the lower first.
+    fn are_inputs(&self, p: usize, q: usize) -> bool
+        ensures { result ≡ are_inputs self.now.size p q }
+    {
+        p < q && q < self.size.inputs
+    }
 
-// Two inputs, the lower first, and a cell.
-fn are_sorted(z: Size, p: usize, q: usize, i: usize) -> bool
-    ensures { result ≡ ((ltb p q && ltb q z.inputs) && ltb i z.cells) }
-{
-    are_inputs(z, p, q) && is_cell(z, i)
-}
+    // Two inputs, the lower first, and a cell.
+    fn are_sorted(&self, p: usize, q: usize, i: usize) -> bool
+        ensures { result ≡ (are_inputs self.now.size p q && is_cell self.now.size i) }
+    {
+        self.are_inputs(p, q) && self.is_cell(i)
+    }
 
-// A cell, a signal before it, and a count up to a limit.
-fn is_count(z: Size, i: usize, p: usize, t: usize, most: usize) -> bool
-    requires { IsSize z }
-    ensures { result ≡ (ltb i z.cells && (ltb p (z.inputs + i) && leb t most)) }
-{
-    is_cell(z, i) && p < z.inputs + i && t <= most
-}
+    // A cell, a signal before it, and a count up to a limit.
+    fn is_count(&self, i: usize, p: usize, t: usize, most: usize) -> bool
+        ensures { result ≡ (is_cell self.now.size i && (ltb p (self.now.size.inputs + i) && leb t most)) }
+    {
+        self.is_cell(i) && p < self.size.inputs + i && t <= most
+    }
 
-// A cell, one before it, and two rows.
-fn are_cells(z: Size, i: usize, j: usize, a: usize, b: usize) -> bool
-    ensures { result ≡ (ltb i z.cells && (ltb j i && (ltb a z.rows && ltb b z.rows))) }
-{
-    is_cell(z, i) && j < i && are_rows(z, a, b)
-}
+    // A cell, one before it, and two rows.
+    fn are_cells(&self, i: usize, j: usize, a: usize, b: usize) -> bool
+        ensures { result ≡ (is_cell self.now.size i && (ltb j i && are_rows self.now.size a b)) }
+    {
+        self.is_cell(i) && j < i && self.are_rows(a, b)
+    }
 
-// Whether a step is in order.
-#[tactic(auto, unfolding(crate::specs::Clause::in_order))]
-pub fn in_order(z: Size, t: &[u8], g: Given) -> bool
-    requires { IsSize z × (length t.now ≡ table_length z.inputs) }
-    ensures { result ≡ in_order z (table_bit t.now) g }
-{
-    match g {
-        Given::OneMore(i, p, t) => is_count(z, i, p, t, z.cell),
-        Given::AsMany(i, p, t) => is_count(z, i, p, t, z.cell + 1),
-        Given::None(i) | Given::Most(i) => is_cell(z, i),
-        Given::Cause(i, a, b) => is_cell(z, i) && are_rows(z, a, b),
-        Given::Read(i, j, a, b) | Given::Differs(i, j, a, b) => are_cells(z, i, j, a, b),
-        Given::Even(i, a, b, s) => is_cell(z, i) && are_rows(z, a, b) && s <= 3,
-        Given::Table(a, b) => are_rows(z, a, b),
-        Given::Used(i) => i < z.cells - 1,
-        Given::Swap(p, q) => {
-            are_inputs(z, p, q) && can_swap(t, z.inputs as u32, p as u32, q as u32)
+    // Whether a step is in order.
+    #[tactic(auto, unfolding(crate::specs::Clause::in_order))]
+    pub fn in_order(&self, g: Given) -> bool
+        ensures { result ≡ given_in_order self.now g }
+    {
+        match g {
+            Given::OneMore(i, p, t) => self.is_count(i, p, t, self.size.cell),
+            Given::AsMany(i, p, t) => self.is_count(i, p, t, self.size.cell + 1),
+            Given::None(i) | Given::Most(i) => self.is_cell(i),
+            Given::Cause(i, a, b) => self.is_cell(i) && self.are_rows(a, b),
+            Given::Read(i, j, a, b) | Given::Differs(i, j, a, b) => self.are_cells(i, j, a, b),
+            Given::Even(i, a, b, s) => self.is_cell(i) && self.are_rows(a, b) && s <= 3,
+            Given::Table(a, b) => self.are_rows(a, b),
+            Given::Used(i) => i < self.size.cells - 1,
+            Given::Swap(p, q) => {
+                self.are_inputs(p, q)
+                    && can_swap(self.table, self.size.inputs as u32, p as u32, q as u32)
+            }
+            Given::Sorted(p, q, i) | Given::Both(p, q, i) | Given::Neither(p, q, i) =>
+                self.are_sorted(p, q, i),
         }
-        Given::Sorted(p, q, i) | Given::Both(p, q, i) | Given::Neither(p, q, i) => are_sorted(
-            z, p, q, i,
-        ),
     }
 }

@@ -6,4 +6,5 @@ pub mod given;
 pub mod numbers;
 pub mod shapes;
 pub mod swaps;
+pub mod task;
 pub mod variables;

@@ -7,18 +7,20 @@ use native.Mathlib.Decide.{ℕ_discrete}
 use native.Mathlib.Omega.{arith}
 use lib.Dec.{eqb}
 use borrow.Author.Tests.{eq-eqb, ne_eqb}
-use Rattle.bits.specs.Lists.{list_of}
+use Rattle.bits.specs.Lists.{byte_at, list_of}
 use Rattle.clauses.specs.declared.variables.Size.{Size}
 use Rattle.clauses.specs.declared.variables.Literal.{Literal}
-use Rattle.clauses.specs.Variables.{IsSize, literal_of, variables}
+use Rattle.clauses.specs.declared.task.Task.{Task}
+use Rattle.clauses.specs.Variables.{literal_of, variables}
 use Rattle.clauses.specs.Clause.{Question, clause}
-use Rattle.clauses.specs.Step.{kind_at, given_at, literals_at, literal_at, question_in, clause_at}
+use Rattle.clauses.specs.Step.{kind_at, given_at, literals_at, literal_at, clause_at}
+use Rattle.clauses.specs.Asking.{question_of, clause_of}
 use Rattle.clauses.specs.Shapes.{AllNamed}
 use Rattle.clauses.proofs.Naming.{named, literal_below}
 use Rattle.following.specs.declared.open.Open.{Open}
 use Rattle.following.specs.declared.open.Open.TheVariants.{Nothing, One, Several}
-use Rattle.following.specs.Values.{is_false, one_more, seen, open_after}
-use Rattle.following.specs.Standing.{Usable}
+use Rattle.following.specs.Values.{is_false, one_more, seen, open_after, open_in}
+use Rattle.following.specs.Standing.{CanUse}
 
 module _ (q : Question) (c : List ℕ) (at : ℕ) where
   pub clause_derived : kind_at c at ≡ 0 → clause_at q c at ≡ list_of (literals_at c at) (literal_at c at)
@@ -78,11 +80,19 @@ named_below z [] h = tt
 named_below z (l ∷ ls) h = (literal_below z l h.0, named_below z ls h.1)
 
 -- the clause of a step that can be used
-pub clause_below : (z : Size) → IsSize z → (t c : List ℕ) (at : ℕ) → Usable z t c at
-    → AllBelow (variables z) (clause_at (question_in z t c) c at)
-clause_below z w t c at u = elim (ℕ_discrete (kind_at c at) 0) [
-  | yes e ↦ subst (AllBelow (variables z)) (sym (clause_derived (question_in z t c) c at e))
-      (below_list (variables z) (literals_at c at) (literal_at c at) (u.derived e).below)
-  | no e ↦ subst (AllBelow (variables z)) (sym (clause-given (question_in z t c) c at e))
-      (named_below z (clause (question_in z t c) (given_at c at)) (named (question_in z t c) w (given_at c at) (u.given e)))
+pub clause_below : (x : Task) (at : ℕ) → CanUse x at → AllBelow (variables x.size) (clause_of x at)
+clause_below x at u = elim (ℕ_discrete (kind_at x.certificate.now at) 0) [
+  | yes e ↦ subst (AllBelow (variables x.size)) (sym (clause_derived (question_of x) x.certificate.now at e))
+      (below_list (variables x.size) (literals_at x.certificate.now at) (literal_at x.certificate.now at)
+      (u.derived e).below)
+  | no e ↦ subst (AllBelow (variables x.size)) (sym (clause-given (question_of x) x.certificate.now at e))
+      (named_below x.size (clause (question_of x) (given_at x.certificate.now at))
+      (named (question_of x) x.sized (given_at x.certificate.now at) (u.given e)))
 ]
+
+-- what is left open in it
+pub open_below : (x : Task) (at : ℕ) → CanUse x at → (work : List ℕ) {o : Open} (l : ℕ)
+    → o ≡ open_in (byte_at work) (clause_of x at) → o ≡ One l → l / 2 < variables x.size
+open_below x at u work l e h =
+    open_one (variables x.size) (byte_at work) Nothing (clause_of x at) l
+    (λ k d. let z : ◌≡◌ {A = ℕ} 0 1 = cc in omega arith) (clause_below x at u) (sym e ∙ h)

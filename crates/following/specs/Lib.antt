@@ -2,3 +2,4 @@
 pub mod Values
 pub mod Following
 pub mod Standing
+pub mod Opened

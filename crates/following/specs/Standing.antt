@@ -4,6 +4,7 @@ use Rattle.std.specs.Prelude.{◌≡◌, ◌⊎◌, Bool, true, cond, ◌&&◌, 
 use Rattle.bits.specs.Lists.{byte_at}
 use Rattle.tables.specs.Table.{table_bit}
 use Rattle.clauses.specs.declared.variables.Size.{Size}
+use Rattle.clauses.specs.declared.task.Task.{Task}
 use Rattle.clauses.specs.Variables.{variables}
 use Rattle.clauses.specs.Clause.{in_order}
 use Rattle.clauses.specs.Step.{four, kind_at, given_at, literals_at, literal_at, hints_at}
@@ -24,6 +25,9 @@ pub record Usable (z : Size) (t c : List ℕ) (at : ℕ) : Type 0 where
   pub inside : at < length c
   pub derived : kind_at c at ≡ 0 → LiteralsIn (variables z) c at
   pub given : (kind_at c at ≡ 0 → ⊥) → in_order z (table_bit t) (given_at c at) ≡ true
+
+abbrev pub CanUse : Task → ℕ → Type 0
+CanUse x at = Usable x.size x.table.now x.certificate.now at
 
 -- x was written at a place, in four bytes, and nothing else
 pub record Wrote (before : List ℕ) (at x : ℕ) (after : List ℕ) : Type 0 where
@@ -73,3 +77,6 @@ pub record Ready (z : Size) (t c work : List ℕ) : Type 0 where
   pub room : variables z + length c + length c ≤ length work
   pub clean : Clean (variables z) work
   pub usable : (j : ℕ) → begun_in (variables z) (length c) work j ≡ true → Usable z t c j
+
+abbrev pub IsReady : Task → List ℕ → Type 0
+IsReady x work = Ready x.size x.table.now x.certificate.now work

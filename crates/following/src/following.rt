@@ -1,18 +1,20 @@
-// Whether a step of kind 0 is in order.
+// Whether a step of kind 0 is in order. In the work area stand a byte for the value of each variable, then, from `all`
+// on, a mark for each byte of the certificate, then the variables that are set, four bytes each. (They stay places in
+// one area, since C lends one, and `Stands`, `Clean`, `begun_in` and `Ready` say of that area what it holds.)
 ghost use Rattle.std.specs.Prelude.{◌≡◌, ℕ, ◌+◌, ◌*◌, ◌/◌, ◌<◌, ◌≤◌, List, ltb, length};
 ghost use Rattle.bits.specs.Below.{every};
-ghost use Rattle.tables.specs.Table.{table_length};
-ghost use Rattle.clauses.specs.Variables.{IsSize, variables};
-ghost use Rattle.clauses.specs.Step.{question_in, literals_at, literal_at, hints_at, hint_at, clause_at};
-ghost use Rattle.clauses.specs.Shapes.{HasRows};
+ghost use Rattle.clauses.specs.Variables.{variables};
+ghost use Rattle.clauses.specs.Step.{literals_at, literal_at, hints_at, hint_at};
+ghost use Rattle.clauses.specs.Asking.{question_of, clause_of};
 ghost use Rattle.following.specs.Following.{Following, going, denying, hinting, denied, used};
 ghost use Rattle.following.specs.Following.{follows, derived_in_order};
-ghost use Rattle.following.specs.Standing.{LiteralsIn, AllThere, Usable, Trailed, Stands, Kept, Clean, begun_in, Ready};
+ghost use Rattle.following.specs.Standing.{LiteralsIn, AllThere, CanUse, Trailed, Stands};
+ghost use Rattle.following.specs.Standing.{Kept, Clean, begun_in, IsReady};
 
-use crate::open::{Open, open_at};
+use crate::open::{Open, Reading};
 use crate::trail::{Trail, forget, make};
 use clauses::numbers::{four_at, two_at};
-use clauses::variables::{Size, all_variables};
+use clauses::task::Task;
 
 // A literal of the step: it is made false, or there is a conflict.
 fn deny(work: &mut [u8], from: usize, set: usize, l: usize) -> Trail
@@ -61,24 +63,18 @@ fn deny_all(c: &[u8], at: usize, many: usize, all: usize, work: &mut [u8]) -> Tr
 }
 
 // One hint: what is left open in its clause is made true, or there is a conflict.
-fn hint<'a>(
-    z: Size,
-    t: &'a [u8],
-    c: &'a [u8],
-    at: usize,
-    work: &mut [u8],
-    from: usize,
-    set: usize,
-) -> Trail
-    requires { IsSize z × HasRows z c.now × (length t.now ≡ table_length z.inputs) × Usable z t.now c.now at
-        × (variables z ≤ from) × (from + 4 * set + 4 ≤ length work.old) }
+fn hint(task: &Task, at: usize, work: &mut [u8], from: usize, set: usize) -> Trail
+    requires { CanUse task.now at × (variables task.now.size ≤ from) × (from + 4 * set + 4 ≤ length work.old) }
     ensures { (result.set ≤ set + 1)
-        × ((σ : ℕ → ℕ) → Trailed (variables z) from σ set work.old
-        → Stands (variables z) from work.old
-        (hinting (clause_at (question_in z t.now c.now) c.now at) (going σ))
-        work.new result) }
+        × ((σ : ℕ → ℕ) → Trailed (variables task.now.size) from σ set work.old
+        → Stands (variables task.now.size) from work.old
+        (hinting (clause_of task.now at) (going σ)) work.new result) }
 {
-    match open_at(z, t, c, at, work) {
+    let reading = Reading {
+        task: *task,
+        values: work,
+    };
+    match reading.open_at(at) {
         Open::Nothing => Trail {
             conflict: true,
             set,
@@ -102,53 +98,54 @@ fn hint<'a>(
 }
 
 // All hints of the step, up to a conflict.
-fn hint_all<'a>(
-    z: Size,
-    t: &'a [u8],
-    c: &'a [u8],
+fn hint_all(
+    task: &Task,
     at: usize,
     many: usize,
     work: &mut [u8],
     from: usize,
     start: Trail,
 ) -> Trail
-    requires { IsSize z × HasRows z c.now × (length t.now ≡ table_length z.inputs) × (variables z ≤ from)
-        × (many ≡ hints_at c.now at) × AllThere c.now at
-        × (from + 4 * start.set + 4 * many ≤ length work.old)
-        × ((k : ℕ) → k < many → Usable z t.now c.now (hint_at c.now at k)) }
+    requires { (variables task.now.size ≤ from) × (many ≡ hints_at task.now.certificate.now at)
+        × AllThere task.now.certificate.now at × (from + 4 * start.set + 4 * many ≤ length work.old)
+        × ((k : ℕ) → k < many → CanUse task.now (hint_at task.now.certificate.now at k)) }
     ensures { (result.set ≤ start.set + many)
-        × ((before : List ℕ) (f : Following) → Stands (variables z) from before f work.old start
-        → Stands (variables z) from before
-        (used (λ k. clause_at (question_in z t.now c.now) c.now (hint_at c.now at k))
-        f many) work.new result) }
+        × ((before : List ℕ) (f : Following) → Stands (variables task.now.size) from before f work.old start
+        → Stands (variables task.now.size) from before
+        (used (λ k. clause_of task.now (hint_at task.now.certificate.now at k)) f many) work.new result) }
 {
+    let c = task.certificate;
     let first = at + 7 + 4 * two_at(c, at + 1);
     let mut r = start;
     for k in 0..many {
         if r.conflict {
             return r;
         }
-        r = hint(z, t, c, four_at(c, first + 4 * k), work, from, r.set);
+        r = hint(task, four_at(c, first + 4 * k), work, from, r.set);
     }
     r
 }
 
 // Whether it follows; no variable stays set.
-fn does_follow<'a>(z: Size, t: &'a [u8], c: &'a [u8], at: usize, work: &mut [u8]) -> bool
-    requires { IsSize z × HasRows z c.now × (length t.now ≡ table_length z.inputs) × AllThere c.now at
-        × LiteralsIn (variables z) c.now at × Clean (variables z) work.old
-        × (variables z + length c.now + length c.now ≤ length work.old)
-        × ((k : ℕ) → k < hints_at c.now at → Usable z t.now c.now (hint_at c.now at k)) }
-    ensures { (result ≡ follows (question_in z t.now c.now) c.now at)
-        × Clean (variables z) work.new
-        × Kept (variables z) (variables z + length c.now) work.old work.new }
+fn does_follow(task: &Task, at: usize, work: &mut [u8]) -> bool
+    requires { AllThere task.now.certificate.now at
+        × LiteralsIn (variables task.now.size) task.now.certificate.now at × Clean (variables task.now.size) work.old
+        × (variables task.now.size + length task.now.certificate.now + length task.now.certificate.now
+        ≤ length work.old)
+        × ((k : ℕ) → k < hints_at task.now.certificate.now at
+        → CanUse task.now (hint_at task.now.certificate.now at k)) }
+    ensures { (result ≡ follows (question_of task.now) task.now.certificate.now at)
+        × Clean (variables task.now.size) work.new
+        × Kept (variables task.now.size) (variables task.now.size + length task.now.certificate.now)
+        work.old work.new }
 {
-    let all = all_variables(z);
+    let c = task.certificate;
+    let all = task.all_variables();
     let literals = two_at(c, at + 1);
     let hints = four_at(c, at + 3 + 4 * literals);
     let from = all + c.len();
     let denied = deny_all(c, at, literals, all, work);
-    let r = hint_all(z, t, c, at, hints, work, from, denied);
+    let r = hint_all(task, at, hints, work, from, denied);
     forget(work, from, r.set);
     r.conflict
 }
@@ -175,14 +172,7 @@ fn is_marked(all: usize, many: usize, work: &[u8], h: usize) -> bool
 }
 
 // Whether each hint is the place at which an earlier step begins.
-fn are_earlier<'a>(
-    c: &'a [u8],
-    at: usize,
-    literals: usize,
-    many: usize,
-    all: usize,
-    work: &'a [u8],
-) -> bool
+fn are_earlier(c: &[u8], at: usize, literals: usize, many: usize, all: usize, work: &[u8]) -> bool
     requires { (literals ≡ literals_at c.now at) × (many ≡ hints_at c.now at) × AllThere c.now at
         × (all + length c.now ≤ length work.now) }
     ensures { result ≡ every many (λ k. begun_in all (length c.now) work.now (hint_at c.now at k)) }
@@ -197,18 +187,19 @@ fn are_earlier<'a>(
 }
 
 // Whether a step of kind 0, all of which is there, is in order. Marks stay, and no variable stays set.
-pub fn derived_in_order<'a>(z: Size, t: &'a [u8], c: &'a [u8], at: usize, work: &mut [u8]) -> bool
-    requires { IsSize z × HasRows z c.now × (length t.now ≡ table_length z.inputs) × AllThere c.now at
-        × Ready z t.now c.now work.old }
-    ensures { (result ≡ derived_in_order (question_in z t.now c.now) c.now at
-        (begun_in (variables z) (length c.now) work.old))
-        × Clean (variables z) work.new
-        × Kept (variables z) (variables z + length c.now) work.old work.new }
+pub fn derived_in_order(task: &Task, at: usize, work: &mut [u8]) -> bool
+    requires { AllThere task.now.certificate.now at × IsReady task.now work.old }
+    ensures { (result ≡ derived_in_order (question_of task.now) task.now.certificate.now at
+        (begun_in (variables task.now.size) (length task.now.certificate.now) work.old))
+        × Clean (variables task.now.size) work.new
+        × Kept (variables task.now.size) (variables task.now.size + length task.now.certificate.now)
+        work.old work.new }
 {
-    let all = all_variables(z);
+    let c = task.certificate;
+    let all = task.all_variables();
     let literals = two_at(c, at + 1);
     let hints = four_at(c, at + 3 + 4 * literals);
     are_named(c, at, literals, all)
         && are_earlier(c, at, literals, hints, all, work)
-        && does_follow(z, t, c, at, work)
+        && does_follow(task, at, work)
 }

@@ -24,10 +24,11 @@ use Rattle.refusals.proofs.Results.{said_err}
 use Rattle.refusals.proofs.Lent.{form_leaves}
 use Rattle.refusals.proofs.Tests.{inside, sound_before}
 use Rattle.clauses.specs.declared.variables.Size.{Size}
+use Rattle.clauses.specs.declared.task.Task.{Task}
 use Rattle.clauses.specs.Variables.{IsSize, variables}
 use Rattle.clauses.specs.Step.{rows_in}
 use Rattle.clauses.specs.Shapes.{HasRows}
-use Rattle.following.specs.Standing.{begun_in, Ready}
+use Rattle.following.specs.Standing.{begun_in, IsReady}
 use Rattle.refuting.specs.Steps.{header_in_order}
 use Rattle.refuting.specs.TooFew.{bad_cells, few_form, few_after}
 use Rattle.refuting.proofs.Rows.{few_rows, rows_there, rows_below}
@@ -70,10 +71,6 @@ within e w n K m t v p q =
       long = s.long;
     }
 
-pub within_by : (n K m : ℕ) (t : List ℕ)
-    → (n ≤ most_inputs) × (K ≤ 8) × (1 ≤ m) × (m ≤ most_records) × (length t ≡ table_length n) → Within n K m t
-within_by n K m t w = record { inputs = w.0; cell = w.1; some = w.2; most = w.3; long = w.4 }
-
 -- the size that the code has, and the certificate's rows
 module _ (n K m R : ℕ) (t c : List ℕ) (w : Within n K m t) (e : R ≡ rows_in c) (h : header_in_order n c ≡ true) where
   abbrev pub size_of : Size
@@ -95,19 +92,24 @@ module _ (n K m R : ℕ) (t c : List ℕ) (w : Within n K m t) (e : R ≡ rows_i
     below = λ a l. rows_below n c h a (omega (arith, e));
   }
 
-  -- a work area that was cleared, and is long enough
-  pub ready : (work : List ℕ) {all : ℕ} {b : Bool} → all ≡ variables size_of
-      → b ≡ ltb (length work) (all + 2 * length c) → b ≡ false → {area : List ℕ}
-      → area ≡ replicate (length work) 0 → Ready size_of t c area
-  ready work {all} {b} ea eb f {area} z = record {
-    room = omega (arith, ea, ltb-false (length work) (all + 2 * length c) (sym eb ∙ f), ap length z,
-        length-replicate {A = ℕ} (length work) 0);
-    clean = λ v l. ap (λ (a : List ℕ). byte_at a v) z ∙ zeros (length work) v;
-    usable = λ j u. absurd (clash u (none_marked (variables size_of) (length c) area
-        (λ i. ap (λ (a : List ℕ). byte_at a i) z ∙ zeros (length work) i) j));
-  }
+-- a work area that was cleared, and is long enough
+module _ (x : Task) (work : List ℕ) {area : List ℕ} (z : area ≡ replicate (length work) 0) where
+  abbrev all_zero : (j : ℕ) → byte_at area j ≡ 0
+  all_zero j = ap (λ (a : List ℕ). byte_at a j) z ∙ zeros (length work) j
 
-  pub not_marked : (work : List ℕ) {area : List ℕ} → area ≡ replicate (length work) 0 → (j : ℕ)
-      → begun_in (variables size_of) (length c) area j ≡ false
-  not_marked work {area} z = none_marked (variables size_of) (length c) area
-      (λ i. ap (λ (a : List ℕ). byte_at a i) z ∙ zeros (length work) i)
+  pub not_marked : (j : ℕ) → begun_in (variables x.size) (length x.certificate.now) area j ≡ false
+  not_marked = none_marked (variables x.size) (length x.certificate.now) area all_zero
+
+  pub ready : {all : ℕ} {b : Bool} → all ≡ variables x.size → b ≡ ltb (length work) (all + 2 * length x.certificate.now)
+      → b ≡ false → IsReady x area
+  ready {all} {b} ea eb f = record {
+    room = omega (
+      arith,
+      ea,
+      ltb-false (length work) (all + 2 * length x.certificate.now) (sym eb ∙ f),
+      ap length z,
+      length-replicate {A = ℕ} (length work) 0,
+    );
+    clean = λ v l. all_zero v;
+    usable = λ j u. absurd (clash u (not_marked j));
+  }

@@ -1,21 +1,18 @@
 // A certificate's steps, one after the other.
 ghost use Rattle.std.specs.Prelude.{◌≡◌, false, cond, ◌&&◌, ℕ, ◌+◌, ◌<◌, eqb, length};
-ghost use Rattle.tables.specs.Table.{table_bit, table_length};
-ghost use Rattle.clauses.specs.Variables.{IsSize, variables};
-ghost use Rattle.clauses.specs.Clause.{in_order};
-ghost use Rattle.clauses.specs.Step.{question_in, kind_at, literals_at, given_at};
-ghost use Rattle.clauses.specs.Shapes.{HasRows};
+ghost use Rattle.clauses.specs.Variables.{variables};
+ghost use Rattle.clauses.specs.Step.{kind_at, literals_at, given_at};
+ghost use Rattle.clauses.specs.Asking.{question_of, given_in_order};
 ghost use Rattle.clauses.specs.Lengths.{some_length};
 ghost use Rattle.following.specs.Following.{derived_in_order};
-ghost use Rattle.following.specs.Standing.{Clean, Kept, begun_in, Ready};
+ghost use Rattle.following.specs.Standing.{Clean, Kept, begun_in, IsReady};
 ghost use Rattle.refuting.specs.Steps.{all_steps};
 ghost use Rattle.refuting.specs.Looking.{length_there, AllOf, shown_as};
 ghost use Rattle.refusals.specs.Results.{verdict_of};
 
 use clauses::fields::{given_at, length_of};
-use clauses::given::in_order;
 use clauses::numbers::{four_at, two_at};
-use clauses::variables::{Size, all_variables};
+use clauses::task::Task;
 use following::following::derived_in_order;
 use refusals::verdicts::Refusal;
 
@@ -54,20 +51,20 @@ fn length_there(c: &[u8], at: usize) -> Option<usize>
 }
 
 // Whether the step at a place, all of which is there, is in order.
-fn is_in_order<'a>(z: Size, t: &'a [u8], c: &'a [u8], at: usize, work: &mut [u8]) -> bool
-    requires { IsSize z × HasRows z c.now × (length t.now ≡ table_length z.inputs) × AllOf c.now at
-        × Ready z t.now c.now work.old }
-    ensures { (result ≡ cond (eqb (kind_at c.now at) 0)
-        (derived_in_order (question_in z t.now c.now) c.now at
-        (begun_in (variables z) (length c.now) work.old))
-        (in_order z (table_bit t.now) (given_at c.now at)))
-        × Clean (variables z) work.new
-        × Kept (variables z) (variables z + length c.now) work.old work.new }
+fn is_in_order(task: &Task, at: usize, work: &mut [u8]) -> bool
+    requires { AllOf task.now.certificate.now at × IsReady task.now work.old }
+    ensures { (result ≡ cond (eqb (kind_at task.now.certificate.now at) 0)
+        (derived_in_order (question_of task.now) task.now.certificate.now at
+        (begun_in (variables task.now.size) (length task.now.certificate.now) work.old))
+        (given_in_order task.now (given_at task.now.certificate.now at)))
+        × Clean (variables task.now.size) work.new
+        × Kept (variables task.now.size) (variables task.now.size + length task.now.certificate.now)
+        work.old work.new }
 {
-    if c[at] == 0 {
-        derived_in_order(z, t, c, at, work)
+    if task.certificate[at] == 0 {
+        derived_in_order(task, at, work)
     } else {
-        in_order(z, t, given_at(c, at))
+        task.in_order(given_at(task.certificate, at))
     }
 }
 
@@ -80,19 +77,20 @@ fn is_empty(c: &[u8], at: usize) -> bool
 }
 
 // All steps: fine if they show it, else where they don't. Where each begins is marked in the work area.
-pub fn look_through<'a>(z: Size, t: &'a [u8], c: &'a [u8], work: &mut [u8]) -> Result<(), Refusal>
-    requires { IsSize z × HasRows z c.now × (length t.now ≡ table_length z.inputs) × Ready z t.now c.now work.old
-        × ((j : ℕ) → begun_in (variables z) (length c.now) work.old j ≡ false) }
-    ensures { verdict_of result ≡ shown_as (all_steps (question_in z t.now c.now) c.now) }
+pub fn look_through(task: &Task, work: &mut [u8]) -> Result<(), Refusal>
+    requires { IsReady task.now work.old
+        × ((j : ℕ) → begun_in (variables task.now.size) (length task.now.certificate.now) work.old j ≡ false) }
+    ensures { verdict_of result ≡ shown_as (all_steps (question_of task.now) task.now.certificate.now) }
 {
-    let all = all_variables(z);
-    let mut at = 2 + 2 * z.rows;
+    let c = task.certificate;
+    let all = task.all_variables();
+    let mut at = 2 + 2 * task.size.rows;
     let mut empty = false;
     while at < c.len() {
         let Some(length) = length_there(c, at) else {
             return Err(Refusal::NotShown(at));
         };
-        if !is_in_order(z, t, c, at, work) {
+        if !is_in_order(task, at, work) {
             return Err(Refusal::NotShown(at));
         }
         work[all + at] = 1;

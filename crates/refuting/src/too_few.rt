@@ -9,7 +9,8 @@ ghost use Rattle.refuting.specs.TooFew.{few_form, certificate_lines, few_in, few
 use crate::header::header_in_order;
 use crate::steps::look_through;
 use clauses::numbers::two_at;
-use clauses::variables::{Size, all_variables};
+use clauses::task::Task;
+use clauses::variables::Size;
 use refusals::form;
 use refusals::verdicts::Refusal;
 use sheets::kinds::{Edition, Sheet};
@@ -50,17 +51,21 @@ fn look_at<'a>(
         clear(work);
         return Err(Refusal::NotShown(0));
     }
-    let z = Size {
-        inputs: n as usize,
-        cell: k as usize,
-        cells: m as usize,
-        rows: two_at(c, 0),
+    let task = Task {
+        size: Size {
+            inputs: n as usize,
+            cell: k as usize,
+            cells: m as usize,
+            rows: two_at(c, 0),
+        },
+        table: t,
+        certificate: c,
     };
-    if is_short(all_variables(z), c.len(), work.len()) {
+    if is_short(task.all_variables(), c.len(), work.len()) {
         return Err(Refusal::Room);
     }
     clear(work);
-    let seen = look_through(z, t, c, work);
+    let seen = look_through(&task, work);
     clear(work);
     seen
 }

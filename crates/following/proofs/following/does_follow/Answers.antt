@@ -5,8 +5,8 @@ use Rattle.following.proofs.following.does_follow.Goals as goal
 
 pub forget-requires : goal.forget-requires
 forget-requires c =
-    (omega (arith, c.all_variables-all.ensures.0, c.requires.3, c.requires.6, c.deny_all-denied.ensures.0, c.hint_all-r.ensures.0, c.deny_all-denied.auto.work, c.hint_all-r.auto.work, c.two_at-literals.ensures.0, hints_are c.args.z c.args.t.now c.args.c.now c.args.at c.two_at-literals.result c.four_at-hints.result c.all_variables-all.result c.all_variables-all.ensures.0 c.two_at-literals.ensures.0 c.four_at-hints.ensures.0), in_front c.args.z c.args.t.now c.args.c.now c.args.at c.two_at-literals.result c.four_at-hints.result c.all_variables-all.result c.all_variables-all.ensures.0 c.two_at-literals.ensures.0 c.four_at-hints.ensures.0 (both_go c.args.z c.args.t.now c.args.c.now c.args.at c.two_at-literals.result c.four_at-hints.result c.all_variables-all.result c.all_variables-all.ensures.0 c.two_at-literals.ensures.0 c.four_at-hints.ensures.0 c.deny_all-denied.ensures.1 c.hint_all-r.ensures.1))
+    (omega (arith, c.all_variables-all.ensures.0, c.requires.0, c.requires.3, c.deny_all-denied.ensures.0, c.hint_all-r.ensures.0, c.deny_all-denied.auto.work, c.hint_all-r.auto.work, c.two_at-literals.ensures.0, hints_are c.args.task.now c.args.at c.two_at-literals.result c.four_at-hints.result c.all_variables-all.result c.all_variables-all.ensures.0 c.two_at-literals.ensures.0 c.four_at-hints.ensures.0), in_front c.args.task.now c.args.at c.two_at-literals.result c.four_at-hints.result c.all_variables-all.result c.all_variables-all.ensures.0 c.two_at-literals.ensures.0 c.four_at-hints.ensures.0 (both_go c.args.task.now c.args.at c.two_at-literals.result c.four_at-hints.result c.all_variables-all.result c.all_variables-all.ensures.0 c.two_at-literals.ensures.0 c.four_at-hints.ensures.0 c.deny_all-denied.ensures.1 c.hint_all-r.ensures.1))
 
 pub returns : goal.returns
 returns c =
-    let w = all_forgotten c.args.z c.args.t.now c.args.c.now c.args.at c.two_at-literals.result c.four_at-hints.result c.all_variables-all.result c.all_variables-all.ensures.0 c.two_at-literals.ensures.0 c.four_at-hints.ensures.0 (both_go c.args.z c.args.t.now c.args.c.now c.args.at c.two_at-literals.result c.four_at-hints.result c.all_variables-all.result c.all_variables-all.ensures.0 c.two_at-literals.ensures.0 c.four_at-hints.ensures.0 c.deny_all-denied.ensures.1 c.hint_all-r.ensures.1) c.forget.ensures in (follows_is c.args.z c.args.t.now c.args.c.now c.args.at c.two_at-literals.result c.four_at-hints.result c.all_variables-all.result c.all_variables-all.ensures.0 c.two_at-literals.ensures.0 c.four_at-hints.ensures.0 (both_go c.args.z c.args.t.now c.args.c.now c.args.at c.two_at-literals.result c.four_at-hints.result c.all_variables-all.result c.all_variables-all.ensures.0 c.two_at-literals.ensures.0 c.four_at-hints.ensures.0 c.deny_all-denied.ensures.1 c.hint_all-r.ensures.1), w.0, w.1)
+    let w = all_forgotten c.args.task.now c.args.at c.two_at-literals.result c.four_at-hints.result c.all_variables-all.result c.all_variables-all.ensures.0 c.two_at-literals.ensures.0 c.four_at-hints.ensures.0 (both_go c.args.task.now c.args.at c.two_at-literals.result c.four_at-hints.result c.all_variables-all.result c.all_variables-all.ensures.0 c.two_at-literals.ensures.0 c.four_at-hints.ensures.0 c.deny_all-denied.ensures.1 c.hint_all-r.ensures.1) c.forget.ensures in (follows_is c.args.task.now c.args.at c.two_at-literals.result c.four_at-hints.result c.all_variables-all.result c.all_variables-all.ensures.0 c.two_at-literals.ensures.0 c.four_at-hints.ensures.0 (both_go c.args.task.now c.args.at c.two_at-literals.result c.four_at-hints.result c.all_variables-all.result c.all_variables-all.ensures.0 c.two_at-literals.ensures.0 c.four_at-hints.ensures.0 c.deny_all-denied.ensures.1 c.hint_all-r.ensures.1), w.0, w.1)

@@ -20,13 +20,8 @@ returns-in_default-2 c =
     many_rows c.args.n c.args.c.now (omega (arith, c.two_at-rows.ensures.0))
 
 pub returns-else-rows-many : goal.returns-else-rows-many
-returns-else-rows-many c =
-    lt-leb _ _ c.if-rows-many.false ∙ cut_rows c.args.n c.args.c.now (omega (arith, c.two_at-rows.ensures.0))
+returns-else-rows-many c = lt-leb _ _ c.if-rows-many.false ∙ cut_rows c.args.n c.args.c.now (omega (arith, c.two_at-rows.ensures.0))
 
 pub returns-then-rows-many : goal.returns-then-rows-many
 returns-then-rows-many c =
-    let a = c.args in
-    let e = c.two_at-rows.ensures.0 in
-    c.rows_below.ensures
-    ∙ ap (λ (i : ℕ). every i (λ r. ltb (row_at a.c.now r) (2 ^ a.n))) e
-    ∙ by_rows a.n a.c.now (omega (arith, e)) (omega (arith, e)) (omega (arith, e))
+    c.rows_below.ensures ∙ ap (λ (i : ℕ). every i (λ a. ltb (row_at c.args.c.now a) (2 ^ c.args.n))) c.two_at-rows.ensures.0 ∙ by_rows c.args.n c.args.c.now (omega (arith, c.two_at-rows.ensures.0)) (omega (arith, c.two_at-rows.ensures.0)) (omega (arith, c.two_at-rows.ensures.0))

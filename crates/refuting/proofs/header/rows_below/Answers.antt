@@ -11,7 +11,4 @@ use Rattle.refuting.proofs.header.rows_below.Goals as goal
 
 pub returns-then-end-two_at : goal.returns-then-end-two_at
 returns-then-end-two_at c =
-    let a = c.args in
-    let size = shl_one 64 a.n (omega (arith, c.requires.0)) in
-    sym (every_stop a.many (λ r. ltb (row_at a.c.now r) (2 ^ a.n)) c.loop-a.a (omega arith)
-    (le-ltb (row_at a.c.now c.loop-a.a) (2 ^ a.n) (omega (arith, c.two_at.ensures.0, size))))
+    sym (every_stop c.args.many (λ a. ltb (row_at c.args.c.now a) (2 ^ c.args.n)) c.loop-a.a (omega arith) (le-ltb (row_at c.args.c.now c.loop-a.a) (2 ^ c.args.n) (omega (arith, c.two_at.ensures.0, shl_one 64 c.args.n (omega (arith, c.requires.0))))))

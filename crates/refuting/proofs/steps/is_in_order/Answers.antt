@@ -5,5 +5,4 @@ use Rattle.refuting.proofs.steps.is_in_order.Goals as goal
 
 pub derived_in_order-requires : goal.derived_in_order-requires
 derived_in_order-requires c =
-    let h = derived_length c.args.c.now c.args.at c.if-c-at-eq0.true in
-    (c.requires.0, c.requires.1, c.requires.2, omega (arith, h, c.requires.3.there), c.requires.4)
+    (omega (arith, derived_length c.args.task.now.certificate.now c.args.at c.if-task-at-eq0.true, c.requires.0.there), c.requires.1)

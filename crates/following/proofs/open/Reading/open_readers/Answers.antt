@@ -8,7 +8,7 @@ use Rattle.clauses.specs.Variables.{literal_of}
 use Rattle.following.specs.Values.{open_after}
 use Rattle.following.specs.declared.open.Open.TheVariants.{Nothing}
 use Rattle.following.proofs.Opening.{open_more}
-use Rattle.following.proofs.open.open_readers.Goals as goal
+use Rattle.following.proofs.open.Reading.open_readers.Goals as goal
 
 pub loop-k-init : goal.loop-k-init
 unfolding list_of open_after
@@ -16,4 +16,4 @@ loop-k-init c = refl
 
 pub loop-k-preserved : goal.loop-k-preserved
 loop-k-preserved c =
-    open_more (byte_at c.args.work.now) (literal_of c.args.z) (λ k. Said (Reads (c.args.i + 1 + k) (c.args.z.inputs + c.args.i))) Nothing c.loop-k.k c.see_named-o.ensures c.loop-k.invariant
+    open_more (byte_at c.args.self.now.values.now) (literal_of c.args.self.now.task.size) (λ k. Said (Reads (c.args.i + 1 + k) (c.args.self.now.task.size.inputs + c.args.i))) Nothing c.loop-k.k c.see_named-o.ensures c.loop-k.invariant

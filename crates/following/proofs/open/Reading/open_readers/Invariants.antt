@@ -7,8 +7,8 @@ use Rattle.clauses.specs.declared.variables.Literal.TheVariants.{Said}
 use Rattle.clauses.specs.Variables.{literal_of}
 use Rattle.following.specs.Values.{open_after}
 use Rattle.following.specs.declared.open.Open.TheVariants.{Nothing}
-use Rattle.following.proofs.open.open_readers.Given as goal
+use Rattle.following.proofs.open.Reading.open_readers.Given as goal
 
 abbrev pub invariant-loop-k : goal.invariant-loop-k
 invariant-loop-k l =
-    l.o ≡ open_after (byte_at l.work) Nothing (map (literal_of l.z) (list_of l.k (λ j. Said (Reads (l.i + 1 + j) (l.z.inputs + l.i)))))
+    l.o ≡ open_after (byte_at l.self.values.now) Nothing (map (literal_of l.self.task.size) (list_of l.k (λ j. Said (Reads (l.i + 1 + j) (l.self.task.size.inputs + l.i)))))

@@ -1,9 +1,0 @@
--- `open_causes` meets its contract: the cell itself, then the inputs, then the cells. Assumes nothing.
-use Rattle.bits.specs.Lists.{byte_at}
-use Rattle.clauses.specs.Step.{row_at}
-use Rattle.following.proofs.Opening.{causes_are}
-use Rattle.following.proofs.open.open_causes.Goals as goal
-
-pub returns : goal.returns
-returns c =
-    causes_are (byte_at c.args.work.now) c.args.z (row_at c.args.c.now) c.args.i c.args.a c.args.b c.see_named-o.ensures c.open_inputs-o.ensures c.open_cells.ensures
