@@ -38,7 +38,13 @@ fn keep(
 }
 
 // Looks over both sheets of an edition, each for its own desk.
-pub fn keep_in<'a>(e: Edition, n: u64, t: &'a [u8], first: &'a [u8], second: &'a [u8]) -> Result<Which, Refusal>
+pub fn keep_in<'a>(
+    e: Edition,
+    n: u64,
+    t: &'a [u8],
+    first: &'a [u8],
+    second: &'a [u8],
+) -> Result<Which, Refusal>
     requires { IsEdition e }
     ensures { kept_of result ≡ kept_outcome e n t.now first.now second.now }
 {
@@ -74,7 +80,12 @@ pub fn part_of<'a>(which: u64, first: &'a [u8], second: &'a [u8]) -> &'a [u8]
 
 // Which of two sheets for one table is kept: the shorter of those that the check accepts; else what it says of the
 // first.
-pub fn keep_shorter<'a>(n: u64, t: &'a [u8], first: &'a [u8], second: &'a [u8]) -> Result<Which, Refusal>
+pub fn keep_shorter<'a>(
+    n: u64,
+    t: &'a [u8],
+    first: &'a [u8],
+    second: &'a [u8],
+) -> Result<Which, Refusal>
     ensures { kept_of result ≡ kept_outcome first_edition n t.now first.now second.now }
 {
     keep_in(Edition::first(), n, t, first, second)
@@ -89,7 +100,12 @@ pub fn shorter<'a>(n: u64, t: &'a [u8], first: &'a [u8], second: &'a [u8]) -> &'
 }
 
 // The call beside: done if one of them is accepted, else the first's refusal.
-pub fn shorter_verdict<'a>(n: u64, t: &'a [u8], first: &'a [u8], second: &'a [u8]) -> Result<(), Refusal>
+pub fn shorter_verdict<'a>(
+    n: u64,
+    t: &'a [u8],
+    first: &'a [u8],
+    second: &'a [u8],
+) -> Result<(), Refusal>
     ensures { verdict_of result ≡ (kept_outcome first_edition n t.now first.now second.now).verdict }
 {
     keep_shorter(n, t, first, second)?;

@@ -53,13 +53,7 @@ fn run_bytes(o: &[u8], d: u8, x: u64) -> Result<bool, Refusal>
     own_form(o, d, x)?;
     let s = sheet_on(o);
     let m = s.len() / Sheet::RECORD;
-    Ok(bit_of(
-        Edition::first(),
-        o[INPUTS] as u32,
-        s,
-        m,
-        x as u32,
-    ))
+    Ok(bit_of(Edition::first(), o[INPUTS] as u32, s, m, x as u32))
 }
 
 // Runs desk d of a card at the assignment x: the bit.

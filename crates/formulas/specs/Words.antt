@@ -25,7 +25,6 @@ abbrev pub found_of : ℕ → Reading → TextRead
 found_of w (up_to F q) = read_to (stretch_of (value F) w) q
 found_of w (stuck p) = stuck_at p
 
-
 -- r is the reading of s at level k from p, with d levels left, as the code has it; it is that for any number of calls
 -- that is enough for what is left of s
 pub record Yields (s : List ℕ) (n k d p w : ℕ) (r : TextRead) : Type 0 where

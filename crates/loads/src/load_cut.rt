@@ -1,8 +1,8 @@
 // A load that is cut, as by a pulled plug: for trying what a desk then answers.
 ghost use Rattle.std.specs.Prelude.{◌≡◌};
 ghost use Rattle.cards.specs.LoadCut.{cut_outcome};
-
 ghost use Rattle.refusals.specs.Results.{verdict_of};
+
 use crate::loading::load_part;
 use cards::sizes::STORES;
 use refusals::verdicts::Refusal;

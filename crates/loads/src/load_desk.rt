@@ -1,8 +1,8 @@
 // Loading a sheet onto a desk.
 ghost use Rattle.std.specs.Prelude.{◌≡◌};
 ghost use Rattle.cards.specs.LoadDesk.{load_outcome};
-
 ghost use Rattle.refusals.specs.Results.{verdict_of};
+
 use crate::loading::load_part;
 use cards::sizes::STORES;
 use refusals::verdicts::Refusal;

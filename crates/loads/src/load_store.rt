@@ -1,8 +1,8 @@
 // One store of a load: for making the stores of several loads in any order.
 ghost use Rattle.std.specs.Prelude.{◌≡◌};
 ghost use Rattle.cards.specs.LoadStore.{store_outcome};
-
 ghost use Rattle.refusals.specs.Results.{verdict_of};
+
 use crate::loading::load_part;
 use cards::sizes::STORES;
 use refusals::verdicts::Refusal;

@@ -40,7 +40,14 @@ fn load_form<'a>(card: &'a [u8], d: u64, n: u64, s: &'a [u8]) -> Result<(), Refu
 }
 
 // Loads a sheet of n inputs onto desk d, but makes only the stores from `first` up to `end`.
-pub fn load_part(card: &mut [u8], d: u64, n: u64, s: &[u8], first: usize, end: usize) -> Result<(), Refusal>
+pub fn load_part(
+    card: &mut [u8],
+    d: u64,
+    n: u64,
+    s: &[u8],
+    first: usize,
+    end: usize,
+) -> Result<(), Refusal>
     requires { (first ≤ end) × (end ≤ store_count) }
     ensures { record { verdict = verdict_of result; card = card.new }
         ≡ part_outcome (take (end - first) (drop first (load_stores d n s.now))) card.old d n

@@ -4,8 +4,8 @@ ghost use Rattle.sheets.specs.Edition.{first_edition};
 ghost use Rattle.finding.specs.FindBest.{find_outcome, find_answer};
 ghost use Rattle.pelzurivan.specs.FindBest.{sought_of, sought_c};
 
-use finding::find_best::find_best;
 use best::Masks;
+use finding::find_best::find_best;
 use refusals::verdicts::Refusal;
 
 // The number, the own and the shared mask.

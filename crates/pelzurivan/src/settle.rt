@@ -6,9 +6,8 @@ ghost use Rattle.pelzurivan.specs.InputTimes.{times_from_c};
 ghost use Rattle.pelzurivan.specs.Settle.{settled_c};
 
 use crate::input_times::{TimesC, input_times};
-use settling::settle::Settled;
 use refusals::verdicts::Refusal;
-use settling::settle::settle;
+use settling::settle::{Settled, settle};
 
 // The number, the first bad record, the output's earliest and latest time.
 #[repr(C)]

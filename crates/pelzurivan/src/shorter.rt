@@ -30,7 +30,11 @@ pub extern "C" fn pelzurivan_shorter<'a>(
     let which = number_kept(kept);
     let length = part_of(which, first, second).len() as u64;
     match kept {
-        Ok(_) => ShorterC { which, length, number: 0 },
+        Ok(_) => ShorterC {
+            which,
+            length,
+            number: 0,
+        },
         Err(why) => ShorterC {
             which,
             length,

@@ -64,7 +64,5 @@ pub extern "C" fn pelzurivan_try_told(
     ensures { (result ≡ tried_told_c (try_told edition n k own shared t.now room.old))
         × (room.new ≡ (try_told edition n k own shared t.now room.old).room) }
 {
-    TriedToldC::from(try_told(
-        edition, n, k, own, shared, t, room,
-    ))
+    TriedToldC::from(try_told(edition, n, k, own, shared, t, room))
 }

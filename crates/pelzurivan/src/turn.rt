@@ -3,9 +3,9 @@ ghost use Rattle.std.specs.Prelude.{◌≡◌};
 ghost use Rattle.turning.specs.Turn.{turn_outcome, turn_answer};
 ghost use Rattle.pelzurivan.specs.Turn.{turned_c};
 
-use turning::ways::Way;
 use refusals::verdicts::Refusal;
 use turning::turn::turn;
+use turning::ways::Way;
 
 // The number, whether the output is flipped, the mask of input flips, the order of the inputs.
 #[repr(C)]

@@ -1,8 +1,8 @@
 // Rebuilding a table from a sheet of a told edition.
 ghost use Rattle.std.specs.Prelude.{◌≡◌};
 ghost use Rattle.rebuilding.specs.RebuildTold.{rebuild_told};
-
 ghost use Rattle.refusals.specs.Results.{verdict_of};
+
 use crate::rebuild_table::rebuild_own;
 use refusals::form;
 use refusals::verdicts::Refusal;

@@ -15,7 +15,14 @@ use sheets::kinds::{Edition, Sheet};
 use sheets::writing::put;
 
 // Lines 1, 6, 9, 10 and 15.
-fn rewrite_form<'a>(e: Edition, f: Edition, d: u8, n: u64, s: &'a [u8], room: &'a [u8]) -> Result<(), Refusal>
+fn rewrite_form<'a>(
+    e: Edition,
+    f: Edition,
+    d: u8,
+    n: u64,
+    s: &'a [u8],
+    room: &'a [u8],
+) -> Result<(), Refusal>
     requires { IsEdition e × IsEdition f }
     ensures { verdict_of result ≡ verdict (rewrite_lines e f d n s.now room.now) }
 {
@@ -40,7 +47,14 @@ fn write_cells(e: Edition, f: Edition, d: u8, s: &[u8], m: usize, room: &mut [u8
 }
 
 // Writes a sheet of the edition e, which is to be the desk d's, in the edition f of cells as large or larger.
-pub fn rewrite_in(e: Edition, f: Edition, d: u8, n: u64, s: &[u8], room: &mut [u8]) -> Result<usize, Refusal>
+pub fn rewrite_in(
+    e: Edition,
+    f: Edition,
+    d: u8,
+    n: u64,
+    s: &[u8],
+    room: &mut [u8],
+) -> Result<usize, Refusal>
     requires { IsEdition e × IsEdition f × (e.most ≤ f.most) }
     ensures { record { answer = rewrite_answer result; room = room.new }
         ≡ rewrite_outcome e f d n s.now room.old }

@@ -25,7 +25,14 @@ pub struct Settled {
 }
 
 // Lines 1, 9, 10 and 13.
-fn settle_form(e: Edition, d: u8, n: u64, s: &[u8], delay: f64, times: [InputTime; 16]) -> Result<(), Refusal>
+fn settle_form(
+    e: Edition,
+    d: u8,
+    n: u64,
+    s: &[u8],
+    delay: f64,
+    times: [InputTime; 16],
+) -> Result<(), Refusal>
     requires { IsEdition e }
     ensures { verdict_of result ≡ verdict (settle_lines e d n s.now delay times) }
 {

@@ -47,7 +47,13 @@ pub fn slack_in(
 }
 
 // A deadline in sixteenths less the output's latest time.
-pub fn slack(n: u64, s: &[u8], delay: f64, times: [InputTime; 16], deadline: i64) -> Result<i64, Refusal>
+pub fn slack(
+    n: u64,
+    s: &[u8],
+    delay: f64,
+    times: [InputTime; 16],
+    deadline: i64,
+) -> Result<i64, Refusal>
     ensures { slack_answer result ≡ slack_own first_edition n s.now delay times deadline }
 {
     let e = Edition::first();
