@@ -5,15 +5,17 @@ ghost use Rattle.tables.specs.Table.{table_bit, table_length};
 ghost use Rattle.clauses.specs.declared.variables.Size.{Size};
 ghost use Rattle.clauses.specs.declared.variables.Variable.TheVariants.{Same};
 ghost use Rattle.clauses.specs.declared.variables.Literal.TheVariants.{Denied};
+ghost use Rattle.clauses.specs.Variables.{IsSize};
 ghost use Rattle.clauses.specs.Clause.{clause, in_order, evenly, as_table};
 ghost use Rattle.clauses.specs.Step.{row_at};
 ghost use Rattle.clauses.specs.Asking.{question_of, given_in_order};
-ghost use Rattle.clauses.specs.Shapes.{literals_in};
+ghost use Rattle.clauses.specs.Shapes.{literals_in, HasRows};
 
 use crate::given::Given;
 use crate::numbers::two_at;
 use crate::task::Task;
 use crate::variables::Literal::{self, Denied, Said};
+use crate::variables::Size;
 use crate::variables::Variable::{self, Apart, Differ, Many, Reads, Same};
 use tables::bit_at;
 
@@ -53,13 +55,23 @@ fn same_shape(p: usize, q: usize, i: usize, a: Literal, b: Literal) -> Shape
     Shape::Three(Denied(Same(p, q, i)), a, b)
 }
 
+impl Size {
+    // Row a of a certificate.
+    pub fn row_at(self, c: &[u8], a: usize) -> u32
+        requires { IsSize self × HasRows self c.now × (a < self.rows) }
+        ensures { result ≡ row_at c.now a }
+    {
+        two_at(c, 2 + 2 * a) as u32
+    }
+}
+
 impl Task<'_> {
     // Row a of the certificate.
     pub fn row_at(&self, a: usize) -> u32
         requires { a < self.now.size.rows }
         ensures { result ≡ row_at self.now.certificate.now a }
     {
-        two_at(self.certificate, 2 + 2 * a) as u32
+        self.size.row_at(self.certificate, a)
     }
 
     // Whether the table's bits at two rows are the same.

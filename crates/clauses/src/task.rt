@@ -1,5 +1,6 @@
 // What a certificate is handed in for. (Its methods stand where their words do: its numbers in variables.rt, its steps
-// in given.rt, their clauses in shapes.rt.)
+// in given.rt, their clauses in shapes.rt. Where less than all three parts is asked for, Size has the same method, and
+// a task's hands on to it.)
 ghost use Rattle.std.specs.Prelude.{◌≡◌, length};
 ghost use Rattle.tables.specs.Table.{table_length};
 ghost use Rattle.clauses.specs.Variables.{IsSize};
