@@ -62,6 +62,6 @@ pub record Dead (mask i j k : ℕ) : Type 0 where
   pub no_j : bit other j ≡ false
   pub many : k < 2 + size 16 (bit other)
 
--- so of every two inputs
+-- so of every two inputs that the table has a place for
 abbrev pub AllDead : List (List ℕ) → ℕ → ℕ → Type 0
-AllDead l n k = (i : ℕ) → i < n → (j : ℕ) → j < i → Dead (of_pair l i j) i j k
+AllDead l n k = (i : ℕ) → i < n → i < 16 → (j : ℕ) → j < i → Dead (of_pair l i j) i j k

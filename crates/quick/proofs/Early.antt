@@ -3,12 +3,11 @@ use mathlib.Core.Path.{◌≡◌, refl, sym, ap, ap₂, ◌∙◌, subst}
 use mathlib.Core.Logic.{⊎_elim}
 use mathlib.Core.Bool.{Bool, true, false, not, ◌&&◌, ◌||◌, and-false}
 use mathlib.Core.List.{List}
-use Prim.Native.Nat.{ℕ, zero, suc, ◌+◌, ◌-◌, ◌*◌, ◌/◌, ◌%◌, ◌^◌, ◌<◌, ◌≤◌}
+use Prim.Native.Nat.{ℕ, zero, suc, ◌+◌, ◌-◌, ◌*◌, ◌^◌, ◌<◌, ◌≤◌}
 use native.Mathlib.Nat.{not-suc-le-zero, pow-suc}
 use native.Mathlib.Numerals.{add-one}
 use native.Mathlib.Omega.{arith}
 use lib.Dec.{eqb}
-use lib.ListN.{get_or}
 use lib.Bits.{bit_and}
 use lib.Pow.{pow_mono, pow_pos, pow-lt}
 use borrow.Author.Tests.{eq-eqb, ne_eqb, eqb-true}
@@ -174,7 +173,7 @@ module _ {n : ℕ} {F : ℕ → Bool} (k : ℕ) (l : List (List ℕ)) (most : n 
                 c.apart
               where
                 d : Dead (of_pair l i j) i j k
-                d = dead i q j p
+                d = dead i q (omega (arith, most)) j p
 
                 needs : Needs n F 2 (both i j) (of_pair l i j)
                 needs = w.each i j (omega (arith, most)) (omega (arith, most))

@@ -1,5 +1,5 @@
 // Whether no two inputs can be own: then there is no split, and no walk is needed.
-ghost use Rattle.std.specs.Prelude.{◌≡◌, true, ◌<◌, ◌≤◌};
+ghost use Rattle.std.specs.Prelude.{◌≡◌, true, ◌<◌};
 ghost use Rattle.known.specs.Notes.{Dead, AllDead};
 
 use bits::sets::members;
@@ -14,12 +14,11 @@ fn dead(mask: u16, i: u32, j: u32, k: u32) -> bool
     k < 2 + members(other)
 }
 
-// So it is of each two of the n inputs.
+// So it is of each two of the n inputs that the table has a place for.
 pub fn all_dead(pairs: &Pairs, n: u32, k: u32) -> bool
-    requires { n ≤ 16 }
     ensures { result ≡ true → AllDead pairs.now n k }
 {
-    for i in 0..n {
+    for i in 0..n.min(16) {
         for j in 0..i {
             if !dead(pairs[i as usize][j as usize], i, j, k) {
                 return false;

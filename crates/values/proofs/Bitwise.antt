@@ -86,7 +86,7 @@ four-of f w {x₀} {x₁} {x₂} {x₃} e₀ e₁ e₂ e₃ =
 words_of : {f g : ℕ → ℕ} → ((i : ℕ) → f i ≡ g i) → (w : ℕ) → four f w ≡ four g w
 words_of {f} {g} h w = four-of g w (h (4 * w + 0)) (h (4 * w + 1)) (h (4 * w + 2)) (h (4 * w + 3))
 
-joined_words : (k : ℕ) (op : ℕ → ℕ → ℕ)
+pub joined_words : (k : ℕ) (op : ℕ → ℕ → ℕ)
     → ((f g : ℕ → Bool) → op (number 64 f) (number 64 g) ≡ number 64 (λ i. join k (f i) (g i)))
     → (F G : Formula) (w : ℕ) → in_both op (stretch_of (value F) w) (stretch_of (value G) w)
     ≡ stretch_of (value (joined k F G)) w
@@ -151,6 +151,13 @@ word_at v (suc zero) h = refl
 word_at v (suc (suc zero)) h = refl
 word_at v (suc (suc (suc zero))) h = refl
 word_at v (suc (suc (suc (suc k)))) h = absurd (omega arith)
+
+-- and from 3 on the last
+pub word_last : (v : Stretch) (k : ℕ) → (k ≡ 0 → ⊥) → (k ≡ 1 → ⊥) → (k ≡ 2 → ⊥) → get_or v.words 3 0 ≡ word_in v k
+word_last v zero a b c = absurd (a refl)
+word_last v (suc zero) a b c = absurd (b refl)
+word_last v (suc (suc zero)) a b c = absurd (c refl)
+word_last v (suc (suc (suc k))) a b c = refl
 
 -- the word of byte i of a table, from the stretch of that byte
 pub table-word : (n i : ℕ) (F : ℕ → Bool) {v : Stretch} {y o : ℕ} → 64 * (i / 8) < 2 ^ n → v ≡ stretch_of F (i / 32) → y

@@ -3,7 +3,7 @@ ghost use Rattle.std.specs.Prelude.{◌≡◌, ◌-◌, ◌^◌, ◌<◌};
 ghost use Rattle.std.specs.Int.Bits.{bit_and, bit_or, bit_xor};
 ghost use Rattle.tables.specs.Table.{most_inputs};
 ghost use Rattle.runs.specs.Words.{input_word};
-ghost use Rattle.values.specs.Stretches.{alike, four, in_each, in_both};
+ghost use Rattle.values.specs.Stretches.{alike, four, in_each, in_both, word_in};
 
 use runs::words::input_word;
 use std::array::from_fn;
@@ -85,4 +85,11 @@ pub fn of_input(j: u32, w: u32) -> Stretch
         };
     }
     same(input_word(j - 2, w))
+}
+
+// Word k of a stretch, from 3 on the last.
+pub fn word_in(v: Stretch, k: usize) -> u64
+    ensures { result ≡ word_in v k }
+{
+    v.words[k.min(3)]
 }

@@ -3,7 +3,6 @@ use mathlib.Core.Path.{subst}
 use Prim.Native.Nat.{ℕ}
 use native.Mathlib.Omega.{arith}
 use lib.Bits.{bit_or}
-use borrow.Author.Rules.{rules}
 use Rattle.bits.specs.Numbers.{bit}
 use Rattle.bits.proofs.Machine.{shl_one}
 use Rattle.tables.specs.Table.{table_bit}

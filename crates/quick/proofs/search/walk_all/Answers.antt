@@ -3,7 +3,6 @@ use mathlib.Core.Path.{sym, ap, ◌∙◌}
 use Prim.Native.Nat.{◌^◌}
 use native.Mathlib.Omega.{arith}
 use Rattle.tables.specs.Table.{table_bit}
-use Rattle.best.specs.Search.{first}
 use Rattle.best.specs.Answers.{answer_of}
 use Rattle.best.proofs.First.{yet_starts, yet_goes, yet_stops, yet_ends}
 use Rattle.best.proofs.Best.{above_best}
