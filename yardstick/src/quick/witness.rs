@@ -101,8 +101,10 @@ pub fn look(s: &Split) -> Option<Witness> {
 
 /// The six bits that tell three columns apart, of which the first two differ at the free part c.
 fn told(s: &Split, x: u32, y: u32, z: u32, c: u32) -> Option<Witness> {
+    let from_y = s.differ(y, z)?;
+    let from_x = s.differ(x, z)?;
     let apart = bit(s.t, x | c) != bit(s.t, z | c);
-    let e = if apart { s.differ(y, z) } else { s.differ(x, z) }?;
+    let e = if apart { from_y } else { from_x };
     Some(Witness { x: x | c, y: y | c, z: z | c, d: c ^ e })
 }
 
@@ -119,8 +121,9 @@ fn third(s: &Split, b: u32) -> Option<Witness> {
                 at = s.differ(b, z);
             }
             Some(c) => {
-                if s.differ(y, z).is_some() && s.differ(b, z).is_some() {
-                    return told(s, b, y, z, c);
+                let found = told(s, b, y, z, c);
+                if found.is_some() {
+                    return found;
                 }
             }
         }
